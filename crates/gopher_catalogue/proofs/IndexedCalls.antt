@@ -1,0 +1,283 @@
+-- What the tables of the catalogue show at each call, and that they are those of the record after it.
+use Rattle.std.proofs.Common.{◌≡◌, ◌≢◌, ℕ, ◌+◌, ◌-◌, ◌^◌, ◌≤◌, ◌<◌, Bool, true, false, ◌&&◌, List, [], ◌∷◌, ◌++◌, filter, length, replicate, not, position, Option, Some, None, slice_get, inl, inr, refl, sym, ◌∙◌, ap, subst, arith, leb, if◌then◌else◌}
+use Rattle.std.specs.List.{list_all, prefix_len}
+use Rattle.std.specs.Prelude.{Result, Ok, Err, OnErr}
+use Rattle.std.specs.Option.{option_map_or}
+use Rattle.std.proofs.lemmas.Bool.{cases_lt, lt-ltb, le-ltb, leb-true, and_parts}
+use Rattle.std.proofs.lemmas.Option.{slice_get_within}
+use Rattle.gopher_item.specs.Place.{PlaceData, same_place}
+use Rattle.gopher_scope.specs.Scope.{ScopeData, allows}
+use Rattle.gopher_page.specs.Page.{PageData}
+use Rattle.gopher_catalogue.specs.declared.known.Standing.{Standing}
+use Rattle.gopher_catalogue.specs.declared.event.Why.{Why}
+use Rattle.gopher_catalogue.specs.declared.event.Why.TheVariants.{Read}
+use Rattle.gopher_catalogue.specs.declared.fault.OpenFault.{OpenFault}
+use Rattle.gopher_catalogue.specs.declared.fault.OpenFault.TheVariants.{SeedOutOfScope, BadPlaces, BadTries}
+use Rattle.gopher_catalogue.specs.declared.fault.FoundFault.TheVariants.{NotOut, WrongPlace}
+use Rattle.gopher_catalogue.specs.declared.answer.Added.{Added}
+use Rattle.gopher_catalogue.specs.declared.answer.Status.{Status}
+use Rattle.gopher_catalogue.specs.Event.{OpeningData, EventData, Opened, Claimed, Found, Failed}
+use Rattle.gopher_catalogue.specs.Frontier.{known, dropped, waiting, out, done, is_out}
+use Rattle.gopher_catalogue.specs.Legal.{IsLegalOpening, IsOut, IsLegal}
+use Rattle.gopher_catalogue.specs.Step.{Take, Idle, Finished, open_fault, turn_of, is_out_in, is_place_in, found_fault, added_by, status_of, places_of}
+use Rattle.gopher_catalogue.specs.Turn.{IsTake}
+use Rattle.gopher_catalogue.specs.Tables.{FrontierData, HistoryData, KeepsFrontier, Learned, Begins, unclaimed, is_out_at, after_claim, after_find, after_failure}
+use Rattle.gopher_catalogue.specs.Indexed.{standing_of, Tells, IsIndexed}
+use Rattle.gopher_catalogue.proofs.Lists.{slice_get-append_left}
+use Rattle.gopher_catalogue.proofs.States.{place_waiting}
+use Rattle.gopher_catalogue.proofs.Calls.{turn-take, turn-idle, turn-finished, is_out_in_is, place_from_test}
+use Rattle.gopher_catalogue.proofs.CallSteps.{ClaimStep, claim_step, fail_step, found_step, begin_step, few_known, few_waiting, few_events, few_out, few_done}
+use Rattle.gopher_catalogue.proofs.IndexedLemmas.{Tells-begin, Tells-claim, Tells-failure, Tells-find, places-found, dropped-found, standing_at, standing_known}
+
+pub on_err : {T E : Type 0} (r : Result T E) (P : Type 0) → P → OnErr r P
+on_err (Ok x) P p = tt
+on_err (Err e) P p = p
+
+-- the same of a limit, a scope and links that are equal
+pub learned_of : (limit limit' : ℕ) (scope scope' : ScopeData) (links links' : List PlaceData) (before after : FrontierData) (dropped_now : ℕ) → limit ≡ limit' → scope ≡ scope' → links ≡ links' → Learned limit (filter (allows scope) links) before after dropped_now
+    → Learned limit' (filter (allows scope') links') before after dropped_now
+learned_of limit limit' scope scope' links links' before after dropped_now e f g learned = rw (← e, ← f, ← g) learned
+
+-- the tables of the same record, once the history and the frontier are known to be its
+indexed : (opening : OpeningData) (events : List EventData) (history : HistoryData) (frontier : FrontierData) → history.opening ≡ opening → history.later ≡ events → IsLegal (Opened opening ∷ events) → Tells opening events frontier → frontier.out ≤ history.room → frontier.out ≤ frontier.room
+    → length opening.seeds < 2 ^ 63 → IsIndexed history frontier
+indexed opening events history frontier e f legal tells record_room queue_room few =
+    record {
+      legal = rw (e, f) legal;
+      tells = rw (e, f) tells;
+      record_room = record_room;
+      queue_room = queue_room;
+      few_seeds = rw e few;
+    }
+
+pub Tells-keeps : (opening : OpeningData) (events : List EventData) (before after : FrontierData) → Tells opening events before → KeepsFrontier before after → Tells opening events after
+Tells-keeps opening events before after tells keeps =
+    record {
+      places_is = keeps.places ∙ tells.places_is;
+      standings_is = keeps.standings ∙ tells.standings_is;
+      waiting_is = keeps.counts.waiting ∙ tells.waiting_is;
+      out_is = keeps.counts.out ∙ tells.out_is;
+      done_is = keeps.counts.done ∙ tells.done_is;
+      dropped_is = keeps.counts.dropped ∙ tells.dropped_is;
+      few_dropped = omega (arith, keeps.counts.dropped, tells.few_dropped);
+    }
+
+module _ (history : HistoryData) (frontier : FrontierData) (is : IsIndexed history frontier) where
+  -- ---- sizes
+
+  pub limit_fits : history.opening.limit ≤ 65536
+  limit_fits = is.legal.0.few_places
+
+  pub places_within : length frontier.places ≤ history.opening.limit
+  places_within = omega (arith, few_known history.opening history.later, ap length is.tells.places_is)
+
+  pub places_fit : length frontier.places ≤ 65536
+  places_fit = omega (arith, places_within, limit_fits)
+
+  pub waiting_fits : length frontier.waiting ≤ 327680
+  waiting_fits = omega (arith, few_waiting history.opening history.later is.legal, ap length is.tells.waiting_is)
+
+  pub out_fits : frontier.out ≤ 65536
+  out_fits = omega (arith, few_out history.opening history.later, few_known history.opening history.later, limit_fits, is.tells.out_is)
+
+  pub done_fits : frontier.done ≤ 65536
+  done_fits = omega (arith, few_done history.opening history.later, few_known history.opening history.later, limit_fits, is.tells.done_is)
+
+  pub dropped_fits : frontier.dropped + 1048576 < 2 ^ 64
+  dropped_fits = omega (arith, is.tells.few_dropped, few_events history.opening history.later is.legal, is.few_seeds)
+
+  -- ---- reading
+
+  status_is : status_of (Opened history.opening ∷ history.later) ≡ record { known = length (known history.opening history.later); waiting = length (waiting history.opening history.later); out = length (out history.opening history.later); done = length (done history.opening history.later); dropped = dropped history.opening history.later }
+  unfolding status_of
+  status_is = refl
+
+  pub status_shown : ◌≡◌ {A = Status} (record { known = length frontier.places; waiting = length frontier.waiting; out = frontier.out; done = frontier.done; dropped = frontier.dropped }) (status_of (Opened history.opening ∷ history.later))
+  status_shown =
+      (λ i. record { known = length (is.tells.places_is i); waiting = length (is.tells.waiting_is i); out = is.tells.out_is i; done = is.tells.done_is i; dropped = is.tells.dropped_is i }) ∙ sym status_is
+
+  pub places_shown : frontier.places ≡ places_of (Opened history.opening ∷ history.later)
+  unfolding places_of
+  places_shown = is.tells.places_is
+
+  -- ---- the first that waits
+
+  module _ (n : ℕ) (first : slice_get frontier.waiting 0 ≡ Some n) where
+    first_waits : slice_get (waiting history.opening history.later) 0 ≡ Some n
+    first_waits = ap (λ l. slice_get l 0) (sym is.tells.waiting_is) ∙ first
+
+    first_step : ClaimStep history.opening history.later n
+    first_step = claim_step history.opening history.later n is.legal first_waits
+
+    pub first_stands : slice_get frontier.standings n ≡ Some (standing_of history.later n)
+    first_stands = standing_at history.opening history.later frontier is.tells n first_step.is_known
+
+    pub first_known : n < length frontier.places
+    first_known = omega (arith, first_step.is_known, ap length is.tells.places_is)
+
+    pub first_tries : (standing : Standing) → slice_get frontier.standings n ≡ Some standing → standing.claims < 5
+    first_tries standing at' =
+        omega (arith, first_step.few_claims, is.legal.0.few_tries, ap (λ s. s.claims) (standing_known history.opening history.later frontier is.tells n standing at').1)
+
+    pub first_turn : (place : PlaceData) → slice_get frontier.places n ≡ Some place → turn_of (Opened history.opening ∷ history.later) ≡ Take n place
+    first_turn place at' = turn-take history.opening history.later n place first_waits (ap (λ l. slice_get l n) (sym is.tells.places_is) ∙ at')
+
+    pub first_due : IsTake (turn_of (Opened history.opening ∷ history.later))
+    first_due =
+        let there = place_waiting history.opening history.later is.legal n first_waits in
+        subst IsTake (sym (turn-take history.opening history.later n there.0 first_waits there.1)) tt
+
+  pub none_waits_finished : slice_get frontier.waiting 0 ≡ None → frontier.out ≡ 0 → turn_of (Opened history.opening ∷ history.later) ≡ Finished
+  none_waits_finished none no_more = turn-finished history.opening history.later (ap (λ l. slice_get l 0) (sym is.tells.waiting_is) ∙ none) (sym is.tells.out_is ∙ no_more)
+
+  pub none_waits_idle : slice_get frontier.waiting 0 ≡ None → frontier.out ≢ 0 → turn_of (Opened history.opening ∷ history.later) ≡ Idle
+  none_waits_idle none some = turn-idle history.opening history.later (ap (λ l. slice_get l 0) (sym is.tells.waiting_is) ∙ none) (λ e. some (is.tells.out_is ∙ e))
+
+  -- ---- what is out
+
+  pub out_shown : (n : ℕ) → is_out_at frontier.standings n ≡ is_out_in (Opened history.opening ∷ history.later) n
+  out_shown n =
+      elim (cases_lt n (length (known history.opening history.later))) as (λ c. is_out_at frontier.standings n ≡ is_out_in (Opened history.opening ∷ history.later) n) [
+        | inl below ↦
+            let stands = standing_at history.opening history.later frontier is.tells n below in
+            ap (λ o. option_map_or (λ standing. standing.is_out) o false) stands ∙ sym (is_out_in_is history.opening history.later n ∙ ap (λ b. b && is_out history.later n) (lt-ltb n (length (known history.opening history.later)) below))
+        | inr beyond ↦
+            let past : slice_get frontier.standings n ≡ None = none_past (slice_get frontier.standings n) refl beyond in
+            ap (λ o. option_map_or (λ standing. standing.is_out) o false) past ∙ sym (is_out_in_is history.opening history.later n ∙ ap (λ b. b && is_out history.later n) (le-ltb n (length (known history.opening history.later)) beyond))
+      ]
+    where
+      none_past : (o : Option Standing) → slice_get frontier.standings n ≡ o → length (known history.opening history.later) ≤ n → slice_get frontier.standings n ≡ None
+      none_past None e beyond = e
+      none_past (Some standing) e beyond = let known_one = (standing_known history.opening history.later frontier is.tells n standing e).0 in absurd (omega arith)
+
+  module _ (n : ℕ) (standing : Standing) (at' : slice_get frontier.standings n ≡ Some standing) (outside : standing.is_out ≡ true) where
+    pub is_out_now : IsOut history.opening history.later n
+    is_out_now =
+        let there = standing_known history.opening history.later frontier is.tells n standing at' in
+        record { is_known = there.0; is_out = sym (ap (λ s. s.is_out) there.1) ∙ outside }
+
+    pub out_tested : is_out_in (Opened history.opening ∷ history.later) n ≡ true
+    out_tested = sym (out_shown n) ∙ ap (λ o. option_map_or (λ standing. standing.is_out) o false) at' ∙ outside
+
+    pub some_out : 0 < frontier.out
+    some_out = omega (arith, (fail_step history.opening history.later n Read is.legal is_out_now).out_size, is.tells.out_is)
+
+  pub place_shown : (n : ℕ) (place : PlaceData) → option_map_or (λ other. same_place other place) (slice_get frontier.places n) false ≡ is_place_in (Opened history.opening ∷ history.later) n place
+  unfolding is_place_in
+  place_shown n place = ap (λ l. option_map_or (λ other. same_place other place) (slice_get l n) false) is.tells.places_is
+
+  -- ---- which fault a page has
+
+  pub fault_not_out : (n : ℕ) (place : PlaceData) → is_out_at frontier.standings n ≡ false → found_fault (Opened history.opening ∷ history.later) n place ≡ Some NotOut
+  fault_not_out n place gone = rw (sym (out_shown n) ∙ gone) refl
+
+  module _ (n : ℕ) (standing : Standing) (at' : slice_get frontier.standings n ≡ Some standing) (outside : standing.is_out ≡ true) (place : PlaceData) where
+    pub fault_wrong : option_map_or (λ other. same_place other place) (slice_get frontier.places n) false ≡ false → found_fault (Opened history.opening ∷ history.later) n place ≡ Some WrongPlace
+    fault_wrong wrong = rw (out_tested n standing at' outside, sym (place_shown n place) ∙ wrong) refl
+
+    pub fault_none : option_map_or (λ other. same_place other place) (slice_get frontier.places n) false ≡ true → found_fault (Opened history.opening ∷ history.later) n place ≡ None
+    fault_none right = rw (out_tested n standing at' outside, sym (place_shown n place) ∙ right) refl
+
+  -- ---- the tables after a call
+
+  pub after_claimed : (h1 h2 : HistoryData) (f1 f2 : FrontierData) (n : ℕ) (standing : Standing) → slice_get frontier.waiting 0 ≡ Some n → slice_get frontier.standings n ≡ Some standing → h1.opening ≡ history.opening → h1.later ≡ history.later → frontier.out + 2 ≤ h1.room → KeepsFrontier frontier f1
+      → frontier.out + 1 ≤ f1.room → f2 ≡ after_claim f1 n standing → h2.opening ≡ h1.opening → h2.later ≡ h1.later ++ Claimed n ∷ [] → h2.room + 1 ≡ h1.room → IsIndexed h2 f2
+  after_claimed h1 h2 f1 f2 n standing first at' o1 l1 r1 keeps q1 e2 o2 l2 r2 =
+      let tells = Tells-keeps history.opening history.later frontier f1 is.tells keeps in
+      let tells2 = Tells-claim history.opening history.later f1 n standing is.legal tells (ap (λ l. slice_get l 0) keeps.counts.waiting ∙ first) (ap (λ l. slice_get l n) keeps.standings ∙ at') in
+      indexed history.opening (history.later ++ Claimed n ∷ []) h2 f2 (o2 ∙ o1) (l2 ∙ ap (λ l. l ++ Claimed n ∷ []) l1) (first_step n first).legal (subst (Tells history.opening (history.later ++ Claimed n ∷ [])) (sym e2) tells2)
+      (omega (arith, ap (λ f. f.out) e2, keeps.counts.out)) (omega (arith, ap (λ f. f.out) e2, ap (λ f. f.room) e2, keeps.counts.out)) is.few_seeds
+
+  pub after_failed : (h1 : HistoryData) (f1 : FrontierData) (n : ℕ) (standing : Standing) (why : Why) → slice_get frontier.standings n ≡ Some standing → standing.is_out ≡ true → f1 ≡ after_failure frontier n standing history.opening.tries → h1.opening ≡ history.opening
+      → h1.later ≡ history.later ++ Failed n why ∷ [] → h1.room + 1 ≡ history.room → IsIndexed h1 f1
+  after_failed h1 f1 n standing why at' outside e1 o1 l1 r1 =
+      let gone = is_out_now n standing at' outside in
+      let some = some_out n standing at' outside in
+      let tells1 = Tells-failure history.opening history.later frontier n standing why is.legal is.tells gone at' in
+      let room : (after_failure frontier n standing history.opening.tries).out ≤ (after_failure frontier n standing history.opening.tries).room =
+      elim (cases_lt standing.claims history.opening.tries) as (λ c. (after_failure frontier n standing history.opening.tries).out ≤ (after_failure frontier n standing history.opening.tries).room) [
+        | inl left ↦ rw (lt-ltb standing.claims history.opening.tries left) (omega (arith, is.queue_room))
+        | inr last ↦ rw (le-ltb standing.claims history.opening.tries last) (omega (arith, is.queue_room))
+      ] in
+      indexed history.opening (history.later ++ Failed n why ∷ []) h1 f1 o1 l1 (fail_step history.opening history.later n why is.legal gone).legal (subst (Tells history.opening (history.later ++ Failed n why ∷ [])) (sym e1) tells1) (omega (arith, ap (λ f. f.out) e1, is.record_room))
+      (omega (arith, ap (λ f. f.out) e1, ap (λ f. f.room) e1, room)) is.few_seeds
+
+  -- ---- a find
+
+  module _ (f1 : FrontierData) (n : ℕ) (standing : Standing) (page : PageData) (added : Added) (learned : Learned history.opening.limit (filter (allows history.opening.scope) page.links) frontier f1 added.dropped) where
+    pub still_stands : slice_get frontier.standings n ≡ Some standing → slice_get f1.standings n ≡ Some standing
+    still_stands at' = ap (λ l. slice_get l n) learned.grows.standings ∙ slice_get-append_left frontier.standings (replicate (length learned.grows.more) unclaimed) n (slice_get_within frontier.standings n standing at') ∙ at'
+
+    right_place : option_map_or (λ other. same_place other page.place) (slice_get frontier.places n) false ≡ true → slice_get (known history.opening history.later) n ≡ Some page.place
+    right_place right = place_from_test history.opening history.later n page.place (sym (place_shown n page.place) ∙ right)
+
+    added_is : added_by (Opened history.opening ∷ history.later) n page
+        ≡ record { fresh = length (known history.opening (history.later ++ Found n page ∷ [])) - length (known history.opening history.later); dropped = dropped history.opening (history.later ++ Found n page ∷ []) - dropped history.opening history.later }
+    unfolding added_by
+    added_is = refl
+
+    pub added_shown : added.fresh + length frontier.places ≡ length f1.places → added ≡ added_by (Opened history.opening ∷ history.later) n page
+    added_shown grown =
+        let places = places-found history.opening history.later frontier f1 n standing page added.dropped learned is.tells in
+        let gone = dropped-found history.opening history.later frontier f1 n standing page added.dropped learned is.tells in
+        let fresh : added.fresh ≡ length (known history.opening (history.later ++ Found n page ∷ [])) - length (known history.opening history.later) = omega (arith, ap length places, ap length is.tells.places_is) in
+        let lost : added.dropped ≡ dropped history.opening (history.later ++ Found n page ∷ []) - dropped history.opening history.later = omega (arith, gone) in
+        (λ i. record { fresh = fresh i; dropped = lost i }) ∙ sym added_is
+
+    pub after_found : (h1 : HistoryData) (f2 : FrontierData) (before : ℕ) → slice_get frontier.standings n ≡ Some standing → standing.is_out ≡ true → option_map_or (λ other. same_place other page.place) (slice_get frontier.places n) false ≡ true → before ≡ length frontier.places → added.dropped ≤ 1048576
+        → added.fresh + length frontier.places ≡ length f1.places → added.fresh + frontier.out ≤ f1.room → f2 ≡ after_find f1 n standing before added.dropped → h1.opening ≡ history.opening → h1.later ≡ history.later ++ Found n page ∷ [] → h1.room + 1 ≡ history.room → IsIndexed h1 f2
+    after_found h1 f2 before at' outside right size few grown room e2 o1 l1 r1 =
+        let gone = is_out_now n standing at' outside in
+        let some = some_out n standing at' outside in
+        let there = right_place right in
+        let tells2 = Tells-find history.opening history.later frontier f1 n standing page added.dropped learned is.legal is.tells gone there (still_stands at') few in
+        let made : f2 ≡ after_find f1 n standing (length frontier.places) added.dropped = e2 ∙ ap (λ k. after_find f1 n standing k added.dropped) size in
+        indexed history.opening (history.later ++ Found n page ∷ []) h1 f2 o1 l1 (found_step history.opening history.later n page is.legal gone there).legal (subst (Tells history.opening (history.later ++ Found n page ∷ [])) (sym made) tells2)
+        (omega (arith, ap (λ f. f.out) made, learned.keeps.out, is.record_room)) (omega (arith, ap (λ f. f.out) made, ap (λ f. f.room) made, learned.keeps.out)) is.few_seeds
+
+-- ---- the beginning
+
+all_allowed : (test : PlaceData → Bool) (seeds : List PlaceData) → length seeds ≤ prefix_len (λ seed. not (not (test seed))) seeds → list_all test seeds ≡ true
+all_allowed test [] h = refl
+all_allowed test (seed ∷ seeds) h = by (test seed) refl (all_allowed test seeds) where
+  by : (b : Bool) → test seed ≡ b → (length seeds ≤ prefix_len (λ seed. not (not (test seed))) seeds → list_all test seeds ≡ true) → (test seed && list_all test seeds) ≡ true
+  by true e more =
+      let long : prefix_len (λ seed. not (not (test seed))) (seed ∷ seeds) ≡ 1 + prefix_len (λ seed. not (not (test seed))) seeds = rw e refl in
+      let rest : list_all test seeds ≡ true = more (omega (arith, h, long)) in
+      rw (e, rest) refl
+  by false e more = let none : prefix_len (λ seed. not (not (test seed))) (seed ∷ seeds) ≡ 0 = rw e refl in absurd (omega (arith, h, none))
+
+none_refused : (test : PlaceData → Bool) (seeds : List PlaceData) → position (λ seed. not (test seed)) seeds ≡ None → list_all test seeds ≡ true
+none_refused test seeds h =
+    elim (cases_lt (prefix_len (λ seed. not (not (test seed))) seeds) (length seeds)) as (λ c. list_all test seeds ≡ true) [
+      | inl some ↦
+          let there : position (λ seed. not (test seed)) seeds ≡ Some (prefix_len (λ seed. not (not (test seed))) seeds) = rw (lt-ltb (prefix_len (λ seed. not (not (test seed))) seeds) (length seeds) some) refl in
+          absurd (none_not_some (position (λ seed. not (test seed)) seeds) (prefix_len (λ seed. not (not (test seed))) seeds) h there)
+      | inr none ↦ all_allowed test seeds none
+    ]
+  where
+    none_not_some : (o : Option ℕ) (k : ℕ) → o ≡ None → o ≡ Some k → ⊥
+    none_not_some o k e f = cc
+
+opens : (o : Option ℕ) (p t : Bool) → ◌≡◌ {A = Option OpenFault} (option_map_or (λ index. Some (SeedOutOfScope index)) o (if not p then Some BadPlaces else (if not t then Some BadTries else None))) None → (o ≡ None) × (p ≡ true) × (t ≡ true)
+opens (Some index) p t h = cc
+opens None true true h = (refl, refl, refl)
+opens None true false h = cc
+opens None false t h = cc
+
+pub legal_opening : (scope : ScopeData) (seeds : List PlaceData) (limit tries : ℕ) → open_fault scope seeds limit tries ≡ None → IsLegalOpening (record { scope = scope; seeds = seeds; limit = limit; tries = tries })
+legal_opening scope seeds limit tries h =
+    let tests = opens (position (λ seed. not (allows scope seed)) seeds) (leb 1 limit && leb limit 65536) (leb 1 tries && leb tries 5) h in
+    let limits = and_parts (leb 1 limit) (leb limit 65536) tests.1 in
+    let chances = and_parts (leb 1 tries) (leb tries 5) tests.2 in
+    record {
+      some_place = leb-true 1 limit limits.0;
+      few_places = leb-true limit 65536 limits.1;
+      some_try = leb-true 1 tries chances.0;
+      few_tries = leb-true tries 5 chances.1;
+      allowed_seeds = none_refused (allows scope) seeds tests.0;
+    }
+
+pub begun : (opening : OpeningData) (history : HistoryData) (frontier : FrontierData) → IsLegalOpening opening → length opening.seeds < 2 ^ 63 → Begins opening.limit opening.seeds frontier → history.opening ≡ opening → history.later ≡ [] → IsIndexed history frontier
+begun opening history frontier legal few begins o l =
+    indexed opening [] history frontier o l (begin_step opening legal).legal (Tells-begin opening frontier legal begins) (omega (arith, begins.out)) (omega (arith, begins.out)) few

@@ -1,0 +1,74 @@
+-- Legal records: one more event, a beginning, and the induction over them.
+use Rattle.std.proofs.Common.{◌≡◌, ℕ, suc, zero, ◌≤◌, ◌<◌, List, [], ◌∷◌, ◌++◌, length, take, inl, inr, refl, sym, ◌∙◌, subst, arith}
+use Rattle.std.proofs.lemmas.List.{take_all, take-take, take-append-le, take_at, length-take}
+use Rattle.std.proofs.lemmas.Option.{slice_get_within}
+use Rattle.gopher_catalogue.specs.Event.{OpeningData, EventData, Opened, Claimed, Found, Failed}
+use Rattle.gopher_catalogue.specs.Legal.{IsLegalOpening, MayFollow, FollowEachOther, IsLegal}
+use Rattle.gopher_catalogue.proofs.Lists.{slice_get_push_cases, slice_get_last, slice_get-take, take_next}
+
+-- ---- events that follow each other
+
+pub FollowEachOther-nil : (opening : OpeningData) → FollowEachOther opening []
+FollowEachOther-nil opening k event h = cc
+
+pub FollowEachOther-push : (opening : OpeningData) (events : List EventData) (e : EventData) → FollowEachOther opening events → MayFollow opening events e → FollowEachOther opening (events ++ e ∷ [])
+FollowEachOther-push opening events e follows may k event h =
+    elim (slice_get_push_cases events e k event h) as (λ c. MayFollow opening (take k (events ++ e ∷ [])) event) [
+      | inl old ↦ let le : k ≤ length events = omega arith in rw take-append-le (follows k event old.1)
+      | inr new ↦ rw (new.0, take_at events (e ∷ []) (length events) refl) (subst (λ x. MayFollow opening events x) new.1 may)
+    ]
+
+pub FollowEachOther-take : (opening : OpeningData) (events : List EventData) (n : ℕ) → FollowEachOther opening events → FollowEachOther opening (take n events)
+FollowEachOther-take opening events n follows k event h =
+    let within : k < length (take n events) = slice_get_within (take n events) k event h in
+    let lt : k < n = omega (arith, length-take n events) in
+    let le : k ≤ n = omega arith in
+    rw take-take (follows k event (sym (slice_get-take n events k lt) ∙ h))
+
+pub FollowEachOther-before : (opening : OpeningData) (events : List EventData) (e : EventData) → FollowEachOther opening (events ++ e ∷ []) → FollowEachOther opening events
+FollowEachOther-before opening events e follows = subst (λ xs. FollowEachOther opening xs) (take_at events (e ∷ []) (length events) refl) (FollowEachOther-take opening (events ++ e ∷ []) (length events) follows)
+
+pub MayFollow-last : (opening : OpeningData) (events : List EventData) (e : EventData) → FollowEachOther opening (events ++ e ∷ []) → MayFollow opening events e
+MayFollow-last opening events e follows = subst (λ xs. MayFollow opening xs e) (take_at events (e ∷ []) (length events) refl) (follows (length events) e (slice_get_last events e))
+
+-- what holds at the opening, and after each event that may follow, holds of each legal record
+pub legal_ind : (P : List EventData → Type 0) (opening : OpeningData) → P [] → ((events : List EventData) (e : EventData) → FollowEachOther opening events → MayFollow opening events e → P events → P (events ++ e ∷ [])) → (events : List EventData) → FollowEachOther opening events → P events
+legal_ind P opening base step events follows = subst P (take_all (length events) events (omega arith)) (upto (length events) (omega arith)) where
+  upto : (n : ℕ) → n ≤ length events → P (take n events)
+  upto zero h = base
+  upto (suc n) h =
+      let next = take_next events n (omega arith) in
+      let before : P (take n events) = upto n (omega arith) in
+      rw next.2 (step (take n events) next.0 (FollowEachOther-take opening events n follows) (follows n next.0 next.1) before)
+
+-- ---- whole records
+
+pub IsLegal-opened : (opening : OpeningData) → IsLegalOpening opening → IsLegal (Opened opening ∷ [])
+IsLegal-opened opening legal = (legal, FollowEachOther-nil opening)
+
+-- one more event that may follow
+pub IsLegal-push : (opening : OpeningData) (events : List EventData) (e : EventData) → IsLegal (Opened opening ∷ events) → MayFollow opening events e → IsLegal (Opened opening ∷ events ++ e ∷ [])
+IsLegal-push opening events e legal may = (legal.0, FollowEachOther-push opening events e legal.1 may)
+
+-- a beginning, with the opening at least
+pub IsLegal-take : (record_ : List EventData) (n : ℕ) → IsLegal record_ → IsLegal (take (suc n) record_)
+IsLegal-take [] n legal = legal
+IsLegal-take (Opened opening ∷ events) n legal = (legal.0, FollowEachOther-take opening events n legal.1)
+IsLegal-take (Claimed number ∷ events) n legal = absurd legal
+IsLegal-take (Found number page ∷ events) n legal = absurd legal
+IsLegal-take (Failed number why ∷ events) n legal = absurd legal
+
+pub IsLegal-take_more : (record_ : List EventData) (n : ℕ) → IsLegal record_ → 1 ≤ n → IsLegal (take n record_)
+IsLegal-take_more record_ zero legal some = absurd (omega arith)
+IsLegal-take_more record_ (suc n) legal some = IsLegal-take record_ n legal
+
+pub IsLegal-front : (front rest : List EventData) → IsLegal (front ++ rest) → 1 ≤ length front → IsLegal front
+IsLegal-front front rest legal some = subst IsLegal (take_at front rest (length front) refl) (IsLegal-take_more (front ++ rest) (length front) legal some)
+
+-- a legal record begins with an opening
+pub IsLegal-opening : (record_ : List EventData) → IsLegal record_ → (opening : OpeningData) × (events : List EventData) × (record_ ≡ Opened opening ∷ events) × IsLegalOpening opening × FollowEachOther opening events
+IsLegal-opening [] legal = absurd legal
+IsLegal-opening (Opened opening ∷ events) legal = (opening, events, refl, legal.0, legal.1)
+IsLegal-opening (Claimed number ∷ events) legal = absurd legal
+IsLegal-opening (Found number page ∷ events) legal = absurd legal
+IsLegal-opening (Failed number why ∷ events) legal = absurd legal

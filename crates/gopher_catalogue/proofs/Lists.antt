@@ -1,0 +1,46 @@
+-- Elements of a list by their place, as a list grows at its end.
+use Rattle.std.proofs.Common.{◌≡◌, ℕ, suc, zero, ◌+◌, ◌<◌, List, [], ◌∷◌, ◌++◌, length, take, ◌⊎◌, inl, inr, Some, refl, sym, ◌∙◌, ap, arith}
+use Rattle.std.specs.List.{slice_get}
+use Rattle.std.proofs.lemmas.Bool.{cases_lt}
+use Rattle.std.proofs.lemmas.Option.{slice_get_within}
+use Rattle.std.proofs.lemmas.List.{length_push}
+
+pub slice_get-append_left : {X : Type 0} (xs ys : List X) (k : ℕ) → k < length xs → slice_get (xs ++ ys) k ≡ slice_get xs k
+slice_get-append_left [] ys k h = absurd (omega arith)
+slice_get-append_left (x ∷ xs) ys zero h = refl
+slice_get-append_left (x ∷ xs) ys (suc k) h = slice_get-append_left xs ys k (omega arith)
+
+pub slice_get-append_right : {X : Type 0} (xs ys : List X) (k : ℕ) → slice_get (xs ++ ys) (length xs + k) ≡ slice_get ys k
+slice_get-append_right [] ys k = let e : 0 + k ≡ k = omega arith in rw e refl
+slice_get-append_right (x ∷ xs) ys k = let e : suc (length xs) + k ≡ suc (length xs + k) = omega arith in rw e (slice_get-append_right xs ys k)
+
+pub slice_get_last : {X : Type 0} (xs : List X) (x : X) → slice_get (xs ++ x ∷ []) (length xs) ≡ Some x
+slice_get_last [] x = refl
+slice_get_last (y ∷ xs) x = slice_get_last xs x
+
+-- an element of a list with one more at its end is one of the list's, or that one
+pub slice_get_push_cases : {X : Type 0} (xs : List X) (x : X) (k : ℕ) (y : X) → slice_get (xs ++ x ∷ []) k ≡ Some y → ((k < length xs) × (slice_get xs k ≡ Some y)) ⊎ ((k ≡ length xs) × (x ≡ y))
+slice_get_push_cases xs x k y h =
+    elim (cases_lt k (length xs)) as (λ c. ((k < length xs) × (slice_get xs k ≡ Some y)) ⊎ ((k ≡ length xs) × (x ≡ y))) [
+      | inl lt ↦ inl (lt, sym (slice_get-append_left xs (x ∷ []) k lt) ∙ h)
+      | inr ge ↦
+          let within : k < length (xs ++ x ∷ []) = slice_get_within (xs ++ x ∷ []) k y h in
+          let e : k ≡ length xs = omega (arith, length_push xs x) in
+          let last : slice_get (xs ++ x ∷ []) k ≡ Some x = rw e (slice_get_last xs x) in
+          inr (e, cc)
+    ]
+
+pub slice_get-take : {X : Type 0} (n : ℕ) (xs : List X) (k : ℕ) → k < n → slice_get (take n xs) k ≡ slice_get xs k
+slice_get-take zero xs k h = absurd (omega arith)
+slice_get-take (suc n) [] k h = refl
+slice_get-take (suc n) (x ∷ xs) zero h = refl
+slice_get-take (suc n) (x ∷ xs) (suc k) h = slice_get-take n xs k (omega arith)
+
+-- the next element, and the beginning that ends with it
+pub take_next : {X : Type 0} (xs : List X) (n : ℕ) → n < length xs → (x : X) × (slice_get xs n ≡ Some x) × (take (suc n) xs ≡ take n xs ++ x ∷ [])
+take_next [] n h = absurd (omega arith)
+take_next (x ∷ xs) zero h = (x, refl, refl)
+take_next (x ∷ xs) (suc n) h = let next = take_next xs n (omega arith) in (next.0, next.1, ap (λ ys. x ∷ ys) next.2)
+
+pub slice_get_at : {X : Type 0} (xs : List X) (k : ℕ) → k < length xs → (x : X) × (slice_get xs k ≡ Some x)
+slice_get_at xs k h = let next = take_next xs k h in (next.0, next.1)

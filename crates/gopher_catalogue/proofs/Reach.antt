@@ -1,0 +1,318 @@
+-- A finished crawl holds what can be reached.
+use Rattle.std.proofs.Common.{◌≡◌, ℕ, suc, zero, ◌+◌, ◌≤◌, ◌<◌, Bool, true, false, not, cond, List, [], ◌∷◌, ◌++◌, length, take, drop, filter, get_or, inl, inr, Option, Some, None, refl, sym, ◌∙◌, ap, subst, arith, eqb}
+use Rattle.std.specs.List.{slice_get, flat_map, range_with_len, All, Contains}
+use Rattle.std.proofs.lemmas.Bool.{cases_Bool, false≢true, or_left, or_right, and_parts, eqb-true, cases_eq, not_from_false, true_from_ne_false}
+use Rattle.std.proofs.lemmas.List.{take_all, take-append-drop, nil_from_length, append-nil, append_assoc}
+use Rattle.std.proofs.lemmas.List.Concat.{flat_map-append}
+use Rattle.std.proofs.lemmas.List.Elements.{All-nil, All-append, All-filter, All-take, filter_passes}
+use Rattle.std.proofs.lemmas.List.Folds.{list_any-append}
+use Rattle.std.proofs.lemmas.Option.{slice_get_within, slice_get-get_or, get_or_from_slice_get}
+use Rattle.gopher_item.specs.Place.{PlaceData, same_place, is_among, distinct}
+use Rattle.gopher_scope.specs.Scope.{ScopeData, allows, IsAllowed}
+use Rattle.gopher_page.specs.Page.{PageData, page_of, links_of, menu_links}
+use Rattle.gopher_catalogue.specs.Event.{OpeningData, EventData, Opened, Claimed, Found, Failed}
+use Rattle.gopher_catalogue.specs.Frontier.{mentioned, mentions, known, dropped, waiting, is_out, is_done, out}
+use Rattle.gopher_catalogue.specs.Legal.{IsLegal}
+use Rattle.gopher_catalogue.specs.Step.{status_of}
+use Rattle.gopher_catalogue.specs.Pages.{pages_found}
+use Rattle.gopher_catalogue.specs.Closure.{OutcomeData, Fetched, Unfetched, OutcomeTable, links_after, IsReachable, seed, link, last_outcome, IsTold, Agrees, IsComplete, HoldsReach}
+use Rattle.gopher_catalogue.proofs.Lists.{slice_get-append_left, take_next}
+use Rattle.gopher_catalogue.proofs.Places.{same_place-is, known_of, dropped_of, known_of-append}
+use Rattle.gopher_catalogue.proofs.KnownPlaces.{known-allowed, among_at, at_from_among, All-distinct}
+use Rattle.gopher_catalogue.proofs.Steps.{known_is, dropped_is, mentions_push}
+use Rattle.gopher_catalogue.proofs.Sizes.{out_is, done_is}
+use Rattle.gopher_catalogue.proofs.Counting.{times, times-nil}
+use Rattle.gopher_catalogue.proofs.States.{Done, state}
+use Rattle.gopher_catalogue.proofs.LastOutcome.{count_at, last_outcome_at, last_outcome_none, find_is_last}
+use Rattle.gopher_catalogue.proofs.OneTry.{filter_range_every}
+
+-- ---- members
+
+All_at : {X : Type 0} (P : X → Type 0) (xs : List X) (k : ℕ) (x : X) → All P xs → slice_get xs k ≡ Some x → P x
+All_at P xs k x all h = subst P (get_or_from_slice_get xs k x x h) (all k x (slice_get_within xs k x h))
+
+All_from_among : (P : PlaceData → Type 0) (xs : List PlaceData) → ((p : PlaceData) → is_among xs p ≡ true → P p) → All P xs
+All_from_among P xs h k d within = h (get_or xs k d) (among_at xs k (get_or xs k d) (slice_get-get_or xs k d within))
+
+contains_at : {X : Type 0} (xs : List X) (k : ℕ) (x : X) → slice_get xs k ≡ Some x → Contains xs x
+contains_at xs k x h = (k, slice_get_within xs k x h, get_or_from_slice_get xs k x x h)
+
+at_from_contains : {X : Type 0} (xs : List X) (x : X) → Contains xs x → (k : ℕ) × (slice_get xs k ≡ Some x)
+at_from_contains xs x c = (c.0, slice_get-get_or xs c.0 x c.1 ∙ ap Some c.2)
+
+-- what is among a list and passes is among those that pass
+among_filter_from : (f : PlaceData → Bool) (xs : List PlaceData) (p : PlaceData) → is_among xs p ≡ true → f p ≡ true → is_among (filter f xs) p ≡ true
+among_filter_from f [] p h t = absurd (false≢true h)
+among_filter_from f (x ∷ xs) p h t = step (among_filter_from f xs p) (same_place p x) refl (f x) refl where
+  step : (is_among xs p ≡ true → f p ≡ true → is_among (filter f xs) p ≡ true) → (b : Bool) → same_place p x ≡ b → (c : Bool) → f x ≡ c → is_among (cond (f x) (x ∷ filter f xs) (filter f xs)) p ≡ true
+  step ih true e true keeps = rw keeps (or_left (same_place p x) (is_among (filter f xs) p) e)
+  step ih true e false drops = let same = same_place-is p x e in absurd (false≢true (sym drops ∙ ap f (sym same) ∙ t))
+  step ih false e true keeps = let rest : is_among xs p ≡ true = rw e at h in rw keeps (or_right (same_place p x) (is_among (filter f xs) p) (ih rest t))
+  step ih false e false drops = let rest : is_among xs p ≡ true = rw e at h in rw drops (ih rest t)
+
+-- ---- pages
+
+page_of-place : (scope : ScopeData) (place : PlaceData) (bytes : List ℕ) → (page_of scope place bytes).place ≡ place
+unfolding page_of
+page_of-place scope place bytes = refl
+
+page_of-links : (scope : ScopeData) (place : PlaceData) (bytes : List ℕ) → (page_of scope place bytes).links ≡ links_of scope place bytes
+unfolding page_of
+page_of-links scope place bytes = refl
+
+links_of-allowed : (scope : ScopeData) (place : PlaceData) (bytes : List ℕ) → All (IsAllowed scope) (links_of scope place bytes)
+links_of-allowed scope place bytes =
+    elim (eqb place.kind 49) as (λ b. All (IsAllowed scope) (cond b (menu_links scope bytes) [])) [
+      | true ↦ All-distinct (IsAllowed scope) _ (filter_passes (allows scope) _)
+      | false ↦ All-nil (IsAllowed scope)
+    ]
+
+page_of-allowed : (scope : ScopeData) (place : PlaceData) (bytes : List ℕ) → All (IsAllowed scope) (page_of scope place bytes).links
+page_of-allowed scope place bytes = subst (All (IsAllowed scope)) (sym (page_of-links scope place bytes)) (links_of-allowed scope place bytes)
+
+pub page_found_at : (events : List EventData) (i : ℕ) (page : PageData) → slice_get (pages_found events) i ≡ Some page → (k : ℕ) × (n : ℕ) × (slice_get events k ≡ Some (Found n page))
+unfolding pages_found
+page_found_at [] i page h = cc
+page_found_at (Opened other ∷ events) i page h = let rest = page_found_at events i page h in (suc rest.0, rest.1, rest.2)
+page_found_at (Claimed m ∷ events) i page h = let rest = page_found_at events i page h in (suc rest.0, rest.1, rest.2)
+page_found_at (Found m other ∷ events) zero page h = let e : other ≡ page = cc in (0, m, ap (λ p. Some (Found m p)) e)
+page_found_at (Found m other ∷ events) (suc i) page h = let rest = page_found_at events i page h in (suc rest.0, rest.1, rest.2)
+page_found_at (Failed m why ∷ events) i page h = let rest = page_found_at events i page h in (suc rest.0, rest.1, rest.2)
+
+pub at_from_found : (events : List EventData) (k n : ℕ) (page : PageData) → slice_get events k ≡ Some (Found n page) → (i : ℕ) × (slice_get (pages_found events) i ≡ Some page)
+unfolding pages_found
+at_from_found [] k n page h = cc
+at_from_found (Opened other ∷ events) zero n page h = cc
+at_from_found (Opened other ∷ events) (suc k) n page h = at_from_found events k n page h
+at_from_found (Claimed m ∷ events) zero n page h = cc
+at_from_found (Claimed m ∷ events) (suc k) n page h = at_from_found events k n page h
+at_from_found (Found m other ∷ events) zero n page h = (0, cc)
+at_from_found (Found m other ∷ events) (suc k) n page h = let rest = at_from_found events k n page h in (suc rest.0, rest.1)
+at_from_found (Failed m why ∷ events) zero n page h = cc
+at_from_found (Failed m why ∷ events) (suc k) n page h = at_from_found events k n page h
+
+-- ---- mentions and known places of a beginning
+
+mentions-append : (opening : OpeningData) (es fs : List EventData) → mentions opening (es ++ fs) ≡ mentions opening es ++ flat_map (mentioned opening) fs
+unfolding mentions
+mentions-append opening es fs = ap (λ ps. opening.seeds ++ ps) (flat_map-append (mentioned opening) es fs) ∙ sym (append_assoc opening.seeds (flat_map (mentioned opening) es) (flat_map (mentioned opening) fs))
+
+pub known_stays : (opening : OpeningData) (events : List EventData) (k n : ℕ) (p : PlaceData) → slice_get (known opening (take k events)) n ≡ Some p → slice_get (known opening events) n ≡ Some p
+known_stays opening events k n p h =
+    let early : List PlaceData = mentions opening (take k events) in
+    let late : List PlaceData = flat_map (mentioned opening) (drop k events) in
+    let whole : mentions opening events ≡ early ++ late = ap (mentions opening) (sym (take-append-drop k events)) ∙ mentions-append opening (take k events) (drop k events) in
+    let known_early : slice_get (known_of opening.limit early) n ≡ Some p = ap (λ ps. slice_get ps n) (sym (known_is opening (take k events))) ∙ h in
+    let within : n < length (known_of opening.limit early) = slice_get_within (known_of opening.limit early) n p known_early in
+    ap (λ ps. slice_get ps n) (known_is opening events ∙ ap (known_of opening.limit) whole ∙ known_of-append opening.limit early late)
+    ∙ slice_get-append_left (known_of opening.limit early) _ n within
+    ∙ known_early
+
+-- what a page found mentions is mentioned
+mentions_at : (opening : OpeningData) (events : List EventData) (k n : ℕ) (page : PageData) (p : PlaceData) → slice_get events k ≡ Some (Found n page) → is_among (filter (allows opening.scope) page.links) p ≡ true → is_among (flat_map (mentioned opening) events) p ≡ true
+mentions_at opening [] k n page p h a = cc
+mentions_at opening (Opened other ∷ events) zero n page p h a = cc
+mentions_at opening (Opened other ∷ events) (suc k) n page p h a = mentions_at opening events k n page p h a
+mentions_at opening (Claimed m ∷ events) zero n page p h a = cc
+mentions_at opening (Claimed m ∷ events) (suc k) n page p h a = mentions_at opening events k n page p h a
+mentions_at opening (Found m other ∷ events) zero n page p h a =
+    let e : other ≡ page = cc in
+    list_any-append (same_place p) (filter (allows opening.scope) other.links) (flat_map (mentioned opening) events)
+    ∙ or_left (is_among (filter (allows opening.scope) other.links) p) (is_among (flat_map (mentioned opening) events) p) (ap (λ (q : PageData). is_among (filter (allows opening.scope) q.links) p) e ∙ a)
+mentions_at opening (Found m other ∷ events) (suc k) n page p h a =
+    list_any-append (same_place p) (filter (allows opening.scope) other.links) (flat_map (mentioned opening) events)
+    ∙ or_right (is_among (filter (allows opening.scope) other.links) p) (is_among (flat_map (mentioned opening) events) p) (mentions_at opening events k n page p h a)
+mentions_at opening (Failed m why ∷ events) zero n page p h a = cc
+mentions_at opening (Failed m why ∷ events) (suc k) n page p h a = mentions_at opening events k n page p h a
+
+-- with nothing dropped, what is mentioned is known
+all_known : (opening : OpeningData) (events : List EventData) (p : PlaceData) → dropped opening events ≡ 0 → is_among (mentions opening events) p ≡ true → is_among (known opening events) p ≡ true
+all_known opening events p none h =
+    let at' = at_from_among (mentions opening events) p h in
+    let zero' : dropped_of opening.limit (mentions opening events) ≡ 0 = sym (dropped_is opening events) ∙ none in
+    let among : is_among (known_of opening.limit (mentions opening events)) p ≡ true =
+    true_from_ne_false (is_among (known_of opening.limit (mentions opening events)) p) (λ missing.
+    omega (arith, zero', count_at (λ q. not (is_among (known_of opening.limit (mentions opening events)) q)) (mentions opening events) at'.0 p at'.1 (not_from_false (is_among (known_of opening.limit (mentions opening events)) p) missing))) in
+    rw (known_is opening events) among
+
+-- ---- what a find tells
+
+-- a page found is of its number's place
+find_place : (opening : OpeningData) (events : List EventData) → IsLegal (Opened opening ∷ events) → (k n : ℕ) (page : PageData) → slice_get events k ≡ Some (Found n page) → slice_get (known opening (take k events)) n ≡ Some page.place
+find_place opening events legal k n page h = (legal.1 k (Found n page) h).1
+
+-- a page found is made of the table's bytes of its place
+find_told : (opening : OpeningData) (events : List EventData) (table : OutcomeTable) → IsLegal (Opened opening ∷ events) → Agrees opening events table → (k n : ℕ) (page : PageData) → slice_get events k ≡ Some (Found n page) → IsTold opening.scope page.place (table page.place) (Some (Found n page))
+find_told opening events table legal agrees k n page h =
+    let at' = known_stays opening events k n page.place (find_place opening events legal k n page h) in
+    subst (IsTold opening.scope page.place (table page.place)) (find_is_last opening events legal k n page h) (agrees n page.place at')
+
+-- ---- what is known can be reached
+
+-- the places known are among those mentioned
+All_known : (P : PlaceData → Type 0) (opening : OpeningData) (es : List EventData) → All P (mentions opening es) → All P (known opening es)
+unfolding known
+All_known P opening es all = All-take P opening.limit (distinct (mentions opening es)) (All-distinct P (mentions opening es) all)
+
+mentions-nil : (opening : OpeningData) → mentions opening [] ≡ opening.seeds
+unfolding mentions
+mentions-nil opening = append-nil opening.seeds
+
+-- the links of a page found, once its place is reached
+links_reachable : (opening : OpeningData) (table : OutcomeTable) (n : ℕ) (page : PageData) → IsTold opening.scope page.place (table page.place) (Some (Found n page)) → IsReachable opening.scope opening.seeds table page.place → All (IsReachable opening.scope opening.seeds table) (filter (allows opening.scope) page.links)
+links_reachable opening table n page told reached =
+    All-filter (allows opening.scope) (IsReachable opening.scope opening.seeds table) page.links
+    (All_from_among (IsReachable opening.scope opening.seeds table) page.links
+    (λ p among.
+    let same : links_after opening.scope page.place (table page.place) ≡ page.links =
+    ap (links_after opening.scope page.place) told.1 ∙ ap (λ (q : PageData). q.links) (sym told.2) in
+    link reached (ap (λ ps. is_among ps p) same ∙ among)))
+
+mentions_reachable : (opening : OpeningData) (events : List EventData) (table : OutcomeTable) → IsLegal (Opened opening ∷ events) → Agrees opening events table → (k : ℕ) → k ≤ length events → All (IsReachable opening.scope opening.seeds table) (mentions opening (take k events))
+mentions_reachable opening events table legal agrees zero h =
+    let P : PlaceData → Type 0 = IsReachable opening.scope opening.seeds table in
+    subst (All P) (sym (mentions-nil opening)) (All_from_among P opening.seeds (λ p among. seed among))
+mentions_reachable opening events table legal agrees (suc k) h =
+    let P : PlaceData → Type 0 = IsReachable opening.scope opening.seeds table in
+    let before = mentions_reachable opening events table legal agrees k (omega arith) in
+    let next = take_next events k (omega arith) in
+    subst (λ es. All P (mentions opening es)) (sym next.2)
+    (subst (All P) (sym (mentions_push opening (take k events) next.0))
+    (All-append P (mentions opening (take k events)) (mentioned opening next.0) before (new next.0 next.1 before)))
+  where
+    new : (e : EventData) → slice_get events k ≡ Some e → All (IsReachable opening.scope opening.seeds table) (mentions opening (take k events)) → All (IsReachable opening.scope opening.seeds table) (mentioned opening e)
+    new (Opened other) at' before = All-nil (IsReachable opening.scope opening.seeds table)
+    new (Claimed m) at' before = All-nil (IsReachable opening.scope opening.seeds table)
+    new (Found m page) at' before =
+        let P : PlaceData → Type 0 = IsReachable opening.scope opening.seeds table in
+        let reached : P page.place = All_at P (known opening (take k events)) m page.place (All_known P opening (take k events) before) (find_place opening events legal k m page at') in
+        links_reachable opening table m page (find_told opening events table legal agrees k m page at') reached
+    new (Failed m why) at' before = All-nil (IsReachable opening.scope opening.seeds table)
+
+known_reached : (opening : OpeningData) (events : List EventData) (table : OutcomeTable) → IsLegal (Opened opening ∷ events) → Agrees opening events table → (p : PlaceData) → is_among (known opening events) p ≡ true → IsReachable opening.scope opening.seeds table p
+known_reached opening events table legal agrees p among =
+    let P : PlaceData → Type 0 = IsReachable opening.scope opening.seeds table in
+    let all : All P (mentions opening (take (length events) events)) = mentions_reachable opening events table legal agrees (length events) (omega arith) in
+    let all' : All P (mentions opening events) = subst (λ es. All P (mentions opening es)) (take_all (length events) events (omega arith)) all in
+    let at' = at_from_among (known opening events) p among in
+    All_at P (known opening events) at'.0 p (All_known P opening events all') at'.1
+
+-- ---- a complete record
+
+-- nothing waits, nothing is out, and nothing was dropped
+record Ended (opening : OpeningData) (events : List EventData) : Type 0 where
+  none_waiting : waiting opening events ≡ []
+  none_out : out opening events ≡ []
+  none_dropped : dropped opening events ≡ 0
+
+ended : (opening : OpeningData) (events : List EventData) → IsComplete (Opened opening ∷ events) → Ended opening events
+unfolding status_of
+ended opening events complete =
+    let parts = and_parts (eqb (length (waiting opening events)) 0) (eqb (length (out opening events)) 0) complete.is_finished in
+    record {
+      none_waiting = nil_from_length (waiting opening events) (eqb-true (length (waiting opening events)) 0 parts.0);
+      none_out = nil_from_length (out opening events) (eqb-true (length (out opening events)) 0 parts.1);
+      none_dropped = complete.none_dropped;
+    }
+
+range_none : (p : ℕ → Bool) (a len n : ℕ) → filter p (range_with_len a len) ≡ [] → a ≤ n → n < a + len → p n ≡ true → ⊥
+range_none p a zero n h l u t = omega arith
+range_none p a (suc len) n h l u t =
+    elim (cases_Bool (p a)) as (λ q. ⊥) [
+      | inl passes ↦ let e : a ∷ filter p (range_with_len (a + 1) len) ≡ [] = rw passes at h in cc
+      | inr misses ↦
+          let rest : filter p (range_with_len (a + 1) len) ≡ [] = rw misses at h in
+          elim (cases_eq a n) as (λ q. ⊥) [
+            | inl same ↦ false≢true (sym misses ∙ ap p same ∙ t)
+            | inr other ↦ range_none p (a + 1) len n rest (omega arith) (omega arith) t
+          ]
+    ]
+
+each_done : (opening : OpeningData) (events : List EventData) → IsLegal (Opened opening ∷ events) → Ended opening events → (n : ℕ) → n < length (known opening events) → Done opening events n
+each_done opening events legal end n within =
+    elim (state opening events legal n) as (λ q. Done opening events n) [
+      | inl s ↦ elim s as (λ q. Done opening events n) [
+        | inl waits ↦ absurd (omega (arith, waits.once, ap (times n) end.none_waiting, times-nil n))
+        | inr out' ↦
+            absurd (range_none (is_out events) 0 (length (known opening events)) n (sym (out_is opening events) ∙ end.none_out) (omega arith) (omega arith) out'.is_out)
+      ]
+      | inr s ↦ elim s as (λ q. Done opening events n) [ inl done' ↦ done' | inr unknown ↦ absurd (omega (arith, unknown.is_unknown)) ]
+    ]
+
+-- ---- what can be reached is known
+
+-- a known place whose outcome is bytes was found, with the page of these bytes
+found_at : (opening : OpeningData) (events : List EventData) (table : OutcomeTable) → IsLegal (Opened opening ∷ events) → Agrees opening events table → Ended opening events → (place : PlaceData) (bytes : List ℕ) → is_among (known opening events) place ≡ true → table place ≡ Some (Fetched bytes) → (k : ℕ) × (n : ℕ) × (slice_get events k ≡ Some (Found n (page_of opening.scope place bytes)))
+found_at opening events table legal agrees end place bytes among fetched =
+    let at' = at_from_among (known opening events) place among in
+    let n : ℕ = at'.0 in
+    let done' = each_done opening events legal end n (slice_get_within (known opening events) n place at'.1) in
+    cases n done' (last_outcome events n) refl (agrees n place at'.1)
+  where
+    cases : (n : ℕ) → Done opening events n → (last : Option EventData) → last_outcome events n ≡ last → IsTold opening.scope place (table place) (last_outcome events n) → (k : ℕ) × (m : ℕ) × (slice_get events k ≡ Some (Found m (page_of opening.scope place bytes)))
+    cases n done' None e told =
+        let none = last_outcome_none n events e in
+        absurd (elim done'.found_or_failed as (λ q. ⊥) [ inl found ↦ omega (arith, none.0) | inr failed ↦ omega (arith, none.1, failed.1, legal.0.some_try) ])
+    cases n done' (Some (Opened other)) e told = absurd (false≢true (last_outcome_at n events (Opened other) e).2)
+    cases n done' (Some (Claimed m)) e told = absurd (false≢true (last_outcome_at n events (Claimed m) e).2)
+    cases n done' (Some (Found m page)) e told =
+        let told' : IsTold opening.scope place (table place) (Some (Found m page)) = subst (IsTold opening.scope place (table place)) e told in
+        let where' = last_outcome_at n events (Found m page) e in
+        let same : Fetched told'.0 ≡ Fetched bytes = let both = told'.1 in cc in
+        let page_is : page ≡ page_of opening.scope place bytes = told'.2 ∙ ap (page_of opening.scope place) (cc) in
+        (where'.0, m, where'.1 ∙ ap (λ q. Some (Found m q)) page_is)
+    cases n done' (Some (Failed m why)) e told =
+        let told' : table place ≡ Some (Unfetched why) = subst (IsTold opening.scope place (table place)) e told in
+        cc
+
+reached_known : (opening : OpeningData) (events : List EventData) (table : OutcomeTable) → IsLegal (Opened opening ∷ events) → Agrees opening events table → Ended opening events → (p : PlaceData) → IsReachable opening.scope opening.seeds table p → is_among (known opening events) p ≡ true
+unfolding mentions
+reached_known opening events table legal agrees end p (seed among) =
+    all_known opening events p end.none_dropped
+    (list_any-append (same_place p) opening.seeds (flat_map (mentioned opening) events) ∙ or_left (is_among opening.seeds p) (is_among (flat_map (mentioned opening) events) p) among)
+reached_known opening events table legal agrees end p (link {place} reached among) =
+    cases (reached_known opening events table legal agrees end place reached) (table place) refl
+  where
+    cases : is_among (known opening events) place ≡ true → (outcome : Option OutcomeData) → table place ≡ outcome → is_among (known opening events) p ≡ true
+    cases ih None e = absurd (false≢true (ap (λ o. is_among (links_after opening.scope place o) p) (sym e) ∙ among))
+    cases ih (Some (Unfetched why)) e = absurd (false≢true (ap (λ o. is_among (links_after opening.scope place o) p) (sym e) ∙ among))
+    cases ih (Some (Fetched bytes)) e =
+        let page : PageData = page_of opening.scope place bytes in
+        let found = found_at opening events table legal agrees end place bytes ih e in
+        let among' : is_among page.links p ≡ true = ap (λ o. is_among (links_after opening.scope place o) p) (sym e) ∙ among in
+        let at' = at_from_among page.links p among' in
+        let allowed : allows opening.scope p ≡ true = All_at (IsAllowed opening.scope) page.links at'.0 p (page_of-allowed opening.scope place bytes) at'.1 in
+        let mention = mentions_at opening events found.0 found.1 page p found.2 (among_filter_from (allows opening.scope) page.links p among' allowed) in
+        all_known opening events p end.none_dropped
+        (list_any-append (same_place p) opening.seeds (flat_map (mentioned opening) events) ∙ or_right (is_among opening.seeds p) (is_among (flat_map (mentioned opening) events) p) mention)
+
+-- ---- the law
+
+pub holds_reach : (opening : OpeningData) (events : List EventData) (table : OutcomeTable) → IsLegal (Opened opening ∷ events) → IsComplete (Opened opening ∷ events) → Agrees opening events table → HoldsReach opening events table
+holds_reach opening events table legal complete agrees =
+    let end = ended opening events complete in
+    record {
+      known_reachable = λ p. (known_reached opening events table legal agrees p, reached_known opening events table legal agrees end p);
+      reachable_allowed = λ p reached.
+          let at' = at_from_among (known opening events) p (reached_known opening events table legal agrees end p reached) in
+          All_at (IsAllowed opening.scope) (known opening events) at'.0 p (known-allowed opening events legal) at'.1;
+      all_done = done_is opening events ∙ filter_range_every (is_done opening events) 0 (length (known opening events)) (λ n l u. (each_done opening events legal end n (omega arith)).is_done);
+      pages_reached = λ page. (
+        λ held.
+            let at' = at_from_contains (pages_found events) page held in
+            let found = page_found_at events at'.0 page at'.1 in
+            let told = find_told opening events table legal agrees found.0 found.1 page found.2 in
+            let stays = known_stays opening events found.0 found.1 page.place (find_place opening events legal found.0 found.1 page found.2) in
+            record {
+              place = page.place;
+              bytes = told.0;
+              is_reachable = known_reached opening events table legal agrees page.place (among_at (known opening events) found.1 page.place stays);
+              is_fetched = told.1;
+              is_page = told.2;
+            },
+        λ reached.
+            let found = found_at opening events table legal agrees end reached.place reached.bytes (reached_known opening events table legal agrees end reached.place reached.is_reachable) reached.is_fetched in
+            let at' = at_from_found events found.0 found.1 (page_of opening.scope reached.place reached.bytes) found.2 in
+            contains_at (pages_found events) at'.0 page (at'.1 ∙ ap Some (sym reached.is_page)),
+      );
+    }

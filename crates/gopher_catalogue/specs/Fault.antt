@@ -1,0 +1,26 @@
+-- The numbers of the faults of the catalogue, and which fault a refused call has.
+use Rattle.std.specs.Prelude.{◌≡◌, ℕ, Option, None, Some}
+use Rattle.gopher_catalogue.specs.declared.fault.OpenFault.{OpenFault}
+use Rattle.gopher_catalogue.specs.declared.fault.OpenFault.TheVariants.{SeedOutOfScope, BadPlaces, BadTries, NoMemory}
+use Rattle.gopher_catalogue.specs.declared.fault.FoundFault.{FoundFault}
+use Rattle.gopher_catalogue.specs.declared.fault.FoundFault.TheVariants.{NotOut, WrongPlace, NoMemory as NoMemoryFound}
+
+abbrev pub open_fault_code : OpenFault → ℕ
+open_fault_code (SeedOutOfScope index) = 50
+open_fault_code BadPlaces = 51
+open_fault_code BadTries = 54
+open_fault_code NoMemory = 90
+
+abbrev pub found_fault_code : FoundFault → ℕ
+found_fault_code NotOut = 52
+found_fault_code WrongPlace = 53
+found_fault_code NoMemoryFound = 90
+
+-- the fault answered is the one that the arguments have, and want of memory where they have none
+abbrev pub IsOpenFault : Option OpenFault → OpenFault → Type 0
+IsOpenFault (Some fault) answered = answered ≡ fault
+IsOpenFault None answered = answered ≡ NoMemory
+
+abbrev pub IsFoundFault : Option FoundFault → FoundFault → Type 0
+IsFoundFault (Some fault) answered = answered ≡ fault
+IsFoundFault None answered = answered ≡ NoMemoryFound

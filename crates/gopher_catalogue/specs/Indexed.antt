@@ -1,0 +1,31 @@
+-- What the catalogue keeps beside its record says what the record says.
+use Rattle.std.specs.Prelude.{◌≡◌, ℕ, ◌+◌, ◌*◌, ◌^◌, ◌<◌, ◌≤◌, List, ◌∷◌, length, map}
+use Rattle.std.specs.List.{range_with_len}
+use Rattle.gopher_catalogue.specs.declared.known.Standing.{Standing}
+use Rattle.gopher_catalogue.specs.Event.{OpeningData, EventData, Opened}
+use Rattle.gopher_catalogue.specs.Frontier.{known, dropped, waiting, out, done, claims, is_out}
+use Rattle.gopher_catalogue.specs.Legal.{IsLegal}
+use Rattle.gopher_catalogue.specs.Tables.{FrontierData, HistoryData}
+
+-- how a number stands after these events
+abbrev pub standing_of : List EventData → ℕ → Standing
+standing_of events number = record { claims = claims events number; is_out = is_out events number }
+
+-- the frontier is that of the record; no page has more than 1,048,576 mentions
+pub record Tells (opening : OpeningData) (events : List EventData) (frontier : FrontierData) : Type 0 where
+  pub places_is : frontier.places ≡ known opening events
+  pub standings_is : frontier.standings ≡ map (standing_of events) (range_with_len 0 (length (known opening events)))
+  pub waiting_is : frontier.waiting ≡ waiting opening events
+  pub out_is : frontier.out ≡ length (out opening events)
+  pub done_is : frontier.done ≡ length (done opening events)
+  pub dropped_is : frontier.dropped ≡ dropped opening events
+  pub few_dropped : frontier.dropped ≤ length opening.seeds + 1048576 * length events
+
+-- the record is legal, the frontier is its frontier, and there is room for each outcome that is due,
+-- in the record and in the queue
+pub record IsIndexed (history : HistoryData) (frontier : FrontierData) : Type 0 where
+  pub legal : IsLegal (Opened history.opening ∷ history.later)
+  pub tells : Tells history.opening history.later frontier
+  pub record_room : frontier.out ≤ history.room
+  pub queue_room : frontier.out ≤ frontier.room
+  pub few_seeds : length history.opening.seeds < 2 ^ 63

@@ -1,0 +1,74 @@
+-- What holds of every legal record. Each law is the contract of a function of `laws`.
+use Rattle.std.specs.Prelude.{◌≡◌, ℕ, ◌+◌, ◌≤◌, ◌&&◌, List, ◌∷◌, length, take, filter, Some, slice_get, ◌==◌, nat_lt}
+use Rattle.std.specs.List.{All, range_with_len}
+use Rattle.gopher_item.specs.Place.{PlaceData}
+use Rattle.gopher_scope.specs.Scope.{IsAllowed}
+use Rattle.gopher_catalogue.specs.Event.{OpeningData, EventData, Opened, Claimed}
+use Rattle.gopher_catalogue.specs.Frontier.{known, claims, finds, failures, waiting, out, done}
+use Rattle.gopher_catalogue.specs.Legal.{IsLegal}
+
+-- ---- places
+
+-- the scope allows each known place
+abbrev pub KnownPlacesAreAllowed : Type 0
+KnownPlacesAreAllowed = (opening : OpeningData) (events : List EventData) → IsLegal (Opened opening ∷ events) → All (IsAllowed opening.scope) (known opening events)
+
+-- no place has two numbers
+abbrev pub KnownPlacesAreDistinct : Type 0
+KnownPlacesAreDistinct = (opening : OpeningData) (events : List EventData) (i j : ℕ) (place : PlaceData) → slice_get (known opening events) i ≡ Some place → slice_get (known opening events) j ≡ Some place → i ≡ j
+
+-- ---- claims
+
+-- how many outcomes a number had
+abbrev pub outcomes : List EventData → ℕ → ℕ
+outcomes events number = finds events number + failures events number
+
+-- no place is out twice at once: each claim but the last has its outcome, and no claim has two
+abbrev pub NoPlaceIsOutTwice : Type 0
+NoPlaceIsOutTwice =
+    (opening : OpeningData) (events : List EventData) (number : ℕ) → IsLegal (Opened opening ∷ events) → (claims events number ≤ outcomes events number + 1) × (outcomes events number ≤ claims events number)
+
+-- when a place is claimed, it was not found before
+abbrev pub NoClaimAfterAFind : Type 0
+NoClaimAfterAFind =
+    (opening : OpeningData) (events : List EventData) (k number : ℕ) → IsLegal (Opened opening ∷ events) → slice_get events k ≡ Some (Claimed number) → finds (take k events) number ≡ 0
+
+-- no place is found twice, and none is claimed more often than its tries
+abbrev pub NoMoreClaimsThanTries : Type 0
+NoMoreClaimsThanTries =
+    (opening : OpeningData) (events : List EventData) (number : ℕ) → IsLegal (Opened opening ∷ events) → (finds events number ≤ 1) × (claims events number ≤ opening.tries)
+
+-- each known place waits, is out or is done, and no two of these
+abbrev pub EachKnownPlaceHasOneState : Type 0
+EachKnownPlaceHasOneState =
+    (opening : OpeningData) (events : List EventData) → IsLegal (Opened opening ∷ events) → length (known opening events) ≡ length (waiting opening events) + length (out opening events) + length (done opening events)
+
+-- ---- one try
+
+-- with one try no place is claimed twice
+abbrev pub OneTryIsOneClaim : Type 0
+OneTryIsOneClaim = (opening : OpeningData) (events : List EventData) (number : ℕ) → IsLegal (Opened opening ∷ events) → opening.tries ≡ 1 → claims events number ≤ 1
+
+-- the numbers of the known places, in order
+abbrev pub numbers : OpeningData → List EventData → List ℕ
+numbers opening events = range_with_len 0 (length (known opening events))
+
+-- the states with one try: what waits was never claimed, what is out was claimed and has no outcome,
+-- and what is done was found or failed
+pub record HasSimpleStates (opening : OpeningData) (events : List EventData) : Type 0 where
+  pub waiting_is : waiting opening events ≡ filter (λ number. claims events number == 0) (numbers opening events)
+  pub out_is : out opening events ≡ filter (λ number. nat_lt 0 (claims events number) && (outcomes events number == 0)) (numbers opening events)
+  pub done_is : done opening events ≡ filter (λ number. nat_lt 0 (outcomes events number)) (numbers opening events)
+
+abbrev pub OneTryHasSimpleStates : Type 0
+OneTryHasSimpleStates = (opening : OpeningData) (events : List EventData) → IsLegal (Opened opening ∷ events) → opening.tries ≡ 1 → HasSimpleStates opening events
+
+-- ---- the record
+
+-- a beginning of a legal record, with its opening, is legal
+abbrev pub BeginningsAreLegal : Type 0
+BeginningsAreLegal = (record_ : List EventData) (n : ℕ) → IsLegal record_ → 1 ≤ n → IsLegal (take n record_)
+
+-- a legal record has at most 655,361 events
+abbrev pub RecordsAreShort : Type 0
+RecordsAreShort = (record_ : List EventData) → IsLegal record_ → length record_ ≤ 655361

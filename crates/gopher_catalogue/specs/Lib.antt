@@ -1,0 +1,12 @@
+pub mod Event
+pub mod EventOf
+pub mod Fault
+pub mod Frontier
+pub mod Legal
+pub mod Step
+pub mod Turn
+pub mod Tables
+pub mod Indexed
+pub mod Laws
+pub mod Pages
+pub mod Closure

@@ -1,0 +1,97 @@
+-- The sequential catalogue: what each call answers on a record, and the record that it leaves, where
+-- memory is ample.
+use Rattle.std.specs.Prelude.{ℕ, ◌-◌, Bool, false, ◌&&◌, not, List, [], ◌∷◌, ◌++◌, length, Option, None, Some, slice_get, position, ◌==◌, nat_lt, nat_le, if◌then◌else◌}
+use Rattle.std.specs.Option.{option_map, option_and_then, option_map_or}
+use Rattle.gopher_item.specs.Place.{PlaceData, same_place}
+use Rattle.gopher_scope.specs.Scope.{ScopeData, allows}
+use Rattle.gopher_page.specs.Page.{PageData}
+use Rattle.gopher_catalogue.specs.declared.fault.OpenFault.{OpenFault}
+use Rattle.gopher_catalogue.specs.declared.fault.OpenFault.TheVariants.{SeedOutOfScope, BadPlaces, BadTries}
+use Rattle.gopher_catalogue.specs.declared.fault.FoundFault.{FoundFault}
+use Rattle.gopher_catalogue.specs.declared.fault.FoundFault.TheVariants.{NotOut, WrongPlace}
+use Rattle.gopher_catalogue.specs.declared.answer.Added.{Added}
+use Rattle.gopher_catalogue.specs.declared.answer.Status.{Status}
+use Rattle.gopher_catalogue.specs.Event.{OpeningData, EventData, Opened, Claimed, Found}
+use Rattle.gopher_catalogue.specs.Frontier.{known, dropped, waiting, out, done, is_out}
+
+-- ---- open
+
+-- the first fault of what a crawl is to begin with, if there is one
+abbrev pub open_fault : ScopeData → List PlaceData → ℕ → ℕ → Option OpenFault
+open_fault scope seeds limit tries =
+    option_map_or (λ index. Some (SeedOutOfScope index)) (position (λ seed. not (allows scope seed)) seeds)
+    (if not (nat_le 1 limit && nat_le limit 65536) then Some BadPlaces else (if not (nat_le 1 tries && nat_le tries 5) then Some BadTries else None))
+
+-- the record of a crawl that begins
+abbrev pub opened_record : ScopeData → List PlaceData → ℕ → ℕ → List EventData
+opened_record scope seeds limit tries = Opened (record { scope = scope; seeds = seeds; limit = limit; tries = tries }) ∷ []
+
+-- ---- claim
+
+-- what a claim answers, as data
+pub data TurnData : Type 0 where
+  Take : (number : ℕ) (place : PlaceData) → TurnData
+  Idle : TurnData
+  Finished : TurnData
+
+-- the first number that waits, and its place
+abbrev pub next_claim : OpeningData → List EventData → Option (ℕ × PlaceData)
+next_claim opening events =
+    option_and_then (λ number. option_map (λ place. (number, place)) (slice_get (known opening events) number)) (slice_get (waiting opening events) 0)
+
+unfoldable pub turn_of : List EventData → TurnData
+turn_of (Opened opening ∷ events) =
+    option_map_or (λ claim. Take claim.0 claim.1) (next_claim opening events) (if length (out opening events) == 0 then Finished else Idle)
+turn_of events = Finished
+
+abbrev pub after_turn : List EventData → TurnData → List EventData
+after_turn events (Take number place) = events ++ Claimed number ∷ []
+after_turn events turn = events
+
+-- ---- found
+
+-- whether the number is of a known place that is out
+unfoldable pub is_out_in : List EventData → ℕ → Bool
+is_out_in (Opened opening ∷ events) number = nat_lt number (length (known opening events)) && is_out events number
+is_out_in events number = false
+
+-- whether the place is that of the number
+unfoldable pub is_place_in : List EventData → ℕ → PlaceData → Bool
+is_place_in (Opened opening ∷ events) number place = option_map_or (λ other. same_place other place) (slice_get (known opening events) number) false
+is_place_in events number place = false
+
+abbrev pub found_fault : List EventData → ℕ → PlaceData → Option FoundFault
+found_fault events number place =
+    if not (is_out_in events number) then Some NotOut else (if not (is_place_in events number place) then Some WrongPlace else None)
+
+-- how many places a page adds to the known ones, and how many of its mentions are dropped
+unfoldable pub added_by : List EventData → ℕ → PageData → Added
+added_by (Opened opening ∷ events) number page =
+    let after = events ++ Found number page ∷ [] in
+    record {
+      fresh = length (known opening after) - length (known opening events);
+      dropped = dropped opening after - dropped opening events;
+    }
+added_by events number page = record { fresh = 0; dropped = 0 }
+
+-- ---- status
+
+unfoldable pub status_of : List EventData → Status
+status_of (Opened opening ∷ events) =
+    record {
+      known = length (known opening events);
+      waiting = length (waiting opening events);
+      out = length (out opening events);
+      done = length (done opening events);
+      dropped = dropped opening events;
+    }
+status_of events = record { known = 0; waiting = 0; out = 0; done = 0; dropped = 0 }
+
+-- nothing waits and nothing is out
+abbrev pub is_finished : List EventData → Bool
+is_finished events = ((status_of events).waiting == 0) && ((status_of events).out == 0)
+
+-- the known places, each at its number
+unfoldable pub places_of : List EventData → List PlaceData
+places_of (Opened opening ∷ events) = known opening events
+places_of events = []

@@ -1,0 +1,210 @@
+ghost use Rattle.std.specs.Prelude.{◌≤◌, length};
+
+use super::*;
+use gopher_item::Place;
+use gopher_page::Page;
+use gopher_scope::{Rule, Scope};
+use std::alloc::Global;
+use std::process::Abort;
+use std::test::Fail;
+
+const ROOT: &[u8] = b"";
+
+fn directory(alloc: Global, selector: &[u8]) -> Result<Place, Fail> {
+    Ok(Place::new(alloc, b'1', selector, b"h", 70)?)
+}
+
+// The scope of all places of the host `h` at port 70.
+fn scope(alloc: Global) -> Result<Scope, Fail> {
+    let mut allow = Vec::new(alloc);
+    allow.push(Rule::new(alloc, b"h", 70, b"")?)?;
+    Ok(Scope::new(allow, Vec::new(alloc)))
+}
+
+// The page of a directory.
+fn page(alloc: Global, selector: &[u8], menu: &[u8]) -> Result<Page, Fail>
+    requires { length menu.now ≤ 1048576 }
+{
+    let place = directory(alloc, selector)?;
+    Ok(Page::of(alloc, &scope(alloc)?, &place, menu)?)
+}
+
+// A crawl from the root and one more directory.
+fn crawl(alloc: Global, more: &[u8], places: u32, tries: u32) -> Result<Catalogue, Fail> {
+    let mut seeds = Vec::new(alloc);
+    seeds.push(directory(alloc, ROOT)?)?;
+    seeds.push(directory(alloc, more)?)?;
+    Ok(Catalogue::open(alloc, scope(alloc)?, seeds, places, tries)?)
+}
+
+fn takes(
+    rt: &impl Abort,
+    catalogue: &mut Catalogue,
+    number: u32,
+    selector: &[u8],
+) -> Result<(), Fail> {
+    match catalogue.claim()? {
+        Turn::Take(claim) => {
+            assert_eq!(rt; claim.number, number);
+            assert_eq!(rt; claim.place.selector(), selector);
+        }
+        _ => panic!(rt; "no place is due"),
+    }
+    Ok(())
+}
+
+fn ends(rt: &impl Abort, catalogue: &mut Catalogue) -> Result<(), Fail> {
+    assert!(rt; matches!(catalogue.claim()?, Turn::Finished));
+    assert!(rt; catalogue.is_finished());
+    Ok(())
+}
+
+fn adds(
+    rt: &impl Abort,
+    catalogue: &mut Catalogue,
+    number: u32,
+    page: Page,
+    added: Added,
+) -> Result<(), Fail> {
+    assert_eq!(rt; catalogue.found(number, page)?, added);
+    Ok(())
+}
+
+fn fails(catalogue: &mut Catalogue, number: u32, why: Why) -> Result<(), Fail> {
+    Ok(catalogue.fail(number, why)?)
+}
+
+fn refuses(rt: &impl Abort, catalogue: &mut Catalogue, number: u32, page: Page, code: u8) {
+    match catalogue.found(number, page) {
+        Ok(_) => panic!(rt; "found"),
+        Err(refused) => assert_eq!(rt; refused.fault.code(), code),
+    }
+}
+
+fn sizes(rt: &impl Abort, catalogue: &Catalogue, numbers: [u32; 4], dropped: u64) {
+    let [known, waiting, out, done] = numbers;
+    let status = Status {
+        known,
+        waiting,
+        out,
+        done,
+        dropped,
+    };
+    assert_eq!(rt; catalogue.status(), status);
+}
+
+#[test]
+fn first_crawl(rt: HostRuntime) -> Result<(), Fail> {
+    let mut catalogue = crawl(rt.alloc(), ROOT, 10, 1)?;
+    takes(&rt, &mut catalogue, 0, ROOT)?;
+    let docs = page(rt.alloc(), ROOT, b"1Docs\t/docs\th\t70\r\n.\r\n")?;
+    adds(
+        &rt,
+        &mut catalogue,
+        0,
+        docs,
+        Added {
+            fresh: 1,
+            dropped: 0,
+        },
+    )?;
+    takes(&rt, &mut catalogue, 1, b"/docs")?;
+    fails(&mut catalogue, 1, Why::Connect)?;
+    ends(&rt, &mut catalogue)?;
+    sizes(&rt, &catalogue, [2, 0, 0, 2], 0);
+    Ok(())
+}
+
+#[test]
+fn place_limit(rt: HostRuntime) -> Result<(), Fail> {
+    let mut catalogue = crawl(rt.alloc(), ROOT, 2, 1)?;
+    takes(&rt, &mut catalogue, 0, ROOT)?;
+    let menu = b"1A\t/a\th\t70\r\n1B\t/b\th\t70\r\n1C\t/c\th\t70\r\n1A once more\t/a\th\t70\r\n";
+    let three = page(rt.alloc(), ROOT, menu)?;
+    adds(
+        &rt,
+        &mut catalogue,
+        0,
+        three,
+        Added {
+            fresh: 1,
+            dropped: 2,
+        },
+    )?;
+    sizes(&rt, &catalogue, [2, 1, 0, 1], 2);
+    takes(&rt, &mut catalogue, 1, b"/a")?;
+    let again = page(rt.alloc(), b"/a", b"1B\t/b\th\t70\r\n")?;
+    adds(
+        &rt,
+        &mut catalogue,
+        1,
+        again,
+        Added {
+            fresh: 0,
+            dropped: 1,
+        },
+    )?;
+    sizes(&rt, &catalogue, [2, 0, 0, 2], 3);
+    ends(&rt, &mut catalogue)
+}
+
+#[test]
+fn two_tries(rt: HostRuntime) -> Result<(), Fail> {
+    let mut catalogue = crawl(rt.alloc(), b"/b", 5, 2)?;
+    takes(&rt, &mut catalogue, 0, ROOT)?;
+    fails(&mut catalogue, 0, Why::Connect)?;
+    sizes(&rt, &catalogue, [2, 2, 0, 0], 0);
+    takes(&rt, &mut catalogue, 1, b"/b")?;
+    takes(&rt, &mut catalogue, 0, ROOT)?;
+    sizes(&rt, &catalogue, [2, 0, 2, 0], 0);
+    fails(&mut catalogue, 0, Why::Read)?;
+    let empty = page(rt.alloc(), b"/b", b"")?;
+    adds(
+        &rt,
+        &mut catalogue,
+        1,
+        empty,
+        Added {
+            fresh: 0,
+            dropped: 0,
+        },
+    )?;
+    sizes(&rt, &catalogue, [2, 0, 0, 2], 0);
+    ends(&rt, &mut catalogue)
+}
+
+#[test]
+fn the_record(rt: HostRuntime) -> Result<(), Fail> {
+    let catalogue = crawl(rt.alloc(), b"/b", 1, 1)?;
+    assert_eq!(rt; catalogue.record().len(), 1);
+    assert_eq!(rt; catalogue.places().len(), 1);
+    assert_eq!(rt; catalogue.opening().seeds().len(), 2);
+    sizes(&rt, &catalogue, [1, 1, 0, 0], 1);
+    Ok(())
+}
+
+#[test]
+fn pages_refused(rt: HostRuntime) -> Result<(), Fail> {
+    let mut catalogue = crawl(rt.alloc(), ROOT, 1, 1)?;
+    takes(&rt, &mut catalogue, 0, ROOT)?;
+    refuses(&rt, &mut catalogue, 0, page(rt.alloc(), b"/a", b"")?, 53);
+    refuses(&rt, &mut catalogue, 1, page(rt.alloc(), b"/a", b"")?, 52);
+    assert!(rt; catalogue.fail(1, Why::TooLong).is_err());
+    sizes(&rt, &catalogue, [1, 0, 1, 0], 0);
+    Ok(())
+}
+
+#[test]
+fn beginnings_refused(rt: HostRuntime) -> Result<(), Fail> {
+    let mut seeds = Vec::new(rt.alloc());
+    seeds.push(directory(rt.alloc(), ROOT)?)?;
+    let nothing = Scope::new(Vec::new(rt.alloc()), Vec::new(rt.alloc()));
+    match Catalogue::open(rt.alloc(), nothing, seeds, 0, 1) {
+        Ok(_) => panic!(&rt; "opened"),
+        Err(refused) => {
+            assert_eq!(rt; refused.fault, OpenFault::SeedOutOfScope(0));
+            assert_eq!(rt; refused.seeds.len(), 1);
+        }
+    }
+    Ok(())
+}

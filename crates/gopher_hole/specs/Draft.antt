@@ -1,0 +1,10 @@
+-- What a script states before its crawl begins.
+use Rattle.std.specs.Prelude.{List}
+use Rattle.gopher_item.specs.Place.{PlaceData}
+use Rattle.gopher_scope.specs.Rule.{RuleData}
+
+-- the rules and the seeds so far
+pub record DraftData : Type 0 where
+  pub allow : List RuleData
+  pub deny : List RuleData
+  pub seeds : List PlaceData

@@ -1,0 +1,22 @@
+//! A crawl replayed from a script, and the program.
+//!
+//! The program rests on one promise: what `replay` writes is the output of the script.
+#![tactic(auto)]
+
+mod answer;
+mod command;
+mod crawl;
+mod draft;
+mod fault;
+mod fields;
+mod program;
+mod replaying;
+mod script;
+mod stage;
+
+pub use fault::ReplayFault;
+pub use program::run;
+pub use replaying::replay;
+
+#[cfg(test)]
+mod tests;

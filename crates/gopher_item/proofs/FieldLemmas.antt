@@ -1,0 +1,61 @@
+-- The fields of a line that holds no LF, no CR and no NUL hold no special byte.
+use Rattle.std.proofs.Common.{◌≡◌, ℕ, ◌-◌, ◌<◌, Bool, true, false, ◌&&◌, ◌||◌, not, eqb, cond, List, [], ◌∷◌, length, get_or, take, drop, refl, sym, ap, ◌∙◌, arith}
+use Rattle.std.specs.List.{list_any, list_all, slice_split, onto_first}
+use Rattle.std.proofs.lemmas.List.Splits.{slice_split-cons_yes, slice_split-cons_no}
+use Rattle.std.proofs.lemmas.List.{take_all}
+use Rattle.gopher_item.specs.Bytes.{is_special, has_special}
+use Rattle.gopher_item.specs.Menu.{fields_of}
+
+abbrev is_plain : List ℕ → Bool
+is_plain field = not (has_special field)
+
+plain_onto : (b : ℕ) (parts : List (List ℕ)) → is_special b ≡ false → list_all is_plain parts ≡ true → list_all is_plain (onto_first b parts) ≡ true
+plain_onto b [] plain rest = rw plain refl
+plain_onto b (part ∷ parts) plain rest = rw plain rest
+
+not_special : (b : ℕ) → eqb b 9 ≡ false → eqb b 10 ≡ false → (eqb b 13 || eqb b 0) ≡ false → is_special b ≡ false
+not_special b tab feed other = by (eqb b 13) (eqb b 0) other
+  where
+    by : (r n : Bool) → (r || n) ≡ false → (((eqb b 9 || eqb b 10) || r) || n) ≡ false
+    by true n h = absurd cc
+    by false n h = rw (tab, feed) h
+
+first_of_none : (s t : Bool) → (s || t) ≡ false → (s ≡ false) × (t ≡ false)
+first_of_none true t h = absurd cc
+first_of_none false t h = (refl, h)
+
+pub plain_fields : (line : List ℕ) → list_any (λ b. eqb b 10) line ≡ false → list_any (λ b. eqb b 13 || eqb b 0) line ≡ false → list_all is_plain (fields_of line) ≡ true
+plain_fields [] feed other = refl
+plain_fields (b ∷ bs) feed other = by (eqb b 9) refl (first_of_none _ _ feed) (first_of_none _ _ other)
+    (λ f o. plain_fields bs f o)
+  where
+    by : (t : Bool) → eqb b 9 ≡ t → (eqb b 10 ≡ false) × (list_any (λ b. eqb b 10) bs ≡ false) → ((eqb b 13 || eqb b 0) ≡ false) × (list_any (λ b. eqb b 13 || eqb b 0) bs ≡ false)
+        → (list_any (λ b. eqb b 10) bs ≡ false → list_any (λ b. eqb b 13 || eqb b 0) bs ≡ false → list_all is_plain (fields_of bs) ≡ true)
+        → list_all is_plain (fields_of (b ∷ bs)) ≡ true
+    by true e f o rest = ap (list_all is_plain) (slice_split-cons_yes (λ b. eqb b 9) b bs e) ∙ rest f.1 o.1
+    by false e f o rest = ap (list_all is_plain) (slice_split-cons_no (λ b. eqb b 9) b bs e) ∙ plain_onto b (fields_of bs) (not_special b e f.0 o.0) (rest f.1 o.1)
+
+plain_is : (field : List ℕ) (rest : Bool) → (is_plain field && rest) ≡ true → (has_special field ≡ false) × (rest ≡ true)
+plain_is field rest h = by (has_special field) refl h
+  where
+    by : (t : Bool) → has_special field ≡ t → (not t && rest) ≡ true → (t ≡ false) × (rest ≡ true)
+    by true e h = absurd cc
+    by false e h = (refl, h)
+
+-- the first three of at least four fields
+pub plain_three : (fields : List (List ℕ)) (a b c d : List ℕ) (more : List (List ℕ)) → fields ≡ a ∷ b ∷ c ∷ d ∷ more → list_all is_plain fields ≡ true
+    → (has_special a ≡ false) × (has_special b ≡ false) × (has_special c ≡ false)
+plain_three fields a b c d more e h =
+    let first = plain_is a _ (sym (ap (list_all is_plain) e) ∙ h) in
+    let second = plain_is b _ first.1 in
+    let third = plain_is c _ second.1 in
+    (first.0, second.0, third.0)
+
+-- the head and the tail of a field
+pub plain_parts : (field : List ℕ) → 0 < length field → has_special field ≡ false
+    → (is_special (get_or field 0 0) ≡ false) × (has_special (take (length field - 1) (drop 1 field)) ≡ false)
+plain_parts [] some h = absurd (omega arith)
+plain_parts (b ∷ bs) some h =
+    let parts = first_of_none _ _ h in
+    let whole : take (length (b ∷ bs) - 1) bs ≡ bs = take_all _ bs (omega arith) in
+    (parts.0, ap has_special whole ∙ parts.1)

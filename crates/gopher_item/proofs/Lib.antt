@@ -1,0 +1,7 @@
+pub mod Splits
+pub mod PlaceLemmas
+pub mod MenuLines
+pub mod Trims
+pub mod FieldLemmas
+pub mod MenuLemmas
+pub mod ReadBack

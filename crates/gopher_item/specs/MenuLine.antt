@@ -1,0 +1,54 @@
+-- One item of a menu: what RFC 1436, section 2 and its appendix call a DirEntity.
+use Rattle.std.specs.Prelude.{◌≡◌, ℕ, ◌+◌, ◌^◌, ◌<◌, ◌≤◌, Bool, false, ◌||◌, not, List, [], ◌∷◌, ◌++◌, length, drop, reverse, Option, None, Some, is_some, ◌==◌, if◌then◌else◌}
+use Rattle.std.specs.List.{flat_map}
+use Rattle.std.specs.Fmt.{decimal}
+use Rattle.gopher_item.specs.Bytes.{is_special, is_control, has_special}
+use Rattle.gopher_item.specs.Place.{PlaceData, is_host, is_selector, place_fault, place_of}
+use Rattle.gopher_item.specs.declared.fault.ItemFault.{ItemFault}
+use Rattle.gopher_item.specs.declared.fault.ItemFault.TheVariants.{BadSelector, BadHost, BadDisplay, BadType}
+
+-- a menu line as data
+pub record MenuLineData : Type 0 where
+  pub kind : ℕ
+  pub display : List ℕ
+  pub selector : List ℕ
+  pub host : List ℕ
+  pub port : ℕ
+
+-- the bytes without the spaces (32) at their front, and at both their ends
+abbrev pub trim_front : List ℕ → List ℕ
+trim_front [] = []
+trim_front (byte ∷ bytes) = if byte == 32 then trim_front bytes else byte ∷ bytes
+
+abbrev pub trim_spaces : List ℕ → List ℕ
+trim_spaces bytes = reverse (trim_front (reverse (trim_front bytes)))
+
+-- what every menu line is, read or made: no field holds a special byte, and the host has no space at its ends
+pub record IsMenuLine (line : MenuLineData) : Type 0 where
+  pub kind : is_special line.kind ≡ false
+  pub display : has_special line.display ≡ false
+  pub selector : has_special line.selector ≡ false
+  pub host : has_special line.host ≡ false
+  pub host_trimmed : trim_spaces line.host ≡ line.host
+  pub port : line.port < 2 ^ 16
+
+-- the bytes of a menu line: type, display, TAB, selector, TAB, host, TAB, port, CR LF
+abbrev pub menu_line_bytes : MenuLineData → List ℕ
+menu_line_bytes line = line.kind ∷ line.display ++ 9 ∷ line.selector ++ 9 ∷ line.host ++ 9 ∷ decimal line.port ++ 13 ∷ 10 ∷ []
+
+-- the bytes of a menu: its lines, and a period alone
+abbrev pub menu_bytes : List MenuLineData → List ℕ
+menu_bytes lines = flat_map menu_line_bytes lines ++ 46 ∷ 13 ∷ 10 ∷ []
+
+-- the first fault of the parts of a line that is made, if there is one; a port of 0 is none
+abbrev pub menu_line_fault : ℕ → List ℕ → List ℕ → List ℕ → Option ItemFault
+menu_line_fault kind display selector host =
+    if not (is_selector selector) then Some BadSelector else
+    (if not (is_host host) then Some BadHost else
+    (if has_special display then Some BadDisplay else
+    (if is_control kind || (kind == 32) || (kind == 46) then Some BadType else None)))
+
+-- the place that a menu line names, where it names one
+abbrev pub place_named : MenuLineData → Option PlaceData
+place_named line =
+    if is_some (place_fault line.kind line.selector line.host line.port) then None else Some (place_of line.kind line.selector line.host line.port)

@@ -1,0 +1,82 @@
+-- A place: one file or directory of one Gopher server.
+use Rattle.std.specs.Prelude.{◌≡◌, ℕ, ◌+◌, Bool, List, [], ◌∷◌, length, map, filter, nat_eq, Option, None, Some, ◌==◌, ◌||◌, ◌&&◌, not, nat_lt, nat_le, if◌then◌else◌}
+use Rattle.std.specs.List.{list_any}
+use Rattle.std.specs.Ordering.{nat_cmp, on, then_cmp, eq_by_cmp}
+use Rattle.std.specs.declared.cmp.Ordering.{Ordering}
+use Rattle.std.specs.Cmp.{IsEquivalence, IsTotalOrder, both_tied, unsigned_ties}
+use Rattle.std.specs.Cmp.Rules.{comparing}
+use Rattle.std.proofs.Common.{rules}
+use Rattle.std.specs.Cmp.Lexicographic.{pointwise, slice_cmp, texts_ties}
+use Rattle.gopher_item.specs.Bytes.{has_special, is_control}
+use Rattle.gopher_item.specs.declared.fault.ItemFault.{ItemFault}
+use Rattle.gopher_item.specs.declared.fault.ItemFault.TheVariants.{BadKind, BadSelector, BadHost, BadPort}
+
+-- a place as data, its fields in the order in which places are sorted
+pub record PlaceData : Type 0 where
+  pub host : List ℕ
+  pub port : ℕ
+  pub selector : List ℕ
+  pub kind : ℕ
+
+-- a server's own address as data
+pub record HomeData : Type 0 where
+  pub host : List ℕ
+  pub port : ℕ
+
+-- a file (`0`) or a directory (`1`)
+abbrev pub is_place_kind : ℕ → Bool
+is_place_kind kind = (kind == 48) || (kind == 49)
+
+-- a selector: at most 255 bytes, none of them special
+abbrev pub is_selector : List ℕ → Bool
+is_selector selector = nat_le (length selector) 255 && not (has_special selector)
+
+-- a host: 1 to 255 bytes, none of them a space or a control byte
+abbrev pub is_host : List ℕ → Bool
+is_host host = nat_lt 0 (length host) && nat_le (length host) 255 && not (list_any (λ byte. (byte == 32) || is_control byte) host)
+
+-- an ASCII letter in lower case, and any other byte as it is
+abbrev pub lower_case : ℕ → ℕ
+lower_case byte = if nat_le 65 byte && nat_le byte 90 then byte + 32 else byte
+
+-- the first fault of the parts of a server's address, if there is one
+abbrev pub address_fault : List ℕ → ℕ → Option ItemFault
+address_fault host port = if not (is_host host) then Some BadHost else (if port == 0 then Some BadPort else None)
+
+-- the first fault of the parts of a place, if there is one
+abbrev pub place_fault : ℕ → List ℕ → List ℕ → ℕ → Option ItemFault
+place_fault kind selector host port =
+    if not (is_place_kind kind) then Some BadKind else (if not (is_selector selector) then Some BadSelector else address_fault host port)
+
+-- the place of these parts: its host in lower case
+abbrev pub place_of : ℕ → List ℕ → List ℕ → ℕ → PlaceData
+place_of kind selector host port = record { host = map lower_case host; port = port; selector = selector; kind = kind }
+
+-- whether two places have the same parts
+abbrev pub same_place : PlaceData → PlaceData → Bool
+same_place a b = pointwise nat_eq a.host b.host && (a.port == b.port) && pointwise nat_eq a.selector b.selector && (a.kind == b.kind)
+
+-- whether the place is among these
+abbrev pub is_among : List PlaceData → PlaceData → Bool
+is_among places place = list_any (same_place place) places
+
+-- the places, each once, in the order of first mention
+abbrev pub distinct : List PlaceData → List PlaceData
+distinct [] = []
+distinct (place ∷ places) = place ∷ filter (λ other. not (same_place place other)) (distinct places)
+
+pub same_place_equiv : IsEquivalence same_place
+same_place_equiv = search (comparing, rules)
+
+-- place order: by the host's bytes, the port as a number, the selector's bytes, the type
+abbrev pub place_cmp : PlaceData → PlaceData → Ordering
+place_cmp = then_cmp (then_cmp (then_cmp (on (λ p. p.host) (slice_cmp nat_cmp)) (on (λ p. p.port) nat_cmp)) (on (λ p. p.selector) (slice_cmp nat_cmp))) (on (λ p. p.kind) nat_cmp)
+
+pub place_cmp_total : IsTotalOrder place_cmp
+place_cmp_total = search (comparing, rules)
+
+-- places are the same exactly where their order ties
+pub same_place_ties : (a b : PlaceData) → same_place a b ≡ eq_by_cmp place_cmp a b
+same_place_ties a b =
+    let host_port = both_tied _ _ _ _ (texts_ties a.host b.host) (unsigned_ties a.port b.port) in
+    both_tied _ _ _ _ (both_tied _ _ _ _ host_port (texts_ties a.selector b.selector)) (unsigned_ties a.kind b.kind)

@@ -1,0 +1,103 @@
+//! Why an item was refused.
+
+ghost use Rattle.std.specs.Prelude.{◌≡◌};
+ghost use Rattle.gopher_item.specs.Fault.{item_fault_code, request_fault_code};
+
+use std::alloc::{AllocError, AllocFailed};
+use thiserror::Error;
+
+/// Memory was refused.
+#[derive(Clone, Copy, Debug, PartialEq, Eq, Error)]
+#[error("no memory")]
+pub struct NoMemory;
+
+impl NoMemory {
+    /// The number of this fault, 90.
+    pub fn code(self) -> u8
+        ensures { result ≡ 90 }
+    {
+        90
+    }
+}
+
+impl From<AllocError> for NoMemory {
+    fn from(_refused: AllocError) -> NoMemory {
+        NoMemory
+    }
+}
+
+impl<T: Drop> From<AllocFailed<T>> for NoMemory {
+    fn from(_refused: AllocFailed<T>) -> NoMemory {
+        NoMemory
+    }
+}
+
+/// What is wrong with the parts of an item.
+#[derive(Clone, Copy, Debug, PartialEq, Eq, Error)]
+pub enum ItemFault {
+    /// 1: the type of a place is neither `0` nor `1`.
+    #[error("the type of a place is neither 0 nor 1")]
+    BadKind,
+    /// 2: a selector or prefix is over 255 bytes, or holds a TAB, CR, LF or NUL.
+    #[error("the selector is too long or holds a special byte")]
+    BadSelector,
+    /// 3: a host is empty, over 255 bytes, or holds a space or a control byte.
+    #[error("the host is empty, too long, or holds a space or a control byte")]
+    BadHost,
+    /// 4: a port is 0.
+    #[error("the port is 0")]
+    BadPort,
+    /// 5: a display string holds a TAB, CR, LF or NUL.
+    #[error("the display string holds a special byte")]
+    BadDisplay,
+    /// 6: the type of a menu line is a control byte, a space or a period.
+    #[error("the type is a control byte, a space or a period")]
+    BadType,
+    /// 90: memory was refused.
+    #[error("no memory")]
+    NoMemory,
+}
+
+impl ItemFault {
+    /// The number of the fault: 1 to 6, or 90.
+    pub fn code(self) -> u8
+        ensures { result ≡ item_fault_code self }
+    {
+        match self {
+            ItemFault::BadKind => 1,
+            ItemFault::BadSelector => 2,
+            ItemFault::BadHost => 3,
+            ItemFault::BadPort => 4,
+            ItemFault::BadDisplay => 5,
+            ItemFault::BadType => 6,
+            ItemFault::NoMemory => 90,
+        }
+    }
+}
+
+/// Why a request was refused.
+#[derive(Clone, Copy, Debug, PartialEq, Eq, Error)]
+pub enum RequestFault {
+    /// 2: the selector is over 255 bytes, or holds a CR, LF or NUL.
+    #[error("the selector is too long or holds a special byte")]
+    BadSelector,
+    /// 7: the line is over 1,024 bytes.
+    #[error("the line is too long")]
+    LineTooLong,
+    /// 90: memory was refused.
+    #[error("no memory")]
+    NoMemory,
+}
+
+impl RequestFault {
+    /// The number of the fault: 2, 7 or 90.
+    pub fn code(self) -> u8
+        ensures { result ≡ request_fault_code self }
+    {
+        match self {
+            RequestFault::BadSelector => 2,
+            RequestFault::LineTooLong => 7,
+            RequestFault::NoMemory => 90,
+        }
+    }
+}

@@ -1,0 +1,33 @@
+//! The items of Gopher (RFC 1436): places, the lines of a menu, and whole menus, read from bytes.
+//!
+//! The crates above rest on one promise: menus are read by the grammar, and a place is what its
+//! refusals say.
+#![tactic(auto)]
+
+mod byte_string;
+mod bytes;
+mod fault;
+mod home;
+mod item;
+mod line;
+mod menu;
+mod menu_line;
+mod number;
+mod place;
+mod request;
+mod split;
+mod trim;
+mod writing;
+
+pub use byte_string::ByteString;
+pub use bytes::{is_host, is_selector};
+pub use fault::{ItemFault, NoMemory, RequestFault};
+pub use home::Home;
+pub use line::{first_line, lines};
+pub use menu::{Entry, Menu, read_menu};
+pub use menu_line::MenuLine;
+pub use number::read_number;
+pub use place::{Place, address_fault};
+pub use request::{Request, read_request};
+pub use split::split_once;
+pub use writing::write_menu;

@@ -1,0 +1,50 @@
+//! The lines of bytes.
+
+ghost use Rattle.std.specs.Prelude.{◌≡◌, ◌<◌, ◌==◌, false, [], ◌∷◌, ◌++◌, length, map, IfOk, IfSome, MatchOption};
+ghost use Rattle.std.specs.List.{list_any};
+ghost use Rattle.std.specs.Str.Lines.{strip_carriage_return};
+ghost use Rattle.gopher_item.specs.Lines.{lines_of};
+
+use crate::fault::NoMemory;
+use crate::split::split_once;
+use std::alloc::Global;
+
+/// The first line of the bytes and the bytes after its end, or `None` where there are no bytes.
+///
+/// A line ends in LF, and one CR directly before the LF belongs to the end; a last line without LF
+/// is a line as it stands. Takes no memory.
+pub fn first_line(bytes: &[u8]) -> Option<(&[u8], &[u8])>
+    ensures line { MatchOption result (bytes.now ≡ []) (λ parts. lines_of bytes.now ≡ parts.0.now ∷ lines_of parts.1.now) }
+    ensures no_feed { IfSome result (λ parts. list_any (λ byte. byte == 10) parts.0.now ≡ false) }
+    ensures shorter { IfSome result (λ parts. length parts.1.now < length bytes.now) }
+{
+    if bytes.is_empty() {
+        return None;
+    }
+    match split_once(b'\n', bytes) {
+        Some((line, rest)) => Some((without_carriage_return(line), rest)),
+        None => Some((bytes, &[])),
+    }
+}
+
+fn without_carriage_return(line: &[u8]) -> &[u8]
+    ensures { result.now ≡ strip_carriage_return line.now }
+{
+    match line {
+        [front @ .., b'\r'] => front,
+        _ => line,
+    }
+}
+
+/// The lines of the bytes. Refused only where memory is (90).
+pub fn lines(alloc: Global, bytes: &[u8]) -> Result<Vec<&[u8]>, NoMemory>
+    ensures { IfOk result (λ found. map (λ line. line.now) found.items ≡ lines_of bytes.now) }
+{
+    let mut found = Vec::new(alloc);
+    let mut rest = bytes;
+    while let Some((line, after)) = first_line(rest) {
+        found.push(line)?;
+        rest = after;
+    }
+    Ok(found)
+}

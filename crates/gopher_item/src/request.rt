@@ -1,0 +1,54 @@
+//! Requests: what a client sends.
+
+ghost use Rattle.std.specs.Prelude.{◌≡◌};
+ghost use Rattle.gopher_item.specs.Request.{ReadsRequest};
+
+use crate::byte_string::ByteString;
+use crate::bytes::is_selector;
+use crate::fault::RequestFault;
+use crate::item::field;
+use std::alloc::Global;
+
+/// A request (RFC 1436, sections 2 and 3.7).
+#[derive(Debug, Drop)]
+pub struct Request {
+    /// What is asked for; empty for the top menu.
+    pub selector: ByteString,
+    /// What is searched for, where the line has a TAB.
+    pub search: Option<ByteString>,
+}
+
+/// Reads a request line, given without its end.
+///
+/// The selector is what stands before the first TAB, the search string what stands between the first
+/// and the second TAB or the end; the rest, as Gopher+ sends it, is ignored. Refused, in this order:
+/// `LineTooLong` (7) where the line is over 1,024 bytes; `BadSelector` (2) where the selector is over
+/// 255 bytes or holds a CR, LF or NUL; `NoMemory` (90).
+pub fn read_request(alloc: Global, line: &[u8]) -> Result<Request, RequestFault>
+    ensures { ReadsRequest line.now result }
+{
+    if line.len() > 1024 {
+        return Err(RequestFault::LineTooLong);
+    }
+    let (selector, rest) = field(line);
+    if !is_selector(selector) {
+        return Err(RequestFault::BadSelector);
+    }
+    let Ok(selector) = ByteString::from_slice(alloc, selector) else {
+        return Err(RequestFault::NoMemory);
+    };
+    let Some(rest) = rest else {
+        return Ok(Request {
+            selector,
+            search: None,
+        });
+    };
+    let (search, _) = field(rest);
+    let Ok(search) = ByteString::from_slice(alloc, search) else {
+        return Err(RequestFault::NoMemory);
+    };
+    Ok(Request {
+        selector,
+        search: Some(search),
+    })
+}

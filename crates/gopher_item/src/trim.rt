@@ -1,0 +1,31 @@
+//! Spaces at the ends of a field.
+
+ghost use Rattle.std.specs.Prelude.{◌≡◌, reverse};
+ghost use Rattle.gopher_item.specs.MenuLine.{trim_front, trim_spaces};
+
+/// The bytes without the spaces (32 alone) at both their ends. Takes no memory.
+pub fn trim_spaces(bytes: &[u8]) -> &[u8]
+    ensures { result.now ≡ trim_spaces bytes.now }
+{
+    trim_back(trim_front(bytes))
+}
+
+fn trim_front(bytes: &[u8]) -> &[u8]
+    ensures { result.now ≡ trim_front bytes.now }
+{
+    let mut rest = bytes;
+    while let [b' ', after @ ..] = rest {
+        rest = after;
+    }
+    rest
+}
+
+fn trim_back(bytes: &[u8]) -> &[u8]
+    ensures { result.now ≡ reverse (trim_front (reverse bytes.now)) }
+{
+    let mut rest = bytes;
+    while let [before @ .., b' '] = rest {
+        rest = before;
+    }
+    rest
+}

@@ -1,0 +1,64 @@
+-- Arrays and tables of TOML as lists, and the first answer of a list.
+use Rattle.std.proofs.Common.{◌≡◌, ℕ, zero, suc, ◌+◌, ◌<◌, Bool, not, ◌||◌, List, [], ◌∷◌, length, nat_le, if◌then◌else◌, map, drop, get_or, Option, Some, None, String, Global, string_bytes, refl, ap, sym, subst, arith}
+use Rattle.std.specs.List.{list_any}
+use Rattle.std.specs.Option.{option_or}
+use Rattle.std.specs.Map.{keys_of}
+use Rattle.std.proofs.lemmas.List.{at_drop_more, length-map}
+use Rattle.toml.specs.Data.{Data, Members, as_array, as_table}
+use Rattle.toml.specs.View.{view, items_of, items_view, members_view}
+use Rattle.toml.specs.declared.value.Value.{Value}
+use Rattle.gopher_scope.specs.Reading.{elements, first_of, has_unknown, array_problem, element_problem, table_problem, values_read}
+use Rattle.gopher_scope.specs.declared.settings.form.Element.{Element}
+use Rattle.gopher_scope.specs.declared.settings.problem.Problem.TheVariants.{OutOfRange}
+
+-- the elements of a list as items are the list
+pub elements-items_of : (values : List Data) → elements (items_of values) ≡ values
+elements-items_of [] = refl
+elements-items_of (value ∷ values) = ap (λ more. value ∷ more) (elements-items_of values)
+
+-- whether a table has an unknown key is whether one of its map's keys is unknown
+pub has_unknown-view : (is_known : List ℕ → Bool) (entries : List (String Global × Value)) → has_unknown is_known (members_view entries) ≡ list_any (λ name. not (is_known (string_bytes name))) (keys_of entries)
+has_unknown-view is_known [] = refl
+has_unknown-view is_known (entry ∷ entries) = ap (λ more. not (is_known (string_bytes entry.0)) || more) (has_unknown-view is_known entries)
+
+-- the first answer from an index on
+pub first_of-drop : {A B : Type 0} (answer : A → Option B) (xs : List A) (i : ℕ) (x : A) → i < length xs → first_of answer (drop i xs) ≡ option_or (answer (get_or xs i x)) (first_of answer (drop (i + 1) xs))
+first_of-drop answer xs i x inside = at_drop_more (first_of answer) xs i x inside
+
+-- no answer from a first part and from the rest
+pub option_or-none : {A : Type 0} (a b : Option A) → option_or a b ≡ None → (a ≡ None) × (b ≡ None)
+option_or-none None b none = (refl, none)
+option_or-none (Some x) b none = absurd (cc)
+
+-- a test of the values of a list is a test of what they are seen as
+pub list_any-view : (test : Data → Bool) (values : List Value) → list_any test (map view values) ≡ list_any (λ value. test (view value)) values
+list_any-view test [] = refl
+list_any-view test (value ∷ values) = ap (λ more. test (view value) || more) (list_any-view test values)
+
+-- the first answer for the values from an index on
+pub first_of_view-drop : {B : Type 0} (answer : Data → Option B) (values : List Value) (i : ℕ) (value : Value) → i < length values → first_of answer (map view (drop i values)) ≡ option_or (answer (view (get_or values i value))) (first_of answer (map view (drop (i + 1) values)))
+first_of_view-drop answer values i value inside = at_drop_more (λ rest. first_of answer (map view rest)) values i value inside
+
+-- what is wrong with an array, by the values of its vector
+pub array_problem-view : (element : Element) (values : List Value) → array_problem element (Some (items_view values)) ≡ (if nat_le (length values) 256 then first_of (element_problem element) (map view values) else Some OutOfRange)
+array_problem-view element values = rw (elements-items_of (map view values), length-map)
+
+-- where no answer comes for the values, none comes at any index
+first_of_view-none : {B : Type 0} (answer : Data → Option B) (values : List Value) (i : ℕ) (value : Value) → first_of answer (map view values) ≡ None → i < length values → answer (view (get_or values i value)) ≡ None
+first_of_view-none answer [] i value none inside = absurd (omega arith)
+first_of_view-none answer (first ∷ values) zero value none inside =
+    (option_or-none (answer (view first)) (first_of answer (map view values)) none).0
+first_of_view-none answer (first ∷ values) (suc i) value none inside =
+    first_of_view-none answer values i value (option_or-none (answer (view first)) (first_of answer (map view values)) none).1 (omega arith)
+
+-- where nothing is wrong with the values, nothing is with a table among them
+pub table_problem-none : (element : Element) (values : List Value) (i : ℕ) (value : Value) (table : Members) → first_of (element_problem element) (map view values) ≡ None → i < length values → value ≡ get_or values i value → Some table ≡ as_table (view value) → table_problem element (Some table) ≡ None
+table_problem-none element values i value table none inside found seen =
+    let at_value : Value → Type 0 = λ v. element_problem element (view v) ≡ None in
+    let at_table : Option Members → Type 0 = λ t. table_problem element t ≡ None in
+    subst at_table (sym seen) (subst at_value (sym found) (first_of_view-none (element_problem element) values i value none inside))
+
+-- the elements of an array that was found
+pub values_read-array : (found : Option Data) (value : Data) (values : List Value) → Some value ≡ found → Some (items_view values) ≡ as_array value → map view values ≡ values_read found
+values_read-array found value values is_there is_array =
+    rw (← is_there, ← is_array) (sym (elements-items_of (map view values)))

@@ -1,0 +1,117 @@
+-- What is wrong with the value at a key, if anything is, and what it is read as.
+use Rattle.std.specs.Prelude.{ℕ, ℤ, pos, negsuc, Bool, false, ◌&&◌, ◌||◌, not, List, [], ◌∷◌, length, Option, None, Some, is_some, unwrap_or, nat_eq, nat_le, if◌then◌else◌}
+use Rattle.std.specs.List.{list_any}
+use Rattle.std.specs.Option.{option_or, option_map_or}
+use Rattle.std.specs.Cmp.Lexicographic.{pointwise}
+use Rattle.toml.specs.Data.{Data, Items, no_items, item, Members, no_members, member, get_member, as_integer, as_str, as_array, as_table}
+use Rattle.gopher_scope.specs.Rows.{fields_of, field_name, field_scalar, absent_text, is_in_range}
+use Rattle.gopher_scope.specs.declared.settings.field.Field.{Field}
+use Rattle.gopher_scope.specs.declared.settings.form.Form.{Form}
+use Rattle.gopher_scope.specs.declared.settings.form.Form.TheVariants.{Scalar as One, Tables}
+use Rattle.gopher_scope.specs.declared.settings.form.Element.{Element}
+use Rattle.gopher_scope.specs.declared.settings.form.Scalar.{Scalar}
+use Rattle.gopher_scope.specs.declared.settings.form.Scalar.TheVariants.{Integer, Text}
+use Rattle.gopher_scope.specs.declared.settings.text.TextKind.{TextKind}
+use Rattle.gopher_scope.specs.declared.settings.problem.Problem.{Problem}
+use Rattle.gopher_scope.specs.declared.settings.problem.Problem.TheVariants.{Missing, WrongKind, OutOfRange}
+
+-- the first answer, if there is one
+abbrev pub first_of : {A B : Type 0} → (A → Option B) → List A → Option B
+first_of answer [] = None
+first_of answer (x ∷ xs) = option_or (answer x) (first_of answer xs)
+
+-- an integer from 1 to `most` is wanted
+abbrev pub integer_problem : ℕ → Option ℤ → Option Problem
+integer_problem most None = Some WrongKind
+integer_problem most (Some (pos number)) = if nat_le 1 number && nat_le number most then None else Some OutOfRange
+integer_problem most (Some (negsuc number)) = Some OutOfRange
+
+-- a text of this kind is wanted
+abbrev pub text_problem : TextKind → Option (List ℕ) → Option Problem
+text_problem kind None = Some WrongKind
+text_problem kind (Some text) = if is_in_range kind text then None else Some OutOfRange
+
+-- what is wrong with what stands at a key, where an integer or a text is wanted
+abbrev pub scalar_problem : Scalar → Option Data → Option Problem
+scalar_problem (Integer absent most) None = None
+scalar_problem (Integer absent most) (Some value) = integer_problem most (as_integer value)
+scalar_problem (Text kind) None = if is_some (absent_text kind) then None else Some Missing
+scalar_problem (Text kind) (Some value) = text_problem kind (as_str value)
+
+abbrev pub elements : Items → List Data
+elements no_items = []
+elements (item value more) = value ∷ elements more
+
+abbrev pub field_value : Members → Field → Option Data
+field_value table field = get_member (field_name field) table
+
+abbrev pub field_problem : Members → Field → Option Problem
+field_problem table field = scalar_problem (field_scalar field) (field_value table field)
+
+-- an element that is no table is of the wrong kind; otherwise its keys are checked in their order
+abbrev pub table_problem : Element → Option Members → Option Problem
+table_problem element None = Some WrongKind
+table_problem element (Some table) = first_of (field_problem table) (fields_of element)
+
+abbrev pub element_problem : Element → Data → Option Problem
+element_problem element value = table_problem element (as_table value)
+
+-- an array of at most 256 tables is wanted
+abbrev pub array_problem : Element → Option Items → Option Problem
+array_problem element None = Some WrongKind
+array_problem element (Some items) =
+    if nat_le (length (elements items)) 256 then first_of (element_problem element) (elements items) else Some OutOfRange
+
+abbrev pub tables_problem : Element → Option Data → Option Problem
+tables_problem element None = None
+tables_problem element (Some value) = array_problem element (as_array value)
+
+-- what is wrong with what stands at a key, if anything is
+abbrev pub form_problem : Form → Option Data → Option Problem
+form_problem (One scalar) value = scalar_problem scalar value
+form_problem (Tables element) value = tables_problem element value
+
+-- whether the table has a key that isn't known
+abbrev pub has_unknown : (List ℕ → Bool) → Members → Bool
+has_unknown is_known no_members = false
+has_unknown is_known (member name value more) = not (is_known name) || has_unknown is_known more
+
+unfoldable pub is_field_name : Element → List ℕ → Bool
+is_field_name element name = list_any (λ field. pointwise nat_eq (field_name field) name) (fields_of element)
+
+-- whether an element of an array is a table that has an unknown key
+abbrev pub element_has_unknown : Element → Data → Bool
+element_has_unknown element value = option_map_or (has_unknown (is_field_name element)) (as_table value) false
+
+-- whether an array has such an element
+abbrev pub array_has_unknown : Element → Option Items → Bool
+array_has_unknown element None = false
+array_has_unknown element (Some items) = list_any (element_has_unknown element) (elements items)
+
+abbrev pub form_has_unknown : Form → Option Data → Bool
+form_has_unknown (One scalar) value = false
+form_has_unknown (Tables element) None = false
+form_has_unknown (Tables element) (Some value) = array_has_unknown element (as_array value)
+
+-- the number that an integer is; below 0 it is none
+abbrev pub number_read : Option ℤ → ℕ
+number_read None = 0
+number_read (Some (pos number)) = number
+number_read (Some (negsuc number)) = 0
+
+-- what is read where an integer is wanted and nothing is wrong
+abbrev pub integer_read : Scalar → Option Data → ℕ
+integer_read (Integer absent most) None = absent
+integer_read (Integer absent most) (Some value) = number_read (as_integer value)
+integer_read (Text kind) value = 0
+
+-- what is read where a text is wanted and nothing is wrong
+abbrev pub text_read : Scalar → Option Data → List ℕ
+text_read (Integer absent most) value = []
+text_read (Text kind) None = unwrap_or (absent_text kind) []
+text_read (Text kind) (Some value) = unwrap_or (as_str value) []
+
+-- the elements that are read where an array is wanted and nothing is wrong
+abbrev pub values_read : Option Data → List Data
+values_read None = []
+values_read (Some value) = option_map_or elements (as_array value) []

@@ -1,0 +1,137 @@
+-- Settings, and how they are read.
+use Rattle.std.specs.Prelude.{◌≡◌, ℕ, Bool, ◌||◌, List, [], map, Option, None, Some, Result, Ok, Err, nat_eq, codes, string_bytes, if◌then◌else◌}
+use Rattle.std.specs.List.{list_any, filter_map}
+use Rattle.std.specs.Option.{option_map}
+use Rattle.std.specs.Cmp.Lexicographic.{pointwise}
+use Rattle.toml.specs.Data.{Data, Members, get_member, as_table}
+use Rattle.gopher_item.specs.Place.{PlaceData, HomeData, place_of}
+use Rattle.gopher_scope.specs.Rule.{RuleData, rule_of}
+use Rattle.gopher_scope.specs.Scope.{ScopeData}
+use Rattle.gopher_scope.specs.Rows.{all_keys, key_name, key_form, field_scalar}
+use Rattle.gopher_scope.specs.Reading.{first_of, form_problem, field_value, has_unknown, form_has_unknown, integer_read, text_read, values_read}
+use Rattle.gopher_scope.specs.declared.fault.SettingsFault.{SettingsFault}
+use Rattle.gopher_scope.specs.declared.fault.SettingsFault.TheVariants as fault
+use Rattle.gopher_scope.specs.declared.settings.Settings.{Settings}
+use Rattle.gopher_scope.specs.declared.settings.key.Key.{Key}
+use Rattle.gopher_scope.specs.declared.settings.key.Key.TheVariants as key
+use Rattle.gopher_scope.specs.declared.settings.field.Field.{Field}
+use Rattle.gopher_scope.specs.declared.settings.field.Field.TheVariants as field
+use Rattle.gopher_scope.specs.declared.settings.form.Form.{Form}
+use Rattle.gopher_scope.specs.declared.settings.form.Form.TheVariants.{Scalar as One, Tables}
+use Rattle.gopher_scope.specs.declared.settings.problem.Problem.{Problem}
+use Rattle.gopher_scope.specs.declared.settings.problem.Problem.TheVariants as problem
+
+-- settings as data
+pub record SettingsData : Type 0 where
+  pub home : HomeData
+  pub root : List ℕ
+  pub seeds : List PlaceData
+  pub scope : ScopeData
+  pub places : ℕ
+  pub workers : ℕ
+  pub threads : ℕ
+  pub tries : ℕ
+
+abbrev pub settings_data : Settings → SettingsData
+settings_data s = record { home = s.home; root = string_bytes s.root; seeds = s.seeds.items; scope = s.scope; places = s.places; workers = s.workers; threads = s.threads; tries = s.tries }
+
+abbrev pub settings_fault_code : SettingsFault → ℕ
+settings_fault_code fault.NotToml = 30
+settings_fault_code (fault.Missing key) = 31
+settings_fault_code (fault.WrongKind key) = 32
+settings_fault_code (fault.OutOfRange key) = 33
+settings_fault_code fault.UnknownKey = 34
+settings_fault_code fault.NoMemory = 90
+
+-- the fault that a problem at a key is
+abbrev pub fault_at : Key → Problem → SettingsFault
+fault_at key problem.Missing = fault.Missing key
+fault_at key problem.WrongKind = fault.WrongKind key
+fault_at key problem.OutOfRange = fault.OutOfRange key
+
+abbrev pub key_value : Members → Key → Option Data
+key_value table key = get_member (key_name key) table
+
+-- what is wrong at a key, if anything is; a fault inside an array is one of the array's key
+unfoldable pub key_fault : Members → Key → Option SettingsFault
+key_fault table key = option_map (fault_at key) (form_problem (key_form key) (key_value table key))
+
+unfoldable pub is_key_name : List ℕ → Bool
+is_key_name name = list_any (λ key. pointwise nat_eq (key_name key) name) all_keys
+
+-- whether a table that is an element of the key's array has a key that isn't named for it
+unfoldable pub key_has_unknown : Members → Key → Bool
+key_has_unknown table key = form_has_unknown (key_form key) (key_value table key)
+
+-- whether the table, or a table that is an element of one of its arrays, has a key that isn't named for it
+abbrev pub settings_have_unknown : Members → Bool
+settings_have_unknown table = has_unknown is_key_name table || list_any (key_has_unknown table) all_keys
+
+-- what is wrong with a table, if anything is: an unknown key anywhere, or else the first key in their order at which something is wrong
+abbrev pub settings_fault : Members → Option SettingsFault
+settings_fault table = if settings_have_unknown table then Some fault.UnknownKey else first_of (key_fault table) all_keys
+
+abbrev pub integer_in : Form → Option Data → ℕ
+integer_in (One scalar) value = integer_read scalar value
+integer_in (Tables element) value = 0
+
+abbrev pub text_in : Form → Option Data → List ℕ
+text_in (One scalar) value = text_read scalar value
+text_in (Tables element) value = []
+
+abbrev pub integer_at : Members → Key → ℕ
+integer_at table key = integer_in (key_form key) (key_value table key)
+
+abbrev pub text_at : Members → Key → List ℕ
+text_at table key = text_in (key_form key) (key_value table key)
+
+abbrev pub tables_at : Members → Key → List Members
+tables_at table key = filter_map as_table (values_read (key_value table key))
+
+abbrev pub field_integer : Members → Field → ℕ
+field_integer table field = integer_read (field_scalar field) (field_value table field)
+
+abbrev pub field_text : Members → Field → List ℕ
+field_text table field = text_read (field_scalar field) (field_value table field)
+
+-- the type of a place: `0` is a file (48), and `1` a directory (49)
+abbrev pub kind_read : List ℕ → ℕ
+kind_read text = if pointwise nat_eq text (codes "0") then 48 else 49
+
+-- the place that a table of `seeds` is read as
+abbrev pub seed_read : Members → PlaceData
+seed_read table =
+    place_of (kind_read (field_text table field.Kind)) (field_text table field.Selector) (field_text table field.Host) (field_integer table field.Port)
+
+-- the rule that a table of `allow` or `deny` is read as
+abbrev pub rule_read : Members → RuleData
+rule_read table = rule_of (field_text table field.Host) (field_integer table field.Port) (field_text table field.Prefix)
+
+-- what a table is read as where nothing is wrong with it
+abbrev pub settings_read : Members → SettingsData
+settings_read table = record {
+  home = record { host = text_at table key.Host; port = integer_at table key.Port };
+  root = text_at table key.Root;
+  seeds = map seed_read (tables_at table key.Seeds);
+  scope = record { allow = map rule_read (tables_at table key.Allow); deny = map rule_read (tables_at table key.Deny) };
+  places = integer_at table key.Places;
+  workers = integer_at table key.Workers;
+  threads = integer_at table key.Threads;
+  tries = integer_at table key.Tries;
+}
+
+-- the settings or the fault of a table
+abbrev pub read_or : Option SettingsFault → SettingsData → Result SettingsData SettingsFault
+read_or None settings = Ok settings
+read_or (Some found) settings = Err found
+
+-- what a text is read as, given the table that it is, if it is TOML
+abbrev pub settings_of : Option Members → Result SettingsData SettingsFault
+settings_of None = Err fault.NotToml
+settings_of (Some table) = read_or (settings_fault table) (settings_read table)
+
+-- what reading a table answers: the fault of the table, or the settings, unless memory was refused
+abbrev pub Answers : Option SettingsFault → SettingsData → Result Settings SettingsFault → Type 0
+Answers (Some found) settings result = result ≡ Err found
+Answers None settings (Ok made) = settings_data made ≡ settings
+Answers None settings (Err found) = found ≡ fault.NoMemory

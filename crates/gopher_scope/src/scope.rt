@@ -1,0 +1,56 @@
+//! Scopes, which say where a crawl may go.
+
+ghost use Rattle.std.specs.Prelude.{◌≡◌};
+ghost use Rattle.gopher_scope.specs.Rule.{RuleData};
+ghost use Rattle.gopher_scope.specs.Scope.{ScopeData, any_covers, allows};
+
+use crate::rule::Rule;
+use gopher_item::Place;
+use std::marker::Model;
+
+/// Which places a crawl may visit: those that an allow rule covers and no deny rule does.
+#[derive(Debug, Drop)]
+pub struct Scope {
+    allow: Vec<Rule>,
+    deny: Vec<Rule>,
+}
+
+impl Model for Scope {
+    ghost use Rattle.gopher_scope.specs.Scope.{ScopeData};
+
+    ghost Value = { ScopeData };
+
+    ghost view = { λ s. record { allow = s.allow.items; deny = s.deny.items } };
+}
+
+fn any_covers(rules: &[Rule], place: &Place) -> bool
+    ensures { result ≡ any_covers rules.now place.now }
+{
+    rules.iter().any(|rule| rule.covers(place))
+}
+
+impl Scope {
+    /// The scope of these rules. Takes no memory.
+    pub fn new(allow: Vec<Rule>, deny: Vec<Rule>) -> Scope
+        ensures allowing { result.allow ≡ allow.items }
+        ensures denying { result.deny ≡ deny.items }
+    {
+        Scope { allow, deny }
+    }
+
+    /// The allow rules and the deny rules, as they were given. Takes no memory.
+    pub fn into_rules(self) -> (Vec<Rule>, Vec<Rule>)
+        ensures allowing { result.0.items ≡ self.allow }
+        ensures denying { result.1.items ≡ self.deny }
+    {
+        (self.allow, self.deny)
+    }
+
+    /// Whether some allow rule covers the place and no deny rule does. Takes no memory.
+    #[tactic(auto, unfolding(crate::specs::Scope::allows))]
+    pub fn allows(&self, place: &Place) -> bool
+        ensures { result ≡ allows self.now place.now }
+    {
+        any_covers(&self.allow, place) && !any_covers(&self.deny, place)
+    }
+}

@@ -1,0 +1,148 @@
+//! Settings: how they are read.
+
+ghost use Rattle.std.specs.Prelude.{◌≡◌, ◌≢◌, map, Ok, Err, Some, None, IfOk, IfErr};
+ghost use Rattle.toml.specs.Parse.{parse_document};
+ghost use Rattle.toml.specs.View.{table_view};
+ghost use Rattle.gopher_scope.specs.Settings.{settings_data, settings_fault, settings_read, settings_of, integer_at, text_at, tables_at, seed_read, rule_read, Answers};
+
+mod check;
+mod field;
+mod form;
+mod integer;
+mod items;
+mod key;
+mod problem;
+mod scalar;
+mod tables;
+mod text;
+
+use crate::fault::SettingsFault;
+use crate::scope::Scope;
+use check::settings_fault;
+use form::Form;
+use gopher_item::{Home, ItemFault, NoMemory, Place};
+use items::{rules, seeds, values_at};
+pub use key::Key;
+use std::alloc::Global;
+use toml::Table;
+
+/// What a server and its crawl are to do.
+#[derive(Debug, Drop)]
+pub struct Settings {
+    /// The server's own host and port.
+    pub home: Home,
+    /// The folder that is served.
+    pub root: String,
+    /// The places at which the crawl starts, in the order of the text.
+    pub seeds: Vec<Place>,
+    /// Where the crawl may go.
+    pub scope: Scope,
+    /// How many places are known at most, from 1 to 65,536.
+    pub places: u32,
+    /// How many workers crawl, from 1 to 16.
+    pub workers: u32,
+    /// How many server threads answer, from 1 to 8.
+    pub threads: u32,
+    /// How often a place is claimed at most, from 1 to 5.
+    pub tries: u32,
+}
+
+fn text_at<'a>(table: &'a Table, key: Key) -> &'a str
+    ensures { result.now ≡ text_at (table_view table.now) key }
+{
+    match key.form() {
+        Form::Scalar(scalar) => scalar.text(table, key.name()),
+        Form::Tables(_) => "",
+    }
+}
+
+fn integer_at(table: &Table, key: Key) -> u32
+    requires { settings_fault (table_view table.now) ≡ None }
+    ensures { result ≡ integer_at (table_view table.now) key }
+{
+    match key.form() {
+        Form::Scalar(scalar) => scalar.integer(table, key.name()),
+        Form::Tables(_) => 0,
+    }
+}
+
+fn home(alloc: Global, table: &Table) -> Result<Home, NoMemory>
+    requires { settings_fault (table_view table.now) ≡ None }
+    ensures host { IfOk result (λ home. home.host ≡ text_at (table_view table.now) Key.Host) }
+    ensures port { IfOk result (λ home. home.port ≡ integer_at (table_view table.now) Key.Port) }
+{
+    let host = text_at(table, Key::Host).as_bytes();
+    match Home::new(alloc, host, integer_at(table, Key::Port) as u16) {
+        Ok(home) => Ok(home),
+        Err(fault) => match fault {
+            ItemFault::NoMemory => Err(NoMemory),
+            _ => unreachable!(),
+        },
+    }
+}
+
+fn seeds_at(alloc: Global, table: &Table) -> Result<Vec<Place>, NoMemory>
+    requires { settings_fault (table_view table.now) ≡ None }
+    ensures { IfOk result (λ seeds. seeds.items ≡ map seed_read (tables_at (table_view table.now) Key.Seeds)) }
+{
+    seeds(alloc, values_at(table, Key::Seeds.name()))
+}
+
+fn scope_at(alloc: Global, table: &Table) -> Result<Scope, NoMemory>
+    requires { settings_fault (table_view table.now) ≡ None }
+    ensures allow { IfOk result (λ scope. scope.allow ≡ map rule_read (tables_at (table_view table.now) Key.Allow)) }
+    ensures deny { IfOk result (λ scope. scope.deny ≡ map rule_read (tables_at (table_view table.now) Key.Deny)) }
+{
+    let allow = rules(alloc, values_at(table, Key::Allow.name()))?;
+    let deny = rules(alloc, values_at(table, Key::Deny.name()))?;
+    Ok(Scope::new(allow, deny))
+}
+
+fn settings_read(alloc: Global, table: &Table) -> Result<Settings, NoMemory>
+    requires { settings_fault (table_view table.now) ≡ None }
+    ensures { IfOk result (λ settings. settings_data settings ≡ settings_read (table_view table.now)) }
+{
+    Ok(Settings {
+        home: home(alloc, table)?,
+        root: String::from_str(alloc, text_at(table, Key::Root))?,
+        seeds: seeds_at(alloc, table)?,
+        scope: scope_at(alloc, table)?,
+        places: integer_at(table, Key::Places),
+        workers: integer_at(table, Key::Workers),
+        threads: integer_at(table, Key::Threads),
+        tries: integer_at(table, Key::Tries),
+    })
+}
+
+fn settings_of(alloc: Global, table: &Table) -> Result<Settings, SettingsFault>
+    ensures { Answers (settings_fault (table_view table.now)) (settings_read (table_view table.now)) result }
+{
+    if let Some(fault) = settings_fault(table) {
+        return Err(fault);
+    }
+    match settings_read(alloc, table) {
+        Ok(settings) => Ok(settings),
+        Err(_) => Err(SettingsFault::NoMemory),
+    }
+}
+
+impl Settings {
+    /// The settings that a text in TOML states.
+    ///
+    /// Refused, in this order: `NotToml` (30) where the text isn't TOML; `UnknownKey` (34) where the
+    /// table, or a table inside `seeds`, `allow` or `deny`, has a key that isn't named for it; then,
+    /// key by key in the order of `Key`, `Missing` (31) where a key has to be there and isn't,
+    /// `WrongKind` (32) where a value is of another kind, `OutOfRange` (33) where it is out of its
+    /// range; `NoMemory` (90). A fault inside an array names the array's key: the array's kind and
+    /// its length come first, then its elements in their order, and in each of them its keys.
+    pub fn read(alloc: Global, text: &str) -> Result<Settings, SettingsFault>
+        ensures read { IfOk result (λ settings. settings_of (parse_document text.now) ≡ Ok (settings_data settings)) }
+        ensures refused { IfErr result (λ fault. fault ≢ SettingsFault.NoMemory → settings_of (parse_document text.now) ≡ Err fault) }
+    {
+        match toml::table_from_str(alloc, text) {
+            Ok(table) => settings_of(alloc, &table),
+            Err(fault) if fault.is_memory() => Err(SettingsFault::NoMemory),
+            Err(_) => Err(SettingsFault::NotToml),
+        }
+    }
+}

@@ -1,0 +1,108 @@
+//! What is wrong with a settings table.
+
+ghost use Rattle.std.specs.Prelude.{◌≡◌};
+ghost use Rattle.std.specs.List.{list_any};
+ghost use Rattle.toml.specs.Data.{get_member};
+ghost use Rattle.toml.specs.View.{table_view};
+ghost use Rattle.gopher_scope.specs.Reading.{first_of, form_problem, has_unknown, form_has_unknown};
+ghost use Rattle.gopher_scope.specs.Settings.{key_fault, key_has_unknown, is_key_name, settings_have_unknown, settings_fault};
+
+use super::form::Form;
+use super::key::Key;
+use super::problem::Problem;
+use super::scalar::value_at;
+use crate::fault::SettingsFault;
+use toml::Table;
+
+impl Form {
+    fn problem(self, table: &Table, name: &str) -> Option<Problem>
+        ensures { result ≡ form_problem self (get_member name.now (table_view table.now)) }
+    {
+        match self {
+            Form::Scalar(scalar) => scalar.problem(table, name),
+            Form::Tables(element) => element.problem(table, name),
+        }
+    }
+
+    fn has_unknown(self, table: &Table, name: &str) -> bool
+        ensures { result ≡ form_has_unknown self (get_member name.now (table_view table.now)) }
+    {
+        match (self, value_at(table, name)) {
+            (Form::Scalar(_), _) | (Form::Tables(_), None) => false,
+            (Form::Tables(element), Some(value)) => match value.as_array() {
+                None => false,
+                Some(array) => element.array_has_unknown(array),
+            },
+        }
+    }
+}
+
+#[tactic(auto, unfolding(crate::specs::Settings::key_fault))]
+fn key_fault(table: &Table, key: Key) -> Option<SettingsFault>
+    ensures { result ≡ key_fault (table_view table.now) key }
+{
+    match key.form().problem(table, key.name()) {
+        None => None,
+        Some(problem) => Some(problem.at(key)),
+    }
+}
+
+fn first_fault(table: &Table, keys: &[Key]) -> Option<SettingsFault>
+    ensures { result ≡ first_of (key_fault (table_view table.now)) keys.now }
+{
+    for key in keys {
+        if let Some(fault) = key_fault(table, *key) {
+            return Some(fault);
+        }
+    }
+    None
+}
+
+#[tactic(auto, unfolding(crate::specs::Settings::is_key_name))]
+fn is_key_name(name: &str) -> bool
+    ensures { result ≡ is_key_name name.now }
+{
+    Key::ALL.iter().any(|key| key.name() == name)
+}
+
+fn has_unknown_key(table: &Table) -> bool
+    ensures { result ≡ has_unknown is_key_name (table_view table.now) }
+{
+    for name in table.keys() {
+        if !is_key_name(name.as_str()) {
+            return true;
+        }
+    }
+    false
+}
+
+#[tactic(auto, unfolding(crate::specs::Settings::key_has_unknown))]
+fn key_has_unknown(table: &Table, key: Key) -> bool
+    ensures { result ≡ key_has_unknown (table_view table.now) key }
+{
+    key.form().has_unknown(table, key.name())
+}
+
+fn arrays_have_unknown(table: &Table, keys: &[Key]) -> bool
+    ensures { result ≡ list_any (key_has_unknown (table_view table.now)) keys.now }
+{
+    keys.iter().any(|key| key_has_unknown(table, *key))
+}
+
+fn have_unknown(table: &Table) -> bool
+    ensures { result ≡ settings_have_unknown (table_view table.now) }
+{
+    has_unknown_key(table) || arrays_have_unknown(table, &Key::ALL)
+}
+
+/// What is wrong with the table, if anything is: an unknown key anywhere (34), or else the first key
+/// in their order at which something is wrong (31, 32, 33).
+pub(crate) fn settings_fault(table: &Table) -> Option<SettingsFault>
+    ensures { result ≡ settings_fault (table_view table.now) }
+{
+    if have_unknown(table) {
+        Some(SettingsFault::UnknownKey)
+    } else {
+        first_fault(table, &Key::ALL)
+    }
+}

@@ -1,0 +1,117 @@
+//! The seeds and the rules of arrays in which nothing is wrong.
+
+ghost use Rattle.std.specs.Prelude.{◌≡◌, map, Some, None, IfOk};
+ghost use Rattle.std.specs.List.{filter_map};
+ghost use Rattle.toml.specs.Data.{get_member, as_table};
+ghost use Rattle.toml.specs.View.{view, table_view};
+ghost use Rattle.gopher_scope.specs.Reading.{first_of, field_problem, table_problem, element_problem, values_read};
+ghost use Rattle.gopher_scope.specs.Settings.{field_integer, field_text, kind_read, seed_read, rule_read};
+
+use super::field::Field;
+use super::form::Element;
+use super::scalar::value_at;
+use crate::rule::Rule;
+use gopher_item::{ItemFault, NoMemory, Place};
+use std::alloc::Global;
+use toml::{Table, Value};
+
+/// The elements of the array at a key; none where the key is absent.
+pub(crate) fn values_at<'a>(table: &'a Table, name: &str) -> &'a [Value]
+    ensures { map view result.now ≡ values_read (get_member name.now (table_view table.now)) }
+{
+    match value_at(table, name) {
+        None => &[],
+        Some(value) => match value.as_array() {
+            None => &[],
+            Some(array) => array,
+        },
+    }
+}
+
+fn field_text<'a>(table: &'a Table, field: Field) -> &'a str
+    ensures { result.now ≡ field_text (table_view table.now) field }
+{
+    field.scalar().text(table, field.name())
+}
+
+fn field_integer(table: &Table, field: Field) -> u32
+    requires { field_problem (table_view table.now) field ≡ None }
+    ensures { result ≡ field_integer (table_view table.now) field }
+{
+    field.scalar().integer(table, field.name())
+}
+
+fn port(table: &Table) -> u16
+    requires { field_problem (table_view table.now) Field.Port ≡ None }
+    ensures { result ≡ field_integer (table_view table.now) Field.Port }
+{
+    field_integer(table, Field::Port) as u16
+}
+
+fn kind(table: &Table) -> u8
+    ensures { result ≡ kind_read (field_text (table_view table.now) Field.Kind) }
+{
+    if field_text(table, Field::Kind) == "0" {
+        b'0'
+    } else {
+        b'1'
+    }
+}
+
+fn seed(alloc: Global, table: &Table) -> Result<Place, NoMemory>
+    requires { table_problem Element.Seed (Some (table_view table.now)) ≡ None }
+    ensures { IfOk result (λ seed. seed ≡ seed_read (table_view table.now)) }
+{
+    let selector = field_text(table, Field::Selector).as_bytes();
+    let host = field_text(table, Field::Host).as_bytes();
+    match Place::new(alloc, kind(table), selector, host, port(table)) {
+        Ok(seed) => Ok(seed),
+        Err(fault) => match fault {
+            ItemFault::NoMemory => Err(NoMemory),
+            _ => unreachable!(),
+        },
+    }
+}
+
+fn rule(alloc: Global, table: &Table) -> Result<Rule, NoMemory>
+    requires { table_problem Element.Rule (Some (table_view table.now)) ≡ None }
+    ensures { IfOk result (λ rule. rule ≡ rule_read (table_view table.now)) }
+{
+    let host = field_text(table, Field::Host).as_bytes();
+    let prefix = field_text(table, Field::Prefix).as_bytes();
+    match Rule::new(alloc, host, port(table), prefix) {
+        Ok(rule) => Ok(rule),
+        Err(fault) => match fault {
+            ItemFault::NoMemory => Err(NoMemory),
+            _ => unreachable!(),
+        },
+    }
+}
+
+/// The seeds of these elements of `seeds`.
+pub(crate) fn seeds(alloc: Global, values: &[Value]) -> Result<Vec<Place>, NoMemory>
+    requires { first_of (element_problem Element.Seed) (map view values.now) ≡ None }
+    ensures { IfOk result (λ seeds. seeds.items ≡ map seed_read (filter_map as_table (map view values.now))) }
+{
+    let mut seeds = Vec::new(alloc);
+    for value in values {
+        if let Some(table) = value.as_table() {
+            seeds.push(seed(alloc, table)?)?;
+        }
+    }
+    Ok(seeds)
+}
+
+/// The rules of these elements of `allow` or `deny`.
+pub(crate) fn rules(alloc: Global, values: &[Value]) -> Result<Vec<Rule>, NoMemory>
+    requires { first_of (element_problem Element.Rule) (map view values.now) ≡ None }
+    ensures { IfOk result (λ rules. rules.items ≡ map rule_read (filter_map as_table (map view values.now))) }
+{
+    let mut rules = Vec::new(alloc);
+    for value in values {
+        if let Some(table) = value.as_table() {
+            rules.push(rule(alloc, table)?)?;
+        }
+    }
+    Ok(rules)
+}

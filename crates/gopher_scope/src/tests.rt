@@ -1,0 +1,2 @@
+mod scope;
+mod settings;

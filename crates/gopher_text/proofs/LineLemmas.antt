@@ -1,0 +1,164 @@
+-- What the reads of a line's bytes did, and how many turns they took.
+use Rattle.std.proofs.Common.{◌≡◌, ℕ, ◌+◌, ◌-◌, ◌<◌, ◌≤◌, Bool, true, false, ◌||◌, ◌&&◌, nat_lt, ◌==◌, List, [], ◌∷◌, ◌++◌, take, drop, length, get_or, IfSome, None, Some, Result, Ok, Err, IfOk, IfErr, OnOk, refl, sym, subst, ap, ◌∙◌, arith, rules, inl, inr, append-nil, append_assoc, length-append, length-take, if◌then◌else◌}
+use Rattle.std.proofs.Math.Seq.{take-append_seam}
+use Rattle.std.proofs.lemmas.List.{take_all}
+use Rattle.std.proofs.lemmas.List.Folds.{list_any_at}
+use Rattle.std.proofs.lemmas.Bool.Decides.{nat_tests}
+use Rattle.std.specs.declared.option.Option.{Option}
+use Rattle.std.specs.Io.KnownBytes.{Consumes, IsAtEnd}
+use Rattle.std.specs.Io.BufRead.{take_through, drop_through, ends_with_byte, strip_last, first_line, DropsThrough}
+use Rattle.gopher_text.specs.Reply.{SpendsTurns}
+use Rattle.gopher_text.specs.Line.{has_feed, without_end, IsWholeLine, StopsInLine, RefusesLine, RefusesLength}
+use Rattle.gopher_text.specs.declared.fault.LineFault.{LineFault}
+use Rattle.gopher_text.specs.declared.fault.LineFault.TheVariants.{LineTooLong, ReadFailed, TooManyTurns, NoMemory}
+
+-- how the reading of a line stands after some turns: what is filled was read and holds no LF, and each turn took a byte or failed
+pub record InLine (old new : Option (List ℕ)) (before after turns filled : ℕ) (held : List ℕ) : Type 0 where
+  pub within : filled ≤ 1025
+  pub read : Consumes old new (take filled held)
+  pub unfed : has_feed (take filled held) ≡ false
+  pub rises : before ≤ after
+  pub slowly : after ≤ before + turns
+  pub spent : SpendsTurns turns before after filled
+
+true_false : true ≡ false → ⊥
+true_false e = cc
+
+neither : (s t : Bool) → (s || t) ≡ false → (s ≡ false) × (t ≡ false)
+neither true t e = absurd (cc)
+neither false t e = (refl, e)
+
+-- what stands before the first LF
+take_through-unfed : (front rest : List ℕ) → has_feed front ≡ false → take_through 10 (front ++ rest) ≡ front ++ take_through 10 rest
+take_through-unfed [] rest unfed = refl
+take_through-unfed (byte ∷ front) rest unfed =
+    let parts = neither (byte == 10) (has_feed front) unfed in
+    rw (parts.0, take_through-unfed front rest parts.1) refl
+
+drop_through-unfed : (front rest : List ℕ) → has_feed front ≡ false → drop_through 10 (front ++ rest) ≡ drop_through 10 rest
+drop_through-unfed [] rest unfed = refl
+drop_through-unfed (byte ∷ front) rest unfed =
+    let parts = neither (byte == 10) (has_feed front) unfed in
+    rw (parts.0, drop_through-unfed front rest parts.1) refl
+
+-- a whole line was read, and nothing after it
+pub line_read : (old new : Option (List ℕ)) (bytes : List ℕ) → Consumes old new bytes → IsWholeLine new bytes
+    → IfSome old (λ all. take_through 10 all ≡ bytes) × DropsThrough old new 10
+line_read None new bytes read whole = (tt, tt)
+line_read (Some all) None bytes read whole = absurd read
+line_read (Some all) (Some left) bytes read (inl fed) = (
+  ap (take_through 10) (read ∙ ap (λ l. l ++ left) fed.1 ∙ append_assoc fed.0 (10 ∷ []) left) ∙ take_through-unfed fed.0 (10 ∷ left) fed.2 ∙ sym fed.1,
+  sym (ap (λ l. Some (drop_through 10 l)) (read ∙ ap (λ l. l ++ left) fed.1 ∙ append_assoc fed.0 (10 ∷ []) left) ∙ ap Some (drop_through-unfed fed.0 (10 ∷ left) fed.2)),
+)
+line_read (Some all) (Some left) bytes read (inr ended) =
+    let whole : all ≡ bytes ++ [] = read ∙ ap (λ l. bytes ++ l) ended.1 in (
+      ap (take_through 10) whole ∙ take_through-unfed bytes [] ended.0 ∙ append-nil bytes,
+      ap Some (ended.1 ∙ sym (ap (drop_through 10) whole ∙ drop_through-unfed bytes [] ended.0)),
+    )
+
+-- the line is what was read without its end
+pub first_line_read : (old : Option (List ℕ)) (bytes line : List ℕ) → IfSome old (λ all. take_through 10 all ≡ bytes) → line ≡ without_end bytes
+    → IfSome old (λ all. line ≡ first_line all)
+first_line_read None bytes line read same = tt
+first_line_read (Some all) bytes line read same = same ∙ ap without_end (sym read)
+
+-- the line is within the limit
+pub short_line_read : (old : Option (List ℕ)) (bytes : List ℕ) → IfSome old (λ all. take_through 10 all ≡ bytes) → length (without_end bytes) ≤ 1024
+    → IfSome old (λ all. length (first_line all) ≤ 1024)
+short_line_read None bytes read short = tt
+short_line_read (Some all) bytes read short = subst (λ l. length (without_end l) ≤ 1024) (sym read) short
+
+-- a line that was read is too long
+pub long_line_read : (old new : Option (List ℕ)) (bytes : List ℕ) → Consumes old new bytes → IsWholeLine new bytes → length bytes ≤ 1026
+    → 1024 < length (without_end bytes)
+    → IfSome old (λ all. (1024 < length (first_line all)) × Consumes old new (take 1026 (take_through 10 all)))
+long_line_read None new bytes read whole within long = tt
+long_line_read (Some all) new bytes read whole within long =
+    let through = (line_read (Some all) new bytes read whole).0 in (
+      subst (λ l. 1024 < length (without_end l)) (sym through) long,
+      subst (λ l. Consumes (Some all) new (take 1026 l)) (sym through) (subst (Consumes (Some all) new) (sym (take_all 1026 bytes within)) read),
+    )
+
+-- at most one byte is stripped, and at most two are an end
+length-strip_last : (byte : ℕ) (bytes : List ℕ) → length bytes ≤ length (strip_last byte bytes) + 1
+length-strip_last byte bytes = by (ends_with_byte byte bytes)
+  where
+    by : (ends : Bool) → length bytes ≤ length (if ends then take (length bytes - 1) bytes else bytes) + 1
+    by true = omega (arith, length-take (length bytes - 1) bytes)
+    by false = omega arith
+
+length-without_end : (bytes : List ℕ) → length bytes ≤ length (without_end bytes) + 2
+length-without_end bytes = by (ends_with_byte 10 bytes)
+  where
+    by : (ends : Bool) → length bytes ≤ length (if ends then strip_last 13 (strip_last 10 bytes) else strip_last 10 bytes) + 2
+    by true = omega (arith, length-strip_last 10 bytes, length-strip_last 13 (strip_last 10 bytes))
+    by false = omega (arith, length-strip_last 10 bytes)
+
+-- bytes without LF have no end
+both : (s t : Bool) → (s && t) ≡ true → (s ≡ true) × (t ≡ true)
+both true t e = (refl, e)
+both false t e = absurd (cc)
+
+unfed_end : (bytes : List ℕ) → has_feed bytes ≡ false → ends_with_byte 10 bytes ≡ false
+unfed_end bytes unfed = by (ends_with_byte 10 bytes) refl
+  where
+    by : (ends : Bool) → ends_with_byte 10 bytes ≡ ends → ends ≡ false
+    by true e =
+        let parts = both _ _ e in
+        let some : 0 < length bytes = grind (arith, nat_tests) in
+        absurd (true_false (sym (list_any_at (λ byte. byte == 10) bytes (length bytes - 1) 0 (omega arith) parts.1) ∙ unfed))
+    by false e = refl
+
+without_end-unfed : (bytes : List ℕ) → has_feed bytes ≡ false → without_end bytes ≡ bytes
+without_end-unfed bytes unfed = let none = unfed_end bytes unfed in rw none refl
+
+long_without_end : (bytes more : List ℕ) → has_feed bytes ≡ false → length bytes ≡ 1026 → 1024 < length (without_end (bytes ++ more))
+long_without_end bytes [] unfed long = rw (append-nil bytes, without_end-unfed bytes unfed) (omega arith)
+long_without_end bytes (byte ∷ more) unfed long = omega (arith, length-without_end (bytes ++ (byte ∷ more)), length-append bytes (byte ∷ more))
+
+-- bytes without LF are too long for a line, whatever follows
+pub long_line_begun : (old new : Option (List ℕ)) (bytes : List ℕ) → Consumes old new bytes → has_feed bytes ≡ false → length bytes ≡ 1026
+    → IfSome old (λ all. (1024 < length (first_line all)) × Consumes old new (take 1026 (take_through 10 all)))
+long_line_begun None new bytes read unfed long = tt
+long_line_begun (Some all) None bytes read unfed long = absurd read
+long_line_begun (Some all) (Some left) bytes read unfed long =
+    let more = take_through 10 left in
+    let through : take_through 10 all ≡ bytes ++ more = ap (take_through 10) read ∙ take_through-unfed bytes left unfed in
+    let cut : take 1026 (bytes ++ more) ≡ bytes = ap (λ n. take n (bytes ++ more)) (sym long) ∙ take-append_seam bytes more in (
+      subst (λ l. 1024 < length (without_end l)) (sym through) (long_without_end bytes more unfed long),
+      read ∙ ap (λ l. l ++ left) (sym (ap (take 1026) through ∙ cut)),
+    )
+
+-- reading stopped before the line's end
+pub line_refused : (old new : Option (List ℕ)) (before after : ℕ) (bytes : List ℕ) (fault : LineFault) → Consumes old new bytes
+    → StopsInLine {T = Unit {0}} new before after bytes (Err fault) → RefusesLine old new before after fault
+line_refused old new before after bytes LineTooLong read stop = long_line_begun old new bytes read stop.0 stop.1
+line_refused old new before after bytes ReadFailed read stop = (bytes, (read, stop.0, stop.1, stop.2))
+line_refused old new before after bytes TooManyTurns read stop = (bytes, ((read, stop.0, stop.1, stop.2), stop.3))
+line_refused old new before after bytes NoMemory read stop = absurd stop
+
+-- the whole line was read, but isn't given
+pub whole_line_refused : (old new : Option (List ℕ)) (before after : ℕ) (bytes : List ℕ) (fault : LineFault) → Consumes old new bytes → IsWholeLine new bytes
+    → length bytes ≤ 1026 → RefusesLength (length (without_end bytes)) fault → RefusesLine old new before after fault
+whole_line_refused old new before after bytes LineTooLong read whole within long = long_line_read old new bytes read whole within long
+whole_line_refused old new before after bytes ReadFailed read whole within refused = absurd refused
+whole_line_refused old new before after bytes TooManyTurns read whole within refused = absurd refused
+whole_line_refused old new before after bytes NoMemory read whole within short =
+    let line = line_read old new bytes read whole in (short_line_read old bytes line.0 short, line.1)
+
+-- what the answer for a whole line says, seen from the reader
+pub line_answered : {V : Type 0} (items : V → List ℕ) (old : Option (List ℕ)) (bytes : List ℕ) (result : Result V LineFault)
+    → IfSome old (λ all. take_through 10 all ≡ bytes) → IfOk result (λ line. items line ≡ without_end bytes)
+    → IfOk result (λ line. IfSome old (λ all. items line ≡ first_line all))
+line_answered items old bytes (Ok line) read same = first_line_read old bytes (items line) read same
+line_answered items old bytes (Err fault) read same = tt
+
+pub rest_answered : {V : Type 0} (old new : Option (List ℕ)) (result : Result V LineFault) → DropsThrough old new 10 → OnOk result (DropsThrough old new 10)
+rest_answered old new (Ok line) dropped = dropped
+rest_answered old new (Err fault) dropped = tt
+
+pub refusal_answered : {V : Type 0} (old new : Option (List ℕ)) (before after : ℕ) (bytes : List ℕ) (result : Result V LineFault)
+    → Consumes old new bytes → IsWholeLine new bytes → length bytes ≤ 1026
+    → IfErr result (RefusesLength (length (without_end bytes))) → IfErr result (RefusesLine old new before after)
+refusal_answered old new before after bytes (Ok line) read whole within refused = tt
+refusal_answered old new before after bytes (Err fault) read whole within refused = whole_line_refused old new before after bytes fault read whole within refused

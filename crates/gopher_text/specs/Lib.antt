@@ -1,0 +1,6 @@
+pub mod Fault
+pub mod Watched
+pub mod Reply
+pub mod Line
+pub mod Text
+pub mod Send

@@ -1,0 +1,106 @@
+//! Why a stream was given up.
+
+ghost use Rattle.std.specs.Prelude.{◌≡◌};
+ghost use Rattle.gopher_text.specs.Fault.{line_fault_code, reply_fault_code};
+
+use std::alloc::AllocError;
+use thiserror::Error;
+
+/// Why no line was read.
+#[derive(Clone, Copy, Debug, PartialEq, Eq, Error)]
+pub enum LineFault {
+    /// 7: the line has more than 1,024 bytes before its end.
+    #[error("the line is too long")]
+    LineTooLong,
+    /// 10: a read failed otherwise than by an interruption.
+    #[error("a read failed")]
+    ReadFailed,
+    /// 11: 4,096 reads, interrupted ones too, didn't reach the end of the line.
+    #[error("too many reads")]
+    TooManyTurns,
+    /// 90: memory was refused.
+    #[error("no memory")]
+    NoMemory,
+}
+
+impl LineFault {
+    /// The number of the fault: 7, 10, 11 or 90.
+    pub fn code(self) -> u8
+        ensures { result ≡ line_fault_code self }
+    {
+        match self {
+            LineFault::LineTooLong => 7,
+            LineFault::ReadFailed => 10,
+            LineFault::TooManyTurns => 11,
+            LineFault::NoMemory => 90,
+        }
+    }
+}
+
+impl From<AllocError> for LineFault {
+    ghost use Rattle.gopher_text.specs.declared.fault.LineFault.TheVariants.{NoMemory};
+
+    ghost from_gives = { λ _ fault. fault ≡ NoMemory };
+
+    fn from(_refused: AllocError) -> LineFault {
+        LineFault::NoMemory
+    }
+}
+
+/// Why a reply wasn't read to its end.
+#[derive(Clone, Copy, Debug, PartialEq, Eq, Error)]
+pub enum ReplyFault {
+    /// 10: a read failed otherwise than by an interruption.
+    #[error("a read failed")]
+    ReadFailed,
+    /// 11: 2,097,152 reads, interrupted ones too, didn't reach the end.
+    #[error("too many reads")]
+    TooManyTurns,
+    /// 12: the reply has more bytes than the limit.
+    #[error("the reply is too long")]
+    ReplyTooLong,
+    /// 90: memory was refused.
+    #[error("no memory")]
+    NoMemory,
+}
+
+impl ReplyFault {
+    /// The number of the fault: 10, 11, 12 or 90.
+    pub fn code(self) -> u8
+        ensures { result ≡ reply_fault_code self }
+    {
+        match self {
+            ReplyFault::ReadFailed => 10,
+            ReplyFault::TooManyTurns => 11,
+            ReplyFault::ReplyTooLong => 12,
+            ReplyFault::NoMemory => 90,
+        }
+    }
+}
+
+impl From<AllocError> for ReplyFault {
+    ghost use Rattle.gopher_text.specs.declared.fault.ReplyFault.TheVariants.{NoMemory};
+
+    ghost from_gives = { λ _ fault. fault ≡ NoMemory };
+
+    fn from(_refused: AllocError) -> ReplyFault {
+        ReplyFault::NoMemory
+    }
+}
+
+/// Why bytes weren't all sent (13): a write failed, took nothing, or 4,096 writes were interrupted.
+#[derive(Clone, Copy, Debug, PartialEq, Eq, Error)]
+#[error("a write failed")]
+pub struct SendFault {
+    /// How many bytes went out before: exactly the first of those to be sent.
+    pub sent: usize,
+}
+
+impl SendFault {
+    /// The number of the fault, 13.
+    pub fn code(self) -> u8
+        ensures { result ≡ 13 }
+    {
+        13
+    }
+}

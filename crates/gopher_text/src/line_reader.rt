@@ -1,0 +1,108 @@
+//! Reading one line of a stream, and not a byte after it.
+
+ghost use Rattle.std.specs.Prelude.{◌≡◌, ℕ, ◌+◌, ◌≤◌, List, length, take, IfErr, IfOk, IfSome, OnOk, vec_len};
+ghost use Rattle.std.specs.Io.BufRead.{DropsThrough, first_line};
+ghost use Rattle.std.specs.Io.KnownBytes.{Consumes};
+ghost use Rattle.gopher_text.specs.Line.{RefusesLine, StopsInLine, RefusesLength, without_end};
+
+use crate::fault::LineFault;
+use crate::reading::{ByteRead, read_byte};
+use crate::watched::Watched;
+use std::alloc::Global;
+use std::io::Read;
+
+// How many reads a line may take.
+const MOST_TURNS: u64 = 4_096;
+
+// How many bytes a line may have before its end.
+const MOST_IN_LINE: usize = 1_024;
+
+// How many bytes a line may have with its end, CR LF.
+const MOST_WITH_END: usize = 1_026;
+
+/// Reads the next line of `reader`, up to an LF or the end of the input, one byte a read, and not a
+/// byte after it. The LF and one CR directly before it are the line's end, and aren't given; a last
+/// line without LF is given as it stands. An interrupted read is tried again.
+///
+/// # Errors
+///
+/// - `LineTooLong` (7) where the line has more than 1,024 bytes before its end; at most 1,026 bytes of
+///   it are then read.
+/// - `ReadFailed` (10) where a read failed otherwise than by an interruption.
+/// - `TooManyTurns` (11) where 4,096 reads, interrupted ones too, didn't reach the end of the line.
+/// - `NoMemory` (90): the whole line and its end were read.
+pub fn read_line_from<R: Read>(alloc: Global, reader: &mut Watched<R>) -> Result<Vec<u8>, LineFault>
+    ensures line { IfOk result (λ line. IfSome (R.remaining reader.old.device)
+        (λ bytes. line.items ≡ first_line bytes)) }
+    ensures rest { OnOk result
+        (DropsThrough (R.remaining reader.old.device) (R.remaining reader.new.device) 10) }
+    ensures short { IfOk result (λ line. vec_len line ≤ 1024) }
+    ensures refused { IfErr result (RefusesLine (R.remaining reader.old.device)
+        (R.remaining reader.new.device) reader.old.failures reader.new.failures) }
+    ensures turns { (reader.old.failures ≤ reader.new.failures)
+        × (reader.new.failures ≤ reader.old.failures + 4096) }
+{
+    let mut held = [0; MOST_WITH_END];
+    let (filled, end) = fill(reader, &mut held);
+    match end {
+        Ok(()) => line_of(alloc, &held[..filled]),
+        Err(fault) => Err(fault),
+    }
+}
+
+// The line that was read, without its end.
+fn line_of(alloc: Global, bytes: &[u8]) -> Result<Vec<u8>, LineFault>
+    ensures line { IfOk result (λ line. line.items ≡ without_end bytes.now) }
+    ensures short { OnOk result (length (without_end bytes.now) ≤ 1024) }
+    ensures refused { IfErr result (λ fault. RefusesLength (length (without_end bytes.now)) fault) }
+{
+    let line = without_end(bytes);
+    if line.len() > MOST_IN_LINE {
+        return Err(LineFault::LineTooLong);
+    }
+    Ok(Vec::from_slice(alloc, line)?)
+}
+
+// Reads into `held` up to an LF or the end of the input, and says how many bytes were read and why
+// reading stopped.
+fn fill<R: Read>(reader: &mut Watched<R>, held: &mut [u8]) -> (usize, Result<(), LineFault>)
+    requires { length held.old ≡ 1026 }
+    ensures within { result.0 ≤ 1026 }
+    ensures read { Consumes (R.remaining reader.old.device) (R.remaining reader.new.device)
+        (take result.0 held.new) }
+    ensures stop { StopsInLine (R.remaining reader.new.device) reader.old.failures
+        reader.new.failures (take result.0 held.new) result.1 }
+    ensures turns { (reader.old.failures ≤ reader.new.failures)
+        × (reader.new.failures ≤ reader.old.failures + 4096) }
+{
+    let mut filled = 0;
+    for _turn in 0..MOST_TURNS {
+        match read_byte(reader) {
+            ByteRead::Byte(byte) => {
+                held[filled] = byte;
+                filled += 1;
+                if byte == b'\n' {
+                    return (filled, Ok(()));
+                }
+                if filled == MOST_WITH_END {
+                    return (filled, Err(LineFault::LineTooLong));
+                }
+            }
+            ByteRead::Ended => return (filled, Ok(())),
+            ByteRead::Interrupted => {}
+            ByteRead::Failed => return (filled, Err(LineFault::ReadFailed)),
+        }
+    }
+    (filled, Err(LineFault::TooManyTurns))
+}
+
+// The bytes of a line without its end.
+fn without_end(bytes: &[u8]) -> &[u8]
+    ensures { result.now ≡ without_end bytes.now }
+{
+    match bytes {
+        [front @ .., b'\r', b'\n'] => front,
+        [front @ .., b'\n'] => front,
+        _ => bytes,
+    }
+}

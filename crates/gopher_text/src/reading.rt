@@ -1,0 +1,67 @@
+//! One read, by how it went.
+
+ghost use Rattle.std.specs.Prelude.{◌<◌, length};
+ghost use Rattle.gopher_text.specs.Reply.{ReadsOnce};
+ghost use Rattle.gopher_text.specs.Line.{ReadsByte};
+
+use crate::watched::Watched;
+use std::io::{ErrorKind, Read};
+
+/// How one read went.
+#[derive(Clone, Copy)]
+pub(crate) enum Reading {
+    /// It gave this many bytes, one at least.
+    Took(usize),
+    /// The input is at its end.
+    Ended,
+    /// It was interrupted.
+    Interrupted,
+    /// It failed.
+    Failed,
+}
+
+/// Reads once into `buffer`.
+pub(crate) fn read_once<R: Read>(reader: &mut Watched<R>, buffer: &mut [u8]) -> Reading
+    requires { 0 < length buffer.old }
+    ensures { ReadsOnce (R.remaining reader.old.device) (R.remaining reader.new.device)
+        reader.old.failures reader.new.failures buffer.new result }
+{
+    match reader.read(buffer) {
+        Ok(0) => Reading::Ended,
+        Ok(count) => Reading::Took(count),
+        Err(error) => {
+            if error.kind() == ErrorKind::Interrupted {
+                Reading::Interrupted
+            } else {
+                Reading::Failed
+            }
+        }
+    }
+}
+
+/// How the read of one byte went.
+#[derive(Clone, Copy)]
+pub(crate) enum ByteRead {
+    /// It gave this byte.
+    Byte(u8),
+    /// The input is at its end.
+    Ended,
+    /// It was interrupted.
+    Interrupted,
+    /// It failed.
+    Failed,
+}
+
+/// Reads one byte, in one read.
+pub(crate) fn read_byte<R: Read>(reader: &mut Watched<R>) -> ByteRead
+    ensures { ReadsByte (R.remaining reader.old.device) (R.remaining reader.new.device)
+        reader.old.failures reader.new.failures result }
+{
+    let mut byte = [0];
+    match read_once(reader, &mut byte) {
+        Reading::Took(_) => ByteRead::Byte(byte[0]),
+        Reading::Ended => ByteRead::Ended,
+        Reading::Interrupted => ByteRead::Interrupted,
+        Reading::Failed => ByteRead::Failed,
+    }
+}

@@ -1,0 +1,136 @@
+//! Reading a stream to its end.
+
+ghost use Rattle.std.specs.Prelude.{◌≡◌, ℕ, ◌+◌, ◌-◌, ◌<◌, ◌≤◌, List, length, take, drop, IfOk, IfErr, OnOk, vec_len};
+ghost use Rattle.std.specs.Io.KnownBytes.{Consumes, IsAtEnd};
+ghost use Rattle.gopher_text.specs.Reply.{ReadsAfter, RefusesReply, StopsReading};
+
+use crate::fault::ReplyFault;
+use crate::reading::{Reading, read_once};
+use crate::watched::Watched;
+use std::alloc::{AllocError, Global};
+use std::io::Read;
+
+// How many reads a reply may take.
+const MOST_TURNS: u64 = 2_097_152;
+
+// How many bytes the first read has room for.
+const FIRST_ROOM: usize = 8_192;
+
+/// Reads `reader` to its end: a reply, or any input, of at most `limit` bytes, `limit` being at most
+/// 1,048,576. An interrupted read is tried again.
+///
+/// # Errors
+///
+/// - `ReadFailed` (10) where a read failed otherwise than by an interruption.
+/// - `TooManyTurns` (11) where 2,097,152 reads, interrupted ones too, didn't reach the end.
+/// - `ReplyTooLong` (12) as soon as one byte more than `limit` was read.
+/// - `NoMemory` (90).
+///
+/// After an error the bytes that were read are gone: `limit + 1` of them at 12, and at most `limit`
+/// otherwise.
+pub fn read_reply<R: Read>(
+    alloc: Global,
+    reader: &mut Watched<R>,
+    limit: usize,
+) -> Result<Vec<u8>, ReplyFault>
+    requires { limit ≤ 1048576 }
+    ensures read { IfOk result (λ bytes.
+        Consumes (R.remaining reader.old.device) (R.remaining reader.new.device) bytes.items) }
+    ensures whole { OnOk result (IsAtEnd (R.remaining reader.new.device)) }
+    ensures within_limit { IfOk result (λ bytes. vec_len bytes ≤ limit) }
+    ensures refused { IfErr result (λ fault. (bytes : List ℕ)
+        × Consumes (R.remaining reader.old.device) (R.remaining reader.new.device) bytes
+        × RefusesReply limit reader.old.failures reader.new.failures bytes fault) }
+    ensures turns { (reader.old.failures ≤ reader.new.failures)
+        × (reader.new.failures ≤ reader.old.failures + 2097152) }
+{
+    let mut bytes = Vec::new(alloc);
+    read_within(reader, &mut bytes, limit)?;
+    Ok(bytes)
+}
+
+// Appends all that `reader` gives to the empty `bytes`, up to one byte more than `limit`.
+fn read_within<R: Read>(
+    reader: &mut Watched<R>,
+    bytes: &mut Vec<u8>,
+    limit: usize,
+) -> Result<(), ReplyFault>
+    requires limit { limit ≤ 1048576 }
+    requires empty { length bytes.old.items ≡ 0 }
+    ensures read { Consumes (R.remaining reader.old.device) (R.remaining reader.new.device)
+        bytes.new.items }
+    ensures stop { StopsReading (R.remaining reader.new.device) limit reader.old.failures
+        reader.new.failures bytes.new.items result }
+    ensures turns { (reader.old.failures ≤ reader.new.failures)
+        × (reader.new.failures ≤ reader.old.failures + 2097152) }
+{
+    let (filled, end) = fill(reader, bytes, limit);
+    bytes.truncate(filled);
+    end
+}
+
+// Reads into `bytes`, and says how many of them were read and why reading stopped.
+#[tactic(auto, using(crate::proofs::Streams::consumes_more, crate::proofs::Streams::consumes_kept))]
+fn fill<R: Read>(
+    reader: &mut Watched<R>,
+    bytes: &mut Vec<u8>,
+    limit: usize,
+) -> (usize, Result<(), ReplyFault>)
+    requires limit { limit ≤ 1048576 }
+    requires empty { length bytes.old.items ≡ 0 }
+    ensures within { result.0 ≤ length bytes.new.items }
+    ensures read { Consumes (R.remaining reader.old.device) (R.remaining reader.new.device)
+        (take result.0 bytes.new.items) }
+    ensures stop { StopsReading (R.remaining reader.new.device) limit reader.old.failures
+        reader.new.failures (take result.0 bytes.new.items) result.1 }
+    ensures turns { (reader.old.failures ≤ reader.new.failures)
+        × (reader.new.failures ≤ reader.old.failures + 2097152) }
+{
+    let mut filled = 0;
+    for _turn in 0..MOST_TURNS {
+        if make_room(bytes, filled, limit).is_err() {
+            return (filled, Err(ReplyFault::NoMemory));
+        }
+        match read_after(reader, bytes, filled) {
+            Reading::Took(count) => {
+                filled += count;
+                if filled > limit {
+                    return (filled, Err(ReplyFault::ReplyTooLong));
+                }
+            }
+            Reading::Ended => return (filled, Ok(())),
+            Reading::Interrupted => {}
+            Reading::Failed => return (filled, Err(ReplyFault::ReadFailed)),
+        }
+    }
+    (filled, Err(ReplyFault::TooManyTurns))
+}
+
+// Makes `bytes` longer than `filled`, where it isn't. What isn't filled is zeros.
+fn make_room(bytes: &mut Vec<u8>, filled: usize, limit: usize) -> Result<(), AllocError>
+    requires limit { limit ≤ 1048576 }
+    requires filled { filled ≤ limit }
+    requires within { filled ≤ length bytes.old.items }
+    requires short { length bytes.old.items ≤ limit + 1 }
+    ensures within { filled ≤ length bytes.new.items }
+    ensures short { length bytes.new.items ≤ limit + 1 }
+    ensures front { take filled bytes.new.items ≡ take filled bytes.old.items }
+    ensures room { OnOk result (filled < length bytes.new.items) }
+{
+    if filled < bytes.len() {
+        return Ok(());
+    }
+    let room = FIRST_ROOM.max(filled * 4).min(limit + 1);
+    bytes.resize(room, 0)
+}
+
+// Reads once into what `bytes` has after `filled`.
+fn read_after<R: Read>(reader: &mut Watched<R>, bytes: &mut Vec<u8>, filled: usize) -> Reading
+    requires { filled < length bytes.old.items }
+    ensures length { length bytes.new.items ≡ length bytes.old.items }
+    ensures front { take filled bytes.new.items ≡ take filled bytes.old.items }
+    ensures read { ReadsAfter (R.remaining reader.old.device) (R.remaining reader.new.device)
+        reader.old.failures reader.new.failures bytes.new.items filled result }
+{
+    read_once(reader, &mut bytes[filled..])
+}

@@ -1,0 +1,78 @@
+//! Sending bytes.
+
+ghost use Rattle.std.specs.Prelude.{◌≡◌, ◌+◌, ◌<◌, ◌≤◌, length, take, IfErr, OnOk, OnErr};
+ghost use Rattle.std.specs.Io.KnownBytes.{Appends};
+ghost use Rattle.gopher_text.specs.Watched.{HasFailed};
+ghost use Rattle.gopher_text.specs.Send.{WritesAfter};
+
+use crate::fault::SendFault;
+use crate::watched::Watched;
+use std::io::{ErrorKind, Write};
+
+// How many interrupted writes make a call fail.
+const MOST_INTERRUPTIONS: u64 = 4_096;
+
+// How one write went.
+#[derive(Clone, Copy)]
+enum Writing {
+    // It took this many bytes, one at least.
+    Took(usize),
+    // It was interrupted, and took nothing.
+    Interrupted,
+    // It failed, or took nothing.
+    Failed,
+}
+
+/// Sends all of `bytes`, in as many writes as `writer` asks for. An interrupted write is tried again.
+/// Takes no memory.
+///
+/// # Errors
+///
+/// A `SendFault` (13) where a write failed otherwise than by an interruption or took nothing, or
+/// where 4,096 writes of the call were interrupted. Exactly the first `sent` bytes went out.
+#[tactic(auto, using(crate::proofs::Streams::appends_more))]
+pub fn send<W: Write>(writer: &mut Watched<W>, bytes: &[u8]) -> Result<(), SendFault>
+    ensures all { OnOk result (Appends (W.contents writer.old.device)
+        (W.contents writer.new.device) bytes.now) }
+    ensures sent { IfErr result (λ fault. Appends (W.contents writer.old.device)
+        (W.contents writer.new.device) (take fault.sent bytes.now)) }
+    ensures part { IfErr result (λ fault. fault.sent < length bytes.now) }
+    ensures failed { OnErr result (HasFailed writer.old.failures writer.new.failures) }
+    ensures interruptions { (writer.old.failures ≤ writer.new.failures)
+        × (writer.new.failures ≤ writer.old.failures + 4096) }
+{
+    let mut sent = 0;
+    let mut interruptions = 0;
+    while sent < bytes.len() {
+        match write_after(writer, bytes, sent) {
+            Writing::Took(count) => sent += count,
+            Writing::Interrupted => {
+                interruptions += 1;
+                if interruptions == MOST_INTERRUPTIONS {
+                    return Err(SendFault { sent });
+                }
+            }
+            Writing::Failed => return Err(SendFault { sent }),
+        }
+    }
+    Ok(())
+}
+
+// Writes once of what `bytes` have after the first `sent`.
+fn write_after<W: Write>(writer: &mut Watched<W>, bytes: &[u8], sent: usize) -> Writing
+    requires { sent < length bytes.now }
+    ensures { WritesAfter (W.contents writer.old.device) (W.contents writer.new.device)
+        writer.old.failures writer.new.failures bytes.now sent result }
+{
+    match writer.write(&bytes[sent..]) {
+        Ok(0) => Writing::Failed,
+        Ok(count) => Writing::Took(count),
+        Err(error) => {
+            if error.kind() == ErrorKind::Interrupted {
+                Writing::Interrupted
+            } else {
+                Writing::Failed
+            }
+        }
+    }
+}

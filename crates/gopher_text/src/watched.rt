@@ -1,0 +1,106 @@
+//! A reader or a writer whose failed calls are counted.
+
+ghost use Rattle.std.specs.Prelude.{◌≡◌, ℕ, ◌+◌, ◌-◌, ◌^◌, ◌<◌, ◌≤◌, min, length, OnOk};
+ghost use Rattle.std.specs.Io.{ReadsAtMost, WritesAtMost};
+ghost use Rattle.std.specs.Io.KnownBytes.{Keeps, ReadConsumes, WriteAppends};
+ghost use Rattle.gopher_text.specs.Watched.{WatchedData, CountsFailure, CountsErrors, CountsWrite};
+
+use std::io::{self, Read, Write};
+use std::marker::Model;
+
+/// A reader or a writer over another one. It passes each call on, and counts those that failed:
+/// those that answer an error, an interruption too, and the writes that take nothing of bytes that
+/// are not empty. The count stops at the last value of a `u64`.
+#[derive(Debug, Drop)]
+pub struct Watched<D> {
+    device: D,
+    failures: u64,
+}
+
+impl<D> Model for Watched<D> {
+    ghost use Rattle.gopher_text.specs.Watched.{WatchedData};
+
+    ghost Value = { WatchedData D };
+
+    ghost view = { λ w. record { device = w.device; failures = w.failures } };
+}
+
+impl<D> Watched<D> {
+    /// Watches `device`, none of whose calls has failed yet. Takes no memory.
+    pub fn new(device: D) -> Self
+        ensures { result ≡ record { device = device; failures = 0 } }
+    {
+        Watched {
+            device,
+            failures: 0,
+        }
+    }
+
+    /// The reader or writer that was watched. Takes no memory.
+    pub fn into_inner(self) -> D
+        ensures { result ≡ self.device }
+    {
+        let Watched { device, .. } = self;
+        device
+    }
+
+    /// How many calls failed, up to the last value of a `u64`. Takes no memory.
+    pub fn failures(&self) -> u64
+        ensures { result ≡ self.now.failures }
+    {
+        self.failures
+    }
+
+    fn count_failure(&mut self)
+        ensures device { self.new.device ≡ self.old.device }
+        ensures count { CountsFailure self.old.failures self.new.failures }
+    {
+        self.failures = self.failures.saturating_add(1);
+    }
+}
+
+impl<D: Read> Read for Watched<D> {
+    ghost remaining = { λ w. D.remaining w.device };
+
+    fn read(&mut self, buf: &mut [u8]) -> io::Result<usize>
+        ensures bound { ReadsAtMost result buf.new }
+        ensures bytes { ReadConsumes (D.remaining self.old.device) (D.remaining self.new.device)
+            result buf.new }
+        ensures count { CountsErrors self.old.failures self.new.failures result }
+    {
+        let outcome = self.device.read(buf);
+        if outcome.is_err() {
+            self.count_failure();
+        }
+        outcome
+    }
+}
+
+impl<D: Write> Write for Watched<D> {
+    ghost contents = { λ w. D.contents w.device };
+
+    fn write(&mut self, buf: &[u8]) -> io::Result<usize>
+        ensures bound { WritesAtMost result buf.now }
+        ensures bytes { WriteAppends (D.contents self.old.device) (D.contents self.new.device)
+            result buf.now }
+        ensures count { CountsWrite self.old.failures self.new.failures buf.now result }
+    {
+        let answer = self.device.write(buf);
+        let took_nothing = matches!(answer, Ok(0)) && !buf.is_empty();
+        if took_nothing || answer.is_err() {
+            self.count_failure();
+        }
+        answer
+    }
+
+    fn flush(&mut self) -> io::Result<()>
+        ensures bytes { Keeps (D.contents self.old.device) (D.contents self.new.device) }
+        ensures count { CountsErrors self.old.failures self.new.failures result }
+    {
+        let answer = self.device.flush();
+        if answer.is_err() {
+            self.count_failure();
+        }
+        answer
+    }
+}

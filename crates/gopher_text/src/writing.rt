@@ -1,0 +1,99 @@
+//! Texts out: the bytes of lines.
+
+ghost use Rattle.std.specs.Prelude.{◌≡◌, ◌++◌, true, OnOk, OnErr};
+ghost use Rattle.std.specs.Io.{StartsWith};
+ghost use Rattle.gopher_item.specs.Lines.{lines_of};
+ghost use Rattle.gopher_text.specs.Text.{HoldNoFeed, ReadsText, begins_with_period, text_bytes, text_line_bytes};
+
+use gopher_item::{ByteString, NoMemory, first_line};
+use std::alloc::AllocError;
+
+// How many bytes a line has more than its own, at most: a period, and CR LF.
+const MOST_MORE: usize = 3;
+
+/// Appends the text of these lines, none of which holds an LF, ended by a period alone (RFC 1436,
+/// section 3.1 and the appendix).
+///
+/// All or nothing: refused only where memory is (90), and then `out` is as it was. What was written
+/// is read back by `read_text` as these lines, ended.
+pub fn write_text(lines: &[ByteString], out: &mut Vec<u8>) -> Result<(), NoMemory>
+    requires { HoldNoFeed lines.now }
+    ensures written { OnOk result (out.new.items ≡ out.old.items ++ text_bytes lines.now) }
+    ensures read_back { OnOk result (ReadsText (text_bytes lines.now) lines.now true) }
+    ensures refused { OnErr result (out.new.items ≡ out.old.items) }
+{
+    let length = out.len();
+    if out.reserve(room_for(lines)).is_err() || push_lines(lines, out).is_err() {
+        out.truncate(length);
+        return Err(NoMemory);
+    }
+    Ok(())
+}
+
+/// Appends the text of the lines of `bytes`, ended by a period alone: a file as it is sent.
+///
+/// All or nothing: refused only where memory is (90), and then `out` is as it was.
+pub fn write_text_of(bytes: &[u8], out: &mut Vec<u8>) -> Result<(), NoMemory>
+    ensures written { OnOk result (out.new.items ≡ out.old.items ++ text_bytes (lines_of bytes.now)) }
+    ensures refused { OnErr result (out.new.items ≡ out.old.items) }
+{
+    let length = out.len();
+    if push_lines_of(bytes, out).is_err() {
+        out.truncate(length);
+        return Err(NoMemory);
+    }
+    Ok(())
+}
+
+// As many bytes as the text of the lines has, or more.
+fn room_for(lines: &[ByteString]) -> usize {
+    let mut room = MOST_MORE;
+    for line in lines {
+        room = room
+            .saturating_add(line.as_slice().len())
+            .saturating_add(MOST_MORE);
+    }
+    room
+}
+
+// Appends the bytes of the lines and of the last line.
+fn push_lines(lines: &[ByteString], out: &mut Vec<u8>) -> Result<(), AllocError>
+    ensures written { OnOk result (out.new.items ≡ out.old.items ++ text_bytes lines.now) }
+    ensures kept { StartsWith out.new.items out.old.items }
+{
+    for line in lines {
+        push_line(line.as_slice(), out)?;
+    }
+    out.extend_from_slice(b".\r\n")
+}
+
+// Appends the bytes of the lines that `bytes` are, and of the last line.
+fn push_lines_of(bytes: &[u8], out: &mut Vec<u8>) -> Result<(), AllocError>
+    ensures written { OnOk result (out.new.items ≡ out.old.items ++ text_bytes (lines_of bytes.now)) }
+    ensures kept { StartsWith out.new.items out.old.items }
+{
+    let mut rest = bytes;
+    while let Some((line, after)) = first_line(rest) {
+        push_line(line, out)?;
+        rest = after;
+    }
+    out.extend_from_slice(b".\r\n")
+}
+
+// Appends the bytes of one line.
+fn push_line(line: &[u8], out: &mut Vec<u8>) -> Result<(), AllocError>
+    ensures written { OnOk result (out.new.items ≡ out.old.items ++ text_line_bytes line.now) }
+    ensures kept { StartsWith out.new.items out.old.items }
+{
+    if begins_with_period(line) {
+        out.push(b'.')?;
+    }
+    out.extend_from_slice(line)?;
+    out.extend_from_slice(b"\r\n")
+}
+
+fn begins_with_period(line: &[u8]) -> bool
+    ensures { result ≡ begins_with_period line.now }
+{
+    matches!(line, [b'.', ..])
+}
