@@ -8,7 +8,7 @@ trap 'rm -rf "$folder"' EXIT
 for kind in links turns; do
   for size in quarter half whole; do
     script=$folder/$kind-$size.script
-    for round in 1 2 3; do
+    for round in 1 2 3 4 5 6 7 8 9 10 11 12 13 14 15; do
       start=$(date +%s.%N)
       "$program" replay < "$script" > "$folder/output"
       end=$(date +%s.%N)
