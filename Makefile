@@ -3,7 +3,7 @@
 # Builds the program and replays the example's crawl.
 .PHONY: run
 run:
-	cd crates/hole && rt run < ../../examples/first_crawl.script
+	cd crates/hole && rt run -- replay < ../../examples/first_crawl.script
 
 # Every proof from nothing, the wrong bodies, the tests, and the program as a user runs it.
 .PHONY: test

@@ -4,7 +4,7 @@ set -euo pipefail
 cd "$(dirname "$0")/.."
 program=crates/hole/out/hole
 if [ ! -x "$program" ]; then
-  (cd crates/hole && rt run < stdin > /dev/null)
+  (cd crates/hole && rt run -- replay < stdin > /dev/null)
 fi
 folder=$(mktemp -d)
 trap 'rm -rf "$folder"' EXIT

@@ -2,11 +2,8 @@
 # Every timing: scripts replayed, and menus read and written.
 set -euo pipefail
 cd "$(dirname "$0")/.."
-for crate in hole measure; do
-  if [ ! -x "crates/$crate/out/$crate" ]; then
-    (cd "crates/$crate" && rt run < /dev/null > /dev/null)
-  fi
-done
+[ -x crates/hole/out/hole ] || (cd crates/hole && rt run -- replay < stdin > /dev/null)
+[ -x crates/measure/out/measure ] || (cd crates/measure && rt run > /dev/null)
 bench/replay.sh crates/hole/out/hole
 folder=$(mktemp -d)
 trap 'rm -rf "$folder"' EXIT
