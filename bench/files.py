@@ -1,8 +1,10 @@
 #!/usr/bin/env python3
-"""Writes the files that crates/measure times: a menu and a text of 16 MiB."""
+"""Writes the files that crates/measure times: a menu and a text of 16 MiB, and a small site."""
+import os
 import sys
 
 SIZE = 16 * 1024 * 1024
+FILE_SIZE = 1024 * 1024
 
 
 def menu():
@@ -15,16 +17,37 @@ def menu():
     return "".join(parts) + ".\r\n"
 
 
-def text():
+def text_lines(size):
     parts, used, number = [], 0, 0
-    while used < SIZE:
+    while used < size:
         line = f"Line {number} of a text that a small site could serve, neither short nor long.\r\n"
         parts.append(line)
         used += len(line)
         number += 1
-    return "".join(parts) + ".\r\n"
+    return "".join(parts)
+
+
+def text():
+    return text_lines(SIZE) + ".\r\n"
+
+
+def site(folder):
+    """A folder of three names, one with a menu of 200 lines, a text and an image of 1 MiB."""
+    os.makedirs(f"{folder}/small")
+    os.makedirs(f"{folder}/large")
+    for name in ("one.txt", "two.txt", "three.txt"):
+        with open(f"{folder}/small/{name}", "w") as out:
+            out.write("A short text.\n")
+    with open(f"{folder}/large/.menu", "w") as out:
+        for number in range(200):
+            out.write(f"0Entry {number} of a menu written by hand\t/text.txt\n")
+    with open(f"{folder}/text.txt", "w", newline="") as out:
+        out.write(text_lines(FILE_SIZE))
+    with open(f"{folder}/image.png", "wb") as out:
+        out.write(bytes(range(256)) * (FILE_SIZE // 256))
 
 
 for name, content in (("menu", menu()), ("text", text())):
     with open(f"{sys.argv[1]}/{name}", "w", newline="") as out:
         out.write(content)
+site(f"{sys.argv[1]}/site")

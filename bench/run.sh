@@ -1,5 +1,6 @@
 #!/usr/bin/env bash
-# Every timing: scripts replayed, and menus read and written.
+# Every timing: scripts replayed, menus and texts read and written, replies of a site, and a catalogue
+# of 65,536 pages searched, beside a plain C program over the same postings.
 set -euo pipefail
 cd "$(dirname "$0")/.."
 [ -x crates/hole/out/hole ] || (cd crates/hole && rt run -- replay < stdin > /dev/null)
@@ -10,3 +11,9 @@ trap 'rm -rf "$folder"' EXIT
 bench/files.py "$folder"
 crates/measure/out/measure menu "$folder/menu"
 crates/measure/out/measure text "$folder/text"
+crates/measure/out/measure replies "$folder/site"
+bench/pages.py "$folder/pages"
+crates/measure/out/measure search "$folder/pages"
+cc -O2 -o "$folder/postings" bench/postings.c
+echo "the plain C program:"
+"$folder/postings" "$folder/pages"

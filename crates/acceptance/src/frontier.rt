@@ -1,6 +1,6 @@
 // The catalogue beside the plain frontier, on generated crawls.
-use crate::plain::Plain;
-use gopher_catalogue::{Catalogue, Turn, Why};
+use crate::plain::{NOT_OUT, Plain};
+use gopher_catalogue::{Added, Catalogue, Turn, Why};
 use gopher_item::{NoMemory, Place};
 use gopher_page::Page;
 use gopher_scope::{Rule, Scope};
@@ -55,9 +55,14 @@ fn menu(alloc: Global, rng: &mut Pcg32) -> Result<Vec<u8>, NoMemory> {
     Ok(bytes)
 }
 
-// The catalogue says of itself what its record says.
-fn check(rt: &impl Abort, alloc: Global, catalogue: &Catalogue) -> Result<(), Fail> {
-    let plain = Plain::of(catalogue.record()).ok_or("the record has no opening")?;
+// The record of the catalogue, beside which it is put.
+fn plain_of(catalogue: &Catalogue) -> Result<Plain<'_>, Fail> {
+    Ok(Plain::of(catalogue.record()).ok_or("the record has no opening")?)
+}
+
+/// The catalogue says of itself what its record says.
+pub fn check(rt: &impl Abort, alloc: Global, catalogue: &Catalogue) -> Result<(), Fail> {
+    let plain = plain_of(catalogue)?;
     assert_eq!(rt; catalogue.status(), plain.status(alloc)?);
     let known = plain.known(alloc)?;
     assert_eq!(rt; catalogue.places().len(), known.len());
@@ -69,19 +74,79 @@ fn check(rt: &impl Abort, alloc: Global, catalogue: &Catalogue) -> Result<(), Fa
     Ok(())
 }
 
-fn claim(rt: &impl Abort, alloc: Global, catalogue: &mut Catalogue) -> Result<(), Fail> {
-    let plain = Plain::of(catalogue.record()).ok_or("the record has no opening")?;
+/// Claims; the answer is what the record says.
+pub fn claim(rt: &impl Abort, alloc: Global, catalogue: &mut Catalogue) -> Result<Turn, Fail> {
+    let plain = plain_of(catalogue)?;
     let first = plain.waiting(alloc)?.first().copied();
     let some_out = !plain.out(alloc)?.is_empty();
-    match catalogue.claim()? {
+    let turn = catalogue.claim()?;
+    match &turn {
         Turn::Take(claim) => assert_eq!(rt; Some(claim.number), first),
         Turn::Idle => assert!(rt; first.is_none() && some_out),
         Turn::Finished => assert!(rt; first.is_none() && !some_out),
     }
-    Ok(())
+    Ok(turn)
 }
 
-// Hands in a page for a number that may be out, or tells that it failed.
+/// Hands in a page; the answer, or the number of its refusal, is what the record says.
+pub fn hand_in(
+    rt: &impl Abort,
+    alloc: Global,
+    catalogue: &mut Catalogue,
+    number: u32,
+    page: Page,
+) -> Result<Result<Added, u8>, Fail> {
+    let refusal = plain_of(catalogue)?.refusal(alloc, number, page.place())?;
+    let answer = match catalogue.found(number, page) {
+        Ok(added) => Ok(added),
+        Err(refused) => Err(refused.fault.code()),
+    };
+    let wanted = match refusal {
+        None => Ok(plain_of(catalogue)?.added(alloc)?),
+        Some(code) => Err(code),
+    };
+    assert_eq!(rt; answer, wanted);
+    Ok(answer)
+}
+
+/// Tells a failure; the answer, or the number of its refusal, is what the record says.
+pub fn fail(
+    rt: &impl Abort,
+    alloc: Global,
+    catalogue: &mut Catalogue,
+    number: u32,
+    why: Why,
+) -> Result<Result<(), u8>, Fail> {
+    let is_out = plain_of(catalogue)?.out(alloc)?.contains(&number);
+    let answer = match catalogue.fail(number, why) {
+        Ok(()) => Ok(()),
+        Err(refused) => Err(refused.code()),
+    };
+    let wanted = if is_out { Ok(()) } else { Err(NOT_OUT) };
+    assert_eq!(rt; answer, wanted);
+    Ok(answer)
+}
+
+// A page of the place of this number, if there is one.
+fn page(
+    alloc: Global,
+    catalogue: &Catalogue,
+    rng: &mut Pcg32,
+    number: u32,
+) -> Result<Option<Page>, NoMemory> {
+    let Some(place) = catalogue.places().get(number as usize) else {
+        return Ok(None);
+    };
+    let bytes = menu(alloc, rng)?;
+    if bytes.len() > 1_048_576 {
+        return Ok(None);
+    }
+    let page = Page::of(alloc, catalogue.opening().scope(), place, &bytes)?;
+    Ok(Some(page))
+}
+
+// Hands in a page for a number that may be out, now and then the page of another place, or tells
+// that it failed.
 fn outcome(
     rt: &impl Abort,
     alloc: Global,
@@ -89,21 +154,15 @@ fn outcome(
     rng: &mut Pcg32,
 ) -> Result<(), Fail> {
     let number = below(rng, 6);
-    let plain = Plain::of(catalogue.record()).ok_or("the record has no opening")?;
-    let is_out = plain.out(alloc)?.contains(&number);
     if below(rng, 2) == 0 {
-        assert_eq!(rt; catalogue.fail(number, Why::Read).is_ok(), is_out);
+        let _ = fail(rt, alloc, catalogue, number, Why::Read)?;
         return Ok(());
     }
-    let Some(place) = catalogue.places().get(number as usize) else {
-        return Ok(());
-    };
-    let bytes = menu(alloc, rng)?;
-    if bytes.len() > 1_048_576 {
-        return Ok(());
+    let of_another = below(rng, 4) == 0;
+    let place = if of_another { below(rng, 6) } else { number };
+    if let Some(page) = page(alloc, catalogue, rng, place)? {
+        let _ = hand_in(rt, alloc, catalogue, number, page)?;
     }
-    let page = Page::of(alloc, catalogue.opening().scope(), place, &bytes)?;
-    assert_eq!(rt; catalogue.found(number, page).is_ok(), is_out);
     Ok(())
 }
 

@@ -1,7 +1,12 @@
 // The plain, slow frontier: each word computed from the whole record, by filters and counts.
-use gopher_catalogue::{Event, Opening, Status};
+use gopher_catalogue::{Added, Event, Opening, Status};
 use gopher_item::{NoMemory, Place};
 use std::alloc::Global;
+
+/// The refusal of an outcome for a number that isn't out.
+pub const NOT_OUT: u8 = 52;
+
+const WRONG_PLACE: u8 = 53;
 
 /// A record: its opening and the events after it.
 #[derive(Clone, Copy)]
@@ -140,6 +145,37 @@ impl<'a> Plain<'a> {
                 .filter(|number| self.finds(*number) > 0 || self.failures(*number) >= tries)
                 .count(),
         )
+    }
+
+    /// The number of the refusal, if any, of a page of `place` that is handed in for `number`.
+    pub fn refusal(
+        self,
+        alloc: Global,
+        number: u32,
+        place: &Place,
+    ) -> Result<Option<u8>, NoMemory> {
+        if !self.out(alloc)?.contains(&number) {
+            return Ok(Some(NOT_OUT));
+        }
+        let known = self.known(alloc)?;
+        match known.get(number as usize) {
+            Some(other) if *other == place => Ok(None),
+            _ => Ok(Some(WRONG_PLACE)),
+        }
+    }
+
+    /// What the last event added: how many places became known, and how many mentions were dropped.
+    pub fn added(self, alloc: Global) -> Result<Added, NoMemory> {
+        let before = self.before(self.events.len().saturating_sub(1));
+        let fresh = self
+            .known(alloc)?
+            .len()
+            .saturating_sub(before.known(alloc)?.len());
+        let dropped = self.dropped(alloc)?.saturating_sub(before.dropped(alloc)?);
+        Ok(Added {
+            fresh: small(fresh),
+            dropped: small(dropped),
+        })
     }
 
     /// The sizes.

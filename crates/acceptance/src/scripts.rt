@@ -21,7 +21,8 @@ fn error_line(alloc: Global, bad_line: Option<u32>) -> Result<String, AllocError
     }
 }
 
-fn check(rt: &(impl Abort + AllocGlobal), worked: &Worked) -> Result<(), Fail> {
+/// Replays a worked script.
+pub fn check(rt: &(impl Abort + AllocGlobal), worked: &Worked) -> Result<(), Fail> {
     let mut input = Watched::new(worked.script);
     let mut output = Watched::new(Vec::new(rt.alloc()));
     let mut error = Watched::new(Vec::new(rt.alloc()));

@@ -1,10 +1,13 @@
 // Streams that fail: what is written then, and what the program answers.
 use crate::worked::FIRST_CRAWL;
 use gopher_hole::{ReplayFault, replay};
-use gopher_text::Watched;
+use gopher_text::{LineFault, Watched, read_line_from};
+use std::alloc::Global;
 use std::io;
 use std::io::{Read, Write};
 use std::test::Fail;
+
+const LINE: &[u8] = b"/a.txt\r\n";
 
 // A writer that takes some bytes, and then fails.
 #[derive(Drop)]
@@ -48,6 +51,57 @@ impl<'a> Read for ShortReader<'a> {
     }
 }
 
+// A writer that counts its writes.
+#[derive(Drop)]
+struct CountingWriter {
+    taken: Vec<u8>,
+    writes: u32,
+}
+
+impl Write for CountingWriter {
+    fn write(&mut self, buf: &[u8]) -> io::Result<usize> {
+        self.taken.extend_from_slice(buf)?;
+        self.writes = self.writes.saturating_add(1);
+        Ok(buf.len())
+    }
+
+    fn flush(&mut self) -> io::Result<()> {
+        Ok(())
+    }
+}
+
+#[test]
+fn each_answer_is_sent_before_the_next_command(rt: HostRuntime) -> Result<(), Fail> {
+    let mut input = Watched::new(b"start\t2\nstatus\nclaim\n".as_slice());
+    let mut output = Watched::new(CountingWriter {
+        taken: Vec::new(rt.alloc()),
+        writes: 0,
+    });
+    assert!(rt; replay(rt.alloc(), &mut input, &mut output).is_ok());
+    let CountingWriter { taken, writes } = output.into_inner();
+    assert_eq!(rt;
+        taken.as_slice(),
+        b"ok\nknown 0 waiting 0 out 0 done 0 dropped 0\nfinished\n".as_slice()
+    );
+    assert!(rt; writes >= 3);
+    Ok(())
+}
+
+// The number of the refusal, if any, of a line from a reader that gives these bytes and then fails.
+fn line_code(alloc: Global, bytes: &[u8]) -> Option<u8> {
+    let mut input = Watched::new(ShortReader { bytes });
+    let read = read_line_from(alloc, &mut input);
+    read.err().map(LineFault::code)
+}
+
+#[test]
+fn a_read_that_fails_ends_a_line_at_each_place(rt: HostRuntime) {
+    for count in 0..LINE.len() {
+        assert_eq!(rt; line_code(rt.alloc(), &LINE[..count]), Some(10));
+    }
+    assert_eq!(rt; line_code(rt.alloc(), LINE), None);
+}
+
 #[test]
 fn a_writer_that_fails_has_taken_a_beginning(rt: HostRuntime) -> Result<(), Fail> {
     for count in 0..FIRST_CRAWL.output.len() {
@@ -68,7 +122,7 @@ fn a_writer_that_fails_has_taken_a_beginning(rt: HostRuntime) -> Result<(), Fail
 
 #[test]
 fn nothing_is_written_of_a_script_that_cannot_be_read(rt: HostRuntime) -> Result<(), Fail> {
-    for count in 0..FIRST_CRAWL.script.len() {
+    for count in 0..=FIRST_CRAWL.script.len() {
         let bytes = &FIRST_CRAWL.script[..count];
         let mut input = Watched::new(ShortReader { bytes });
         let mut output = Watched::new(Vec::new(rt.alloc()));

@@ -2,14 +2,14 @@
 
 /// A script, what is written for it, and the number of the bad line at which it ends, if it does.
 #[derive(Clone, Copy)]
-pub struct Worked {
-    pub script: &'static [u8],
-    pub output: &'static [u8],
+pub struct Worked<'a> {
+    pub script: &'a [u8],
+    pub output: &'a [u8],
     pub bad_line: Option<u32>,
 }
 
 /// The first crawl.
-pub const FIRST_CRAWL: Worked = Worked {
+pub const FIRST_CRAWL: Worked<'static> = Worked {
     script: b"allow\tlocalhost\t70\t\n\
     seed\t1\tlocalhost\t70\t\n\
     start\t10\n\
@@ -32,7 +32,7 @@ pub const FIRST_CRAWL: Worked = Worked {
 };
 
 /// A limit of two places.
-pub const PLACE_LIMIT: Worked = Worked {
+pub const PLACE_LIMIT: Worked<'static> = Worked {
     script: b"allow\th\t70\t\n\
     seed\t1\th\t70\t\n\
     start\t2\n\
@@ -60,7 +60,7 @@ pub const PLACE_LIMIT: Worked = Worked {
 };
 
 /// Starts that are refused, and a bad line.
-pub const REFUSED_START: Worked = Worked {
+pub const REFUSED_START: Worked<'static> = Worked {
     script: b"seed\t1\th\t70\t\n\
     start\t2\n\
     allow\th\t70\t\n\
@@ -73,7 +73,7 @@ pub const REFUSED_START: Worked = Worked {
 };
 
 /// A deny rule.
-pub const DENY_RULE: Worked = Worked {
+pub const DENY_RULE: Worked<'static> = Worked {
     script: b"allow\th\t70\t\n\
     deny\tH\t70\t/p\n\
     seed\t1\th\t70\t\n\
@@ -91,7 +91,7 @@ pub const DENY_RULE: Worked = Worked {
 };
 
 /// Two tries.
-pub const TWO_TRIES: Worked = Worked {
+pub const TWO_TRIES: Worked<'static> = Worked {
     script: b"allow\th\t70\t\n\
     seed\t1\th\t70\t\n\
     seed\t1\th\t70\t/b\n\
@@ -123,7 +123,7 @@ pub const TWO_TRIES: Worked = Worked {
 };
 
 /// Short scripts, each for one rule of the language.
-pub const SHORT: [Worked; 34] = [
+pub const SHORT: [Worked<'static>; 34] = [
     Worked {
         script: b"allow\ta b\t70\t\n",
         output: b"refused 3\n",

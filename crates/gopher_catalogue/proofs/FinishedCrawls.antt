@@ -11,7 +11,7 @@ use Rattle.gopher_catalogue.specs.Event.{OpeningData, EventData, Opened, Claimed
 use Rattle.gopher_catalogue.specs.Frontier.{known, finds}
 use Rattle.gopher_catalogue.specs.Legal.{MayFollow, FollowEachOther, IsLegal}
 use Rattle.gopher_catalogue.specs.Pages.{page_of_event, pages_found}
-use Rattle.gopher_catalogue.specs.Closure.{OutcomeTable, last_outcome, IsTold, Agrees, GivesEachOutcome, IsComplete}
+use Rattle.gopher_catalogue.specs.Closure.{OutcomeTable, IsReachable, seed, link, IsReachedPage, last_outcome, IsTold, Agrees, GivesEachOutcome, IsComplete, SamePlaces}
 use Rattle.gopher_catalogue.proofs.Lists.{slice_get_push_cases}
 use Rattle.gopher_catalogue.proofs.Legal.{legal_ind}
 use Rattle.gopher_catalogue.proofs.Places.{bools_agree}
@@ -22,24 +22,46 @@ use Rattle.gopher_catalogue.proofs.Reach.{holds_reach, page_found_at, known_stay
 
 -- ---- two crawls
 
-pub crawls_agree : (scope : ScopeData) (seeds : List PlaceData) (table : OutcomeTable) (limit tries limit' tries' : ℕ) (events events' : List EventData) →
+-- what the seeds reach, equal seeds reach
+pub reach_same : (scope : ScopeData) (seeds seeds' : List PlaceData) (table : OutcomeTable) → SamePlaces seeds seeds' → (p : PlaceData) → IsReachable scope seeds table p → IsReachable scope seeds' table p
+reach_same scope seeds seeds' table same p (seed among) = seed (sym (same p) ∙ among)
+reach_same scope seeds seeds' table same p (link {place} reached among) = link (reach_same scope seeds seeds' table same place reached) among
+
+reached_page_same : (scope : ScopeData) (seeds seeds' : List PlaceData) (table : OutcomeTable) → SamePlaces seeds seeds' → (page : PageData) → IsReachedPage scope seeds table page → IsReachedPage scope seeds' table page
+reached_page_same scope seeds seeds' table same page reached = record {
+  place = reached.place;
+  bytes = reached.bytes;
+  is_reachable = reach_same scope seeds seeds' table same reached.place reached.is_reachable;
+  is_fetched = reached.is_fetched;
+  is_page = reached.is_page;
+}
+
+pub same_reached_pages : (scope : ScopeData) (seeds seeds' : List PlaceData) (table : OutcomeTable) → SamePlaces seeds seeds' → (page : PageData) → IsReachedPage scope seeds table page ↔ IsReachedPage scope seeds' table page
+same_reached_pages scope seeds seeds' table same page = (
+  reached_page_same scope seeds seeds' table same page,
+  reached_page_same scope seeds' seeds table (λ place. sym (same place)) page,
+)
+
+pub crawls_agree : (scope : ScopeData) (seeds seeds' : List PlaceData) (table : OutcomeTable) (limit tries limit' tries' : ℕ) (events events' : List EventData) →
     let opening : OpeningData = record { scope = scope; seeds = seeds; limit = limit; tries = tries } in
-    let opening' : OpeningData = record { scope = scope; seeds = seeds; limit = limit'; tries = tries' } in
+    let opening' : OpeningData = record { scope = scope; seeds = seeds'; limit = limit'; tries = tries' } in
+    SamePlaces seeds seeds' →
     IsLegal (Opened opening ∷ events) → IsComplete (Opened opening ∷ events) → Agrees opening events table →
     IsLegal (Opened opening' ∷ events') → IsComplete (Opened opening' ∷ events') → Agrees opening' events' table →
-    ((place : PlaceData) → is_among (known opening events) place ≡ is_among (known opening' events') place) ×
+    SamePlaces (known opening events) (known opening' events') ×
     ((page : PageData) → Contains (pages_found events) page ↔ Contains (pages_found events') page)
-crawls_agree scope seeds table limit tries limit' tries' events events' legal complete agrees legal' complete' agrees' =
+crawls_agree scope seeds seeds' table limit tries limit' tries' events events' same legal complete agrees legal' complete' agrees' =
     let opening : OpeningData = record { scope = scope; seeds = seeds; limit = limit; tries = tries } in
-    let opening' : OpeningData = record { scope = scope; seeds = seeds; limit = limit'; tries = tries' } in
+    let opening' : OpeningData = record { scope = scope; seeds = seeds'; limit = limit'; tries = tries' } in
+    let back : SamePlaces seeds' seeds = λ place. sym (same place) in
     let one = holds_reach opening events table legal complete agrees in
     let two = holds_reach opening' events' table legal' complete' agrees' in (
       λ p. bools_agree (is_among (known opening events) p) (is_among (known opening' events') p)
-          (λ h. (two.known_reachable p).1 ((one.known_reachable p).0 h))
-          (λ h. (one.known_reachable p).1 ((two.known_reachable p).0 h)),
+          (λ h. (two.known_reachable p).1 (reach_same scope seeds seeds' table same p ((one.known_reachable p).0 h)))
+          (λ h. (one.known_reachable p).1 (reach_same scope seeds' seeds table back p ((two.known_reachable p).0 h))),
       λ page. (
-        λ h. (two.pages_reached page).1 ((one.pages_reached page).0 h),
-        λ h. (one.pages_reached page).1 ((two.pages_reached page).0 h),
+        λ h. (two.pages_reached page).1 ((same_reached_pages scope seeds seeds' table same page).0 ((one.pages_reached page).0 h)),
+        λ h. (one.pages_reached page).1 ((same_reached_pages scope seeds seeds' table same page).1 ((two.pages_reached page).0 h)),
       ),
     )
 

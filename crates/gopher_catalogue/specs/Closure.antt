@@ -91,16 +91,27 @@ abbrev pub FinishedCrawlHoldsReach : Type 0
 FinishedCrawlHoldsReach =
     (opening : OpeningData) (events : List EventData) (table : OutcomeTable) → IsLegal (Opened opening ∷ events) → IsComplete (Opened opening ∷ events) → Agrees opening events table → HoldsReach opening events table
 
+-- what this record is to the law: once it is complete, it holds what can be reached, for each table that
+-- it agrees with
+abbrev pub HoldsReachOnceComplete : List EventData → Type 0
+HoldsReachOnceComplete record_ =
+    (opening : OpeningData) (events : List EventData) (table : OutcomeTable) → record_ ≡ Opened opening ∷ events → IsComplete record_ → Agrees opening events table → HoldsReach opening events table
+
+-- the same places are in both, in whatever order and however often
+abbrev pub SamePlaces : List PlaceData → List PlaceData → Type 0
+SamePlaces places places' = (place : PlaceData) → is_among places place ≡ is_among places' place
+
 -- two finished crawls of one table, with one scope and the same seeds, hold the same places and pages,
--- whatever the order of their events, their limits and their tries
+-- whatever the order of their seeds and of their events, their limits and their tries
 abbrev pub FinishedCrawlsAgree : Type 0
 FinishedCrawlsAgree =
-    (scope : ScopeData) (seeds : List PlaceData) (table : OutcomeTable) (limit tries limit' tries' : ℕ) (events events' : List EventData) →
+    (scope : ScopeData) (seeds seeds' : List PlaceData) (table : OutcomeTable) (limit tries limit' tries' : ℕ) (events events' : List EventData) →
     let opening : OpeningData = record { scope = scope; seeds = seeds; limit = limit; tries = tries } in
-    let opening' : OpeningData = record { scope = scope; seeds = seeds; limit = limit'; tries = tries' } in
+    let opening' : OpeningData = record { scope = scope; seeds = seeds'; limit = limit'; tries = tries' } in
+    SamePlaces seeds seeds' →
     IsLegal (Opened opening ∷ events) → IsComplete (Opened opening ∷ events) → Agrees opening events table →
     IsLegal (Opened opening' ∷ events') → IsComplete (Opened opening' ∷ events') → Agrees opening' events' table →
-    ((place : PlaceData) → is_among (known opening events) place ≡ is_among (known opening' events') place) ×
+    SamePlaces (known opening events) (known opening' events') ×
     ((page : PageData) → Contains (pages_found events) page ↔ Contains (pages_found events') page)
 
 -- no place has two pages

@@ -1,5 +1,5 @@
 -- What holds of every legal record. Each law is the contract of a function of `laws`.
-use Rattle.std.specs.Prelude.{◌≡◌, ℕ, ◌+◌, ◌≤◌, ◌&&◌, List, ◌∷◌, length, take, filter, Some, slice_get, ◌==◌, nat_lt}
+use Rattle.std.specs.Prelude.{◌≡◌, ℕ, ◌+◌, ◌≤◌, ◌&&◌, List, ◌∷◌, length, take, filter, count_by, Some, slice_get, ◌==◌, nat_lt, if◌then◌else◌}
 use Rattle.std.specs.List.{All, range_with_len}
 use Rattle.gopher_item.specs.Place.{PlaceData}
 use Rattle.gopher_scope.specs.Scope.{IsAllowed}
@@ -38,9 +38,22 @@ abbrev pub NoMoreClaimsThanTries : Type 0
 NoMoreClaimsThanTries =
     (opening : OpeningData) (events : List EventData) (number : ℕ) → IsLegal (Opened opening ∷ events) → (finds events number ≤ 1) × (claims events number ≤ opening.tries)
 
--- each known place waits, is out or is done, and no two of these
+-- ---- states
+
+-- how often a number stands in a list
+abbrev pub times_listed : List ℕ → ℕ → ℕ
+times_listed list number = count_by (λ other. number == other) list
+
+-- the number of each known place stands once in one of the three lists, and not in the others; no other
+-- number stands in any
 abbrev pub EachKnownPlaceHasOneState : Type 0
 EachKnownPlaceHasOneState =
+    (opening : OpeningData) (events : List EventData) (number : ℕ) → IsLegal (Opened opening ∷ events) →
+    times_listed (waiting opening events) number + times_listed (out opening events) number + times_listed (done opening events) number ≡ (if nat_lt number (length (known opening events)) then 1 else 0)
+
+-- the sizes of the three lists add up to the number of known places
+abbrev pub StateSizesAddUp : Type 0
+StateSizesAddUp =
     (opening : OpeningData) (events : List EventData) → IsLegal (Opened opening ∷ events) → length (known opening events) ≡ length (waiting opening events) + length (out opening events) + length (done opening events)
 
 -- ---- one try

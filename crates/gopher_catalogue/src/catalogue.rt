@@ -1,4 +1,4 @@
-//! The catalogue of a crawl.
+//! The catalogue of a crawl: its steps, and the search of its pages.
 
 ghost use Rattle.std.specs.Prelude.{◌≡◌, ℕ, true, false, None, Some, [], ◌∷◌, ◌++◌, map, not, position, slice_get, IfOk, IfErr, OnOk, OnErr};
 ghost use Rattle.std.specs.Arc.{arc_value};
@@ -8,29 +8,34 @@ ghost use Rattle.gopher_catalogue.specs.EventOf.{event_data};
 ghost use Rattle.gopher_catalogue.specs.Fault.{IsOpenFault, IsFoundFault};
 ghost use Rattle.gopher_catalogue.specs.Legal.{IsLegal};
 ghost use Rattle.gopher_catalogue.specs.Step.{open_fault, opened_record, turn_of, after_turn, is_out_in, found_fault, added_by, status_of, is_finished, places_of};
+ghost use Rattle.gopher_catalogue.specs.Answer.{answer_of, occurrences_of};
+ghost use Rattle.gopher_catalogue.specs.Closure.{HoldsReachOnceComplete};
+ghost use Rattle.gopher_catalogue.specs.FinalAnswer.{IsFinalOnceComplete, AreFinalOnceComplete};
+ghost use Rattle.gopher_catalogue.specs.Pages.{pages_found};
 ghost use Rattle.gopher_catalogue.specs.Turn.{turn_data, IsTake};
 
 use crate::answer::{Added, Claim, Status, Turn};
+use crate::archive::Archive;
 use crate::event::{Event, Why};
 use crate::fault::{FailRefused, FoundFault, FoundRefused, OpenFault, OpenRefused};
 use crate::frontier::Frontier;
-use crate::history::History;
+use crate::hit::Hit;
 use crate::opening::Opening;
 use gopher_item::{NoMemory, Place};
-use gopher_page::Page;
+use gopher_page::{Page, Query};
 use gopher_scope::Scope;
 use std::alloc::Global;
 use std::marker::Model;
 use std::sync::Arc;
 
-/// The catalogue of a crawl: its record, and beside it the frontier, so that no call goes over the
-/// record again.
+/// The catalogue of a crawl: its record, and beside it the frontier and the postings of the words of
+/// the pages found, so that neither a step nor a search goes over the record again.
 ///
 /// Contracts see a catalogue as its record, which is always one that a crawl can have.
 #[derive(Debug, Drop)]
 pub struct Catalogue {
     alloc: Global,
-    history: History,
+    history: Archive,
     frontier: Frontier,
 }
 
@@ -107,7 +112,7 @@ impl Catalogue {
                 seeds,
             });
         };
-        match History::begin(alloc, Opening::new(scope, seeds, places, tries)) {
+        match Archive::begin(alloc, Opening::new(scope, seeds, places, tries)) {
             Ok(history) => Ok(Catalogue {
                 alloc,
                 history,
@@ -152,8 +157,8 @@ impl Catalogue {
         Ok(Turn::Take(Claim { number, place }))
     }
 
-    /// Takes in the page of a place that is out. Those of its links that the scope allows become
-    /// known, up to the limit, and wait.
+    /// Takes in the page of a place that is out. Those of its links that the scope allows and that
+    /// aren't known yet become known, up to the limit, and wait.
     ///
     /// Refused, in this order: `NotOut` (52) where the number is not out; `WrongPlace` (53) where the
     /// page is of another place; `NoMemory` (90). Then nothing changes, and the page comes back.
@@ -183,15 +188,13 @@ impl Catalogue {
         else {
             return Err(FoundRefused { fault, page });
         };
-        match Arc::new(self.alloc, page) {
-            Ok(page) => {
+        match self.history.push_found(self.alloc, number, page) {
+            Ok(()) => {
                 self.frontier.found(number, standing, before, added.dropped);
-                self.history.push(Event::Found(number, page));
                 Ok(added)
             }
-            Err(refused) => {
+            Err(page) => {
                 self.frontier.forget(before as usize);
-                let page = refused.value;
                 Err(FoundRefused { fault, page })
             }
         }
@@ -243,8 +246,12 @@ impl Catalogue {
     }
 
     /// The known places, each at its number. Takes no memory.
+    ///
+    /// Once the crawl is finished and no mention was dropped, they are the places that can be reached
+    /// from the seeds, whatever the order of its events.
     pub fn places(&self) -> &[Arc<Place>]
         ensures places { map arc_value result.now ≡ places_of self.now }
+        ensures reach { HoldsReachOnceComplete self.now }
         ensures legal { IsLegal self.now }
     {
         self.frontier.places()
@@ -256,5 +263,28 @@ impl Catalogue {
         ensures legal { IsLegal self.now }
     {
         self.history.opening()
+    }
+
+    /// What a search finds: the pages that match the query, by score descending, then in place order;
+    /// the first 50. Refused only where memory is (90).
+    ///
+    /// Once the crawl is finished and no mention was dropped, these are the hits of the pages of all
+    /// places that can be reached.
+    pub fn search(&self, query: &Query) -> Result<Vec<Hit>, NoMemory>
+        ensures hits { IfOk result (λ hits. hits.items ≡ answer_of (pages_found self.now) query.now) }
+        ensures once_complete { IfOk result (λ hits. IsFinalOnceComplete self.now query.now hits.items) }
+        ensures legal { IsLegal self.now }
+    {
+        self.history.search(self.alloc, query)
+    }
+
+    /// The places of the pages in which `word` stands, with how often, in place order. Refused only
+    /// where memory is (90).
+    pub fn occurrences(&self, word: &[u8]) -> Result<Vec<(Place, u32)>, NoMemory>
+        ensures occurrences { IfOk result (λ list. list.items ≡ occurrences_of (pages_found self.now) word.now) }
+        ensures once_complete { IfOk result (λ list. AreFinalOnceComplete self.now word.now list.items) }
+        ensures legal { IsLegal self.now }
+    {
+        self.history.occurrences(self.alloc, word)
     }
 }

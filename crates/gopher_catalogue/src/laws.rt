@@ -1,7 +1,7 @@
 //! What holds of every legal record, as laws over all records: each function has one as its contract,
 //! and does nothing.
 
-ghost use Rattle.gopher_catalogue.specs.Laws.{BeginningsAreLegal, EachKnownPlaceHasOneState, KnownPlacesAreAllowed, KnownPlacesAreDistinct, NoClaimAfterAFind, NoMoreClaimsThanTries, NoPlaceIsOutTwice, OneTryHasSimpleStates, OneTryIsOneClaim, RecordsAreShort};
+ghost use Rattle.gopher_catalogue.specs.Laws.{BeginningsAreLegal, EachKnownPlaceHasOneState, KnownPlacesAreAllowed, KnownPlacesAreDistinct, NoClaimAfterAFind, NoMoreClaimsThanTries, NoPlaceIsOutTwice, OneTryHasSimpleStates, OneTryIsOneClaim, RecordsAreShort, StateSizesAddUp};
 
 /// The scope of a crawl allows each place that it knows.
 pub fn known_places_are_allowed()
@@ -28,9 +28,15 @@ pub fn no_more_claims_than_tries()
     ensures { NoMoreClaimsThanTries }
 {}
 
-/// Each known place waits, is out or is done: their numbers add up to the number of known places.
+/// Each known place waits, is out or is done, in exactly one of these states and once; no other number
+/// is in one.
 pub fn each_known_place_has_one_state()
     ensures { EachKnownPlaceHasOneState }
+{}
+
+/// How many places wait, are out and are done adds up to the number of known places.
+pub fn state_sizes_add_up()
+    ensures { StateSizesAddUp }
 {}
 
 /// With one try no place is claimed twice.

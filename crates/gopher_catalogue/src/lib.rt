@@ -1,25 +1,31 @@
-//! The catalogue of a crawl: its frontier and its record.
+//! The catalogue of a crawl: its frontier, its record, and the postings by which it is searched.
 //!
 //! The crates above rest on one promise: each call of `Catalogue` is the step of the sequential
-//! catalogue, from the record before to the record after, and the record is always legal.
+//! catalogue, from the record before to the record after; the record is always legal; and a search
+//! answers from all pages that the record found.
 #![tactic(auto)]
 
 mod answer;
+mod archive;
+mod best;
 mod catalogue;
 pub mod closure;
 mod event;
 mod fault;
 mod frontier;
 mod history;
+mod hit;
 mod known;
 pub mod laws;
 mod opening;
+mod postings;
 mod queue;
-#[cfg(test)]
-mod tests;
+mod search;
+mod tally;
 
 pub use answer::{Added, Claim, Status, Turn};
 pub use catalogue::Catalogue;
 pub use event::{Event, Why};
 pub use fault::{FailRefused, FoundFault, FoundRefused, OpenFault, OpenRefused};
+pub use hit::Hit;
 pub use opening::Opening;

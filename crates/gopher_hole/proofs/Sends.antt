@@ -1,6 +1,6 @@
 -- Bytes that are sent in several parts, and a writer that is flushed.
 use Rattle.std.proofs.Common.{◌≡◌, ℕ, ◌+◌, ◌-◌, ◌^◌, ◌<◌, ◌≤◌, ◌⊎◌, List, [], ◌∷◌, ◌++◌, Option, None, Some, Result, Ok, Err, refl, sym, ap, ◌∙◌, inl, inr, append_assoc, append-nil, arith}
-use Rattle.std.specs.Io.KnownBytes.{Appends, Keeps}
+use Rattle.std.specs.Io.KnownBytes.{Appends, IsAtEnd, Keeps}
 use Rattle.std.proofs.KnownBytes.{Appends-trans, Appends-kept, Keeps-trans}
 use Rattle.gopher_text.specs.Watched.{HasFailed, CountsFailure, CountsErrors}
 use Rattle.gopher_hole.specs.Script.{script_output}
@@ -60,14 +60,17 @@ has_failed-later : (before after later : ℕ) → HasFailed before after → aft
 has_failed-later before after later (inl e) more = inl (omega arith)
 has_failed-later before after later (inr e) more = inr e
 
+some-kept : (A : Type 0) (old mid new : Option (List ℕ)) (output : List ℕ) → Keeps mid new → (A × AppendsPart old mid output) ⊎ Keeps old mid → (A × AppendsPart old new output) ⊎ Keeps old new
+some-kept A old mid new output kept (inl (all, part)) = inl (all, part-kept old mid new output kept part)
+some-kept A old mid new output kept (inr none) = inr (Keeps-trans old mid new none kept)
+
 ends-kept : {T : Type 0} (bytes : List ℕ) (left : Option (List ℕ)) (missed missing : ℕ) (old mid new : Option (List ℕ)) (before after later : ℕ) (end : Result T ReplayFault)
     → Keeps mid new → after ≤ later → ReplayEnds bytes left missed missing old mid before after end → ReplayEnds bytes left missed missing old new before later end
 ends-kept bytes left missed missing old mid new before after later (Ok end) kept more (all, (good, sent, counted)) = (all, (good, Appends-kept old mid new _ sent kept, omega arith))
 ends-kept bytes left missed missing old mid new before after later (Err (BadScript line)) kept more (all, (bad, sent)) = (all, (bad, Appends-kept old mid new _ sent kept))
 ends-kept bytes left missed missing old mid new before after later (Err WriteFailed) kept more (all, (part, failed)) =
     (all, (part-kept old mid new _ kept part, has_failed-later before after later failed more))
-ends-kept bytes left missed missing old mid new before after later (Err NoMemory) kept more (inl (all, part)) = inl (all, part-kept old mid new _ kept part)
-ends-kept bytes left missed missing old mid new before after later (Err NoMemory) kept more (inr none) = inr (Keeps-trans old mid new none kept)
+ends-kept bytes left missed missing old mid new before after later (Err NoMemory) kept more (few, some) = (few, some-kept (IsAtEnd left) old mid new (script_output bytes).output kept some)
 ends-kept bytes left missed missing old mid new before after later (Err ScriptTooLong) kept more (long, none) = (long, Keeps-trans old mid new none kept)
 ends-kept bytes left missed missing old mid new before after later (Err ReadFailed) kept more (failed, none) = (failed, Keeps-trans old mid new none kept)
 ends-kept bytes left missed missing old mid new before after later (Err TooManyTurns) kept more (failed, none) = (failed, Keeps-trans old mid new none kept)

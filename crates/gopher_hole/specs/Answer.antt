@@ -1,11 +1,13 @@
 -- What a script's commands answer, as bytes: lines that end in LF, with numbers in decimal.
-use Rattle.std.specs.Prelude.{ℕ, List, [], ◌∷◌, ◌++◌, codes, Option, None, Some}
+use Rattle.std.specs.Prelude.{ℕ, List, [], ◌∷◌, ◌++◌, codes, length, Option, None, Some}
+use Rattle.std.specs.List.{flat_map}
 use Rattle.std.specs.Fmt.{decimal}
 use Rattle.gopher_item.specs.Fault.{item_fault_code}
 use Rattle.gopher_item.specs.Place.{PlaceData}
 use Rattle.gopher_item.specs.declared.fault.ItemFault.{ItemFault}
 use Rattle.gopher_catalogue.specs.declared.answer.Added.{Added}
 use Rattle.gopher_catalogue.specs.declared.answer.Status.{Status}
+use Rattle.gopher_catalogue.specs.declared.hit.Hit.{Hit}
 
 abbrev pub ok_line : List ℕ
 ok_line = codes "ok\n"
@@ -19,10 +21,13 @@ finished_line = codes "finished\n"
 abbrev pub refused_line : ℕ → List ℕ
 refused_line code = codes "refused " ++ decimal code ++ 10 ∷ []
 
--- a claimed place: its number, and then its type, host, port and selector, each after a TAB
+-- a place: its type, host, port and selector, with TABs between them
+abbrev pub place_fields : PlaceData → List ℕ
+place_fields place = place.kind ∷ 9 ∷ place.host ++ 9 ∷ decimal place.port ++ 9 ∷ place.selector
+
+-- a claimed place, behind its number
 abbrev pub take_line : ℕ → PlaceData → List ℕ
-take_line number place =
-    codes "take\t" ++ decimal number ++ 9 ∷ place.kind ∷ 9 ∷ place.host ++ 9 ∷ decimal place.port ++ 9 ∷ place.selector ++ 10 ∷ []
+take_line number place = codes "take\t" ++ decimal number ++ 9 ∷ place_fields place ++ 10 ∷ []
 
 abbrev pub added_line : Added → List ℕ
 added_line added = codes "added " ++ decimal added.fresh ++ codes " " ++ decimal added.dropped ++ 10 ∷ []
@@ -31,3 +36,19 @@ abbrev pub status_line : Status → List ℕ
 status_line status =
     codes "known " ++ decimal status.known ++ codes " waiting " ++ decimal status.waiting ++ codes " out " ++ decimal status.out
     ++ codes " done " ++ decimal status.done ++ codes " dropped " ++ decimal status.dropped ++ 10 ∷ []
+
+-- a hit: its score, its place and its title
+abbrev pub hit_line : Hit → List ℕ
+hit_line hit = codes "hit\t" ++ decimal hit.score ++ 9 ∷ place_fields hit.place ++ 9 ∷ hit.title ++ 10 ∷ []
+
+-- how many hits there are, and each of them
+abbrev pub hits_lines : List Hit → List ℕ
+hits_lines hits = codes "hits " ++ decimal (length hits) ++ 10 ∷ [] ++ flat_map hit_line hits
+
+-- a place with a word, behind how often it stands there
+abbrev pub at_line : PlaceData × ℕ → List ℕ
+at_line occurrence = codes "at\t" ++ decimal occurrence.1 ++ 9 ∷ place_fields occurrence.0 ++ 10 ∷ []
+
+-- how many places have the word, and each of them
+abbrev pub places_lines : List (PlaceData × ℕ) → List ℕ
+places_lines list = codes "places " ++ decimal (length list) ++ 10 ∷ [] ++ flat_map at_line list

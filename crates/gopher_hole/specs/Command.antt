@@ -9,7 +9,7 @@ use Rattle.gopher_scope.specs.Rule.{RuleData}
 use Rattle.gopher_catalogue.specs.declared.event.Why.{Why}
 use Rattle.gopher_catalogue.specs.declared.event.Why.TheVariants.{Connect, Read, Write, TooLong, NoMemory}
 use Rattle.gopher_hole.specs.declared.command.Command.{Command}
-use Rattle.gopher_hole.specs.declared.command.Command.TheVariants.{Nothing, Allow, Deny, Seed, Start, Claim, Found, Fail, Status}
+use Rattle.gopher_hole.specs.declared.command.Command.TheVariants.{Nothing, Allow, Deny, Seed, Start, Claim, Found, Fail, Search, Occurs, Status}
 
 -- ---- fields
 
@@ -68,6 +68,22 @@ abbrev pub fail_in : List (List ℕ) → Option Command
 fail_in (number ∷ why ∷ []) = option_and_then (λ n. option_map (λ w. Fail n w) (why_in why)) (number_in number)
 fail_in fields = None
 
+-- the only field
+abbrev pub last_field : List (List ℕ) → Option (List ℕ)
+last_field (field ∷ []) = Some field
+last_field fields = None
+
+-- a query's text, of at most 1,024 bytes
+abbrev pub query_text : List ℕ → Option Command
+query_text text = if nat_le (length text) 1024 then Some (Search text) else None
+
+abbrev pub search_in : List (List ℕ) → Option Command
+search_in fields = option_and_then query_text (last_field fields)
+
+-- a word
+abbrev pub occurs_in : List (List ℕ) → Option Command
+occurs_in fields = option_map Occurs (last_field fields)
+
 -- a command that has no fields but its name
 abbrev pub alone : Command → List (List ℕ) → Option Command
 alone command [] = Some command
@@ -88,7 +104,9 @@ named name fields =
     else (if is_name name (codes "claim") then alone Claim fields
     else (if is_name name (codes "found") then found_in fields
     else (if is_name name (codes "fail") then fail_in fields
-    else (if is_name name (codes "status") then alone Status fields else None)))))))
+    else (if is_name name (codes "search") then search_in fields
+    else (if is_name name (codes "occurs") then occurs_in fields
+    else (if is_name name (codes "status") then alone Status fields else None)))))))))
 
 abbrev pub command_in : List (List ℕ) → Option Command
 command_in [] = None

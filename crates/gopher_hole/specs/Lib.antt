@@ -3,6 +3,7 @@ pub mod Command
 pub mod Draft
 pub mod Fault
 pub mod Fields
+pub mod Parts
 pub mod Replay
 pub mod Script
 pub mod Stage

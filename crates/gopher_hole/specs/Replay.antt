@@ -50,7 +50,8 @@ ReplayEnds bytes left missed missing old new before after (Ok end) = IsAtEnd lef
 ReplayEnds bytes left missed missing old new before after (Err (BadScript line)) =
     IsAtEnd left × RunEnds {T = Unit {0}} (script_output bytes) old new before after (Err (BadScript line))
 ReplayEnds bytes left missed missing old new before after (Err WriteFailed) = IsAtEnd left × RunEnds {T = Unit {0}} (script_output bytes) old new before after (Err WriteFailed)
-ReplayEnds bytes left missed missing old new before after (Err NoMemory) = (IsAtEnd left × AppendsPart old new (script_output bytes).output) ⊎ Keeps old new
+ReplayEnds bytes left missed missing old new before after (Err NoMemory) =
+    (length bytes ≤ script_limit) × ((IsAtEnd left × AppendsPart old new (script_output bytes).output) ⊎ Keeps old new)
 ReplayEnds bytes left missed missing old new before after (Err ScriptTooLong) = (script_limit < length bytes) × Keeps old new
 ReplayEnds bytes left missed missing old new before after (Err ReadFailed) = HasFailed missed missing × Keeps old new
 ReplayEnds bytes left missed missing old new before after (Err TooManyTurns) = HasFailed missed missing × Keeps old new

@@ -2,20 +2,24 @@
 use Rattle.std.specs.Prelude.{◌≡◌, ℕ, List, [], ◌∷◌, ◌++◌, Option, None, Some, is_some, if◌then◌else◌}
 use Rattle.std.specs.Option.{option_map_or}
 use Rattle.gopher_item.specs.Fault.{item_fault_code}
-use Rattle.gopher_item.specs.Place.{PlaceData, place_fault, place_of}
+use Rattle.gopher_item.specs.Place.{PlaceData}
 use Rattle.gopher_item.specs.declared.fault.ItemFault.{ItemFault}
-use Rattle.gopher_scope.specs.Rule.{RuleData, rule_fault, rule_of}
+use Rattle.gopher_scope.specs.Rule.{RuleData}
 use Rattle.gopher_scope.specs.Scope.{ScopeData}
 use Rattle.gopher_page.specs.Page.{PageData, page_of}
+use Rattle.gopher_page.specs.Query.{TermData, query_of}
+use Rattle.gopher_catalogue.specs.Answer.{answer_of as hits_found, occurrences_of}
+use Rattle.gopher_catalogue.specs.Pages.{pages_found}
 use Rattle.gopher_catalogue.specs.Event.{OpeningData, EventData, Opened, Found as FoundEvent, Failed}
 use Rattle.gopher_catalogue.specs.Fault.{open_fault_code, found_fault_code}
 use Rattle.gopher_catalogue.specs.Step.{TurnData, Take, Idle, Finished, open_fault, opened_record, turn_of, after_turn, is_out_in, found_fault, added_by, status_of}
 use Rattle.gopher_catalogue.specs.declared.event.Why.{Why}
 use Rattle.gopher_catalogue.specs.declared.fault.OpenFault.{OpenFault}
-use Rattle.gopher_hole.specs.Answer.{ok_line, idle_line, finished_line, refused_line, take_line, added_line, status_line}
+use Rattle.gopher_hole.specs.Answer.{ok_line, idle_line, finished_line, refused_line, take_line, added_line, status_line, hits_lines, places_lines}
 use Rattle.gopher_hole.specs.Draft.{DraftData}
+use Rattle.gopher_hole.specs.Parts.{fault_of_rule, made_rule, fault_of_place, made_place}
 use Rattle.gopher_hole.specs.declared.command.Command.{Command}
-use Rattle.gopher_hole.specs.declared.command.Command.TheVariants.{Nothing, Allow, Deny, Seed, Start, Claim, Found, Fail, Status}
+use Rattle.gopher_hole.specs.declared.command.Command.TheVariants.{Nothing, Allow, Deny, Seed, Start, Claim, Found, Fail, Search, Occurs, Status}
 use Rattle.gopher_hole.specs.declared.stage.Performed.{Performed}
 use Rattle.gopher_hole.specs.declared.stage.Stage.{Stage}
 use Rattle.gopher_hole.specs.declared.stage.Stage.TheVariants.{Gathering, Crawling}
@@ -27,17 +31,8 @@ abbrev pub taken_line : Option ItemFault → List ℕ
 taken_line None = []
 taken_line (Some fault) = refused_line (item_fault_code fault)
 
-abbrev pub fault_of_rule : RuleData → Option ItemFault
-fault_of_rule rule = rule_fault rule.host rule.port rule.prefix
-
 abbrev pub with_rule : List RuleData → RuleData → List RuleData
-with_rule rules rule = if is_some (fault_of_rule rule) then rules else rules ++ rule_of rule.host rule.port rule.prefix ∷ []
-
-abbrev pub fault_of_place : PlaceData → Option ItemFault
-fault_of_place place = place_fault place.kind place.selector place.host place.port
-
-abbrev pub made_place : PlaceData → PlaceData
-made_place place = place_of place.kind place.selector place.host place.port
+with_rule rules rule = if is_some (fault_of_rule rule) then rules else rules ++ made_rule rule ∷ []
 
 abbrev pub with_seed : List PlaceData → PlaceData → List PlaceData
 with_seed seeds seed = if is_some (fault_of_place seed) then seeds else seeds ++ made_place seed ∷ []
@@ -113,12 +108,25 @@ fail_line events number = if is_out_in events number then ok_line else refused_l
 abbrev pub after_fail : List EventData → ℕ → Why → List EventData
 after_fail events number why = if is_out_in events number then events ++ Failed number why ∷ [] else events
 
+-- a text without words is refused
+abbrev pub query_lines : List EventData → List TermData → List ℕ
+query_lines events [] = refused_line 40
+query_lines events query = hits_lines (hits_found (pages_found events) query)
+
+abbrev pub search_lines : List EventData → List ℕ → List ℕ
+search_lines events text = query_lines events (query_of text)
+
+abbrev pub occurs_lines : List EventData → List ℕ → List ℕ
+occurs_lines events word = places_lines (occurrences_of (pages_found events) word)
+
 -- the answer of a command in the crawl, with the reply of its block, or none for a command whose time it isn't
 abbrev pub answer_in : List EventData → Command → List ℕ → Option (List ℕ)
 answer_in events Nothing reply = Some []
 answer_in events Claim reply = Some (turn_line (turn_of events))
 answer_in events (Found number place) reply = Some (found_line events number place reply)
 answer_in events (Fail number why) reply = Some (fail_line events number)
+answer_in events (Search text) reply = Some (search_lines events text)
+answer_in events (Occurs word) reply = Some (occurs_lines events word)
 answer_in events Status reply = Some (status_line (status_of events))
 answer_in events command reply = None
 

@@ -1,8 +1,8 @@
 //! The answers of a script's commands, as bytes.
 
-ghost use Rattle.std.specs.Prelude.{◌≡◌, ◌≢◌, IfOk, OnOk};
+ghost use Rattle.std.specs.Prelude.{◌≡◌, ◌≢◌, ◌++◌, IfOk, OnOk};
 ghost use Rattle.gopher_item.specs.Fault.{item_fault_code};
-ghost use Rattle.gopher_hole.specs.Answer.{ok_line, idle_line, finished_line, refused_line, take_line, added_line, status_line};
+ghost use Rattle.gopher_hole.specs.Answer.{ok_line, idle_line, finished_line, refused_line, place_fields, take_line, added_line, status_line};
 
 use gopher_catalogue::{Added, Status};
 use gopher_item::{ItemFault, NoMemory, Place};
@@ -43,16 +43,24 @@ pub fn refusal(alloc: Global, fault: ItemFault) -> Result<Vec<u8>, NoMemory>
     refused_line(alloc, fault.code())
 }
 
-pub fn take_line(alloc: Global, number: u32, place: &Place) -> Result<Vec<u8>, NoMemory>
-    ensures { IfOk result (λ line. line.items ≡ take_line number place.now) }
+/// Appends a place's type, host, port and selector.
+pub fn push_place(alloc: Global, place: &Place, line: &mut Vec<u8>) -> Result<(), NoMemory>
+    ensures { OnOk result (line.new.items ≡ line.old.items ++ place_fields place.now) }
 {
     let port = place.port();
-    let mut line = format!(in alloc; "take\t{number}\t")?.into_bytes();
     line.push(place.kind())?;
     line.push(b'\t')?;
     line.extend_from_slice(place.host())?;
     line.extend_from_slice(format!(in alloc; "\t{port}\t")?.as_bytes())?;
     line.extend_from_slice(place.selector())?;
+    Ok(())
+}
+
+pub fn take_line(alloc: Global, number: u32, place: &Place) -> Result<Vec<u8>, NoMemory>
+    ensures { IfOk result (λ line. line.items ≡ take_line number place.now) }
+{
+    let mut line = format!(in alloc; "take\t{number}\t")?.into_bytes();
+    push_place(alloc, place, &mut line)?;
     line.push(b'\n')?;
     Ok(line)
 }

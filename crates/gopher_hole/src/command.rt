@@ -1,13 +1,20 @@
 //! The commands of a script.
 
-ghost use Rattle.std.specs.Prelude.{◌≡◌, length};
+ghost use Rattle.std.specs.Prelude.{◌≡◌, ◌≤◌, length};
+ghost use Rattle.std.specs.Option.{option_map};
 ghost use Rattle.std.specs.Cmp.Lexicographic.{pointwise};
-ghost use Rattle.gopher_hole.specs.Command.{is_name, short_number, port_in, number_in, kind_in, why_of, why_in, rule_in, place_in, start_in, found_in, fail_in, alone, named, command_in, is_idle_line, command_of};
+ghost use Rattle.gopher_item.specs.Fault.{Makes};
+ghost use Rattle.gopher_hole.specs.Parts.{fault_of_rule, made_rule, fault_of_place, made_place};
+ghost use Rattle.gopher_hole.specs.Command.{is_name, short_number, port_in, number_in, kind_in, why_of, why_in, rule_in, place_in, start_in, found_in, fail_in, last_field, search_in, occurs_in, alone, named, command_in, is_idle_line, command_of};
 
 use crate::fields::Fields;
 use gopher_catalogue::Why;
-use gopher_item::read_number;
+use gopher_item::{ItemFault, Place, read_number};
+use gopher_scope::Rule;
+use std::alloc::Global;
 use std::marker::Model;
+
+const LONGEST_QUERY: usize = 1_024;
 
 /// A rule as a script states it.
 #[derive(Drop)]
@@ -34,12 +41,70 @@ pub struct PlaceParts<'a> {
     pub selector: &'a [u8],
 }
 
+impl<'a> RuleParts<'a> {
+    /// The rule, or why its parts are refused.
+    pub fn make(&self, alloc: Global) -> Result<Rule, ItemFault>
+        ensures { Makes (fault_of_rule self.now) (made_rule self.now) result }
+    {
+        Rule::new(alloc, self.host, self.port, self.prefix)
+    }
+}
+
 impl<'a> Model for PlaceParts<'a> {
     ghost use Rattle.gopher_item.specs.Place.{PlaceData};
 
     ghost Value = { PlaceData };
 
     ghost view = { λ p. record { host = p.host.now; port = p.port; selector = p.selector.now; kind = p.kind } };
+}
+
+/// The text of a query as a script states it: at most 1,024 bytes.
+#[derive(Drop)]
+pub struct QueryText<'a> {
+    bytes: &'a [u8],
+}
+
+impl<'a> Model for QueryText<'a> {
+    ghost use Rattle.std.specs.Prelude.{ℕ, ◌≤◌, List, length};
+
+    ghost Value = { List ℕ };
+
+    ghost view = { λ t. t.bytes.now };
+
+    ghost invariant = { λ t. length t.bytes.now ≤ 1024 };
+}
+
+impl<'a> QueryText<'a> {
+    /// The text.
+    pub fn as_slice(&self) -> &'a [u8]
+        ensures text { result.now ≡ self.now }
+        ensures few { length result.now ≤ 1024 }
+    {
+        self.bytes
+    }
+}
+
+/// A word as a script states it.
+#[derive(Drop)]
+pub struct WordText<'a> {
+    pub bytes: &'a [u8],
+}
+
+impl<'a> Model for WordText<'a> {
+    ghost use Rattle.std.specs.Prelude.{ℕ, List};
+
+    ghost Value = { List ℕ };
+
+    ghost view = { λ w. w.bytes.now };
+}
+
+impl<'a> PlaceParts<'a> {
+    /// The place, or why its parts are refused.
+    pub fn make(&self, alloc: Global) -> Result<Place, ItemFault>
+        ensures { Makes (fault_of_place self.now) (made_place self.now) result }
+    {
+        Place::new(alloc, self.kind, self.selector, self.host, self.port)
+    }
 }
 
 /// A command of a script.
@@ -61,11 +126,13 @@ pub enum Command<'a> {
     Found(u32, PlaceParts<'a>),
     /// The place of this number failed.
     Fail(u32, Why),
+    /// The pages that match a query are asked for.
+    Search(QueryText<'a>),
+    /// The places of the pages that have a word are asked for.
+    Occurs(WordText<'a>),
     /// The sizes of the frontier are asked for.
     Status,
 }
-
-// ---- fields
 
 fn is_name(field: &[u8], name: &[u8]) -> bool
     ensures { result ≡ is_name field.now name.now }
@@ -117,8 +184,6 @@ fn why(field: &[u8]) -> Option<Why>
         _ => None,
     }
 }
-
-// ---- what follows a command's name
 
 fn rule_parts<'a>(mut fields: Fields<'a>) -> Option<RuleParts<'a>>
     ensures { result ≡ rule_in fields.entry }
@@ -185,6 +250,35 @@ fn fail<'a>(mut fields: Fields<'a>) -> Option<Command<'a>>
     Some(Command::Fail(number(digits)?, why(why_field)?))
 }
 
+// The only field that is left.
+fn last_field<'a>(mut fields: Fields<'a>) -> Option<&'a [u8]>
+    ensures { option_map (λ field. field.now) result ≡ last_field fields.entry }
+{
+    let field = fields.next()?;
+    let None = fields.next() else {
+        return None;
+    };
+    Some(field)
+}
+
+fn search<'a>(fields: Fields<'a>) -> Option<Command<'a>>
+    ensures { result ≡ search_in fields.entry }
+{
+    let bytes = last_field(fields)?;
+    if bytes.len() <= LONGEST_QUERY {
+        Some(Command::Search(QueryText { bytes }))
+    } else {
+        None
+    }
+}
+
+fn occurs<'a>(fields: Fields<'a>) -> Option<Command<'a>>
+    ensures { result ≡ occurs_in fields.entry }
+{
+    let bytes = last_field(fields)?;
+    Some(Command::Occurs(WordText { bytes }))
+}
+
 fn alone<'a>(command: Command<'a>, mut fields: Fields<'a>) -> Option<Command<'a>>
     ensures { result ≡ alone command.entry fields.entry }
 {
@@ -193,8 +287,6 @@ fn alone<'a>(command: Command<'a>, mut fields: Fields<'a>) -> Option<Command<'a>
     };
     Some(command)
 }
-
-// ---- a line
 
 fn named<'a>(name: &[u8], fields: Fields<'a>) -> Option<Command<'a>>
     ensures { result ≡ named name.now fields.entry }
@@ -213,6 +305,10 @@ fn named<'a>(name: &[u8], fields: Fields<'a>) -> Option<Command<'a>>
         found(fields)
     } else if is_name(name, b"fail") {
         fail(fields)
+    } else if is_name(name, b"search") {
+        search(fields)
+    } else if is_name(name, b"occurs") {
+        occurs(fields)
     } else if is_name(name, b"status") {
         alone(Command::Status, fields)
     } else {

@@ -3,15 +3,17 @@
 
 ghost use Rattle.std.specs.Prelude.{◌≡◌, ◌≤◌, IfOk, OnOk, length};
 ghost use Rattle.gopher_catalogue.specs.Step.{turn_of, after_turn};
-ghost use Rattle.gopher_hole.specs.Stage.{turn_line, page_line, after_page, found_line, after_found, fail_line, after_fail};
+ghost use Rattle.gopher_page.specs.Page.{page_of};
+ghost use Rattle.gopher_hole.specs.Stage.{turn_line, scope_in, page_line, after_page, found_line, after_found, fail_line, after_fail, search_lines, occurs_lines};
 
 use crate::answer::{
     added_line, finished_line, idle_line, ok_line, refusal, refused_line, take_line,
 };
-use crate::command::PlaceParts;
+use crate::command::{PlaceParts, QueryText};
+use crate::listing::{hits_lines, places_lines};
 use gopher_catalogue::{Catalogue, FoundFault, Turn, Why};
 use gopher_item::{NoMemory, Place};
-use gopher_page::Page;
+use gopher_page::{Page, Query, QueryFault};
 use std::alloc::Global;
 
 /// Claims the next place.
@@ -41,13 +43,27 @@ pub fn found(
     ensures record { OnOk result
         (catalogue.new ≡ after_found catalogue.old number parts.now reply.now) }
 {
-    match Place::new(alloc, parts.kind, parts.selector, parts.host, parts.port) {
-        Ok(place) => {
-            let page = Page::of(alloc, catalogue.opening().scope(), &place, reply)?;
-            hand_in(alloc, catalogue, number, page)
-        }
+    match parts.make(alloc) {
+        Ok(place) => found_at(alloc, catalogue, number, &place, reply),
         Err(fault) => refusal(alloc, fault),
     }
+}
+
+fn found_at(
+    alloc: Global,
+    catalogue: &mut Catalogue,
+    number: u32,
+    place: &Place,
+    reply: &[u8],
+) -> Result<Vec<u8>, NoMemory>
+    requires { length reply.now ≤ 1048576 }
+    ensures answer { IfOk result (λ answer. answer.items
+        ≡ page_line catalogue.old number (page_of (scope_in catalogue.old) place.now reply.now)) }
+    ensures record { OnOk result (catalogue.new
+        ≡ after_page catalogue.old number (page_of (scope_in catalogue.old) place.now reply.now)) }
+{
+    let page = Page::of(alloc, catalogue.opening().scope(), place, reply)?;
+    hand_in(alloc, catalogue, number, page)
 }
 
 fn hand_in(
@@ -85,4 +101,26 @@ pub fn fail(
         Ok(()) => ok_line(alloc),
         Err(refused) => refused_line(alloc, refused.code()),
     }
+}
+
+/// Searches the pages that were found.
+pub fn search(
+    alloc: Global,
+    catalogue: &Catalogue,
+    text: &QueryText<'_>,
+) -> Result<Vec<u8>, NoMemory>
+    ensures { IfOk result (λ answer. answer.items ≡ search_lines catalogue.now text.now) }
+{
+    match Query::read(alloc, text.as_slice()) {
+        Ok(query) => hits_lines(alloc, &catalogue.search(&query)?),
+        Err(QueryFault::NoMemory) => Err(NoMemory),
+        Err(fault) => refused_line(alloc, fault.code()),
+    }
+}
+
+/// Looks up the places of the pages that have a word.
+pub fn occurs(alloc: Global, catalogue: &Catalogue, word: &[u8]) -> Result<Vec<u8>, NoMemory>
+    ensures { IfOk result (λ answer. answer.items ≡ occurs_lines catalogue.now word.now) }
+{
+    places_lines(alloc, &catalogue.occurrences(word)?)
 }

@@ -1,9 +1,9 @@
 //! What a script states before its crawl begins.
 
-ghost use Rattle.std.specs.Prelude.{◌≡◌, ◌++◌, ◌∷◌, [], IfOk, MatchOption, None, Some};
-ghost use Rattle.gopher_item.specs.Fault.{Makes};
+ghost use Rattle.std.specs.Prelude.{◌≡◌, [], IfOk};
 ghost use Rattle.gopher_hole.specs.Draft.{DraftData};
-ghost use Rattle.gopher_hole.specs.Stage.{taken_line, fault_of_rule, with_rule, fault_of_place, made_place, with_seed, start_line, fault_of_start, after_start};
+ghost use Rattle.gopher_hole.specs.Parts.{fault_of_rule, fault_of_place};
+ghost use Rattle.gopher_hole.specs.Stage.{taken_line, with_rule, with_seed};
 
 use crate::answer::refusal;
 use crate::command::{PlaceParts, RuleParts};
@@ -50,7 +50,7 @@ pub fn add_rule(
     ensures { IfOk result (λ answer. (answer.items ≡ taken_line (fault_of_rule parts.now))
         × (rules.new.items ≡ with_rule rules.old.items parts.now)) }
 {
-    match Rule::new(alloc, parts.host, parts.port, parts.prefix) {
+    match parts.make(alloc) {
         Ok(rule) => {
             rules.push(rule)?;
             Ok(Vec::new(alloc))
@@ -68,7 +68,7 @@ pub fn add_seed(
     ensures { IfOk result (λ answer. (answer.items ≡ taken_line (fault_of_place parts.now))
         × (seeds.new.items ≡ with_seed seeds.old.items parts.now)) }
 {
-    match Place::new(alloc, parts.kind, parts.selector, parts.host, parts.port) {
+    match parts.make(alloc) {
         Ok(seed) => {
             seeds.push(seed)?;
             Ok(Vec::new(alloc))

@@ -9,6 +9,7 @@ mod crawl;
 mod draft;
 mod fault;
 mod fields;
+mod listing;
 mod program;
 mod replaying;
 mod script;
@@ -17,6 +18,3 @@ mod stage;
 pub use fault::ReplayFault;
 pub use program::run;
 pub use replaying::replay;
-
-#[cfg(test)]
-mod tests;

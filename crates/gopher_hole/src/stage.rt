@@ -7,7 +7,7 @@ ghost use Rattle.gopher_hole.specs.Stage.{answer_before, after_before, answer_in
 
 use crate::answer::{ok_line, refused_line, status_line};
 use crate::command::Command;
-use crate::crawl::{claim, fail, found};
+use crate::crawl::{claim, fail, found, occurs, search};
 use crate::draft::{Draft, add_rule, add_seed};
 use gopher_catalogue::{Catalogue, OpenFault, OpenRefused};
 use gopher_item::NoMemory;
@@ -87,9 +87,12 @@ fn perform_before(
         Command::Deny(rule) => add_rule(alloc, &mut draft.deny, &rule)?,
         Command::Seed(place) => add_seed(alloc, &mut draft.seeds, &place)?,
         Command::Start(places, tries) => return Ok(Some(start(alloc, draft, places, tries)?)),
-        Command::Claim | Command::Found(..) | Command::Fail(..) | Command::Status => return Ok(
-            None,
-        ),
+        Command::Claim
+        | Command::Found(..)
+        | Command::Fail(..)
+        | Command::Search(_)
+        | Command::Occurs(_)
+        | Command::Status => return Ok(None),
     };
     let stage = Stage::Gathering(draft);
     Ok(Some(Performed { stage, answer }))
@@ -113,6 +116,8 @@ fn perform_in(
         Command::Claim => claim(alloc, &mut catalogue)?,
         Command::Found(number, place) => found(alloc, &mut catalogue, number, &place, reply)?,
         Command::Fail(number, why) => fail(alloc, &mut catalogue, number, why)?,
+        Command::Search(text) => search(alloc, &catalogue, &text)?,
+        Command::Occurs(word) => occurs(alloc, &catalogue, word.bytes)?,
         Command::Status => status_line(alloc, catalogue.status())?,
         Command::Allow(_) | Command::Deny(_) | Command::Seed(_) | Command::Start(..) => return Ok(
             None,

@@ -11,7 +11,8 @@ fn is_special(byte: u8) -> bool
     matches!(byte, b'\t' | b'\n' | b'\r' | 0)
 }
 
-pub(crate) fn is_control(byte: u8) -> bool
+/// Whether the byte is a control byte of ASCII: 0 to 31, or 127.
+pub fn is_control(byte: u8) -> bool
     ensures { result ≡ is_control byte }
 {
     byte < 32 || byte == 127

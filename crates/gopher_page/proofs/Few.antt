@@ -7,7 +7,7 @@ use Rattle.gopher_item.specs.Place.{PlaceData, same_place, distinct}
 use Rattle.gopher_item.specs.Lines.{lines_of}
 use Rattle.gopher_item.specs.Menu.{entries_of, entry_of, lines_before_last, is_last_line}
 use Rattle.gopher_scope.specs.Scope.{ScopeData, allows}
-use Rattle.gopher_page.specs.Page.{links_of, menu_links, place_of_entry}
+use Rattle.gopher_page.specs.Page.{menu_links, place_of_entry}
 
 pub length-filter-le : {X : Type 0} (test : X → Bool) (xs : List X) → length (filter test xs) ≤ length xs
 length-filter-le test [] = omega arith
@@ -57,28 +57,18 @@ length-lines_of-le (byte ∷ bytes) = by (eqb byte 10) (length-lines_of-le bytes
     by true rest = omega (arith, rest, one_more_line parts)
     by false rest = omega (arith, rest, one_more byte parts)
 
-pub few_links : (scope : ScopeData) (place : PlaceData) (bytes : List ℕ) → length (links_of scope place bytes) ≤ length bytes
-few_links scope place bytes = by (eqb place.kind 49)
-  where
-    lines : List (List ℕ)
-    lines = lines_before_last (lines_of bytes)
-
-    kept : List (List ℕ)
-    kept = filter (λ line. not (eqb (length line) 0)) lines
-
-    named : List PlaceData
-    named = filter_map place_of_entry (entries_of (lines_of bytes))
-
-    by : (b : Bool) → length (cond b (menu_links scope bytes) []) ≤ length bytes
-    by true =
-        omega (
-          arith,
-          length-distinct-le (filter (allows scope) named),
-          length-filter-le (allows scope) named,
-          length-filter_map-le place_of_entry (map entry_of kept),
-          length-map kept entry_of,
-          length-filter-le (λ line. not (eqb (length line) 0)) lines,
-          length-take_while-le (λ line. not (is_last_line line)) (lines_of bytes),
-          length-lines_of-le bytes,
-        )
-    by false = omega arith
+pub few_menu_links : (scope : ScopeData) (bytes : List ℕ) → length (menu_links scope bytes) ≤ length bytes
+few_menu_links scope bytes =
+    let lines = lines_before_last (lines_of bytes) in
+    let kept = filter (λ line. not (eqb (length line) 0)) lines in
+    let named = filter_map place_of_entry (entries_of (lines_of bytes)) in
+    omega (
+      arith,
+      length-distinct-le (filter (allows scope) named),
+      length-filter-le (allows scope) named,
+      length-filter_map-le place_of_entry (map entry_of kept),
+      length-map kept entry_of,
+      length-filter-le (λ line. not (eqb (length line) 0)) lines,
+      length-take_while-le (λ line. not (is_last_line line)) (lines_of bytes),
+      length-lines_of-le bytes,
+    )

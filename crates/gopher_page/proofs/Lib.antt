@@ -1,2 +1,13 @@
 pub mod Distinct
 pub mod Few
+mod Added
+mod Runs
+mod Tokens
+mod Packing
+mod Joining
+pub mod Order
+mod Search
+mod Tallies
+mod Terms
+mod Short
+mod Pages

@@ -1,1 +1,5 @@
+pub mod Words
+pub mod Counts
+pub mod Packed
+pub mod Query
 pub mod Page

@@ -1,18 +1,25 @@
 -- A page: what a catalogue keeps of a reply.
-use Rattle.std.specs.Prelude.{ℕ, List, [], filter, Option, None, ◌==◌, if◌then◌else◌}
-use Rattle.std.specs.List.{filter_map}
+use Rattle.std.specs.Prelude.{ℕ, Bool, List, [], length, take, map, filter, Option, None, ◌==◌, nat_lt, if◌then◌else◌}
+use Rattle.std.specs.List.{filter_map, find, flat_map}
+use Rattle.std.specs.Option.{option_map_or}
+use Rattle.gopher_item.specs.Bytes.{is_control}
 use Rattle.gopher_item.specs.Lines.{lines_of}
 use Rattle.gopher_item.specs.Place.{PlaceData, distinct}
-use Rattle.gopher_item.specs.MenuLine.{place_named}
+use Rattle.gopher_item.specs.MenuLine.{place_named, trim_spaces}
 use Rattle.gopher_item.specs.Menu.{entries_of}
 use Rattle.gopher_item.specs.declared.menu.Entry.{Entry}
 use Rattle.gopher_item.specs.declared.menu.Entry.TheVariants.{Item, Odd}
 use Rattle.gopher_scope.specs.Scope.{ScopeData, allows}
+use Rattle.gopher_page.specs.Words.{words_of}
+use Rattle.gopher_page.specs.Counts.{counts_of}
+use Rattle.gopher_text.specs.Text.{text_lines}
 
 -- a page as data
 pub record PageData : Type 0 where
   pub place : PlaceData
+  pub title : List ℕ
   pub links : List PlaceData
+  pub counts : List (List ℕ × ℕ)
 
 -- the place that an entry of a menu names, where it names one
 abbrev pub place_of_entry : Entry → Option PlaceData
@@ -27,6 +34,52 @@ menu_links scope bytes = distinct (filter (allows scope) (filter_map place_of_en
 abbrev pub links_of : ScopeData → PlaceData → List ℕ → List PlaceData
 links_of scope place bytes = if place.kind == 49 then menu_links scope bytes else []
 
+-- ---- lines
+
+-- the line of a page that an entry of a menu gives
+abbrev pub line_of_entry : Entry → List ℕ
+line_of_entry (Item line) = line.display
+line_of_entry (Odd bytes) = bytes
+
+-- the lines of a directory's page: one for each entry of its menu
+abbrev pub menu_page_lines : List ℕ → List (List ℕ)
+menu_page_lines bytes = map line_of_entry (entries_of (lines_of bytes))
+
+-- the lines of a page; those of a file's are the lines of its text
+abbrev pub page_lines : PlaceData → List ℕ → List (List ℕ)
+page_lines place bytes = if place.kind == 49 then menu_page_lines bytes else text_lines bytes
+
+-- ---- title
+
+-- a control byte as a space, and any other byte as it is
+abbrev pub plain_byte : ℕ → ℕ
+plain_byte byte = if is_control byte then 32 else byte
+
+-- bytes as a title: without control bytes, without spaces at both ends, and the first 69 of what is left
+abbrev pub title_text : List ℕ → List ℕ
+title_text bytes = take 69 (trim_spaces (map plain_byte bytes))
+
+abbrev pub has_word : List ℕ → Bool
+has_word line = nat_lt 0 (length (words_of line))
+
+-- the title where no line has a word: the selector, or else the host
+abbrev pub place_title : PlaceData → List ℕ
+place_title place = if length (title_text place.selector) == 0 then take 69 place.host else title_text place.selector
+
+-- the first line that has a word, as a title
+abbrev pub title_of : PlaceData → List (List ℕ) → List ℕ
+title_of place lines = option_map_or title_text (find has_word lines) (place_title place)
+
+-- the page of a place that has these lines and links; a word counts as often as it stands in all lines
+abbrev pub page_of_lines : PlaceData → List (List ℕ) → List PlaceData → PageData
+page_of_lines place lines links =
+    record {
+      place = place;
+      title = title_of place lines;
+      links = links;
+      counts = counts_of (flat_map words_of lines);
+    }
+
 -- the page of a reply depends on the scope, the place and the bytes alone
 unfoldable pub page_of : ScopeData → PlaceData → List ℕ → PageData
-page_of scope place bytes = record { place = place; links = links_of scope place bytes }
+page_of scope place bytes = page_of_lines place (page_lines place bytes) (links_of scope place bytes)

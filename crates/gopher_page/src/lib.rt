@@ -1,11 +1,22 @@
-//! What a catalogue keeps of a reply: the page of a place.
+//! Words, queries and pages: what a catalogue keeps of a reply, and what a search asks of it.
 //!
-//! The crates above rest on one promise: `Page::of` is the page of its three arguments.
+//! The crates above rest on one promise: `Page::of` is the page of its three arguments, and the
+//! matches and scores of a query are those of a page's counts.
 #![tactic(auto)]
 
+mod counts;
+mod fault;
+mod line;
 mod links;
 mod page;
-#[cfg(test)]
-mod tests;
+mod query;
+mod repeats;
+mod tally;
+mod title;
+mod word;
 
+pub use counts::Counts;
+pub use fault::QueryFault;
 pub use page::Page;
+pub use query::{Operator, Query, Term};
+pub use word::words;

@@ -5,10 +5,10 @@ ghost use Rattle.std.specs.Arc.{arc_value};
 ghost use Rattle.std.specs.List.{filter_map};
 ghost use Rattle.gopher_item.specs.Place.{same_place, distinct};
 ghost use Rattle.gopher_scope.specs.Scope.{allows};
-ghost use Rattle.gopher_page.specs.Page.{place_of_entry, links_of};
+ghost use Rattle.gopher_page.specs.Page.{place_of_entry};
 ghost use Rattle.indexmap.specs.IndexSet.{insert_all};
 
-use gopher_item::{Entry, ItemFault, NoMemory, Place, read_menu};
+use gopher_item::{Entry, ItemFault, NoMemory, Place};
 use gopher_scope::Scope;
 use indexmap::IndexSet;
 use std::alloc::Global;
@@ -28,6 +28,7 @@ fn place_of_entry(alloc: Global, entry: &Entry) -> Result<Option<Place>, NoMemor
     }
 }
 
+#[tactic(auto, using(crate::proofs::Added::allowed_entry))]
 fn add_link(
     alloc: Global,
     scope: &Scope,
@@ -64,20 +65,15 @@ fn shared(alloc: Global, places: IndexSet<Place>) -> Result<Vec<Arc<Place>>, NoM
     Ok(links)
 }
 
-/// The links of the reply of a place: those of its menu where it is a directory, and otherwise none.
+/// The allowed places that the entries of a menu name, each once, in the order of first mention.
 /// Refused only where memory is (90).
-pub fn links_of(
+pub fn links_of_entries(
     alloc: Global,
     scope: &Scope,
-    place: &Place,
-    bytes: &[u8],
+    entries: &[Entry],
 ) -> Result<Vec<Arc<Place>>, NoMemory>
-    ensures { IfOk result (λ links. map arc_value links.items ≡ links_of scope.now place.now bytes.now) }
+    ensures { IfOk result (λ links. map arc_value links.items ≡ distinct (filter (allows scope.now) (filter_map place_of_entry entries.now))) }
 {
-    if place.kind() != b'1' {
-        return Ok(Vec::new(alloc));
-    }
-    let menu = read_menu(alloc, bytes)?;
-    let places = links_among(alloc, scope, &menu.entries)?;
+    let places = links_among(alloc, scope, entries)?;
     shared(alloc, places)
 }

@@ -1,9 +1,9 @@
 -- Arrays and tables of TOML as lists, and the first answer of a list.
-use Rattle.std.proofs.Common.{◌≡◌, ℕ, zero, suc, ◌+◌, ◌<◌, Bool, not, ◌||◌, List, [], ◌∷◌, length, nat_le, if◌then◌else◌, map, drop, get_or, Option, Some, None, String, Global, string_bytes, refl, ap, sym, subst, arith}
+use Rattle.std.proofs.Common.{◌≡◌, ℕ, zero, suc, ◌<◌, Bool, not, ◌||◌, List, [], ◌∷◌, length, nat_le, if◌then◌else◌, map, get_or, Option, Some, None, String, Global, string_bytes, refl, ap, sym, subst, arith}
 use Rattle.std.specs.List.{list_any}
 use Rattle.std.specs.Option.{option_or}
 use Rattle.std.specs.Map.{keys_of}
-use Rattle.std.proofs.lemmas.List.{at_drop_more, length-map}
+use Rattle.std.proofs.lemmas.List.{length-map}
 use Rattle.toml.specs.Data.{Data, Members, as_array, as_table}
 use Rattle.toml.specs.View.{view, items_of, items_view, members_view}
 use Rattle.toml.specs.declared.value.Value.{Value}
@@ -21,23 +21,10 @@ pub has_unknown-view : (is_known : List ℕ → Bool) (entries : List (String Gl
 has_unknown-view is_known [] = refl
 has_unknown-view is_known (entry ∷ entries) = ap (λ more. not (is_known (string_bytes entry.0)) || more) (has_unknown-view is_known entries)
 
--- the first answer from an index on
-pub first_of-drop : {A B : Type 0} (answer : A → Option B) (xs : List A) (i : ℕ) (x : A) → i < length xs → first_of answer (drop i xs) ≡ option_or (answer (get_or xs i x)) (first_of answer (drop (i + 1) xs))
-first_of-drop answer xs i x inside = at_drop_more (first_of answer) xs i x inside
-
 -- no answer from a first part and from the rest
 pub option_or-none : {A : Type 0} (a b : Option A) → option_or a b ≡ None → (a ≡ None) × (b ≡ None)
 option_or-none None b none = (refl, none)
 option_or-none (Some x) b none = absurd (cc)
-
--- a test of the values of a list is a test of what they are seen as
-pub list_any-view : (test : Data → Bool) (values : List Value) → list_any test (map view values) ≡ list_any (λ value. test (view value)) values
-list_any-view test [] = refl
-list_any-view test (value ∷ values) = ap (λ more. test (view value) || more) (list_any-view test values)
-
--- the first answer for the values from an index on
-pub first_of_view-drop : {B : Type 0} (answer : Data → Option B) (values : List Value) (i : ℕ) (value : Value) → i < length values → first_of answer (map view (drop i values)) ≡ option_or (answer (view (get_or values i value))) (first_of answer (map view (drop (i + 1) values)))
-first_of_view-drop answer values i value inside = at_drop_more (λ rest. first_of answer (map view rest)) values i value inside
 
 -- what is wrong with an array, by the values of its vector
 pub array_problem-view : (element : Element) (values : List Value) → array_problem element (Some (items_view values)) ≡ (if nat_le (length values) 256 then first_of (element_problem element) (map view values) else Some OutOfRange)

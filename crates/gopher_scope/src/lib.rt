@@ -7,8 +7,6 @@ mod fault;
 mod rule;
 mod scope;
 mod settings;
-#[cfg(test)]
-mod tests;
 
 pub use fault::SettingsFault;
 pub use rule::Rule;

@@ -1,11 +1,11 @@
 //! Rules, of which a scope is made.
 
-ghost use Rattle.std.specs.Prelude.{◌≡◌, IfOk};
+ghost use Rattle.std.specs.Prelude.{◌≡◌};
 ghost use Rattle.gopher_item.specs.Fault.{Makes};
 ghost use Rattle.gopher_item.specs.Place.{PlaceData};
 ghost use Rattle.gopher_scope.specs.Rule.{RuleData, rule_fault, rule_of, covers};
 
-use gopher_item::{ByteString, ItemFault, NoMemory, Place, address_fault, is_selector};
+use gopher_item::{ByteString, ItemFault, Place, address_fault, is_selector};
 use std::alloc::Global;
 use std::marker::Model;
 
@@ -87,16 +87,5 @@ impl Rule {
         self.host() == place.host()
             && self.port == place.port()
             && place.selector().starts_with(self.prefix())
-    }
-
-    /// A second rule of the same parts. Refused only where memory is (90).
-    pub fn clone(&self) -> Result<Rule, NoMemory>
-        ensures { IfOk result (λ r. r ≡ self.now) }
-    {
-        Ok(Rule {
-            host: self.host.clone()?,
-            port: self.port,
-            prefix: self.prefix.clone()?,
-        })
     }
 }

@@ -133,8 +133,9 @@ impl Settings {
     /// table, or a table inside `seeds`, `allow` or `deny`, has a key that isn't named for it; then,
     /// key by key in the order of `Key`, `Missing` (31) where a key has to be there and isn't,
     /// `WrongKind` (32) where a value is of another kind, `OutOfRange` (33) where it is out of its
-    /// range; `NoMemory` (90). A fault inside an array names the array's key: the array's kind and
-    /// its length come first, then its elements in their order, and in each of them its keys.
+    /// range; `NoMemory` (90), which comes before all of these where memory was refused while the
+    /// text was read as TOML. A fault inside an array names the array's key: the array's kind and its
+    /// length come first, then its elements in their order, and in each of them its keys.
     pub fn read(alloc: Global, text: &str) -> Result<Settings, SettingsFault>
         ensures read { IfOk result (λ settings. settings_of (parse_document text.now) ≡ Ok (settings_data settings)) }
         ensures refused { IfErr result (λ fault. fault ≢ SettingsFault.NoMemory → settings_of (parse_document text.now) ≡ Err fault) }

@@ -7,15 +7,8 @@ use Rattle.gopher_text.specs.declared.fault.ReplyFault.TheVariants.{ReadFailed, 
 use Rattle.gopher_text.specs.declared.reading.Reading.{Reading}
 use Rattle.gopher_text.specs.declared.reading.Reading.TheVariants.{Took, Ended, Interrupted, Failed}
 
--- how one read went: what a reader has left before and after, its count of failures before and after, and the buffer after
-abbrev pub ReadsOnce : Option (List ℕ) → Option (List ℕ) → ℕ → ℕ → List ℕ → Reading → Type 0
-ReadsOnce old new before after buffer (Took count) =
-    Consumes old new (take count buffer) × (0 < count) × (count ≤ length buffer) × (after ≡ before)
-ReadsOnce old new before after buffer Ended = Consumes old new [] × IsAtEnd new × (after ≡ before)
-ReadsOnce old new before after buffer Interrupted = Keeps old new × CountsFailure before after
-ReadsOnce old new before after buffer Failed = Keeps old new × CountsFailure before after
-
--- how one read went that put what it took into the buffer after its first `filled` bytes
+-- how one read went that put what it took into the buffer after its first `filled` bytes: what a reader has left before
+-- and after, its count of failures before and after, and the buffer after
 abbrev pub ReadsAfter : Option (List ℕ) → Option (List ℕ) → ℕ → ℕ → List ℕ → ℕ → Reading → Type 0
 ReadsAfter old new before after buffer filled (Took count) =
     Consumes old new (take count (drop filled buffer)) × (0 < count) × (filled + count ≤ length buffer) × (after ≡ before)

@@ -1,5 +1,5 @@
 -- Texts (RFC 1436, section 3.1 and the appendix's TextFile).
-use Rattle.std.specs.Prelude.{◌≡◌, ℕ, Bool, false, true, ◌==◌, ◌&&◌, List, [], ◌∷◌, ◌++◌, map, All, if◌then◌else◌}
+use Rattle.std.specs.Prelude.{◌≡◌, ℕ, Bool, false, ◌==◌, ◌&&◌, List, [], ◌∷◌, ◌++◌, map, All, if◌then◌else◌}
 use Rattle.std.specs.List.{flat_map}
 use Rattle.gopher_item.specs.Lines.{lines_of}
 use Rattle.gopher_item.specs.Menu.{lines_before_last, any_last_line}

@@ -1,7 +1,7 @@
 //! One read, by how it went.
 
 ghost use Rattle.std.specs.Prelude.{◌<◌, length};
-ghost use Rattle.gopher_text.specs.Reply.{ReadsOnce};
+ghost use Rattle.gopher_text.specs.Reply.{ReadsAfter};
 ghost use Rattle.gopher_text.specs.Line.{ReadsByte};
 
 use crate::watched::Watched;
@@ -23,8 +23,8 @@ pub(crate) enum Reading {
 /// Reads once into `buffer`.
 pub(crate) fn read_once<R: Read>(reader: &mut Watched<R>, buffer: &mut [u8]) -> Reading
     requires { 0 < length buffer.old }
-    ensures { ReadsOnce (R.remaining reader.old.device) (R.remaining reader.new.device)
-        reader.old.failures reader.new.failures buffer.new result }
+    ensures { ReadsAfter (R.remaining reader.old.device) (R.remaining reader.new.device)
+        reader.old.failures reader.new.failures buffer.new 0 result }
 {
     match reader.read(buffer) {
         Ok(0) => Reading::Ended,

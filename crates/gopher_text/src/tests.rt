@@ -189,6 +189,8 @@ fn sends_all_or_says_how_much(rt: HostRuntime) {
         let sent = expected.unwrap_or(bytes.len());
         assert!(rt; sent <= bytes.len());
         let failures = writer.failures();
+        assert!(rt; writer.flush().is_err());
+        assert_eq!(rt; writer.failures(), failures.saturating_add(1));
         let Narrow { held, .. } = writer.into_inner();
         assert!(rt; held.as_slice() == &bytes.as_bytes()[..sent]);
         assert_eq!(rt;

@@ -38,7 +38,7 @@ pub fn write_text_of(bytes: &[u8], out: &mut Vec<u8>) -> Result<(), NoMemory>
     ensures refused { OnErr result (out.new.items ≡ out.old.items) }
 {
     let length = out.len();
-    if push_lines_of(bytes, out).is_err() {
+    if out.reserve(bytes.len()).is_err() || push_lines_of(bytes, out).is_err() {
         out.truncate(length);
         return Err(NoMemory);
     }

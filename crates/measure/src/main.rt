@@ -1,10 +1,13 @@
-//! Times the crates on a file: `measure menu FILE`, or `measure text FILE`.
+//! Times the crates on a file or a folder: `measure menu FILE`, `measure text FILE`,
+//! `measure search FILE`, or `measure replies FOLDER`.
 //!
-//! Each line gives the best of five rounds in megabytes a second, beside a plain copy of the same
-//! bytes in the same run.
+//! A line gives the best of several rounds: for menus, texts and replies in megabytes a second, beside
+//! a plain copy of the same bytes in the same run, for a catalogue in microseconds.
 #![tactic(auto)]
 
 mod menus;
+mod replies;
+mod searches;
 mod texts;
 mod timing;
 
@@ -18,8 +21,10 @@ fn main(rt: HostRuntime) -> anyhow::Result<()> {
     match words.as_slice() {
         [what, path] if what.as_str() == "menu" => menus::measure(&rt, path.as_str()),
         [what, path] if what.as_str() == "text" => texts::measure(&rt, path.as_str()),
+        [what, path] if what.as_str() == "replies" => replies::measure(&rt, path.as_str()),
+        [what, path] if what.as_str() == "search" => searches::measure(&rt, path.as_str()),
         _ => {
-            println!(rt; "usage: measure menu FILE, or measure text FILE")?;
+            println!(rt; "usage: measure menu|text|search FILE, or measure replies FOLDER")?;
             Ok(())
         }
     }

@@ -1,5 +1,7 @@
 //! What a round took, and the best of several.
 
+ghost use Rattle.std.specs.Prelude.{◌<◌};
+
 use std::io;
 use std::rt::Clock;
 use std::time::{Duration, Instant};
@@ -26,12 +28,29 @@ impl Best {
         Ok(())
     }
 
+    /// Microseconds.
+    pub fn microseconds(&self) -> u64 {
+        u64::try_from(self.shortest.as_micros()).unwrap_or(u64::MAX)
+    }
+
     /// Megabytes a second, of a round over `bytes` bytes.
     pub fn megabytes_per_second(&self, bytes: usize) -> u64 {
-        let nanoseconds = u64::try_from(self.shortest.as_nanos())
-            .unwrap_or(u64::MAX)
-            .max(1);
         let bytes = u64::try_from(bytes).unwrap_or(u64::MAX);
-        bytes.saturating_mul(1000) / nanoseconds
+        bytes.saturating_mul(1000) / self.nanoseconds()
+    }
+
+    /// How many a second, of a round of `count`.
+    pub fn per_second(&self, count: usize) -> u64 {
+        let count = u64::try_from(count).unwrap_or(u64::MAX);
+        count.saturating_mul(1_000_000_000) / self.nanoseconds()
+    }
+
+    // The shortest round, at least 1.
+    fn nanoseconds(&self) -> u64
+        ensures { 0 < result }
+    {
+        u64::try_from(self.shortest.as_nanos())
+            .unwrap_or(u64::MAX)
+            .max(1)
     }
 }

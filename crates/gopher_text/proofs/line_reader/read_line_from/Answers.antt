@@ -1,5 +1,4 @@
 use Rattle.std.proofs.Common.{arith, take, length, length-take, ◌≤◌}
-use Rattle.gopher_text.specs.Line.{StopsInLine}
 use Rattle.gopher_text.proofs.LineLemmas.{line_read, line_answered, rest_answered, refusal_answered, line_refused}
 use Rattle.gopher_text.proofs.line_reader.read_line_from.Goals as goal
 

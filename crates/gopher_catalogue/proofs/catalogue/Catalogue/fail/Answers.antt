@@ -18,8 +18,8 @@ fail-requires-clause-some_out c = some_out c.self.inside.history c.self.inside.f
 pub fail-requires-clause-few_done : goal.fail-requires-clause-few_done
 fail-requires-clause-few_done c = done_fits c.self.inside.history c.self.inside.frontier c.self.invariant
 
-pub push-requires : goal.push-requires
-push-requires c =
+pub push-requires-clause-room : goal.push-requires-clause-room
+push-requires-clause-room c =
     omega (arith, some_out c.self.inside.history c.self.inside.frontier c.self.invariant c.args.number c.in-Some.standing c.in-Some.ensures.0 c.in-Some.ensures.1, c.self.invariant.record_room)
 
 pub invariant_of-self : goal.invariant_of-self

@@ -1,13 +1,13 @@
-use Rattle.std.proofs.Common.{[], ◌∷◌, ◌++◌, false, slice_get, filter, length, arith, refl, ap, sym, subst, ◌∙◌}
+use Rattle.std.proofs.Common.{false, slice_get, filter, length, arith, refl, ap, sym, subst, ◌∙◌}
 use Rattle.std.specs.Option.{option_map_or}
 use Rattle.gopher_item.specs.Place.{same_place}
 use Rattle.gopher_scope.specs.Scope.{allows}
-use Rattle.gopher_catalogue.specs.Event.{Found}
 use Rattle.gopher_catalogue.specs.Fault.{IsFoundFault}
 use Rattle.gopher_catalogue.specs.declared.fault.FoundFault.TheVariants.{NotOut, WrongPlace, NoMemory}
 use Rattle.gopher_catalogue.specs.Step.{found_fault, added_by}
 use Rattle.gopher_catalogue.specs.Tables.{Learned}
 use Rattle.gopher_catalogue.specs.Indexed.{IsIndexed}
+use Rattle.gopher_catalogue.proofs.CallSteps.{few_events}
 use Rattle.gopher_catalogue.proofs.KnownLemmas.{length-after_mentions}
 use Rattle.gopher_catalogue.proofs.IndexedCalls.{learned_of, limit_fits, places_fit, places_within, out_fits, done_fits, dropped_fits, some_out, fault_not_out, fault_wrong, fault_none, still_stands, added_shown, after_found}
 use Rattle.gopher_catalogue.proofs.catalogue.Catalogue.found.Goals as goal
@@ -77,32 +77,34 @@ found-requires-clause-few_done c = omega (arith, done_fits c.self.inside.history
 pub found-requires-clause-few_dropped : goal.found-requires-clause-few_dropped
 found-requires-clause-few_dropped c = omega (arith, dropped_fits c.self.inside.history c.self.inside.frontier c.self.invariant, c.in-Ok.ensures.learned.keeps.dropped, c.in-Ok.ensures.few)
 
-pub push-requires : goal.push-requires
-push-requires c = omega (arith, some_out c.self.inside.history c.self.inside.frontier c.self.invariant c.args.number c.in-Some.standing c.in-Some.ensures.0 c.in-Some.ensures.1, c.self.invariant.record_room)
+pub push_found-requires-clause-room : goal.push_found-requires-clause-room
+push_found-requires-clause-room c = omega (arith, some_out c.self.inside.history c.self.inside.frontier c.self.invariant c.args.number c.in-Some.standing c.in-Some.ensures.0 c.in-Some.ensures.1, c.self.invariant.record_room)
+
+pub push_found-requires-clause-few : goal.push_found-requires-clause-few
+push_found-requires-clause-few c = omega (arith, few_events c.self.inside.history.opening c.self.inside.history.later c.self.invariant.legal)
 
 -- ---- found
 
-found : (c : goal.After-push) → IsIndexed c.push.new.self c.found.new.self
+found : (c : goal.After-found) → IsIndexed c.push_found.new.self c.found.new.self
 found c =
     let learned : Learned c.self.inside.history.opening.limit (filter (allows c.self.inside.history.opening.scope) c.args.page.links) c.self.inside.frontier c.learn.new.self c.in-Ok.added.dropped = learned_of _ _ _ _ _ _ _ _ _ (c.places.ensures ∙ ap (λ o. o.limit) c.opening-opening.ensures) (c.scope.ensures ∙ ap (λ o. o.scope) c.opening-opening.ensures) c.links.ensures.links c.in-Ok.ensures.learned in
     let right = ap (λ place. option_map_or (λ other. same_place other place) (slice_get c.self.inside.frontier.places c.args.number) false) (sym c.place.ensures) ∙ sym c.if-not-has_place.ensures in
-    let later = c.push.ensures.later ∙ ap (λ page. c.self.inside.history.later ++ Found c.args.number page ∷ []) c.in-Ok-new.ensures.ok in
-    after_found c.self.inside.history c.self.inside.frontier c.self.invariant c.learn.new.self c.args.number c.in-Some.standing c.args.page c.in-Ok.added learned c.push.new.self c.found.new.self c.len-before.result c.in-Some.ensures.0 c.in-Some.ensures.1 right c.len-before.ensures.places
-    c.in-Ok.ensures.few c.in-Ok.ensures.fresh c.in-Ok.ensures.room c.found.ensures c.push.ensures.opening later c.push.ensures.room
+    after_found c.self.inside.history c.self.inside.frontier c.self.invariant c.learn.new.self c.args.number c.in-Some.standing c.args.page c.in-Ok.added learned c.push_found.new.self c.found.new.self c.len-before.result c.in-Some.ensures.0 c.in-Some.ensures.1 right c.len-before.ensures.places
+    c.in-Ok.ensures.few c.in-Ok.ensures.fresh c.in-Ok.ensures.room c.found.ensures c.push_found.ensures.opening c.in-Ok-push_found.ensures.later c.in-Ok-push_found.ensures.room
 
-pub invariant_of-self-in-Ok-new : goal.invariant_of-self-in-Ok-new
-invariant_of-self-in-Ok-new c = found c
+pub invariant_of-self-in-Ok-push_found : goal.invariant_of-self-in-Ok-push_found
+invariant_of-self-in-Ok-push_found c = found c
 
-pub returns-in-Ok-new-clause-ok : goal.returns-in-Ok-new-clause-ok
-returns-in-Ok-new-clause-ok c =
+pub returns-in-Ok-push_found-clause-ok : goal.returns-in-Ok-push_found-clause-ok
+returns-in-Ok-push_found-clause-ok c =
     let right = ap (λ place. option_map_or (λ other. same_place other place) (slice_get c.self.inside.frontier.places c.args.number) false) (sym c.place.ensures) ∙ sym c.if-not-has_place.ensures in
     ap (λ events. found_fault events c.args.number c.args.page.place) (sym c.self.view_is)
     ∙ fault_none c.self.inside.history c.self.inside.frontier c.self.invariant c.args.number c.in-Some.standing c.in-Some.ensures.0 c.in-Some.ensures.1 c.args.page.place right
 
-pub returns-in-Ok-new-clause-added : goal.returns-in-Ok-new-clause-added
-returns-in-Ok-new-clause-added c =
+pub returns-in-Ok-push_found-clause-added : goal.returns-in-Ok-push_found-clause-added
+returns-in-Ok-push_found-clause-added c =
     let learned : Learned c.self.inside.history.opening.limit (filter (allows c.self.inside.history.opening.scope) c.args.page.links) c.self.inside.frontier c.learn.new.self c.in-Ok.added.dropped = learned_of _ _ _ _ _ _ _ _ _ (c.places.ensures ∙ ap (λ o. o.limit) c.opening-opening.ensures) (c.scope.ensures ∙ ap (λ o. o.scope) c.opening-opening.ensures) c.links.ensures.links c.in-Ok.ensures.learned in
     added_shown c.self.inside.history c.self.inside.frontier c.self.invariant c.learn.new.self c.args.number c.in-Some.standing c.args.page c.in-Ok.added learned c.in-Ok.ensures.fresh ∙ ap (λ events. added_by events c.args.number c.args.page) c.self.view_is
 
-pub returns-in-Ok-new-clause-legal : goal.returns-in-Ok-new-clause-legal
-returns-in-Ok-new-clause-legal c = (found c).legal
+pub returns-in-Ok-push_found-clause-legal : goal.returns-in-Ok-push_found-clause-legal
+returns-in-Ok-push_found-clause-legal c = (found c).legal

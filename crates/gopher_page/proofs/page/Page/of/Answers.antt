@@ -1,17 +1,9 @@
-use Rattle.std.proofs.Common.{◌≡◌, ◌≤◌, ◌∙◌, ap, sym, length, arith}
-use Rattle.std.proofs.lemmas.List.{length-map}
-use Rattle.std.specs.Arc.{arc_value}
-use Rattle.gopher_page.specs.Page.{page_of, links_of}
-use Rattle.gopher_page.proofs.Few.{few_links}
+use Rattle.std.proofs.Common.{◌≡◌, ◌∙◌, false, eqb, ap, sym}
+use Rattle.std.proofs.lemmas.Bool.{ne_eqb}
+use Rattle.gopher_page.proofs.Pages.{page_of-text}
 use Rattle.gopher_page.proofs.page.Page.of.Goals as goal
 
-pub invariant_of-result : goal.invariant_of-result
-invariant_of-result c =
-    let found = c.in_ok-links.links.items in
-    let same : length found ≡ length (links_of c.args.scope.now c.args.place.now c.args.bytes.now) = sym (length-map found arc_value) ∙ ap length c.in_ok-links.ensures in
-    let few : length (links_of c.args.scope.now c.args.place.now c.args.bytes.now) ≤ length c.args.bytes.now = few_links c.args.scope.now c.args.place.now c.args.bytes.now in
-    omega (arith, c.requires)
-
-pub returns : goal.returns
-unfolding page_of
-returns c = λ i. record { place = c.in_ok-clone.ensures i; links = c.in_ok-links.ensures i }
+pub returns-else-kind-eq49 : goal.returns-else-kind-eq49
+returns-else-kind-eq49 c =
+    let other : eqb c.args.place.now.kind 49 ≡ false = ap (λ k. eqb k 49) (sym c.kind.ensures) ∙ ne_eqb c.kind.result 49 c.if-kind-eq49.false in
+    rw (page_of-text c.args.scope.now c.args.place.now c.args.bytes.now other) c.page_of_text.ensures

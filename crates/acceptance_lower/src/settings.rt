@@ -1,0 +1,232 @@
+// Settings: what a text states, and the first of its faults.
+use gopher_item::Place;
+use gopher_scope::{Key, Settings, SettingsFault};
+use std::alloc::Global;
+use std::process::Abort;
+use std::test::Fail;
+
+const WORKED: &str =
+    "host = \"localhost\"\nport = 7070\nroot = \"/srv/hole\"\n[[seeds]]\nhost = \"localhost\"\nport = 7070\n[[allow]]\nhost = \"LOCALHOST\"\nport = 7070\n[[deny]]\nhost = \"localhost\"\nport = 7070\nprefix = \"/private\"\n";
+
+const STATED: &str =
+    "host = 'h'\nroot = 'r'\nplaces = 65536\nworkers = 16\nthreads = 8\ntries = 5\nseeds = [{ host = 'a' }, { host = 'B', type = '0', port = 65535, selector = '/x' }]\n";
+
+fn check_allows(
+    rt: &(impl Abort + AllocGlobal),
+    settings: &Settings,
+    selector: &[u8],
+    port: u16,
+    wanted: bool,
+) -> Result<(), Fail> {
+    let place = Place::new(rt.alloc(), b'0', selector, b"localhost", port)?;
+    assert_eq!(rt; settings.scope.allows(&place), wanted);
+    Ok(())
+}
+
+fn check_seed(rt: &impl Abort, settings: &Settings, index: usize, wanted: &Place) {
+    match settings.seeds.get(index) {
+        Some(seed) => assert!(rt; seed == wanted),
+        None => assert!(rt; false),
+    }
+}
+
+#[test]
+fn reads_the_worked_settings(rt: HostRuntime) -> Result<(), Fail> {
+    let settings = Settings::read(rt.alloc(), WORKED)?;
+    assert_eq!(rt; settings.home.host(), b"localhost".as_slice());
+    assert_eq!(rt; settings.home.port(), 7070);
+    assert_eq!(rt; settings.root.as_str(), "/srv/hole");
+    assert_eq!(rt; settings.places, 4096);
+    assert_eq!(rt; settings.workers, 4);
+    assert_eq!(rt; settings.threads, 2);
+    assert_eq!(rt; settings.tries, 1);
+    Ok(())
+}
+
+#[test]
+fn reads_the_worked_seeds_and_scope(rt: HostRuntime) -> Result<(), Fail> {
+    let settings = Settings::read(rt.alloc(), WORKED)?;
+    let seed = Place::new(rt.alloc(), b'1', b"", b"localhost", 7070)?;
+    assert_eq!(rt; settings.seeds.len(), 1);
+    check_seed(&rt, &settings, 0, &seed);
+    assert!(rt; settings.scope.allows(&seed));
+    check_allows(&rt, &settings, b"/a", 7070, true)?;
+    check_allows(&rt, &settings, b"/private/x", 7070, false)?;
+    check_allows(&rt, &settings, b"/a", 70, false)
+}
+
+#[test]
+fn reads_what_is_stated(rt: HostRuntime) -> Result<(), Fail> {
+    let settings = Settings::read(rt.alloc(), STATED)?;
+    assert_eq!(rt; settings.home.port(), 70);
+    assert_eq!(rt; settings.places, 65_536);
+    assert_eq!(rt; settings.workers, 16);
+    assert_eq!(rt; settings.threads, 8);
+    assert_eq!(rt; settings.tries, 5);
+    assert_eq!(rt; settings.seeds.len(), 2);
+    let first = Place::new(rt.alloc(), b'1', b"", b"a", 70)?;
+    let second = Place::new(rt.alloc(), b'0', b"/x", b"b", 65_535)?;
+    check_seed(&rt, &settings, 0, &first);
+    check_seed(&rt, &settings, 1, &second);
+    Ok(())
+}
+
+fn check_refused(rt: &(impl Abort + AllocGlobal), text: &str, wanted: SettingsFault) {
+    let refused = Settings::read(rt.alloc(), text).err();
+    assert_eq!(rt; refused, Some(wanted), "at {text}");
+}
+
+#[test]
+fn refuses_the_worked_texts(rt: HostRuntime) {
+    check_refused(&rt, "host =", SettingsFault::NotToml);
+    check_refused(&rt, "port = 70", SettingsFault::Missing(Key::Host));
+    check_refused(&rt, "host = 1", SettingsFault::WrongKind(Key::Host));
+    check_refused(
+        &rt,
+        "host = \"h\"\nport = 0",
+        SettingsFault::OutOfRange(Key::Port),
+    );
+    check_refused(
+        &rt,
+        "host = \"h\"\nroot = \"r\"\nseeds = [{ port = 70 }]",
+        SettingsFault::Missing(Key::Seeds),
+    );
+    check_refused(
+        &rt,
+        "host = \"h\"\nroot = \"r\"\nallow = [1]",
+        SettingsFault::WrongKind(Key::Allow),
+    );
+    check_refused(&rt, "colour = 1", SettingsFault::UnknownKey);
+    check_refused(&rt, "", SettingsFault::Missing(Key::Host));
+}
+
+#[test]
+fn refuses_in_the_order_of_the_keys(rt: HostRuntime) {
+    check_refused(
+        &rt,
+        "host = ''\nroot = 1",
+        SettingsFault::OutOfRange(Key::Host),
+    );
+    check_refused(
+        &rt,
+        "host = 'h'\nport = 70.0",
+        SettingsFault::WrongKind(Key::Port),
+    );
+    check_refused(
+        &rt,
+        "host = 'h'\nport = -1",
+        SettingsFault::OutOfRange(Key::Port),
+    );
+    check_refused(
+        &rt,
+        "host = 'h'\nport = 65536",
+        SettingsFault::OutOfRange(Key::Port),
+    );
+    check_refused(&rt, "host = 'h'", SettingsFault::Missing(Key::Root));
+    check_refused(
+        &rt,
+        "host = 'h'\nroot = ''",
+        SettingsFault::OutOfRange(Key::Root),
+    );
+    check_refused(
+        &rt,
+        "tries = 9\n[[deny]]\nhost = 'h'\nselector = ''",
+        SettingsFault::UnknownKey,
+    );
+}
+
+// A text that states a host and a root, and then these lines.
+fn check_refused_after_root(
+    rt: &(impl Abort + AllocGlobal),
+    rest: &str,
+    wanted: SettingsFault,
+) -> Result<(), Fail> {
+    let text = format!(in rt.alloc(); "host = 'h'\nroot = 'r'\n{rest}\n")?;
+    check_refused(rt, &text, wanted);
+    Ok(())
+}
+
+#[test]
+fn refuses_seeds(rt: HostRuntime) -> Result<(), Fail> {
+    check_refused_after_root(&rt, "seeds = {}", SettingsFault::WrongKind(Key::Seeds))?;
+    check_refused_after_root(
+        &rt,
+        "seeds = [{ host = 'h' }, { host = 'h', type = '2' }]",
+        SettingsFault::OutOfRange(Key::Seeds),
+    )?;
+    check_refused_after_root(
+        &rt,
+        "seeds = [{ host = 1, type = '2' }]",
+        SettingsFault::OutOfRange(Key::Seeds),
+    )?;
+    check_refused_after_root(
+        &rt,
+        "seeds = [{ host = 'h', selector = \"\\t\" }]",
+        SettingsFault::OutOfRange(Key::Seeds),
+    )
+}
+
+#[test]
+fn refuses_rules(rt: HostRuntime) -> Result<(), Fail> {
+    check_refused_after_root(
+        &rt,
+        "allow = [{ host = 1, port = 0 }]",
+        SettingsFault::WrongKind(Key::Allow),
+    )?;
+    check_refused_after_root(
+        &rt,
+        "deny = [{ host = 'h', prefix = 7 }]\nplaces = 0",
+        SettingsFault::WrongKind(Key::Deny),
+    )
+}
+
+#[test]
+fn refuses_sizes(rt: HostRuntime) -> Result<(), Fail> {
+    check_refused_after_root(&rt, "places = 0", SettingsFault::OutOfRange(Key::Places))?;
+    check_refused_after_root(
+        &rt,
+        "places = 65537",
+        SettingsFault::OutOfRange(Key::Places),
+    )?;
+    check_refused_after_root(&rt, "workers = 17", SettingsFault::OutOfRange(Key::Workers))?;
+    check_refused_after_root(
+        &rt,
+        "threads = 9\ntries = 0",
+        SettingsFault::OutOfRange(Key::Threads),
+    )?;
+    check_refused_after_root(&rt, "tries = 0", SettingsFault::OutOfRange(Key::Tries))?;
+    check_refused_after_root(&rt, "tries = 6", SettingsFault::OutOfRange(Key::Tries))?;
+    check_refused_after_root(&rt, "tries = '1'", SettingsFault::WrongKind(Key::Tries))
+}
+
+// Settings that state so many rules.
+fn settings_of_rules(alloc: Global, count: usize) -> Result<String, Fail> {
+    let mut text = String::from_str(alloc, "host = 'h'\nroot = 'r'\n")?;
+    for _ in 0..count {
+        text.push_str("[[allow]]\nhost = 'h'\n")?;
+    }
+    Ok(text)
+}
+
+#[test]
+fn reads_at_most_256_rules(rt: HostRuntime) -> Result<(), Fail> {
+    let most = Settings::read(rt.alloc(), &settings_of_rules(rt.alloc(), 256)?)?;
+    let (allow, _) = most.scope.into_rules();
+    assert_eq!(rt; allow.len(), 256);
+    let text = settings_of_rules(rt.alloc(), 257)?;
+    check_refused(&rt, &text, SettingsFault::OutOfRange(Key::Allow));
+    Ok(())
+}
+
+#[test]
+fn names_the_key_of_a_fault(rt: HostRuntime) -> Result<(), Fail> {
+    let fault = SettingsFault::OutOfRange(Key::Port);
+    assert_eq!(rt; fault.code(), 33);
+    assert_eq!(rt; Key::Port.name(), "port");
+    assert!(rt;
+        format!(in rt.alloc(); "{fault}")?
+            .as_str()
+            .starts_with("port: ")
+    );
+    Ok(())
+}

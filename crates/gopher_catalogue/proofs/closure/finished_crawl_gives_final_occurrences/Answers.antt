@@ -1,0 +1,5 @@
+use Rattle.gopher_catalogue.proofs.FinalAnswers.{record_final_occurrences}
+use Rattle.gopher_catalogue.proofs.closure.finished_crawl_gives_final_occurrences.Goals as goal
+
+pub returns : goal.returns
+returns c = record_final_occurrences

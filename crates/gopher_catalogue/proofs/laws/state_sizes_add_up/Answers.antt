@@ -1,0 +1,5 @@
+use Rattle.gopher_catalogue.proofs.StateSizes.{state_sizes}
+use Rattle.gopher_catalogue.proofs.laws.state_sizes_add_up.Goals as goal
+
+pub returns : goal.returns
+returns c = state_sizes

@@ -1,0 +1,120 @@
+-- What a finished crawl answers, said of its table of outcomes alone: no record, no number of a place
+-- and no state occurs in the final answer and the final occurrences.
+use Rattle.std.specs.Prelude.{◌≡◌, ℕ, ◌<◌, false, ◌↔◌, List, ◌∷◌, take, IsTrue}
+use Rattle.std.specs.List.{Contains}
+use Rattle.std.specs.List.Sorted.{IsStrictlySortedBy}
+use Rattle.std.specs.Ordering.{on}
+use Rattle.gopher_item.specs.Place.{PlaceData, place_cmp}
+use Rattle.gopher_scope.specs.Scope.{ScopeData}
+use Rattle.gopher_page.specs.Page.{PageData}
+use Rattle.gopher_page.specs.Query.{TermData, matches, score}
+use Rattle.gopher_page.specs.Counts.{count_meant}
+use Rattle.gopher_catalogue.specs.declared.hit.Hit.{Hit}
+use Rattle.gopher_catalogue.specs.Event.{OpeningData, EventData, Opened}
+use Rattle.gopher_catalogue.specs.Legal.{IsLegal}
+use Rattle.gopher_catalogue.specs.Pages.{pages_found}
+use Rattle.gopher_catalogue.specs.Answer.{rank_cmp, answer_of, occurrences_of}
+use Rattle.gopher_catalogue.specs.Closure.{OutcomeTable, IsReachedPage, Agrees, IsComplete, SamePlaces}
+
+-- ---- the answer over any pages
+
+-- how a page stands in an answer
+abbrev pub hit_at : List TermData → PageData → Hit
+hit_at query page = record { place = page.place; title = page.title; score = score query page.counts }
+
+-- the hit of one of these pages, which the query matches
+pub record IsHitAmong (IsPage : PageData → Type 0) (query : List TermData) (hit : Hit) : Type 0 where
+  pub page : PageData
+  pub is_page : IsPage page
+  pub is_match : IsTrue (matches query page.counts)
+  pub is_hit : hit ≡ hit_at query page
+
+-- the first 50 hits of those of these pages that match: the highest score first, and hits of one score
+-- in place order
+pub record IsAnswerAmong (IsPage : PageData → Type 0) (query : List TermData) (hits : List Hit) : Type 0 where
+  pub all : List Hit
+  pub members : (hit : Hit) → Contains all hit ↔ IsHitAmong IsPage query hit
+  pub in_order : IsStrictlySortedBy rank_cmp all
+  pub first : hits ≡ take 50 all
+
+-- ---- the occurrences over any pages
+
+-- the place of one of these pages, which has the word, and how often
+pub record IsOccurrenceAmong (IsPage : PageData → Type 0) (word : List ℕ) (occurrence : PlaceData × ℕ) : Type 0 where
+  pub page : PageData
+  pub is_page : IsPage page
+  pub some : 0 < count_meant false word page.counts
+  pub is_occurrence : occurrence ≡ (page.place, count_meant false word page.counts)
+
+-- the occurrences of the word in these pages, each place once, in place order
+pub record AreOccurrencesAmong (IsPage : PageData → Type 0) (word : List ℕ) (list : List (PlaceData × ℕ)) : Type 0 where
+  pub members : (occurrence : PlaceData × ℕ) → Contains list occurrence ↔ IsOccurrenceAmong IsPage word occurrence
+  pub in_order : IsStrictlySortedBy (on (λ occurrence. occurrence.0) place_cmp) list
+
+-- ---- the final answer
+
+-- the answer over the pages of the places that can be reached from the seeds
+abbrev pub FinalAnswer : ScopeData → List PlaceData → OutcomeTable → List TermData → List Hit → Type 0
+FinalAnswer scope seeds table query hits = IsAnswerAmong (IsReachedPage scope seeds table) query hits
+
+-- the occurrences in the pages of the places that can be reached from the seeds
+abbrev pub FinalOccurrences : ScopeData → List PlaceData → OutcomeTable → List ℕ → List (PlaceData × ℕ) → Type 0
+FinalOccurrences scope seeds table word list = AreOccurrencesAmong (IsReachedPage scope seeds table) word list
+
+-- there is at most one final answer to a query, and one list of final occurrences of a word
+abbrev pub FinalAnswerIsOne : Type 0
+FinalAnswerIsOne =
+    (scope : ScopeData) (seeds : List PlaceData) (table : OutcomeTable) (query : List TermData) (hits other : List Hit) →
+    FinalAnswer scope seeds table query hits → FinalAnswer scope seeds table query other → hits ≡ other
+
+abbrev pub FinalOccurrencesAreOne : Type 0
+FinalOccurrencesAreOne =
+    (scope : ScopeData) (seeds : List PlaceData) (table : OutcomeTable) (word : List ℕ) (list other : List (PlaceData × ℕ)) →
+    FinalOccurrences scope seeds table word list → FinalOccurrences scope seeds table word other → list ≡ other
+
+-- ---- the laws
+
+-- at each moment of a crawl, finished or not: the answer holds each page found that matches, once
+abbrev pub AnswersAreOfPagesFound : Type 0
+AnswersAreOfPagesFound =
+    (opening : OpeningData) (events : List EventData) → IsLegal (Opened opening ∷ events) →
+    let pages : List PageData = pages_found (Opened opening ∷ events) in
+    ((query : List TermData) → IsAnswerAmong (Contains pages) query (answer_of pages query)) ×
+    ((word : List ℕ) → AreOccurrencesAmong (Contains pages) word (occurrences_of pages word))
+
+-- what these hits are to this record, once it is complete, for each table that it agrees with
+abbrev pub IsFinalOnceComplete : List EventData → List TermData → List Hit → Type 0
+IsFinalOnceComplete record_ query hits =
+    (opening : OpeningData) (events : List EventData) (table : OutcomeTable) → record_ ≡ Opened opening ∷ events →
+    IsComplete record_ → Agrees opening events table → FinalAnswer opening.scope opening.seeds table query hits
+
+abbrev pub AreFinalOnceComplete : List EventData → List ℕ → List (PlaceData × ℕ) → Type 0
+AreFinalOnceComplete record_ word list =
+    (opening : OpeningData) (events : List EventData) (table : OutcomeTable) → record_ ≡ Opened opening ∷ events →
+    IsComplete record_ → Agrees opening events table → FinalOccurrences opening.scope opening.seeds table word list
+
+-- a finished crawl answers each query with the final answer
+abbrev pub FinishedCrawlGivesFinalAnswers : Type 0
+FinishedCrawlGivesFinalAnswers =
+    (record_ : List EventData) (query : List TermData) → IsLegal record_ → IsFinalOnceComplete record_ query (answer_of (pages_found record_) query)
+
+-- and each word with the final occurrences
+abbrev pub FinishedCrawlGivesFinalOccurrences : Type 0
+FinishedCrawlGivesFinalOccurrences =
+    (record_ : List EventData) (word : List ℕ) → IsLegal record_ → AreFinalOnceComplete record_ word (occurrences_of (pages_found record_) word)
+
+-- two finished crawls of one table, with one scope and the same seeds, give equal answers to every
+-- query and equal occurrences of every word, whatever the order of their seeds and of their events, their
+-- limits and their tries
+abbrev pub FinishedCrawlsAnswerAlike : Type 0
+FinishedCrawlsAnswerAlike =
+    (scope : ScopeData) (seeds seeds' : List PlaceData) (table : OutcomeTable) (limit tries limit' tries' : ℕ) (events events' : List EventData) →
+    let opening : OpeningData = record { scope = scope; seeds = seeds; limit = limit; tries = tries } in
+    let opening' : OpeningData = record { scope = scope; seeds = seeds'; limit = limit'; tries = tries' } in
+    let pages : List PageData = pages_found (Opened opening ∷ events) in
+    let pages' : List PageData = pages_found (Opened opening' ∷ events') in
+    SamePlaces seeds seeds' →
+    IsLegal (Opened opening ∷ events) → IsComplete (Opened opening ∷ events) → Agrees opening events table →
+    IsLegal (Opened opening' ∷ events') → IsComplete (Opened opening' ∷ events') → Agrees opening' events' table →
+    ((query : List TermData) → answer_of pages query ≡ answer_of pages' query) ×
+    ((word : List ℕ) → occurrences_of pages word ≡ occurrences_of pages' word)

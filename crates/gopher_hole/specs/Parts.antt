@@ -1,0 +1,17 @@
+-- Rules and places of the parts that a script states.
+use Rattle.std.specs.Prelude.{Option}
+use Rattle.gopher_item.specs.Place.{PlaceData, place_fault, place_of}
+use Rattle.gopher_item.specs.declared.fault.ItemFault.{ItemFault}
+use Rattle.gopher_scope.specs.Rule.{RuleData, rule_fault, rule_of}
+
+abbrev pub fault_of_rule : RuleData → Option ItemFault
+fault_of_rule rule = rule_fault rule.host rule.port rule.prefix
+
+abbrev pub made_rule : RuleData → RuleData
+made_rule rule = rule_of rule.host rule.port rule.prefix
+
+abbrev pub fault_of_place : PlaceData → Option ItemFault
+fault_of_place place = place_fault place.kind place.selector place.host place.port
+
+abbrev pub made_place : PlaceData → PlaceData
+made_place place = place_of place.kind place.selector place.host place.port

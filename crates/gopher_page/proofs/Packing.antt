@@ -1,0 +1,65 @@
+-- What packed words and counts are, by index.
+use Rattle.std.proofs.Common.{◌≡◌, ℕ, zero, suc, ◌+◌, ◌-◌, ◌<◌, ◌≤◌, List, [], ◌∷◌, ◌++◌, length, take, drop, get_or, slice_get, Some, refl, sym, ap, ◌∙◌, arith}
+use Rattle.std.proofs.lemmas.List.{length-append, length-drop, drop_at, drop-append-le, take-append-le, take_all}
+use Rattle.gopher_page.specs.Packed.{unpack, start_at, IsChain}
+
+pub length-unpack : (bytes : List ℕ) (start : ℕ) (ends counts : List ℕ) → length counts ≡ length ends → length (unpack bytes start ends counts) ≡ length ends
+length-unpack bytes start [] counts same = refl
+length-unpack bytes start (end ∷ ends) [] same = absurd (omega arith)
+length-unpack bytes start (end ∷ ends) (count ∷ counts) same = ap suc (length-unpack bytes end ends counts (omega arith))
+
+-- a word after the first starts where the one before it ends
+pub start_at-suc : (start : ℕ) (ends : List ℕ) (index d : ℕ) → index < length ends → get_or ends index d ≡ start_at start ends (suc index)
+start_at-suc start [] index d within = absurd (omega arith)
+start_at-suc start (end ∷ ends) zero d within = refl
+start_at-suc start (end ∷ ends) (suc index) d within = start_at-suc end ends index d (omega arith)
+
+-- the word at an index, and its count
+pub unpack-get : (bytes : List ℕ) (start : ℕ) (ends counts : List ℕ) (index d count : ℕ) → index < length ends → slice_get counts index ≡ Some count
+    → slice_get (unpack bytes start ends counts) index ≡ Some (take (get_or ends index d - start_at start ends index) (drop (start_at start ends index) bytes), count)
+unpack-get bytes start [] counts index d count within is = absurd (omega arith)
+unpack-get bytes start (end ∷ ends) [] index d count within is = absurd cc
+unpack-get bytes start (end ∷ ends) (first ∷ counts) zero d count within is = ap (λ n. Some (take (end - start) (drop start bytes), n)) cc
+unpack-get bytes start (end ∷ ends) (first ∷ counts) (suc index) d count within is = unpack-get bytes end ends counts index d count (omega arith) is
+
+-- no word starts past where it ends
+pub chain-start : (start limit : ℕ) (ends : List ℕ) (index d : ℕ) → IsChain start ends limit → index < length ends → start_at start ends index ≤ get_or ends index d
+chain-start start limit [] index d chain within = absurd (omega arith)
+chain-start start limit (end ∷ ends) zero d chain within = chain.0
+chain-start start limit (end ∷ ends) (suc index) d chain within = chain-start end limit ends index d chain.1 (omega arith)
+
+chain-limit : (start limit : ℕ) (ends : List ℕ) → IsChain start ends limit → start ≤ limit
+chain-limit start limit [] chain = chain
+chain-limit start limit (end ∷ ends) chain = omega (arith, chain.0, chain-limit end limit ends chain.1)
+
+-- nor ends past the limit
+pub chain-end : (start limit : ℕ) (ends : List ℕ) (index d : ℕ) → IsChain start ends limit → index < length ends → get_or ends index d ≤ limit
+chain-end start limit [] index d chain within = absurd (omega arith)
+chain-end start limit (end ∷ ends) zero d chain within = chain-limit end limit ends chain.1
+chain-end start limit (end ∷ ends) (suc index) d chain within = chain-end end limit ends index d chain.1 (omega arith)
+
+-- ---- one more word
+
+pub unpack_push : (bytes word : List ℕ) (start : ℕ) (ends counts : List ℕ) (end count : ℕ) → IsChain start ends (length bytes) → start_at start ends (length ends) ≡ length bytes → length counts ≡ length ends → end ≡ length (bytes ++ word)
+    → unpack (bytes ++ word) start (ends ++ end ∷ []) (counts ++ count ∷ []) ≡ unpack bytes start ends counts ++ (word, count) ∷ []
+unpack_push bytes word start [] [] end count chain last same is =
+    let long : length (bytes ++ word) ≡ length bytes + length word = length-append bytes word in
+    let size : end - start ≡ length word = omega arith in
+    let whole : take (end - start) (drop start (bytes ++ word)) ≡ word = ap (λ n. take n (drop start (bytes ++ word))) size ∙ ap (take (length word)) (drop_at bytes word start (sym last)) ∙ take_all (length word) word (omega arith) in
+    ap (λ w. (w, count) ∷ []) whole
+unpack_push bytes word start [] (first ∷ counts) end count chain last same is = absurd (omega arith)
+unpack_push bytes word start (first ∷ ends) [] end count chain last same is = absurd (omega arith)
+unpack_push bytes word start (first ∷ ends) (times ∷ counts) end count chain last same is =
+    let within : first ≤ length bytes = chain-limit first (length bytes) ends chain.1 in
+    let from : drop start (bytes ++ word) ≡ drop start bytes ++ word = drop-append-le start bytes word (omega (arith, chain.0)) in
+    let short : first - start ≤ length (drop start bytes) = omega (arith, length-drop start bytes) in
+    let kept : take (first - start) (drop start (bytes ++ word)) ≡ take (first - start) (drop start bytes) = ap (take (first - start)) from ∙ take-append-le (first - start) (drop start bytes) word short in
+    λ i. (kept i, times) ∷ unpack_push bytes word first ends counts end count chain.1 last (omega arith) is i
+
+pub chain_push : (limit more start : ℕ) (ends : List ℕ) (end : ℕ) → IsChain start ends limit → limit ≤ more → end ≡ more → IsChain start (ends ++ end ∷ []) more
+chain_push limit more start [] end chain grows is = (omega (arith, chain), omega arith)
+chain_push limit more start (first ∷ ends) end chain grows is = (chain.0, chain_push limit more first ends end chain.1 grows is)
+
+pub end_push : (start : ℕ) (ends : List ℕ) (end : ℕ) → start_at start (ends ++ end ∷ []) (length (ends ++ end ∷ [])) ≡ end
+end_push start [] end = refl
+end_push start (first ∷ ends) end = end_push first ends end

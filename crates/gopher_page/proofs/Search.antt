@@ -1,0 +1,114 @@
+-- Searching words that stand in order, by index.
+use Rattle.std.proofs.Common.{◌≡◌, ◌⊎◌, ℕ, zero, suc, ◌+◌, ◌<◌, ◌≤◌, Bool, true, false, cond, List, [], ◌∷◌, length, map, take, drop, get_or, slice_get, Some, sum_by, refl, sym, ap, subst, ◌∙◌, inl, inr, arith}
+use Rattle.std.proofs.lemmas.Bool.{cases_lt}
+use Rattle.std.proofs.lemmas.List.{length-map, take_all}
+use Rattle.std.proofs.lemmas.List.Sums.{sum_by-cons, sum_by_more, sum_by_more_le_part, sum_by-take-drop}
+use Rattle.std.proofs.lemmas.Map.Keys.{Less-from_sorted}
+use Rattle.std.specs.Ordering.{nat_cmp, is_lt}
+use Rattle.std.specs.Cmp.Lexicographic.{slice_cmp}
+use Rattle.gopher_page.specs.Counts.{is_before, is_meant, word_at, count_where, count_meant}
+use Rattle.gopher_page.specs.Packed.{AreCounts}
+use Rattle.gopher_page.proofs.Order.{before-trans, not_before-trans, meant_before, meant_past}
+
+pub in_order : (counts : List (List ℕ × ℕ)) (i j : ℕ) → AreCounts counts → i < j → j < length counts → is_before (word_at counts i) (word_at counts j) ≡ true
+in_order counts i j sound less within =
+    let inside : j < length (map (λ entry. entry.0) counts) = omega (arith, length-map counts (λ entry. entry.0)) in
+    ap is_lt (Less-from_sorted (slice_cmp nat_cmp) (map (λ entry. entry.0) counts) i j [] sound.ordered less inside)
+
+-- where one word comes before what is sought, so does each up to it
+pub all_before : (counts : List (List ℕ × ℕ)) (sought : List ℕ) (middle : ℕ) → AreCounts counts → middle < length counts → is_before (word_at counts middle) sought ≡ true
+    → (k : ℕ) → k < middle + 1 → is_before (word_at counts k) sought ≡ true
+all_before counts sought middle sound within here k below = by (cases_lt k middle)
+  where
+    by : (k < middle) ⊎ (middle ≤ k) → is_before (word_at counts k) sought ≡ true
+    by (inl less) = before-trans (word_at counts k) (word_at counts middle) sought (in_order counts k middle sound less within) here
+    by (inr past) =
+        let same : middle ≡ k = omega arith in
+        subst (λ i. is_before (word_at counts i) sought ≡ true) same here
+
+-- and where one doesn't, nor does any from it on
+pub none_before_from : (counts : List (List ℕ × ℕ)) (sought : List ℕ) (middle : ℕ) → AreCounts counts → is_before (word_at counts middle) sought ≡ false
+    → (k : ℕ) → middle ≤ k → k < length counts → is_before (word_at counts k) sought ≡ false
+none_before_from counts sought middle sound here k from within = by (cases_lt middle k)
+  where
+    by : (middle < k) ⊎ (k ≤ middle) → is_before (word_at counts k) sought ≡ false
+    by (inl less) = not_before-trans (word_at counts middle) (word_at counts k) sought here (in_order counts middle k sound less within)
+    by (inr past) =
+        let same : middle ≡ k = omega arith in
+        subst (λ i. is_before (word_at counts i) sought ≡ false) same here
+
+-- ---- sums
+
+-- words that fail the test add nothing, whether they are the first
+pub nothing_before : (test : List ℕ → Bool) (n : ℕ) (counts : List (List ℕ × ℕ)) → ((k : ℕ) → k < n → k < length counts → test (word_at counts k) ≡ false) → count_where test (take n counts) ≡ 0
+nothing_before test zero counts none = refl
+nothing_before test (suc n) [] none = refl
+nothing_before test (suc n) (entry ∷ counts) none =
+    sum_by-cons (λ e. cond (test e.0) e.1 0) entry (take n counts)
+    ∙ rw (none 0 (omega arith) (omega arith), nothing_before test n counts (λ k below within. none (suc k) (omega arith) (omega arith)))
+
+-- or the last
+pub nothing_from : (test : List ℕ → Bool) (n : ℕ) (counts : List (List ℕ × ℕ)) → ((k : ℕ) → n ≤ k → k < length counts → test (word_at counts k) ≡ false) → count_where test (drop n counts) ≡ 0
+nothing_from test zero [] none = refl
+nothing_from test zero (entry ∷ counts) none =
+    sum_by-cons (λ e. cond (test e.0) e.1 0) entry counts
+    ∙ rw (none 0 (omega arith) (omega arith), nothing_from test zero counts (λ k from within. none (suc k) (omega arith) (omega arith)))
+nothing_from test (suc n) [] none = refl
+nothing_from test (suc n) (entry ∷ counts) none = nothing_from test n counts (λ k from within. none (suc k) (omega arith) (omega arith))
+
+pub entry_at : (counts : List (List ℕ × ℕ)) (i : ℕ) (entry d : List ℕ × ℕ) → slice_get counts i ≡ Some entry → (i < length counts) × (get_or counts i d ≡ entry) × (word_at counts i ≡ entry.0)
+entry_at [] i entry d e = absurd cc
+entry_at (first ∷ counts) zero entry d e =
+    let same : first ≡ entry = cc in
+    (omega arith, same, ap (λ x. x.0) same)
+entry_at (first ∷ counts) (suc i) entry d e =
+    let rest = entry_at counts i entry d e in
+    (omega (arith, rest.0), rest.1, rest.2)
+
+module _ (is_prefix : Bool) (sought : List ℕ) (counts : List (List ℕ × ℕ)) (start : ℕ) (sound : AreCounts counts)
+    (before : (k : ℕ) → k < start → is_before (word_at counts k) sought ≡ true) (after : (k : ℕ) → start ≤ k → k < length counts → is_before (word_at counts k) sought ≡ false) where
+  -- no word before the start is meant
+  pub meant_none : 0 ≡ count_where (is_meant is_prefix sought) (take start counts)
+  meant_none = sym (nothing_before (is_meant is_prefix sought) start counts (λ k below within. meant_before is_prefix sought (word_at counts k) (before k below)))
+
+  -- nor any from the first that isn't on
+  pub meant_all : (i : ℕ) (entry : List ℕ × ℕ) → start ≤ i → slice_get counts i ≡ Some entry → is_meant is_prefix sought entry.0 ≡ false → count_where (is_meant is_prefix sought) (take i counts) ≡ count_meant is_prefix sought counts
+  unfolding count_meant
+  meant_all i entry from at fails =
+      let found = entry_at counts i entry entry at in
+      let here : is_meant is_prefix sought (word_at counts i) ≡ false = rw found.2 fails in
+      let later : (k : ℕ) → i ≤ k → k < length counts → is_meant is_prefix sought (word_at counts k) ≡ false = λ k past within. later_at k past within (cases_lt i k) here found.0 in
+      let none : count_where (is_meant is_prefix sought) (drop i counts) ≡ 0 = nothing_from (is_meant is_prefix sought) i counts later in
+      omega (arith, none, sum_by-take-drop (λ e. cond (is_meant is_prefix sought e.0) e.1 0) counts i)
+    where
+      later_at : (k : ℕ) → i ≤ k → k < length counts → (i < k) ⊎ (k ≤ i) → is_meant is_prefix sought (word_at counts i) ≡ false → i < length counts → is_meant is_prefix sought (word_at counts k) ≡ false
+      later_at k past within (inl less) here inside =
+          meant_past is_prefix sought (word_at counts i) (word_at counts k) (after i from inside) here (in_order counts i k sound less within)
+      later_at k past within (inr same) here inside =
+          let equal : i ≡ k = omega arith in
+          subst (λ j. is_meant is_prefix sought (word_at counts j) ≡ false) equal here
+
+  -- at the end all is counted
+  pub meant_end : (i : ℕ) → length counts ≤ i → count_where (is_meant is_prefix sought) (take i counts) ≡ count_meant is_prefix sought counts
+  unfolding count_meant
+  meant_end i past = ap (count_where (is_meant is_prefix sought)) (take_all i counts past)
+
+-- one more word that is meant
+pub meant_more : (test : List ℕ → Bool) (counts : List (List ℕ × ℕ)) (i : ℕ) (entry : List ℕ × ℕ) → slice_get counts i ≡ Some entry → test entry.0 ≡ true → count_where test (take i counts) + entry.1 ≡ count_where test (take (i + 1) counts)
+meant_more test counts i entry at passes =
+    let found = entry_at counts i entry entry at in
+    let more : count_where test (take (i + 1) counts) ≡ count_where test (take i counts) + cond (test (get_or counts i entry).0) (get_or counts i entry).1 0 = sum_by_more (λ e. cond (test e.0) e.1 0) counts i entry found.0 in
+    let here : cond (test (get_or counts i entry).0) (get_or counts i entry).1 0 ≡ entry.1 = rw (found.1, passes) in
+    omega arith
+
+-- what was counted so far, and one word's count, are few
+pub few_so_far : (test : List ℕ → Bool) (counts : List (List ℕ × ℕ)) (i : ℕ) (entry : List ℕ × ℕ) → AreCounts counts → slice_get counts i ≡ Some entry → count_where test (take i counts) + entry.1 ≤ 1048576
+few_so_far test counts i entry sound at =
+    let found = entry_at counts i entry entry at in
+    let part : count_where test (take i counts) + (get_or counts i entry).1 ≤ sum_by (λ e. e.1) counts = sum_by_more_le_part (λ e. cond (test e.0) e.1 0) (λ e. e.1) counts i entry found.0 (λ e. at_most (test e.0) e.1) in
+    let here : (get_or counts i entry).1 ≡ entry.1 = ap (λ e. e.1) found.1 in
+    omega (arith, sound.few)
+  where
+    at_most : (b : Bool) (n : ℕ) → cond b n 0 ≤ n
+    at_most true n = omega arith
+    at_most false n = omega arith

@@ -1,0 +1,228 @@
+-- Adding words one by one counts each of them.
+use Rattle.std.proofs.Common.{◌≡◌, ℕ, ◌+◌, ◌<◌, ◌≤◌, Bool, true, false, cond, ◌||◌, List, [], ◌∷◌, ◌++◌, length, map, Option, None, Some, count_by, sum_by, refl, sym, ap, subst, ◌∙◌, append_assoc, add-zero, arith}
+use Rattle.std.proofs.lemmas.Bool.{both_ways}
+use Rattle.std.proofs.lemmas.List.{append-nil}
+use Rattle.std.proofs.lemmas.List.Sums.{sum_by-cons, sum_by_push, fold_push, sum-map}
+use Rattle.std.proofs.lemmas.Map.Entries.{sum_by-insert_entry}
+use Rattle.std.specs.List.{fold, list_any, AllByRecursion}
+use Rattle.std.specs.List.Sorted.{IsStrictlySortedBy}
+use Rattle.std.specs.Map.{lookup, keys_of, values_of}
+use Rattle.std.specs.BTreeMap.{insert_entry, is_at}
+use Rattle.std.specs.BTreeSet.{insert_key}
+use Rattle.std.specs.Option.{unwrap_or, option_map}
+use Rattle.std.specs.Ordering.{nat_cmp, match_ordering, is_eq, ordering_reverse}
+use Rattle.std.specs.declared.cmp.Ordering.{Ordering}
+use Rattle.std.specs.declared.cmp.Ordering.TheVariants.{Less, Equal, Greater}
+use Rattle.std.specs.Cmp.Lexicographic.{slice_cmp, bytes_decides, texts_ties, nat_list_cmp_total, nat_list_eq_equiv}
+use Rattle.gopher_page.specs.Words.{same_word}
+use Rattle.gopher_page.specs.Counts.{add_word, counts_of, sorted_words}
+
+abbrev compare : List ℕ → List ℕ → Ordering
+compare = slice_cmp nat_cmp
+
+-- ---- the order
+
+equal_words : (a b : List ℕ) → compare a b ≡ Equal → a ≡ b
+equal_words a b e = (bytes_decides a b).0 (texts_ties a b ∙ ap is_eq e)
+
+flipped : (a b : List ℕ) → compare a b ≡ Greater → compare b a ≡ Less
+flipped a b e = nat_list_cmp_total.antisymm b a ∙ ap ordering_reverse e
+
+not_same : (a b : List ℕ) (r : Ordering) → compare a b ≡ r → is_eq r ≡ false → same_word a b ≡ false
+not_same a b r e n = texts_ties a b ∙ ap is_eq e ∙ n
+
+-- ---- words in order stay so
+
+all_after : (a b : List ℕ) (words : List (List ℕ)) → compare a b ≡ Less → AllByRecursion (λ y. compare b y ≡ Less) words → AllByRecursion (λ y. compare a y ≡ Less) words
+all_after a b [] less all = tt
+all_after a b (word ∷ words) less all = (nat_list_cmp_total.trans a b word less all.0, all_after a b words less all.1)
+
+all_with : (a word : List ℕ) (words : List (List ℕ)) → compare a word ≡ Less → AllByRecursion (λ y. compare a y ≡ Less) words → AllByRecursion (λ y. compare a y ≡ Less) (insert_key compare words word)
+all_with a word [] less all = (less, tt)
+all_with a word (first ∷ words) less all = by (compare word first) (all_with a word words less all.1)
+  where
+    by : (r : Ordering) → AllByRecursion (λ y. compare a y ≡ Less) (insert_key compare words word) → AllByRecursion (λ y. compare a y ≡ Less) (match_ordering r (word ∷ first ∷ words) (first ∷ words) (first ∷ insert_key compare words word))
+    by Less rest = (less, all)
+    by Equal rest = all
+    by Greater rest = (all.0, rest)
+
+sorted_with : (words : List (List ℕ)) (word : List ℕ) → IsStrictlySortedBy compare words → IsStrictlySortedBy compare (insert_key compare words word)
+unfolding IsStrictlySortedBy
+sorted_with [] word sorted = (tt, tt)
+sorted_with (first ∷ words) word sorted = by (compare word first) refl (sorted_with words word sorted.1)
+  where
+    by : (r : Ordering) → compare word first ≡ r → IsStrictlySortedBy compare (insert_key compare words word)
+        → IsStrictlySortedBy compare (match_ordering r (word ∷ first ∷ words) (first ∷ words) (first ∷ insert_key compare words word))
+    by Less e rest = ((e, all_after word first words e sorted.0), sorted)
+    by Equal e rest = sorted
+    by Greater e rest = (all_with first word words (flipped word first e) sorted.0, rest)
+
+sorted_from : (held words : List (List ℕ)) → IsStrictlySortedBy compare held → IsStrictlySortedBy compare (fold (insert_key compare) held words)
+sorted_from held [] sorted = sorted
+sorted_from held (word ∷ words) sorted = sorted_from (insert_key compare held word) words (sorted_with held word sorted)
+
+sorted_nil : IsStrictlySortedBy compare []
+unfolding IsStrictlySortedBy
+sorted_nil = tt
+
+-- ---- a word that isn't among the sorted ones stands nowhere
+
+neither : (x y : Bool) → (x || y) ≡ false → (x ≡ false) × (y ≡ false)
+neither true y h = absurd (both_ways true h refl)
+neither false y h = (refl, h)
+
+neither_of : (x y : Bool) → x ≡ false → y ≡ false → (x || y) ≡ false
+neither_of x y h g = rw (h, g)
+
+absent_from : (sought : List ℕ) (words : List (List ℕ)) (word : List ℕ) → list_any (same_word sought) (insert_key compare words word) ≡ false → (list_any (same_word sought) words ≡ false) × (same_word sought word ≡ false)
+absent_from sought [] word h = (refl, (neither (same_word sought word) false h).0)
+absent_from sought (first ∷ words) word h = by (compare word first) refl (absent_from sought words word) h
+  where
+    by : (r : Ordering) → compare word first ≡ r
+        → (list_any (same_word sought) (insert_key compare words word) ≡ false → (list_any (same_word sought) words ≡ false) × (same_word sought word ≡ false))
+        → list_any (same_word sought) (match_ordering r (word ∷ first ∷ words) (first ∷ words) (first ∷ insert_key compare words word)) ≡ false
+        → (list_any (same_word sought) (first ∷ words) ≡ false) × (same_word sought word ≡ false)
+    by Less e rest g =
+        let parts = neither (same_word sought word) (list_any (same_word sought) (first ∷ words)) g in
+        (parts.1, parts.0)
+    by Equal e rest g =
+        (g, subst (λ w. same_word sought w ≡ false) (sym (equal_words word first e)) (neither (same_word sought first) (list_any (same_word sought) words) g).0)
+    by Greater e rest g =
+        let parts = neither (same_word sought first) (list_any (same_word sought) (insert_key compare words word)) g in
+        let inner = rest parts.1 in
+        (neither_of (same_word sought first) (list_any (same_word sought) words) parts.0 inner.0, inner.1)
+
+absent_along : (sought : List ℕ) (held words : List (List ℕ)) → list_any (same_word sought) (fold (insert_key compare) held words) ≡ false → (list_any (same_word sought) held ≡ false) × (count_by (same_word sought) words ≡ 0)
+absent_along sought held [] h = (h, refl)
+absent_along sought held (word ∷ words) h =
+    let rest = absent_along sought (insert_key compare held word) words h in
+    let here = absent_from sought held word rest.0 in
+    (here.0, sum_by-cons (λ w. cond (same_word sought w) 1 0) word words ∙ rw (here.1, rest.1))
+
+-- ---- words with their values
+
+abbrev with_values : (List ℕ → ℕ) → List (List ℕ) → List (List ℕ × ℕ)
+with_values value words = map (λ word. (word, value word)) words
+
+same_values : (old new : List ℕ → ℕ) (words : List (List ℕ)) → AllByRecursion (λ word. new word ≡ old word) words → with_values old words ≡ with_values new words
+same_values old new [] same = refl
+same_values old new (word ∷ words) same = λ i. (word, sym same.0 i) ∷ same_values old new words same.1 i
+
+-- what is found of a word is its value, or nothing where it isn't there
+found_value : (value : List ℕ → ℕ) (words : List (List ℕ)) (sought : List ℕ) → (list_any (same_word sought) words ≡ false → value sought ≡ 0) → unwrap_or (lookup (is_at (compare sought)) (with_values value words)) 0 ≡ value sought
+found_value value [] sought none = sym (none refl)
+found_value value (word ∷ words) sought none = by (is_eq (compare sought word)) refl (found_value value words sought)
+  where
+    by : (t : Bool) → is_eq (compare sought word) ≡ t
+        → ((list_any (same_word sought) words ≡ false → value sought ≡ 0) → unwrap_or (lookup (is_at (compare sought)) (with_values value words)) 0 ≡ value sought)
+        → unwrap_or (cond t (Some (value word)) (lookup (is_at (compare sought)) (with_values value words))) 0 ≡ value sought
+    by true e rest = ap value (sym ((bytes_decides sought word).0 (texts_ties sought word ∙ e)))
+    by false e rest = rest (λ absent. none (neither_of (same_word sought word) (list_any (same_word sought) words) (texts_ties sought word ∙ e) absent))
+
+later_unchanged : (old new : List ℕ → ℕ) (word : List ℕ) (words : List (List ℕ)) → ((other : List ℕ) → same_word word other ≡ false → new other ≡ old other)
+    → AllByRecursion (λ y. compare word y ≡ Less) words → AllByRecursion (λ other. new other ≡ old other) words
+later_unchanged old new word [] same after = tt
+later_unchanged old new word (other ∷ words) same after = (same other (not_same word other Less after.0 refl), later_unchanged old new word words same after.1)
+
+-- putting a word in changes its own value alone
+value_put : (old new : List ℕ → ℕ) (words : List (List ℕ)) (word : List ℕ) (value : ℕ) → IsStrictlySortedBy compare words → value ≡ new word → ((other : List ℕ) → same_word word other ≡ false → new other ≡ old other)
+    → insert_entry compare (with_values old words) word value ≡ with_values new (insert_key compare words word)
+unfolding IsStrictlySortedBy
+value_put old new [] word value sorted is same = λ i. (word, is i) ∷ []
+value_put old new (first ∷ words) word value sorted is same = by (compare word first) refl (value_put old new words word value sorted.1 is same)
+  where
+    by : (r : Ordering) → compare word first ≡ r → insert_entry compare (with_values old words) word value ≡ with_values new (insert_key compare words word)
+        → match_ordering r ((word, value) ∷ with_values old (first ∷ words)) ((first, value) ∷ with_values old words) ((first, old first) ∷ insert_entry compare (with_values old words) word value)
+        ≡ with_values new (match_ordering r (word ∷ first ∷ words) (first ∷ words) (first ∷ insert_key compare words word))
+    by Less e rest = λ i. (word, is i) ∷ same_values old new (first ∷ words) (later_unchanged old new word (first ∷ words) same (e, all_after word first words e sorted.0)) i
+    by Equal e rest =
+        let is_first : value ≡ new first = is ∙ ap new (equal_words word first e) in
+        let after : AllByRecursion (λ y. compare word y ≡ Less) words = subst (λ w. AllByRecursion (λ y. compare w y ≡ Less) words) (sym (equal_words word first e)) sorted.0 in
+        λ i. (first, is_first i) ∷ same_values old new words (later_unchanged old new word words same after) i
+    by Greater e rest = λ i. (first, sym (same first (not_same word first Greater e refl)) i) ∷ rest i
+
+-- ---- counts
+
+one_more : (words : List (List ℕ)) (word : List ℕ) → add_word (counts_of words) word ≡ counts_of (words ++ word ∷ [])
+unfolding counts_of
+one_more words word =
+    let old : List ℕ → ℕ = λ w. count_by (same_word w) words in
+    let new : List ℕ → ℕ = λ w. count_by (same_word w) (words ++ word ∷ []) in
+    let held = sorted_words words in
+    let found : unwrap_or (lookup (is_at (compare word)) (with_values old held)) 0 ≡ old word = found_value old held word (λ absent. (absent_along word [] words absent).1) in
+    let itself : same_word word word ≡ true = (bytes_decides word word).1 refl in
+    let more : (w : List ℕ) → new w ≡ old w + cond (same_word w word) 1 0 = λ w. sum_by_push (λ x. cond (same_word w x) 1 0) words word in
+    let here : unwrap_or (lookup (is_at (compare word)) (with_values old held)) 0 + 1 ≡ new word = ap (λ n. n + 1) found ∙ sym (more word ∙ ap (λ t. old word + cond t 1 0) itself) in
+    let others : (other : List ℕ) → same_word word other ≡ false → new other ≡ old other =
+    λ other apart. more other ∙ ap (λ t. old other + cond t 1 0) (nat_list_eq_equiv.symm other word ∙ apart) ∙ add-zero (old other)
+    in
+    let grown : sorted_words (words ++ word ∷ []) ≡ insert_key compare held word = fold_push (insert_key compare) [] words word in
+    value_put old new held word _ (sorted_from [] words sorted_nil) here others ∙ ap (with_values new) (sym grown)
+
+tallied_after : (done words : List (List ℕ)) → fold add_word (counts_of done) words ≡ counts_of (done ++ words)
+tallied_after done [] = ap counts_of (sym (append-nil done))
+tallied_after done (word ∷ words) =
+    ap (λ counts. fold add_word counts words) (one_more done word) ∙ tallied_after (done ++ word ∷ []) words ∙ ap counts_of (append_assoc done (word ∷ []) words)
+
+-- words that are added one by one, from none, are counted
+pub tallied : (words : List (List ℕ)) → fold add_word [] words ≡ counts_of words
+unfolding counts_of
+tallied words = tallied_after [] words
+
+-- ---- each word stands there
+
+positive_put : (counts : List (List ℕ × ℕ)) (word : List ℕ) (value : ℕ) → 0 < value → AllByRecursion (λ entry. 0 < entry.1) counts → AllByRecursion (λ entry. 0 < entry.1) (insert_entry compare counts word value)
+positive_put [] word value some all = (some, tt)
+positive_put (entry ∷ counts) word value some all = by (compare word entry.0) (positive_put counts word value some all.1)
+  where
+    by : (r : Ordering) → AllByRecursion (λ e. 0 < e.1) (insert_entry compare counts word value)
+        → AllByRecursion (λ e. 0 < e.1) (match_ordering r ((word, value) ∷ entry ∷ counts) ((entry.0, value) ∷ counts) (entry ∷ insert_entry compare counts word value))
+    by Less rest = (some, all)
+    by Equal rest = (some, all.1)
+    by Greater rest = (all.0, rest)
+
+positive_along : (counts : List (List ℕ × ℕ)) (words : List (List ℕ)) → AllByRecursion (λ entry. 0 < entry.1) counts → AllByRecursion (λ entry. 0 < entry.1) (fold add_word counts words)
+positive_along counts [] all = all
+positive_along counts (word ∷ words) all = positive_along (add_word counts word) words (positive_put counts word _ (omega arith) all)
+
+pub positive_counts : (words : List (List ℕ)) → AllByRecursion (λ entry. 0 < entry.1) (counts_of words)
+positive_counts words = subst (AllByRecursion (λ entry. 0 < entry.1)) (tallied words) (positive_along [] words tt)
+
+-- ---- sizes
+
+same_found : (found : Option ℕ) → unwrap_or (option_map (λ n. n) found) 0 ≡ unwrap_or found 0
+same_found None = refl
+same_found (Some n) = refl
+
+-- one more word is one more in all
+pub few_more : (counts : List (List ℕ × ℕ)) (word : List ℕ) → IsStrictlySortedBy compare (keys_of counts) → sum_by (λ entry. entry.1) (add_word counts word) ≡ sum_by (λ entry. entry.1) counts + 1
+few_more counts word sorted =
+    let found = unwrap_or (lookup (is_at (compare word)) counts) 0 in
+    let put : sum_by (λ n. n) (values_of (add_word counts word)) + unwrap_or (option_map (λ n. n) (lookup (is_at (compare word)) counts)) 0 ≡ sum_by (λ n. n) (values_of counts) + (found + 1) = sum_by-insert_entry (λ n. n) nat_list_cmp_total counts word (found + 1) sorted in
+    let new : sum_by (λ n. n) (values_of (add_word counts word)) ≡ sum_by (λ entry. entry.1) (add_word counts word) = sum-map (λ entry. entry.1) (add_word counts word) in
+    let old : sum_by (λ n. n) (values_of counts) ≡ sum_by (λ entry. entry.1) counts = sum-map (λ entry. entry.1) counts in
+    let same : unwrap_or (option_map (λ n. n) (lookup (is_at (compare word)) counts)) 0 ≡ found = same_found (lookup (is_at (compare word)) counts) in
+    omega arith
+
+short_put : (counts : List (List ℕ × ℕ)) (word : List ℕ) (value : ℕ) → sum_by (λ entry. length entry.0) (insert_entry compare counts word value) ≤ sum_by (λ entry. length entry.0) counts + length word
+short_put [] word value = omega arith
+short_put (entry ∷ counts) word value = by (compare word entry.0) (short_put counts word value)
+  where
+    by : (r : Ordering) → sum_by (λ e. length e.0) (insert_entry compare counts word value) ≤ sum_by (λ e. length e.0) counts + length word
+        → sum_by (λ e. length e.0) (match_ordering r ((word, value) ∷ entry ∷ counts) ((entry.0, value) ∷ counts) (entry ∷ insert_entry compare counts word value)) ≤ sum_by (λ e. length e.0) (entry ∷ counts) + length word
+    by Less rest = omega (arith, sum_by-cons (λ e. length e.0) (word, value) (entry ∷ counts))
+    by Equal rest = omega (arith, sum_by-cons (λ e. length e.0) (entry.0, value) counts, sum_by-cons (λ e. length e.0) entry counts)
+    by Greater rest = omega (arith, rest, sum_by-cons (λ e. length e.0) entry (insert_entry compare counts word value), sum_by-cons (λ e. length e.0) entry counts)
+
+-- and its bytes at most
+pub short_more : (counts : List (List ℕ × ℕ)) (word : List ℕ) → sum_by (λ entry. length entry.0) (add_word counts word) ≤ sum_by (λ entry. length entry.0) counts + length word
+short_more counts word = short_put counts word _
+
+-- no word is counted more often than all are
+pub found_few : (counts : List (List ℕ × ℕ)) (test : List ℕ → Bool) → unwrap_or (lookup test counts) 0 ≤ sum_by (λ entry. entry.1) counts
+found_few [] test = omega arith
+found_few (entry ∷ counts) test = by (test entry.0) (found_few counts test)
+  where
+    by : (t : Bool) → unwrap_or (lookup test counts) 0 ≤ sum_by (λ e. e.1) counts → unwrap_or (cond t (Some entry.1) (lookup test counts)) 0 ≤ sum_by (λ e. e.1) (entry ∷ counts)
+    by true rest = omega (arith, sum_by-cons (λ e. e.1) entry counts)
+    by false rest = omega (arith, rest, sum_by-cons (λ e. e.1) entry counts)

@@ -1,0 +1,41 @@
+-- Words with their counts, packed: the words' bytes one after another, where each word ends, and how
+-- often each was counted.
+use Rattle.std.specs.Prelude.{ℕ, zero, suc, ◌≡◌, ◌+◌, ◌-◌, ◌*◌, ◌<◌, ◌≤◌, List, [], ◌∷◌, length, take, drop, map}
+use Rattle.std.specs.List.{sum_by, AllByRecursion}
+use Rattle.std.specs.List.Sorted.{IsStrictlySortedBy}
+use Rattle.std.specs.Ordering.{nat_cmp}
+use Rattle.std.specs.Cmp.Lexicographic.{slice_cmp}
+
+-- counts, from each modulo 256 and each divided by 256; of the second those at the end that are 0 may be left out
+abbrev pub joined : List ℕ → List ℕ → List ℕ
+joined lows [] = lows
+joined [] (high ∷ highs) = []
+joined (low ∷ lows) (high ∷ highs) = (low + 256 * high) ∷ joined lows highs
+
+-- the words from `start` on, each with its count
+abbrev pub unpack : List ℕ → ℕ → List ℕ → List ℕ → List (List ℕ × ℕ)
+unpack bytes start [] counts = []
+unpack bytes start (end ∷ ends) [] = []
+unpack bytes start (end ∷ ends) (count ∷ counts) = (take (end - start) (drop start bytes), count) ∷ unpack bytes end ends counts
+
+-- where the word at an index starts
+abbrev pub start_at : ℕ → List ℕ → ℕ → ℕ
+start_at start ends zero = start
+start_at start [] (suc index) = start
+start_at start (end ∷ ends) (suc index) = start_at end ends index
+
+-- each word ends where it starts or later, and none past the limit
+abbrev pub IsChain : ℕ → List ℕ → ℕ → Type 0
+IsChain start [] limit = start ≤ limit
+IsChain start (end ∷ ends) limit = (start ≤ end) × IsChain end ends limit
+
+-- words in the order of their bytes, each counted at least once, and at most 1,048,576 in all
+pub record AreCounts (counts : List (List ℕ × ℕ)) : Type 0 where
+  pub ordered : IsStrictlySortedBy (slice_cmp nat_cmp) (map (λ entry. entry.0) counts)
+  pub positive : AllByRecursion (λ entry. 0 < entry.1) counts
+  pub few : sum_by (λ entry. entry.1) counts ≤ 1048576
+
+pub record IsPacked (bytes ends counts : List ℕ) : Type 0 where
+  pub chain : IsChain 0 ends (length bytes)
+  pub same : length counts ≡ length ends
+  pub sound : AreCounts (unpack bytes 0 ends counts)

@@ -1,0 +1,93 @@
+-- Queries: which pages they match, and how high these score.
+use Rattle.std.specs.Prelude.{◌≡◌, ◌≤◌, ℕ, Bool, IsTrue, true, false, ◌&&◌, ◌||◌, not, List, [], ◌∷◌, length, filter, nat_lt, Option, None, Some, Result, Ok, Err, if◌then◌else◌}
+use Rattle.std.specs.List.{fold, sum_by, list_any}
+use Rattle.std.specs.Option.{option_map_or}
+use Rattle.gopher_page.specs.Words.{Token, same_word, tokens_of}
+use Rattle.gopher_page.specs.Counts.{count_meant}
+use Rattle.gopher_page.specs.declared.fault.QueryFault.{QueryFault}
+use Rattle.gopher_page.specs.declared.fault.QueryFault.TheVariants.{NoWords, NoMemory}
+use Rattle.gopher_page.specs.declared.query.Operator.{Operator}
+use Rattle.gopher_page.specs.declared.query.Operator.TheVariants.{And, Or, Not}
+
+-- a term of a query: a word, or a prefix that stands for every word that begins with it, and how the
+-- term is joined to those before it (the first is joined by `and` to what holds of every page)
+pub record TermData : Type 0 where
+  pub operator : Operator
+  pub word : List ℕ
+  pub is_prefix : Bool
+
+-- the operator that a token is, if it is one: the word `and`, `or` or `not`, and no prefix
+abbrev pub operator_of : Token → Option Operator
+operator_of token =
+    if token.is_prefix then None
+    else (if same_word token.word (97 ∷ 110 ∷ 100 ∷ []) then Some And
+    else (if same_word token.word (111 ∷ 114 ∷ []) then Some Or
+    else (if same_word token.word (110 ∷ 111 ∷ 116 ∷ []) then Some Not else None)))
+
+abbrev pub term_of : Operator → Token → TermData
+term_of operator token = record { operator = operator; word = token.word; is_prefix = token.is_prefix }
+
+-- the terms of the tokens after a term, where the last operator since it is this one: of several
+-- operators in a row the last decides, and those after the last term count for nothing
+abbrev pub terms_after : Operator → List Token → List TermData
+terms_after operator [] = []
+terms_after operator (token ∷ tokens) =
+    option_map_or (λ next. terms_after next tokens) (operator_of token) (term_of operator token ∷ terms_after And tokens)
+
+-- the first token is a term whatever it is, and later ones are joined by `and` where no operator stands
+abbrev pub terms_of : List Token → List TermData
+terms_of [] = []
+terms_of (token ∷ tokens) = term_of And token ∷ terms_after And tokens
+
+unfoldable pub query_of : List ℕ → List TermData
+query_of text = terms_of (tokens_of text)
+
+-- how often the words that a term speaks of stand in a page with these counts
+unfoldable pub count_of_term : List (List ℕ × ℕ) → TermData → ℕ
+count_of_term counts term = count_meant term.is_prefix term.word counts
+
+-- the truth of a term that holds or doesn't, joined to that of the terms before it
+abbrev pub joined : Operator → Bool → Bool → Bool
+joined And truth holds = truth && holds
+joined Or truth holds = truth || holds
+joined Not truth holds = truth && not holds
+
+-- whether a page with these counts matches: from left to right, each term as its operator says
+unfoldable pub matches : List TermData → List (List ℕ × ℕ) → Bool
+matches terms counts = fold (λ truth term. joined term.operator truth (nat_lt 0 (count_of_term counts term))) true terms
+
+abbrev pub is_not : Operator → Bool
+is_not Not = true
+is_not operator = false
+
+-- the terms that `not` doesn't introduce
+unfoldable pub wanted : List TermData → List TermData
+wanted terms = filter (λ term. not (is_not term.operator)) terms
+
+-- the score of a page with these counts: a word in two terms counts twice
+unfoldable pub score : List TermData → List (List ℕ × ℕ) → ℕ
+score terms counts = sum_by (count_of_term counts) (wanted terms)
+
+-- what reading a query answers: that it has no words, or its terms, unless memory was refused
+abbrev pub ReadsQuery : List TermData → Result (List TermData) QueryFault → Type 0
+ReadsQuery [] result = result ≡ Err NoWords
+ReadsQuery (term ∷ terms) (Ok query) = query ≡ term ∷ terms
+ReadsQuery (term ∷ terms) (Err fault) = fault ≡ NoMemory
+
+-- there is a first term, and it is joined by `and`
+abbrev pub BeginsWithAnd : List TermData → Type 0
+BeginsWithAnd [] = ⊥
+BeginsWithAnd (term ∷ terms) = term.operator ≡ And
+
+-- what the terms of every query are: 1 to 1,024, the first joined by `and`
+pub record IsQuery (terms : List TermData) : Type 0 where
+  pub first : BeginsWithAnd terms
+  pub few : length terms ≤ 1024
+
+abbrev pub query_fault_code : QueryFault → ℕ
+query_fault_code NoWords = 40
+query_fault_code NoMemory = 90
+
+-- a page that matches has a word that is wanted, or that begins with a wanted prefix
+abbrev pub HasWanted : List TermData → List (List ℕ × ℕ) → Type 0
+HasWanted terms counts = IsTrue (list_any (λ term. nat_lt 0 (count_of_term counts term)) (wanted terms))

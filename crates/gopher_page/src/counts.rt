@@ -1,0 +1,160 @@
+//! The words of a page with their counts, packed.
+
+ghost use Rattle.std.specs.Prelude.{◌≡◌, true, false, ℕ, ◌<◌, ◌≤◌, List, Some, ◌-◌, length, take, drop, slice_get, IfOk};
+ghost use Rattle.std.specs.List.{sum_by, AllByRecursion};
+ghost use Rattle.gopher_page.specs.Counts.{is_meant, count_meant, is_before, word_at};
+ghost use Rattle.gopher_page.specs.Packed.{AreCounts, IsChain, start_at, unpack};
+
+use crate::repeats::Repeats;
+use gopher_item::{ByteString, NoMemory};
+use std::alloc::Global;
+use std::collections::BTreeMap;
+use std::marker::Model;
+
+fn is_meant(is_prefix: bool, sought: &[u8], word: &[u8]) -> bool
+    ensures { result ≡ is_meant is_prefix sought.now word.now }
+{
+    if is_prefix {
+        word.starts_with(sought)
+    } else {
+        sought == word
+    }
+}
+
+/// The words of a page, in the order of their bytes, each with how often it stands there.
+///
+/// The words' bytes lie one after another, since a catalogue keeps every page for good.
+#[derive(Debug, Drop)]
+pub struct Counts {
+    bytes: Vec<u8>,
+    ends: Vec<u32>,
+    counts: Repeats,
+}
+
+impl Model for Counts {
+    ghost use Rattle.std.specs.Prelude.{ℕ, List};
+
+    ghost Value = { List (List ℕ × ℕ) };
+
+    ghost use Rattle.gopher_page.specs.Packed.{unpack, IsPacked};
+
+    ghost view = { λ c. unpack c.bytes.items 0 c.ends.items c.counts };
+
+    ghost invariant = { λ c. IsPacked c.bytes.items c.ends.items c.counts };
+}
+
+fn start_of(ends: &[u32], index: usize) -> usize
+    requires { index < length ends.now }
+    ensures { result ≡ start_at 0 ends.now index }
+{
+    if index == 0 {
+        0
+    } else {
+        ends[index - 1] as usize
+    }
+}
+
+fn between(bytes: &[u8], start: usize, end: usize) -> &[u8]
+    requires forward { start ≤ end }
+    requires within { end ≤ length bytes.now }
+    ensures { result.now ≡ take (end - start) (drop start bytes.now) }
+{
+    &bytes[start..end]
+}
+
+// The word at an index, and its count.
+fn part_at<'a>(bytes: &'a [u8], ends: &[u32], counts: &Repeats, index: usize) -> (&'a [u8], u32)
+    requires within { index < length ends.now }
+    requires same { length counts.now ≡ length ends.now }
+    requires chain { IsChain 0 ends.now (length bytes.now) }
+    ensures { slice_get (unpack bytes.now 0 ends.now counts.now) index ≡ Some (result.0.now, result.1) }
+{
+    let word = between(bytes, start_of(ends, index), ends[index] as usize);
+    (word, counts.get(index))
+}
+
+impl Counts {
+    /// The words that were tallied, each at least once. Their bytes together and their counts together
+    /// are at most 1,048,576. Refused only where memory is (90).
+    pub fn packed(alloc: Global, tally: &BTreeMap<ByteString, u32>) -> Result<Counts, NoMemory>
+        requires short { sum_by (λ entry. length entry.0) tally.now.entries ≤ 1048576 }
+        requires few { sum_by (λ entry. entry.1) tally.now.entries ≤ 1048576 }
+        requires positive { AllByRecursion (λ entry. 0 < entry.1) tally.now.entries }
+        ensures { IfOk result (λ counts. counts ≡ tally.now.entries) }
+    {
+        let mut bytes = Vec::new(alloc);
+        let mut ends = Vec::with_capacity(alloc, tally.len())?;
+        let mut counts = Repeats::with_capacity(alloc, tally.len())?;
+        for (word, count) in tally {
+            bytes.extend_from_slice(word.as_slice())?;
+            ends.push(bytes.len() as u32)?;
+            counts.push(*count)?;
+        }
+        bytes.shrink_to_fit();
+        counts.shrink_to_fit();
+        Ok(Counts {
+            bytes,
+            ends,
+            counts,
+        })
+    }
+
+    /// How many words there are.
+    pub fn len(&self) -> usize
+        ensures value { result ≡ length self.now }
+        ensures counts { AreCounts self.now }
+    {
+        self.ends.len()
+    }
+
+    /// The word at an index below `len`, and its count.
+    pub fn get(&self, index: usize) -> (&[u8], u32)
+        requires { index < length self.now }
+        ensures { slice_get self.now index ≡ Some (result.0.now, result.1) }
+    {
+        part_at(&self.bytes, &self.ends, &self.counts, index)
+    }
+
+    fn is_before(&self, index: usize, sought: &[u8]) -> bool
+        requires { index < length self.now }
+        ensures { result ≡ is_before (word_at self.now index) sought.now }
+    {
+        let (word, _) = self.get(index);
+        word.cmp(sought).is_lt()
+    }
+
+    // How many words come before `sought`: these are the first.
+    fn words_before(&self, sought: &[u8]) -> usize
+        ensures within { result ≤ length self.now }
+        ensures before { (k : ℕ) → k < result → is_before (word_at self.now k) sought.now ≡ true }
+        ensures after { (k : ℕ) → result ≤ k → k < length self.now → is_before (word_at self.now k) sought.now ≡ false }
+    {
+        let mut low = 0;
+        let mut high = self.len();
+        while low < high {
+            let middle = low + (high - low) / 2;
+            if self.is_before(middle, sought) {
+                low = middle + 1;
+            } else {
+                high = middle;
+            }
+        }
+        low
+    }
+
+    /// How often the word `sought` was counted, or all words that begin with it where it is a prefix.
+    /// Takes no memory.
+    pub fn count_meant(&self, is_prefix: bool, sought: &[u8]) -> u32
+        ensures { result ≡ count_meant is_prefix sought.now self.now }
+    {
+        let mut total = 0;
+        for index in self.words_before(sought)..self.len() {
+            let (word, count) = self.get(index);
+            if !is_meant(is_prefix, sought, word) {
+                break;
+            }
+            total += count;
+        }
+        total
+    }
+}

@@ -1,0 +1,29 @@
+//! Why a query was refused.
+
+ghost use Rattle.std.specs.Prelude.{◌≡◌};
+ghost use Rattle.gopher_page.specs.Query.{query_fault_code};
+
+use thiserror::Error;
+
+/// What is wrong with the text of a query.
+#[derive(Clone, Copy, Debug, PartialEq, Eq, Error)]
+pub enum QueryFault {
+    /// 40: the text has no word.
+    #[error("the query has no words")]
+    NoWords,
+    /// 90: memory was refused.
+    #[error("no memory")]
+    NoMemory,
+}
+
+impl QueryFault {
+    /// The number of the fault: 40 or 90.
+    pub fn code(self) -> u8
+        ensures { result ≡ query_fault_code self }
+    {
+        match self {
+            QueryFault::NoWords => 40,
+            QueryFault::NoMemory => 90,
+        }
+    }
+}

@@ -1,0 +1,264 @@
+//! Queries: which pages they match, and how high these score.
+
+ghost use Rattle.std.specs.Prelude.{◌≡◌, ◌+◌, ◌<◌, ◌≤◌, ◌∷◌, ◌++◌, IsTrue, not, Some, length, map, slice_get, IfOk, OnOk};
+ghost use Rattle.std.specs.Option.{option_map};
+ghost use Rattle.gopher_page.specs.Words.{tokens_of};
+ghost use Rattle.gopher_page.specs.Query.{operator_of, terms_after, terms_of, query_of, count_of_term, joined, matches, is_not, wanted, score, ReadsQuery, IsQuery, HasWanted};
+ghost use Rattle.gopher_item.specs.Place.{lower_case};
+
+use crate::fault::QueryFault;
+use crate::page::Page;
+use crate::word::next_token;
+use gopher_item::{ByteString, NoMemory};
+use std::alloc::Global;
+use std::marker::Model;
+
+/// How a term is joined to those before it.
+#[derive(Clone, Copy, Debug, PartialEq, Eq)]
+pub enum Operator {
+    /// Both hold.
+    And,
+    /// At least one of both holds.
+    Or,
+    /// What stands before holds and the term doesn't.
+    Not,
+}
+
+/// One term of a query.
+#[derive(Debug, Drop)]
+pub struct Term {
+    operator: Operator,
+    word: ByteString,
+    is_prefix: bool,
+}
+
+impl Model for Term {
+    ghost use Rattle.gopher_page.specs.Query.{TermData};
+
+    ghost Value = { TermData };
+
+    ghost view = { λ t. record { operator = t.operator; word = t.word; is_prefix = t.is_prefix } };
+}
+
+impl Term {
+    /// How the term is joined to those before it; the first is joined by `And`.
+    pub fn operator(&self) -> Operator
+        ensures { result ≡ self.now.operator }
+    {
+        self.operator
+    }
+
+    /// The word, its letters in lower case.
+    pub fn word(&self) -> &[u8]
+        ensures { result.now ≡ self.now.word }
+    {
+        self.word.as_slice()
+    }
+
+    /// Whether the word stands for every word that begins with it.
+    pub fn is_prefix(&self) -> bool
+        ensures { result ≡ self.now.is_prefix }
+    {
+        self.is_prefix
+    }
+
+    /// How often a page has the words that the term speaks of. Takes no memory.
+    pub fn count_in(&self, page: &Page) -> u32
+        ensures { result ≡ count_of_term page.now.counts self.now }
+    {
+        page.counts().count_meant(self.is_prefix(), self.word())
+    }
+}
+
+fn operator_of(word: &[u8], is_prefix: bool) -> Option<Operator>
+    ensures { result ≡ operator_of (record { word = word.now; is_prefix = is_prefix }) }
+{
+    if is_prefix {
+        None
+    } else if word == b"and".as_slice() {
+        Some(Operator::And)
+    } else if word == b"or".as_slice() {
+        Some(Operator::Or)
+    } else if word == b"not".as_slice() {
+        Some(Operator::Not)
+    } else {
+        None
+    }
+}
+
+// Adds the terms of a text that follows a term.
+fn add_terms(alloc: Global, text: &[u8], terms: &mut Vec<Term>) -> Result<(), NoMemory>
+    ensures terms { OnOk result (terms.new.items ≡ terms.old.items ++ terms_after Operator.And (tokens_of text.now)) }
+    ensures few { OnOk result (length terms.new.items ≤ length terms.old.items + length text.now) }
+{
+    let mut operator = Operator::And;
+    let mut rest = text;
+    while let Some((token, is_prefix, after)) = next_token(rest) {
+        let word = ByteString::lower_cased(alloc, token)?;
+        match operator_of(word.as_slice(), is_prefix) {
+            Some(next) => operator = next,
+            None => {
+                terms.push(Term {
+                    operator,
+                    word,
+                    is_prefix,
+                })?;
+                operator = Operator::And;
+            }
+        }
+        rest = after;
+    }
+    Ok(())
+}
+
+fn terms_from(
+    alloc: Global,
+    token: &[u8],
+    is_prefix: bool,
+    after: &[u8],
+) -> Result<Vec<Term>, NoMemory>
+    ensures terms { IfOk result (λ terms. terms.items ≡ terms_of (record { word = map lower_case token.now; is_prefix = is_prefix } ∷ tokens_of after.now)) }
+    ensures few { IfOk result (λ terms. length terms.items ≤ length after.now + 1) }
+{
+    let mut terms = Vec::new(alloc);
+    terms.push(Term {
+        operator: Operator::And,
+        word: ByteString::lower_cased(alloc, token)?,
+        is_prefix,
+    })?;
+    add_terms(alloc, after, &mut terms)?;
+    Ok(terms)
+}
+
+fn joined(operator: Operator, truth: bool, holds: bool) -> bool
+    ensures { result ≡ joined operator truth holds }
+{
+    match operator {
+        Operator::And => truth && holds,
+        Operator::Or => truth || holds,
+        Operator::Not => truth && !holds,
+    }
+}
+
+fn is_wanted(term: &Term) -> bool
+    ensures { result ≡ not (is_not term.now.operator) }
+{
+    !matches!(term.operator, Operator::Not)
+}
+
+/// What a search asks: words and prefixes, joined by `and`, `or` and `not` from left to right.
+#[derive(Debug, Drop)]
+pub struct Query {
+    terms: Vec<Term>,
+}
+
+impl Model for Query {
+    ghost use Rattle.std.specs.Prelude.{List};
+    ghost use Rattle.gopher_page.specs.Query.{TermData, IsQuery};
+
+    ghost Value = { List TermData };
+
+    ghost view = { λ q. q.terms.items };
+
+    ghost invariant = { λ q. IsQuery q.terms.items };
+}
+
+impl Query {
+    /// The query of a text of at most 1,024 bytes.
+    ///
+    /// Its tokens are the text's words; one that a `*` directly follows stands for every word that
+    /// begins with it. The first token is a term whatever it is. Of the later ones `and`, `or` and
+    /// `not` (in any case) that no `*` follows are operators: of several in a row the last decides,
+    /// without one the terms are joined by `and`, and operators after the last term count for nothing.
+    ///
+    /// Refused: `NoWords` (40) where the text has no word; `NoMemory` (90).
+    pub fn read(alloc: Global, text: &[u8]) -> Result<Query, QueryFault>
+        requires { length text.now ≤ 1024 }
+        ensures { ReadsQuery (query_of text.now) result }
+    {
+        let Some((token, is_prefix, after)) = next_token(text) else {
+            return Err(QueryFault::NoWords);
+        };
+        let Ok(terms) = terms_from(alloc, token, is_prefix, after) else {
+            return Err(QueryFault::NoMemory);
+        };
+        Ok(Query { terms })
+    }
+
+    /// The terms, in their order; the first is joined by `And`. There are at most 1,024.
+    pub fn terms(&self) -> &[Term]
+        ensures terms { result.now ≡ self.now }
+        ensures query { IsQuery self.now }
+    {
+        &self.terms
+    }
+
+    /// Whether a page matches, from left to right: a term holds where the page has a word that it
+    /// means, and each after the first is joined to those before it. Takes no memory.
+    #[tactic(auto, using(crate::proofs::Terms::matches_more))]
+    pub fn matches(&self, page: &Page) -> bool
+        ensures value { result ≡ matches self.now page.now.counts }
+        ensures wanted { IsTrue result → HasWanted self.now page.now.counts }
+    {
+        let mut truth = true;
+        for term in &self.terms {
+            truth = joined(term.operator(), truth, term.count_in(page) > 0);
+        }
+        truth
+    }
+
+    /// How often the page has the words of the terms that `not` doesn't introduce; a word in two terms
+    /// counts twice. Takes no memory.
+    pub fn score(&self, page: &Page) -> u64
+        ensures { result ≡ score self.now page.now.counts }
+    {
+        let mut total = 0;
+        for term in &self.terms {
+            if !is_wanted(term) {
+                continue;
+            }
+            total += u64::from(term.count_in(page));
+        }
+        total
+    }
+
+    /// How many terms `not` doesn't introduce. Takes no memory.
+    pub fn wants(&self) -> usize
+        ensures { result ≡ length (wanted self.now) }
+    {
+        self.terms.iter().filter(|term| is_wanted(term)).count()
+    }
+
+    fn wanted_term(&self, index: usize) -> &Term
+        requires { index < length (wanted self.now) }
+        ensures { slice_get (wanted self.now) index ≡ Some result.now }
+    {
+        let mut left = index;
+        for term in &self.terms {
+            if !is_wanted(term) {
+                continue;
+            }
+            if left == 0 {
+                return term;
+            }
+            left -= 1;
+        }
+        unreachable!()
+    }
+
+    /// The word of a term that `not` doesn't introduce, by an index below `wants`. Takes no memory.
+    pub fn want(&self, index: usize) -> &[u8]
+        requires { index < length (wanted self.now) }
+        ensures { option_map (λ term. term.word) (slice_get (wanted self.now) index) ≡ Some result.now }
+    {
+        self.wanted_term(index).word()
+    }
+
+    /// Whether that word stands for every word that begins with it. Takes no memory.
+    pub fn want_is_prefix(&self, index: usize) -> bool
+        requires { index < length (wanted self.now) }
+        ensures { option_map (λ term. term.is_prefix) (slice_get (wanted self.now) index) ≡ Some result }
+    {
+        self.wanted_term(index).is_prefix()
+    }
+}

@@ -1,0 +1,76 @@
+//! The title of a page.
+
+ghost use Rattle.std.specs.Prelude.{◌≡◌, map, take, IfOk};
+ghost use Rattle.std.specs.List.{find};
+ghost use Rattle.std.specs.Option.{option_map};
+ghost use Rattle.gopher_page.specs.Page.{plain_byte, title_text, has_word, place_title, title_of};
+
+use crate::word::next_token;
+use gopher_item::{ByteString, NoMemory, Place, trim_spaces};
+use std::alloc::{AllocError, Global};
+
+// A title has at most so many bytes.
+const LIMIT: usize = 69;
+
+fn plain_byte(byte: u8) -> u8
+    ensures { result ≡ plain_byte byte }
+{
+    if byte < 32 || byte == 127 { b' ' } else { byte }
+}
+
+fn plain(alloc: Global, bytes: &[u8]) -> Result<Vec<u8>, AllocError>
+    ensures { IfOk result (λ text. text.items ≡ map plain_byte bytes.now) }
+{
+    bytes.iter().map(|byte| plain_byte(*byte)).collect(alloc)
+}
+
+fn first_bytes(bytes: &[u8]) -> &[u8]
+    ensures { result.now ≡ take 69 bytes.now }
+{
+    &bytes[..bytes.len().min(LIMIT)]
+}
+
+fn title_text(alloc: Global, bytes: &[u8]) -> Result<ByteString, NoMemory>
+    ensures { IfOk result (λ title. title ≡ title_text bytes.now) }
+{
+    let text = plain(alloc, bytes)?;
+    ByteString::from_slice(alloc, first_bytes(trim_spaces(&text)))
+}
+
+fn has_word(line: &[u8]) -> bool
+    ensures { result ≡ has_word line.now }
+{
+    next_token(line).is_some()
+}
+
+fn first_with_word<'a>(lines: &[&'a [u8]]) -> Option<&'a [u8]>
+    ensures { option_map (λ line. line.now) result ≡ find has_word (map (λ line. line.now) lines.now) }
+{
+    for line in lines {
+        if has_word(line) {
+            return Some(line);
+        }
+    }
+    None
+}
+
+fn place_title(alloc: Global, place: &Place) -> Result<ByteString, NoMemory>
+    ensures { IfOk result (λ title. title ≡ place_title place.now) }
+{
+    let title = title_text(alloc, place.selector())?;
+    if title.as_slice().is_empty() {
+        ByteString::from_slice(alloc, first_bytes(place.host()))
+    } else {
+        Ok(title)
+    }
+}
+
+/// The title of the page of a place, which has these lines. Refused only where memory is (90).
+pub fn title_of(alloc: Global, place: &Place, lines: &[&[u8]]) -> Result<ByteString, NoMemory>
+    ensures { IfOk result (λ title. title ≡ title_of place.now (map (λ line. line.now) lines.now)) }
+{
+    match first_with_word(lines) {
+        Some(line) => title_text(alloc, line),
+        None => place_title(alloc, place),
+    }
+}

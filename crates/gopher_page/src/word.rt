@@ -1,0 +1,71 @@
+//! Words: the runs of letters, digits and bytes past ASCII.
+
+ghost use Rattle.std.specs.Prelude.{◌≡◌, ◌==◌, ◌+◌, ◌<◌, ◌≤◌, false, [], ◌∷◌, length, map, position, IfOk, IfSome, MatchOption};
+ghost use Rattle.gopher_item.specs.Place.{lower_case};
+ghost use Rattle.gopher_page.specs.Words.{is_gap, is_word_byte, is_word, words_of, runs_of, tokens_of};
+
+use gopher_item::{ByteString, NoMemory};
+use std::alloc::Global;
+
+fn is_word_byte(byte: u8) -> bool
+    ensures { result ≡ is_word_byte byte }
+{
+    matches!(byte, b'0'..=b'9' | b'A'..=b'Z' | b'a'..=b'z' | 128..)
+}
+
+fn is_word(run: &[u8]) -> bool
+    ensures { result ≡ is_word run.now }
+{
+    !run.is_empty() && run.len() <= 40
+}
+
+fn first_gap(bytes: &[u8]) -> Option<usize>
+    ensures { result ≡ position is_gap bytes.now }
+{
+    bytes.iter().position(|byte| !is_word_byte(*byte))
+}
+
+// What stands before the first gap, that gap and what stands after it, or `None` without a gap.
+fn split_at_gap(bytes: &[u8]) -> Option<(&[u8], u8, &[u8])>
+    ensures runs { MatchOption result (runs_of bytes.now ≡ (bytes.now, false) ∷ []) (λ cut. runs_of bytes.now ≡ (cut.0.now, cut.1 == 42) ∷ runs_of cut.2.now) }
+    ensures shorter { IfSome result (λ cut. length cut.0.now + length cut.2.now < length bytes.now) }
+{
+    let end = first_gap(bytes)?;
+    Some((&bytes[..end], bytes[end], &bytes[end + 1..]))
+}
+
+/// The first word of a query's text as it stands there, whether a `*` directly follows it, and the
+/// text after it; or `None` where there is no word. Takes no memory.
+pub fn next_token(text: &[u8]) -> Option<(&[u8], bool, &[u8])>
+    ensures tokens { MatchOption result (tokens_of text.now ≡ [])
+        (λ found. tokens_of text.now ≡ record { word = map lower_case found.0.now; is_prefix = found.1 } ∷ tokens_of found.2.now) }
+    ensures some { IfSome result (λ found. 0 < length found.0.now) }
+    ensures shorter { IfSome result (λ found. length found.0.now + length found.2.now ≤ length text.now) }
+{
+    let mut rest = text;
+    while let Some((run, gap, after)) = split_at_gap(rest) {
+        if is_word(run) {
+            return Some((run, gap == b'*', after));
+        }
+        rest = after;
+    }
+    if is_word(rest) {
+        Some((rest, false, &[]))
+    } else {
+        None
+    }
+}
+
+/// The words of the bytes, in order, their letters in lower case: the runs of ASCII letters, ASCII
+/// digits and bytes past ASCII, of at most 40 bytes each. Refused only where memory is (90).
+pub fn words(alloc: Global, bytes: &[u8]) -> Result<Vec<ByteString>, NoMemory>
+    ensures { IfOk result (λ found. found.items ≡ words_of bytes.now) }
+{
+    let mut found = Vec::new(alloc);
+    let mut rest = bytes;
+    while let Some((word, _, after)) = next_token(rest) {
+        found.push(ByteString::lower_cased(alloc, word)?)?;
+        rest = after;
+    }
+    Ok(found)
+}

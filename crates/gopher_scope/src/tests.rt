@@ -1,2 +1,0 @@
-mod scope;
-mod settings;

@@ -1,0 +1,84 @@
+-- A file without a fault, and the tree that it is added to.
+use Rattle.std.proofs.Common.{◌≡◌, ℕ, ◌+◌, ◌<◌, ◌≤◌, Bool, true, false, cond, ◌||◌, ltb, List, [], ◌∷◌, ◌++◌, length, fold, sum_by, Option, None, Some, is_some, refl, sym, ap, ◌∙◌, arith}
+use Rattle.std.specs.BTreeMap.{BTreeMap}
+use Rattle.std.specs.declared.vec.Vec.{Vec}
+use Rattle.std.proofs.lemmas.Bool.{or_parts, ltb-false}
+use Rattle.std.proofs.lemmas.List.Sums.{sum_by-append}
+use Rattle.gopher_tree.specs.Path.{names_of, first_name, is_search_name, has_bad_name}
+use Rattle.gopher_tree.specs.Kind.{kind_of}
+use Rattle.gopher_tree.specs.Files.{File, nodes, paths_of, add_path, is_among, total_bytes}
+use Rattle.gopher_tree.specs.Index.{held_at, entry_after}
+use Rattle.gopher_tree.specs.Tree.{IsTree}
+use Rattle.gopher_tree.specs.Fault.{path_fault, is_too_big, is_twice, menu_fault, or_fault, file_fault}
+use Rattle.gopher_tree.specs.declared.fault.TreeFault.{TreeFault}
+use Rattle.gopher_tree.specs.declared.index.Entry.{Entry}
+use Rattle.gopher_tree.proofs.EntryLemmas.{entry_of-push, is_file-push}
+use Rattle.gopher_tree.proofs.NodeLemmas.{entry_after-some, nodes-push}
+
+pub or_fault-none : (a b : Option TreeFault) → or_fault a b ≡ None → (a ≡ None) × (b ≡ None)
+or_fault-none None b h = (refl, h)
+or_fault-none (Some fault) b h = absurd cc
+
+cond-none : (t : Bool) (fault : TreeFault) (rest : Option TreeFault) → cond t (Some fault) rest ≡ None → (t ≡ false) × (rest ≡ None)
+cond-none true fault rest h = absurd cc
+cond-none false fault rest h = (refl, h)
+
+nonempty : (path : List ℕ) → has_bad_name (names_of path) ≡ false → 0 < length path
+nonempty [] h = absurd cc
+nonempty (b ∷ path) h = omega arith
+
+-- a path without a fault of its own
+pub path_fault-none : (number : ℕ) (path : List ℕ) → path_fault number path ≡ None → (0 < length path) × (length path ≤ 254)
+path_fault-none number path h =
+    let names = cond-none (has_bad_name (names_of path)) _ _ h in
+    let search = cond-none (is_search_name (first_name (names_of path))) _ _ names.1 in
+    let long = cond-none (ltb 254 (length path)) _ _ search.1 in
+    (nonempty path names.0, ltb-false 254 (length path) long.0)
+
+-- a file without a fault
+pub record IsGood (files : List File) (file : File) : Type 0 where
+  pub some : 0 < length file.0
+  pub short : length file.0 ≤ 254
+  pub large : is_too_big files file ≡ false
+  pub once : is_twice files file.0 ≡ false
+
+pub good_of : (files : List File) (file : File) → file_fault files file ≡ None → IsGood files file
+good_of files file h =
+    let path = or_fault-none (path_fault (length files) file.0) _ h in
+    let big = cond-none (is_too_big files file) _ _ path.1 in
+    let menu = or_fault-none (menu_fault (length files) file) _ big.1 in
+    let twice = cond-none (is_twice files file.0) _ _ menu.1 in
+    let lengths = path_fault-none (length files) file.0 path.0 in
+    record { some = lengths.0; short = lengths.1; large = big.0; once = twice.0 }
+
+pub total_bytes-push : (files : List File) (file : File) → total_bytes (files ++ file ∷ []) ≡ total_bytes files + length file.1
+total_bytes-push files file = let one : sum_by (λ g. length g.1) (file ∷ []) ≡ length file.1 = omega arith in sum_by-append (λ g. length g.1) files (file ∷ []) ∙ ap (λ n. total_bytes files + n) one
+
+-- the limits that a file without a fault keeps
+pub few_bytes : (files : List File) (file : File) → is_too_big files file ≡ false → total_bytes (files ++ file ∷ []) ≤ 67108864
+few_bytes files file h = ltb-false 67108864 _ (or_parts (ltb 16777216 (length file.1)) _ (or_parts (ltb 16777216 (length file.1) || ltb 67108864 (total_bytes (files ++ file ∷ []))) _ h).0).1
+
+pub few_nodes : (files : List File) (file : File) → is_too_big files file ≡ false → length (nodes (files ++ file ∷ [])) ≤ 4096
+few_nodes files file h = ltb-false 4096 _ (or_parts (ltb 16777216 (length file.1) || ltb 67108864 (total_bytes (files ++ file ∷ []))) _ h).1
+
+-- the tree of one file more
+pub IsTree-push : {A : Type 0} (files : List File) (file : File) (old new : BTreeMap (Vec ℕ A) Entry) (bytes count added : ℕ)
+    → file_fault files file ≡ None → IsTree files old bytes count
+    → ((q : List ℕ) → held_at new q ≡ entry_after (held_at old q) (length files) (kind_of file.0 file.1) file.0 q)
+    → length (fold add_path (nodes files) (paths_of file.0)) ≡ length (nodes files) + added
+    → IsTree (files ++ file ∷ []) new (bytes + length file.1) (count + added)
+IsTree-push files file old new bytes count added none tree held more =
+    let good = good_of files file none in
+    let bytes_is : bytes + length file.1 ≡ total_bytes (files ++ file ∷ []) = ap (λ n. n + length file.1) tree.bytes_is ∙ sym (total_bytes-push files file) in
+    let count_is : count + added ≡ length (nodes (files ++ file ∷ [])) = ap (λ n. n + added) tree.count_is ∙ sym more ∙ ap length (sym (nodes-push files file)) in
+    record {
+      index = record {
+        entries = λ q. held q ∙ ap (λ e. entry_after e (length files) (kind_of file.0 file.1) file.0 q) (tree.index.entries q) ∙ entry_of-push files file good.once tree.index.root q;
+        paths = λ q. ap is_some (held q) ∙ entry_after-some (held_at old q) (length files) (kind_of file.0 file.1) file.0 q (nodes files) good.some (tree.index.paths q) ∙ ap (λ l. is_among l q) (sym (nodes-push files file));
+        root = is_file-push files file tree.index.root good.some;
+      };
+      bytes_is = bytes_is;
+      count_is = count_is;
+      few_bytes = let few : total_bytes (files ++ file ∷ []) ≤ 67108864 = few_bytes files file good.large in omega arith;
+      few_nodes = let few : length (nodes (files ++ file ∷ [])) ≤ 4096 = few_nodes files file good.large in omega arith;
+    }

@@ -1,0 +1,149 @@
+-- The folders that a path leads through, one slash at a time.
+use Rattle.std.proofs.Common.{◌≡◌, ℕ, zero, suc, ◌+◌, ◌<◌, ◌≤◌, Bool, true, false, cond, ◌&&◌, ◌||◌, eqb, List, [], ◌∷◌, length, get_or, take, drop, Option, None, Some, is_some, refl, sym, ap, subst, ◌∙◌, add-one, arith, eq-eqb}
+use Rattle.std.proofs.Math.Bool.{or-true, or-false, and-true, and-false}
+use Rattle.std.proofs.Math.Dec.{eqb-suc-zero}
+use Rattle.std.specs.Cmp.Lexicographic.{pointwise, bytes_decides, nat_list_eq_equiv}
+use Rattle.std.proofs.lemmas.List.{take_all, length-take, length-take-le}
+use Rattle.gopher_tree.specs.Path.{names_of, rest_after, rest_below, is_below}
+use Rattle.gopher_tree.specs.Files.{Child, child_of, child_of_rest}
+use Rattle.gopher_tree.specs.Index.{folder_with, folders_after}
+use Rattle.gopher_tree.specs.declared.index.Entry.{Entry}
+
+-- an entry that was put where one was taken out
+pub put_taken : (t : Bool) (new mid old put wanted : Option Entry) → new ≡ cond t put mid → mid ≡ cond t None old → put ≡ wanted → new ≡ cond t wanted old
+put_taken true new mid old put wanted n m e = n ∙ e
+put_taken false new mid old put wanted n m e = n ∙ m
+
+-- a path that is no longer than the folder leads through no such folder
+pub rest_after-short : (q path : List ℕ) → length path ≤ length q → is_some (rest_after q path) ≡ false
+rest_after-short q [] short = refl
+rest_after-short [] (b ∷ path) short = absurd (omega arith)
+rest_after-short (c ∷ q) (b ∷ path) short = by (eqb c b) (rest_after-short q path (omega arith))
+  where
+    by : (t : Bool) → is_some (rest_after q path) ≡ false → is_some (cond t (rest_after q path) None) ≡ false
+    by true h = h
+    by false h = refl
+
+is_some_if : (t : Bool) (rest : List ℕ) → is_some (cond t (Some rest) None) ≡ t
+is_some_if true rest = refl
+is_some_if false rest = refl
+
+eqb-zero : (n : ℕ) → 0 < n → eqb n 0 ≡ false
+eqb-zero zero some = absurd (omega arith)
+eqb-zero (suc n) some = eqb-suc-zero n
+
+-- below the root, the folder's name is compared
+rest_below-long : (folder path : List ℕ) → 0 < length folder → rest_below folder path ≡ rest_after folder path
+rest_below-long [] path some = absurd (omega arith)
+rest_below-long (c ∷ folder) path some = refl
+
+-- one byte more of a path
+pub rest_after-take : (q path : List ℕ) (n : ℕ) → n < length path
+    → is_some (rest_after q (take (suc n) path)) ≡ (is_some (rest_after q (take n path)) || (pointwise eqb q (take n path) && eqb (get_or path n 0) 47))
+rest_after-take q [] n low = absurd (omega arith)
+rest_after-take [] (b ∷ path) zero low = is_some_if (eqb b 47) []
+rest_after-take [] (b ∷ path) (suc n) low = is_some_if (eqb b 47) (take (suc n) path) ∙ sym (or-false (eqb b 47)) ∙ ap (λ t. t || false) (sym (is_some_if (eqb b 47) (take n path)))
+rest_after-take (c ∷ q) (b ∷ path) zero low = by (eqb c b)
+  where
+    by : (t : Bool) → is_some (cond t (rest_after q []) None) ≡ false
+    by true = refl
+    by false = refl
+rest_after-take (c ∷ q) (b ∷ path) (suc n) low = by (eqb c b) (rest_after-take q path n (omega arith))
+  where
+    by : (t : Bool) → is_some (rest_after q (take (suc n) path)) ≡ (is_some (rest_after q (take n path)) || (pointwise eqb q (take n path) && eqb (get_or path n 0) 47))
+        → is_some (cond t (rest_after q (take (suc n) path)) None) ≡ (is_some (cond t (rest_after q (take n path)) None) || ((t && pointwise eqb q (take n path)) && eqb (get_or path n 0) 47))
+    by true h = h
+    by false h = refl
+
+-- the folder before a slash
+pub rest_after-at : (path : List ℕ) (n : ℕ) → n < length path → eqb (get_or path n 0) 47 ≡ true → rest_after (take n path) path ≡ Some (drop (suc n) path)
+rest_after-at [] n low slash = absurd (omega arith)
+rest_after-at (b ∷ path) zero low slash = ap (λ t. cond t (Some path) None) slash
+rest_after-at (b ∷ path) (suc n) low slash = ap (λ t. cond t (rest_after (take n path) path) None) (eq-eqb b b refl) ∙ rest_after-at path n (omega arith) slash
+
+pub length_take_one : (path : List ℕ) → length (take 1 path) ≤ 1
+length_take_one path = omega (arith, length-take 1 path)
+
+-- whether a path is the root, or the first `n` bytes of `path` lead through it
+abbrev pub is_in : ℕ → List ℕ → List ℕ → Bool
+is_in n path q = eqb (length q) 0 || is_some (rest_after q (take n path))
+
+pub is_in-cons : (n : ℕ) (path : List ℕ) (c : ℕ) (q : List ℕ) → is_in n path (c ∷ q) ≡ is_some (rest_after (c ∷ q) (take n path))
+is_in-cons n path c q = ap (λ t. t || is_some (rest_after (c ∷ q) (take n path))) (eqb-suc-zero (length q))
+
+pub is_in-slash : (q path : List ℕ) (n : ℕ) → n < length path → eqb (get_or path n 0) 47 ≡ true → is_in (suc n) path q ≡ (is_in n path q || pointwise eqb q (take n path))
+is_in-slash q path n low slash = by (eqb (length q) 0)
+  where
+    more : is_some (rest_after q (take (suc n) path)) ≡ (is_some (rest_after q (take n path)) || pointwise eqb q (take n path))
+    more = rest_after-take q path n low ∙ ap (λ t. is_some (rest_after q (take n path)) || (pointwise eqb q (take n path) && t)) slash ∙ ap (λ t. is_some (rest_after q (take n path)) || t) (and-true (pointwise eqb q (take n path)))
+
+    by : (t : Bool) → (t || is_some (rest_after q (take (suc n) path))) ≡ ((t || is_some (rest_after q (take n path))) || pointwise eqb q (take n path))
+    by true = refl
+    by false = more
+
+pub is_in-other : (q path : List ℕ) (n : ℕ) → n < length path → eqb (get_or path n 0) 47 ≡ false → is_in (suc n) path q ≡ is_in n path q
+is_in-other q path n low other =
+    ap (λ t. eqb (length q) 0 || t) (rest_after-take q path n low ∙ ap (λ t. is_some (rest_after q (take n path)) || (pointwise eqb q (take n path) && t)) other
+    ∙ ap (λ t. is_some (rest_after q (take n path)) || t) (and-false (pointwise eqb q (take n path))) ∙ or-false _)
+
+-- a folder is not among those that lead only so far
+pub is_in-self : (path : List ℕ) (n : ℕ) → 0 < n → n < length path → is_in n path (take n path) ≡ false
+is_in-self path n some low =
+    let long : length (take n path) ≡ n = length-take-le n path (omega arith) in
+    let nonempty : eqb (length (take n path)) 0 ≡ false = eqb-zero _ (omega arith) in
+    ap (λ t. t || is_some (rest_after (take n path) (take n path))) nonempty ∙ rest_after-short (take n path) (take n path) (omega arith)
+
+-- the whole path
+pub is_in-whole : (q path : List ℕ) → is_in (length path) path q ≡ is_below q path
+is_in-whole [] path = refl
+is_in-whole (c ∷ q) path = is_in-cons (length path) path c q ∙ ap (λ p. is_some (rest_after (c ∷ q) p)) (take_all (length path) path (omega arith))
+
+-- what stands at `q` once the folders within `n` bytes have what they have of the file
+abbrev pub folders_upto : Option Entry → ℕ → List ℕ → ℕ → List ℕ → Option Entry
+folders_upto held kind path n q = cond (is_in n path q) (folder_with held (child_of_rest kind (rest_below q path))) held
+
+pub folders_upto-whole : (held : Option Entry) (kind : ℕ) (path q : List ℕ) → folders_upto held kind path (length path) q ≡ folders_after held kind path q
+folders_upto-whole held kind path q = ap (λ t. cond t (folder_with held (child_of_rest kind (rest_below q path))) held) (is_in-whole q path)
+
+pub folders_upto-root : (h : List ℕ → Option Entry) (kind : ℕ) (path : List ℕ) (child : Option Child) → child ≡ child_of kind (names_of path)
+    → (q : List ℕ) → cond (pointwise eqb q []) (folder_with (h []) child) (h q) ≡ folders_upto (h q) kind path 1 q
+folders_upto-root h kind path child e [] = ap (folder_with (h [])) e
+folders_upto-root h kind path child e (c ∷ q) =
+    sym (ap (λ t. cond t (folder_with (h (c ∷ q)) (child_of_rest kind (rest_below (c ∷ q) path))) (h (c ∷ q))) (is_in-cons 1 path c q ∙ rest_after-short (c ∷ q) (take 1 path) (omega (arith, length_take_one path))))
+
+pub folders_upto-slash : (h g : List ℕ → Option Entry) (kind : ℕ) (path : List ℕ) (n : ℕ) (child : Option Child) → 0 < n → n < length path → eqb (get_or path n 0) 47 ≡ true
+    → child ≡ child_of kind (names_of (drop (suc n) path)) → ((q : List ℕ) → g q ≡ folders_upto (h q) kind path n q)
+    → (q : List ℕ) → cond (pointwise eqb q (take n path)) (folder_with (g (take n path)) child) (g q) ≡ folders_upto (h q) kind path (suc n) q
+folders_upto-slash h g kind path n child some low slash e before q = by (pointwise eqb q (take n path)) refl
+  where
+    inside : is_in (suc n) path (take n path) ≡ true
+    inside = is_in-slash (take n path) path n low slash ∙ ap (λ t. is_in n path (take n path) || t) (nat_list_eq_equiv.refl (take n path)) ∙ or-true (is_in n path (take n path))
+
+    was : g (take n path) ≡ h (take n path)
+    was = before (take n path) ∙ ap (λ t. cond t (folder_with (h (take n path)) (child_of_rest kind (rest_below (take n path) path))) (h (take n path))) (is_in-self path n some low)
+
+    below : rest_below (take n path) path ≡ Some (drop (suc n) path)
+    below = let long : length (take n path) ≡ n = length-take-le n path (omega arith) in rest_below-long (take n path) path (omega arith) ∙ rest_after-at path n low slash
+
+    at_folder : folder_with (g (take n path)) child ≡ folders_upto (h (take n path)) kind path (suc n) (take n path)
+    at_folder = ap (λ held. folder_with held child) was ∙ ap (folder_with (h (take n path))) (e ∙ ap (child_of_rest kind) (sym below))
+        ∙ sym (ap (λ t. cond t (folder_with (h (take n path)) (child_of_rest kind (rest_below (take n path) path))) (h (take n path))) inside)
+
+    by : (t : Bool) → pointwise eqb q (take n path) ≡ t → cond t (folder_with (g (take n path)) child) (g q) ≡ folders_upto (h q) kind path (suc n) q
+    by true y = subst (λ l. folder_with (g (take n path)) child ≡ folders_upto (h l) kind path (suc n) l) (sym ((bytes_decides q (take n path)).0 y)) at_folder
+    by false y = before q ∙ ap (λ t. cond t (folder_with (h q) (child_of_rest kind (rest_below q path))) (h q)) (sym (is_in-slash q path n low slash ∙ ap (λ t. is_in n path q || t) y ∙ or-false (is_in n path q)))
+
+pub folders_upto-other : (held : Option Entry) (kind : ℕ) (path : List ℕ) (n : ℕ) (q : List ℕ) → n < length path → eqb (get_or path n 0) 47 ≡ false → folders_upto held kind path n q ≡ folders_upto held kind path (suc n) q
+folders_upto-other held kind path n q low other = ap (λ t. cond t (folder_with held (child_of_rest kind (rest_below q path))) held) (sym (is_in-other q path n low other))
+
+-- the folder before the next place, where a slash is there
+pub folders_upto-step : (h g : List ℕ → Option Entry) (kind : ℕ) (path : List ℕ) (n : ℕ) → 0 < n → n < length path
+    → ((q : List ℕ) → g q ≡ folders_upto (h q) kind path n q)
+    → (q : List ℕ) → cond (eqb (get_or path n 0) 47 && pointwise eqb q (take n path)) (folder_with (g (take n path)) (child_of kind (names_of (drop (n + 1) path)))) (g q) ≡ folders_upto (h q) kind path (n + 1) q
+folders_upto-step h g kind path n some low before q =
+    subst (λ m. cond (eqb (get_or path n 0) 47 && pointwise eqb q (take n path)) (folder_with (g (take n path)) (child_of kind (names_of (drop m path)))) (g q) ≡ folders_upto (h q) kind path m q) (sym (add-one n))
+    (by (eqb (get_or path n 0) 47) refl)
+  where
+    by : (t : Bool) → eqb (get_or path n 0) 47 ≡ t → cond (t && pointwise eqb q (take n path)) (folder_with (g (take n path)) (child_of kind (names_of (drop (suc n) path)))) (g q) ≡ folders_upto (h q) kind path (suc n) q
+    by true slash = folders_upto-slash h g kind path n (child_of kind (names_of (drop (suc n) path))) some low slash refl before q
+    by false other = before q ∙ folders_upto-other (h q) kind path n q low other

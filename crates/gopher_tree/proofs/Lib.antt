@@ -1,0 +1,13 @@
+pub mod PathLemmas
+pub mod MenuFileLemmas
+pub mod Bytes
+pub mod IndexLemmas
+pub mod FolderLemmas
+pub mod EntryLemmas
+pub mod NodeLemmas
+pub mod ThroughLemmas
+pub mod FaultLemmas
+pub mod EmptyTree
+pub mod ReplyLemmas
+pub mod LoadLemmas
+pub mod KeptLemmas

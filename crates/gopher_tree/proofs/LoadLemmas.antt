@@ -1,0 +1,104 @@
+-- What a walk through a folder lists, step by step, and why it stops.
+use Rattle.std.proofs.Common.{◌≡◌, ℕ, Bool, true, false, cond, ltb, List, [], ◌∷◌, ◌++◌, length, take, Option, None, Some, Result, Ok, Err, IfSome, IfOk, IfErr, refl, sym, ap, ◌∙◌, subst, inl, inr}
+use Rattle.std.proofs.lemmas.List.{append_assoc, append-nil}
+use Rattle.std.specs.Option.{option_map}
+use Rattle.std.specs.declared.io.traits.Take.{Take}
+use Rattle.std.specs.Io.Take.{take_limit, take_inner, take_remaining}
+use Rattle.gopher_tree.specs.Files.{File}
+use Rattle.gopher_tree.specs.Fault.{path_fault, or_fault, file_fault, fault_after, files_fault}
+use Rattle.gopher_tree.specs.Load.{folder_fault, StopsAfter, Lists, Walks, Loads, IsUnreadable, RefusesFile}
+use Rattle.gopher_tree.specs.declared.fault.TreeFault.{TreeFault}
+use Rattle.gopher_tree.specs.declared.fault.TreeFault.TheVariants.{LongSelector, TooBig, NoMemory}
+use Rattle.gopher_tree.proofs.FaultLemmas.{or_fault-none}
+
+or_fault-both : (a b : Option TreeFault) → a ≡ None → b ≡ None → or_fault a b ≡ None
+or_fault-both a b h k = ap (λ t. or_fault t b) h ∙ k
+
+or_fault-some : (a b : Option TreeFault) (fault : TreeFault) → a ≡ Some fault → or_fault a b ≡ Some fault
+or_fault-some a b fault h = ap (λ t. or_fault t b) h
+
+-- no fault among these, and none among more behind them
+pub fault_after-append : (done files more : List File) → fault_after done files ≡ None → fault_after (done ++ files) more ≡ None → fault_after done (files ++ more) ≡ None
+fault_after-append done [] more first later = ap (λ l. fault_after l more) (sym (append-nil done)) ∙ later
+fault_after-append done (file ∷ files) more first later =
+    let both = or_fault-none (file_fault done file) (fault_after (done ++ file ∷ []) files) first in
+    or_fault-both (file_fault done file) (fault_after (done ++ file ∷ []) (files ++ more)) both.0
+    (fault_after-append (done ++ file ∷ []) files more both.1 (ap (λ l. fault_after l more) (append_assoc done (file ∷ []) files) ∙ later))
+
+pub lists_none : (files : List File) → Lists files files
+lists_none files = ([], sym (append-nil files), refl)
+
+pub lists_one : (files : List File) (file : File) (after : List File) → file_fault files file ≡ None → after ≡ files ++ file ∷ [] → Lists files after
+lists_one files file after none is = (file ∷ [], is, or_fault-both (file_fault files file) None none refl)
+
+pub lists_more : (first between last : List File) → Lists first between → Lists between last → Lists first last
+lists_more first between last (added, is, none) (more, is_more, none_more) = (
+  added ++ more,
+  is_more ∙ ap (λ l. l ++ more) is ∙ append_assoc first added more,
+  fault_after-append first added more none (ap (λ l. fault_after l more) (sym is) ∙ none_more),
+)
+
+-- a walk that goes on behind what was listed
+pub walks_on : {T : Type 0} (listed : T → List File) (first between : List File) (result : Result T TreeFault) → Lists first between → Walks listed between result → Walks listed first result
+walks_on listed first between (Ok walk) lists walks = lists_more first between (listed walk) lists walks
+walks_on listed first between (Err fault) lists (files, more, stops) = (files, lists_more first between files lists more, stops)
+
+-- a walk that stops where it is
+pub walks_none : {T : Type 0} (listed : T → List File) (first : List File) (result : Result T TreeFault) (fault : TreeFault) → result ≡ Err fault → StopsAfter first fault → Walks listed first result
+walks_none listed first result fault is stops = subst (Walks listed first) (sym is) (first, lists_none first, stops)
+
+pub stops_unreadable : (files : List File) (number : ℕ) (fault : TreeFault) → number ≡ length files → IsUnreadable number fault → StopsAfter files fault
+stops_unreadable files number fault same unreadable = inr (inr (inr (subst (λ n. IsUnreadable n fault) same unreadable)))
+
+pub stops_memory : (files : List File) (fault : TreeFault) → fault ≡ NoMemory → StopsAfter files fault
+stops_memory files fault is = inr (inr (inr (inr is)))
+
+-- a file whose path has a fault by itself
+pub path_refused : (files : List File) (nodes : ℕ) (path bytes : List ℕ) (number : ℕ) (fault : TreeFault) → number ≡ length files → path_fault number path ≡ Some fault → RefusesFile files nodes (path, bytes) fault
+path_refused files nodes path bytes number fault same is =
+    inl (or_fault-some (path_fault (length files) path) _ fault (ap (λ n. path_fault n path) (sym same) ∙ is))
+
+pub stops_file : (files : List File) (nodes : ℕ) (file : File) (fault : TreeFault) → RefusesFile files nodes file fault → StopsAfter files fault
+stops_file files nodes file fault (inl is) = inl (file, is)
+stops_file files nodes file fault (inr (inl many)) = inr (inr (inl many.1))
+stops_file files nodes file fault (inr (inr memory)) = stops_memory files fault memory
+
+-- a walk that comes to a file
+pub walks_file : {T : Type 0} (listed : T → List File) (first : List File) (nodes : ℕ) (file : File) (result : Result T TreeFault)
+    → IfOk result (λ walk. (file_fault first file ≡ None) × (listed walk ≡ first ++ file ∷ []))
+    → IfErr result (RefusesFile first nodes file) → Walks listed first result
+walks_file listed first nodes file (Ok walk) lists refused = lists_one first file (listed walk) lists.0 lists.1
+walks_file listed first nodes file (Err fault) lists refused = (first, lists_none first, stops_file first nodes file fault refused)
+
+-- a folder that has a fault
+pub stops_folder : (files : List File) (nodes : ℕ) (path : List ℕ) (fault : TreeFault) → folder_fault (length files) nodes path ≡ Some fault → StopsAfter files fault
+stops_folder files nodes path fault is = by (ltb 254 (length path)) (ltb 4095 nodes) is
+  where
+    by : (t s : Bool) → cond t (Some (LongSelector (length files))) (cond s (Some (TooBig (length files))) None) ≡ Some fault → StopsAfter files fault
+    by true s h = let e : fault ≡ LongSelector (length files) = cc in inr (inl e)
+    by false true h = let e : fault ≡ TooBig (length files) = cc in inr (inr (inl e))
+    by false false h = absurd cc
+
+-- all that a tree lists has no fault
+pub faultless : (files : List File) → Lists [] files → files_fault files ≡ None
+faultless files (added, is, none) = ap files_fault is ∙ none
+
+-- a folder is refused before anything is listed
+pub loads_memory : (result : Result (List File) TreeFault) (fault : TreeFault) → result ≡ Err fault → fault ≡ NoMemory → Loads result
+loads_memory result fault is memory = subst Loads (sym is) ([], refl, stops_memory [] fault memory)
+
+-- a folder is refused where its walk stops
+pub loads_refused : {T : Type 0} (listed : T → List File) (first : List File) (result : Result (List File) TreeFault) (fault : TreeFault) → result ≡ Err fault → first ≡ [] → Walks listed first (Err fault) → Loads result
+loads_refused listed first result fault is none (files, lists, stops) =
+    subst Loads (sym is) (files, faultless files (subst (λ l. Lists l files) none lists), stops)
+
+-- the known bytes that a reader with a limit gives
+pub taken : {R : Type 0} (remaining : R → Option (List ℕ)) (reader : R) (limited : Take R) (bytes : List ℕ) → take_limit limited ≡ 16777217 → take_inner limited ≡ reader
+    → IfSome (take_remaining remaining limited) (λ all. bytes ≡ all) → IfSome (remaining reader) (λ all. bytes ≡ take 16777217 all)
+taken remaining reader limited bytes limit inner is =
+    subst (λ r. IfSome (remaining r) (λ all. bytes ≡ take 16777217 all)) inner
+    (subst (λ n. IfSome (remaining (take_inner limited)) (λ all. bytes ≡ take n all)) limit (within (remaining (take_inner limited)) is))
+  where
+    within : (known : Option (List ℕ)) → IfSome (option_map (take (take_limit limited)) known) (λ all. bytes ≡ all) → IfSome known (λ all. bytes ≡ take (take_limit limited) all)
+    within None h = h
+    within (Some all) h = h

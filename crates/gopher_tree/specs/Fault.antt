@@ -1,0 +1,66 @@
+-- Which lists of files are refused, and why.
+use Rattle.std.specs.Prelude.{◌≡◌, ℕ, Bool, ◌||◌, nat_lt, List, [], ◌∷◌, ◌++◌, length, Option, None, Some, is_some, Result, Ok, Err, ◌⊎◌, if◌then◌else◌}
+use Rattle.std.specs.List.{list_any}
+use Rattle.gopher_tree.specs.Path.{names_of, first_name, is_search_name, has_bad_name, is_menu_path, rest_after}
+use Rattle.gopher_tree.specs.MenuFile.{bad_line}
+use Rattle.gopher_tree.specs.Files.{File, is_file, is_folder, nodes, total_bytes}
+use Rattle.gopher_tree.specs.declared.fault.TreeFault.{TreeFault}
+use Rattle.gopher_tree.specs.declared.fault.TreeFault.TheVariants.{BadName, Reserved, LongSelector, TooBig, BadMenuLine, Twice, Unreadable, NoMemory}
+
+abbrev pub tree_fault_code : TreeFault → ℕ
+tree_fault_code (BadName file) = 20
+tree_fault_code (Reserved file) = 21
+tree_fault_code (LongSelector file) = 22
+tree_fault_code (TooBig file) = 23
+tree_fault_code (BadMenuLine file line) = 24
+tree_fault_code (Twice file) = 25
+tree_fault_code (Unreadable file) = 26
+tree_fault_code NoMemory = 90
+
+-- the first fault of a path by itself; `number` is its place in the list
+abbrev pub path_fault : ℕ → List ℕ → Option TreeFault
+path_fault number path =
+    if has_bad_name (names_of path) then Some (BadName number) else
+    (if is_search_name (first_name (names_of path)) then Some (Reserved number) else
+    (if nat_lt 254 (length path) then Some (LongSelector number) else None))
+
+-- a file, all files or the nodes are too many
+abbrev pub is_too_big : List File → File → Bool
+is_too_big files file = nat_lt 16777216 (length file.1) || nat_lt 67108864 (total_bytes (files ++ file ∷ [])) || nat_lt 4096 (length (nodes (files ++ file ∷ [])))
+
+-- the path is a file or a folder already, or leads through a file
+abbrev pub is_twice : List File → List ℕ → Bool
+is_twice files path = is_file files path || is_folder files path || list_any (λ file. is_some (rest_after file.0 path)) files
+
+abbrev pub line_fault : ℕ → Option ℕ → Option TreeFault
+line_fault number None = None
+line_fault number (Some line) = Some (BadMenuLine number line)
+
+abbrev pub menu_fault : ℕ → File → Option TreeFault
+menu_fault number file = if is_menu_path file.0 then line_fault number (bad_line file.1) else None
+
+abbrev pub twice_fault : List File → List ℕ → Option TreeFault
+twice_fault files path = if is_twice files path then Some (Twice (length files)) else None
+
+abbrev pub or_fault : Option TreeFault → Option TreeFault → Option TreeFault
+or_fault None later = later
+or_fault (Some fault) later = Some fault
+
+-- the first fault of a file that follows these
+abbrev pub file_fault : List File → File → Option TreeFault
+file_fault files file =
+    or_fault (path_fault (length files) file.0)
+    (if is_too_big files file then Some (TooBig (length files)) else or_fault (menu_fault (length files) file) (twice_fault files file.0))
+
+-- the fault of the first file that has one, where these came before
+abbrev pub fault_after : List File → List File → Option TreeFault
+fault_after done [] = None
+fault_after done (file ∷ files) = or_fault (file_fault done file) (fault_after (done ++ file ∷ []) files)
+
+abbrev pub files_fault : List File → Option TreeFault
+files_fault files = fault_after [] files
+
+-- a tree is made of the files, or the fault is the one they have, unless memory was refused
+abbrev pub MakesTree : {T : Type 0} → Option TreeFault → T → Result T TreeFault → Type 0
+MakesTree found files (Ok tree) = (found ≡ None) × (tree ≡ files)
+MakesTree found files (Err fault) = (found ≡ Some fault) ⊎ (fault ≡ NoMemory)

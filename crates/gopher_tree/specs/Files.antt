@@ -1,0 +1,68 @@
+-- A list of files, each a path and its bytes, as a tree of folders.
+use Rattle.std.specs.Prelude.{ℕ, Bool, ◌||◌, nat_eq, ◌==◌, List, [], ◌∷◌, ◌++◌, length, fold, find, Option, None, Some, sum_by, if◌then◌else◌}
+use Rattle.std.specs.List.{list_any, filter_map, flat_map}
+use Rattle.std.specs.Ordering.{nat_cmp}
+use Rattle.std.specs.Cmp.Lexicographic.{pointwise, slice_cmp}
+use Rattle.std.specs.BTreeMap.{insert_entry}
+use Rattle.gopher_tree.specs.Path.{names_of, is_menu_name, rest_below, is_below, folders_of}
+use Rattle.gopher_tree.specs.Kind.{kind_of}
+
+-- a path and the file's bytes
+abbrev pub File : Type 0
+File = List ℕ × List ℕ
+
+abbrev pub has_path : List ℕ → File → Bool
+has_path path file = pointwise nat_eq path file.0
+
+abbrev pub is_file : List File → List ℕ → Bool
+is_file files path = list_any (has_path path) files
+
+-- the file of a path, where there is one
+abbrev pub file_at : List File → List ℕ → Option File
+file_at files path = find (has_path path) files
+
+-- the root, and what some file's path leads through
+abbrev pub is_folder : List File → List ℕ → Bool
+is_folder files path = (length path == 0) || list_any (λ file. is_below path file.0) files
+
+-- a name in a folder, and its type
+abbrev pub Child : Type 0
+Child = List ℕ × ℕ
+
+-- what a folder has of a file, of which these names are below the folder: a folder (type `1`, 49) or the file itself; a menu file is left out
+abbrev pub child_of : ℕ → List (List ℕ) → Option Child
+child_of kind [] = None
+child_of kind (name ∷ []) = if is_menu_name name then None else Some (name, kind)
+child_of kind (name ∷ more) = Some (name, 49)
+
+abbrev pub child_of_rest : ℕ → Option (List ℕ) → Option Child
+child_of_rest kind None = None
+child_of_rest kind (Some rest) = child_of kind (names_of rest)
+
+abbrev pub child_below : List ℕ → File → Option Child
+child_below folder file = child_of_rest (kind_of file.0 file.1) (rest_below folder file.0)
+
+-- each name once, by the names' bytes
+abbrev pub add_child : List Child → Child → List Child
+add_child children child = insert_entry (slice_cmp nat_cmp) children child.0 child.1
+
+abbrev pub children : List File → List ℕ → List Child
+children files folder = fold add_child [] (filter_map (child_below folder) files)
+
+-- each path once, in the order of first mention
+abbrev pub is_among : List (List ℕ) → List ℕ → Bool
+is_among paths path = list_any (pointwise nat_eq path) paths
+
+abbrev pub add_path : List (List ℕ) → List ℕ → List (List ℕ)
+add_path paths path = if is_among paths path then paths else paths ++ path ∷ []
+
+-- the root, the folders that a path leads through, and the path
+abbrev pub paths_of : List ℕ → List (List ℕ)
+paths_of path = [] ∷ folders_of path ++ path ∷ []
+
+-- the distinct paths of the root, the folders and the files
+abbrev pub nodes : List File → List (List ℕ)
+nodes files = fold add_path ([] ∷ []) (flat_map (λ file. paths_of file.0) files)
+
+abbrev pub total_bytes : List File → ℕ
+total_bytes files = sum_by (λ file. length file.1) files

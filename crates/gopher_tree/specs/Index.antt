@@ -1,0 +1,56 @@
+-- The index of a list of files: what stands at each path.
+use Rattle.std.specs.Prelude.{◌≡◌, ℕ, ◌+◌, nat_eq, Bool, true, false, List, [], ◌∷◌, Option, None, Some, is_some, if◌then◌else◌}
+use Rattle.std.specs.Ordering.{nat_cmp}
+use Rattle.std.specs.Cmp.Lexicographic.{pointwise, slice_cmp}
+use Rattle.std.specs.BTreeMap.{BTreeMap, get_by}
+use Rattle.std.specs.declared.vec.Vec.{Vec}
+use Rattle.gopher_tree.specs.Path.{rest_below, is_below}
+use Rattle.gopher_tree.specs.Files.{File, Child, has_path, is_file, is_folder, child_of_rest, add_child, children, nodes, is_among}
+use Rattle.gopher_tree.specs.declared.index.Entry.{Entry}
+use Rattle.gopher_tree.specs.declared.index.Entry.TheVariants as entry
+
+-- what an index has at a path
+abbrev pub held_at : {A : Type 0} → BTreeMap (Vec ℕ A) Entry → List ℕ → Option Entry
+held_at index path = get_by (λ key. slice_cmp nat_cmp path key.items) index
+
+-- the place of the first file that has the path, counted on from `number`
+abbrev pub number_from : ℕ → List File → List ℕ → Option ℕ
+number_from number [] path = None
+number_from number (file ∷ files) path = if has_path path file then Some number else number_from (number + 1) files path
+
+abbrev pub entry_by : List File → List ℕ → Option ℕ → Option Entry
+entry_by files path (Some number) = Some (entry.File number)
+entry_by files path None = if is_folder files path then Some (entry.Folder (children files path)) else None
+
+-- the number of the file that has the path, and else the folder that it is
+abbrev pub entry_of : List File → List ℕ → Option Entry
+entry_of files path = entry_by files path (number_from 0 files path)
+
+abbrev pub is_file_entry : Option Entry → Bool
+is_file_entry (Some (entry.File number)) = true
+is_file_entry _ = false
+
+abbrev pub children_at : Option Entry → List Child
+children_at (Some (entry.Folder children)) = children
+children_at _ = []
+
+abbrev pub with_child : List Child → Option Child → List Child
+with_child children None = children
+with_child children (Some child) = add_child children child
+
+-- the folder at an entry, with one child more, where there is one
+abbrev pub folder_with : Option Entry → Option Child → Option Entry
+folder_with held child = Some (entry.Folder (with_child (children_at held) child))
+
+-- what stands at a path after a file of the path `added` came
+abbrev pub folders_after : Option Entry → ℕ → List ℕ → List ℕ → Option Entry
+folders_after held kind added path = if is_below path added then folder_with held (child_of_rest kind (rest_below path added)) else held
+
+abbrev pub entry_after : Option Entry → ℕ → ℕ → List ℕ → List ℕ → Option Entry
+entry_after held number kind added path = if pointwise nat_eq path added then Some (entry.File number) else folders_after held kind added path
+
+-- the index has what stands at each path, which is one of the nodes
+pub record IsIndex {A : Type 0} (files : List File) (index : BTreeMap (Vec ℕ A) Entry) : Type 0 where
+  pub entries : (path : List ℕ) → held_at index path ≡ entry_of files path
+  pub paths : (path : List ℕ) → is_some (held_at index path) ≡ is_among (nodes files) path
+  pub root : is_file files [] ≡ false

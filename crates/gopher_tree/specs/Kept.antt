@@ -1,0 +1,37 @@
+-- Replies that are made once, and how many bytes of them are kept.
+use Rattle.std.specs.Prelude.{◌≡◌, ℕ, ◌+◌, ◌*◌, ◌≤◌, List, sum_by, length}
+use Rattle.std.specs.List.{All}
+use Rattle.gopher_item.specs.Place.{HomeData}
+use Rattle.gopher_tree.specs.Files.{File, total_bytes}
+use Rattle.gopher_tree.specs.Reply.{tree_reply}
+use Rattle.gopher_tree.specs.declared.kept.KeptReply.{KeptReply}
+use Rattle.gopher_tree.specs.declared.kept.Kept.{Kept}
+use Rattle.gopher_tree.specs.declared.replies.Reply.{Reply}
+use Rattle.gopher_tree.specs.declared.replies.Reply.TheVariants as reply
+
+-- a reply is that of its selector
+abbrev pub IsReply : List File → HomeData → KeptReply → Type 0
+IsReply files home kept = kept.bytes ≡ tree_reply files home kept.selector
+
+abbrev pub kept_bytes : List KeptReply → ℕ
+kept_bytes replies = sum_by (λ kept. length kept.bytes) replies
+
+-- each reply is that of its selector; texts are at most twice the files' bytes and 6 for each node, menus at most 16 MiB
+pub record IsKept (files : List File) (home : HomeData) (kept : Kept) : Type 0 where
+  pub right : All (IsReply files home) kept.replies.items
+  pub whole : kept_bytes kept.replies.items ≡ kept.texts + kept.menus
+  pub most_is : kept.most_texts ≡ 2 * total_bytes files + 24576
+  pub few_bytes : total_bytes files ≤ 67108864
+  pub few_texts : kept.texts ≤ kept.most_texts
+  pub few_menus : kept.menus ≤ 16777216
+
+-- the replies of a tree: its files, the server's address, and how many bytes are kept beside the files'
+pub record RepliesData : Type 0 where
+  pub files : List File
+  pub home : HomeData
+  pub size : ℕ
+
+-- the bytes of a reply, kept or made
+abbrev pub reply_bytes : Reply → List ℕ
+reply_bytes (reply.Kept bytes) = bytes.now
+reply_bytes (reply.Made bytes) = bytes.items

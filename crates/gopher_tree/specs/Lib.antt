@@ -1,0 +1,13 @@
+pub mod Path
+pub mod Kind
+pub mod MenuFile
+pub mod WrittenLine
+pub mod Files
+pub mod Child
+pub mod Index
+pub mod Tree
+pub mod Fault
+pub mod Reply
+pub mod Found
+pub mod Load
+pub mod Kept

@@ -1,0 +1,64 @@
+-- A `.menu` file: the menu of its folder, written by hand.
+use Rattle.std.specs.Prelude.{ℕ, ◌+◌, Bool, ◌&&◌, ◌||◌, not, ◌==◌, List, [], ◌∷◌, map, Option, None, Some, is_some, if◌then◌else◌}
+use Rattle.std.specs.List.{filter_map}
+use Rattle.gopher_item.specs.Bytes.{is_control, has_special}
+use Rattle.gopher_item.specs.Lines.{lines_of}
+use Rattle.gopher_item.specs.Menu.{fields_of}
+use Rattle.gopher_item.specs.MenuLine.{MenuLineData, trim_spaces}
+use Rattle.gopher_item.specs.Number.{number_of}
+use Rattle.gopher_item.specs.Place.{HomeData, is_host, is_selector}
+
+-- a line as it is written; without a server it is of the server that has the file
+pub record WrittenLineData : Type 0 where
+  pub kind : ℕ
+  pub display : List ℕ
+  pub selector : List ℕ
+  pub server : Option HomeData
+
+-- whether a menu line that is made may have these parts
+abbrev pub is_item : ℕ → List ℕ → List ℕ → Bool
+is_item kind display selector = is_selector selector && not (has_special display) && not (is_control kind || (kind == 32) || (kind == 46))
+
+abbrev pub item_of : ℕ → List ℕ → List ℕ → Option HomeData → Option WrittenLineData
+item_of kind display selector server = if is_item kind display selector then Some (record { kind = kind; display = display; selector = selector; server = server }) else None
+
+-- the server that a host and a port name, without the spaces at their ends
+abbrev pub server_of_port : List ℕ → Option ℕ → Option HomeData
+server_of_port host None = None
+server_of_port host (Some port) = if is_host host then Some (record { host = host; port = port }) else None
+
+abbrev pub server_of : List ℕ → List ℕ → Option HomeData
+server_of host port = server_of_port (trim_spaces host) (number_of 65535 (trim_spaces port))
+
+abbrev pub item_at : ℕ → List ℕ → List ℕ → Option HomeData → Option WrittenLineData
+item_at kind display selector None = None
+item_at kind display selector (Some server) = item_of kind display selector (Some server)
+
+-- a text alone is an `i` line; of more fields, the first has the type and the display string
+abbrev pub line_of_fields : List (List ℕ) → Option WrittenLineData
+line_of_fields (text ∷ []) = item_of 105 text [] None
+line_of_fields ((kind ∷ display) ∷ selector ∷ []) = item_of kind display selector None
+line_of_fields ((kind ∷ display) ∷ selector ∷ host ∷ port ∷ []) = item_at kind display selector (server_of host port)
+line_of_fields _ = None
+
+abbrev pub written_line : List ℕ → Option WrittenLineData
+written_line line = line_of_fields (fields_of line)
+
+-- the number, counted on from `number`, of the first line that has none of these forms
+abbrev pub bad_line_from : ℕ → List (List ℕ) → Option ℕ
+bad_line_from number [] = None
+bad_line_from number (line ∷ lines) = if is_some (written_line line) then bad_line_from (number + 1) lines else Some number
+
+abbrev pub bad_line : List ℕ → Option ℕ
+bad_line bytes = bad_line_from 1 (lines_of bytes)
+
+-- the line that a server with the address `home` sends
+abbrev pub line_at : HomeData → WrittenLineData → MenuLineData
+line_at home line = at line.server
+  where
+    at : Option HomeData → MenuLineData
+    at None = record { kind = line.kind; display = line.display; selector = line.selector; host = home.host; port = home.port }
+    at (Some server) = record { kind = line.kind; display = line.display; selector = line.selector; host = server.host; port = server.port }
+
+abbrev pub written_menu : HomeData → List ℕ → List MenuLineData
+written_menu home bytes = map (line_at home) (filter_map written_line (lines_of bytes))

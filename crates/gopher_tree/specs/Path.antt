@@ -1,0 +1,75 @@
+-- Paths of files and folders, and the selectors that name them.
+use Rattle.std.specs.Prelude.{ℕ, suc, zero, Bool, true, false, ◌&&◌, ◌||◌, not, nat_eq, ◌==◌, List, [], ◌∷◌, ◌++◌, length, take, slice_index, Option, None, Some, is_some, if◌then◌else◌}
+use Rattle.std.specs.List.{slice_split}
+use Rattle.std.specs.Cmp.Lexicographic.{pointwise}
+use Rattle.gopher_item.specs.Bytes.{has_special}
+
+-- the names of a path, which stand between slashes
+abbrev pub names_of : List ℕ → List (List ℕ)
+names_of path = slice_split (λ byte. byte == 47) path
+
+abbrev pub first_name : List (List ℕ) → List ℕ
+first_name [] = []
+first_name (name ∷ more) = name
+
+abbrev pub last_name : List (List ℕ) → List ℕ
+last_name [] = []
+last_name (name ∷ []) = name
+last_name (name ∷ more) = last_name more
+
+-- `.menu`
+abbrev pub menu_name : List ℕ
+menu_name = 46 ∷ 109 ∷ 101 ∷ 110 ∷ 117 ∷ []
+
+abbrev pub is_menu_name : List ℕ → Bool
+is_menu_name name = pointwise nat_eq name menu_name
+
+-- `search`
+abbrev pub is_search_name : List ℕ → Bool
+is_search_name name = pointwise nat_eq name (115 ∷ 101 ∷ 97 ∷ 114 ∷ 99 ∷ 104 ∷ [])
+
+-- whether no file and no folder may have the name: it is empty, begins with a period, or holds a special byte
+abbrev pub is_bad_name : List ℕ → Bool
+is_bad_name [] = true
+is_bad_name (byte ∷ more) = (byte == 46) || has_special (byte ∷ more)
+
+-- `.menu` may be the last name
+abbrev pub has_bad_name : List (List ℕ) → Bool
+has_bad_name [] = false
+has_bad_name (name ∷ []) = not (is_menu_name name) && is_bad_name name
+has_bad_name (name ∷ more) = is_bad_name name || has_bad_name more
+
+abbrev pub is_menu_path : List ℕ → Bool
+is_menu_path path = is_menu_name (last_name (names_of path))
+
+-- what a path has behind a folder and a slash, where it leads through that folder
+abbrev pub rest_after : List ℕ → List ℕ → Option (List ℕ)
+rest_after folder [] = None
+rest_after [] (byte ∷ path) = if byte == 47 then Some path else None
+rest_after (first ∷ folder) (byte ∷ path) = if first == byte then rest_after folder path else None
+
+-- the same; every path leads through the root
+abbrev pub rest_below : List ℕ → List ℕ → Option (List ℕ)
+rest_below [] path = Some path
+rest_below (byte ∷ folder) path = rest_after (byte ∷ folder) path
+
+abbrev pub is_below : List ℕ → List ℕ → Bool
+is_below folder path = is_some (rest_below folder path)
+
+-- the folders that the first `count` bytes of a path lead through, but the root: its beginnings before each slash
+abbrev pub folders_within : ℕ → List ℕ → List (List ℕ)
+folders_within zero path = []
+folders_within (suc zero) path = []
+folders_within (suc (suc count)) path = if slice_index path (suc count) == 47 then folders_within (suc count) path ++ take (suc count) path ∷ [] else folders_within (suc count) path
+
+abbrev pub folders_of : List ℕ → List (List ℕ)
+folders_of path = folders_within (length path) path
+
+-- the path that a selector names: none where the selector is not empty and has no slash in front
+abbrev pub path_of : List ℕ → Option (List ℕ)
+path_of [] = Some []
+path_of (byte ∷ path) = if byte == 47 then Some path else None
+
+-- the path of a folder's menu file
+abbrev pub menu_path : List ℕ → List ℕ
+menu_path folder = if length folder == 0 then menu_name else folder ++ 47 ∷ menu_name

@@ -1,0 +1,80 @@
+-- What a tree replies to a selector: a function of its list of files.
+use Rattle.std.specs.Prelude.{ℕ, length, ◌==◌, List, [], ◌∷◌, ◌++◌, map, Option, None, Some, if◌then◌else◌}
+use Rattle.gopher_item.specs.Lines.{lines_of}
+use Rattle.gopher_item.specs.MenuLine.{MenuLineData, menu_bytes}
+use Rattle.gopher_item.specs.Place.{HomeData}
+use Rattle.gopher_text.specs.Text.{text_bytes}
+use Rattle.gopher_tree.specs.Path.{is_menu_path, path_of, menu_path}
+use Rattle.gopher_tree.specs.Kind.{kind_of}
+use Rattle.gopher_tree.specs.MenuFile.{written_menu}
+use Rattle.gopher_tree.specs.Files.{File, Child, file_at, is_folder, children}
+
+-- what a selector names
+pub data Named : Type 0 where
+  NamedFile : (kind : ℕ) (bytes : List ℕ) → Named
+  NamedFolder : (path : List ℕ) → Named
+
+-- a file where the list has the path and its last name is not `.menu`, and else a folder where it is one
+abbrev pub named_by : List File → List ℕ → Option File → Option Named
+named_by files path (Some file) = if is_menu_path path then None else Some (NamedFile (kind_of file.0 file.1) file.1)
+named_by files path None = if is_folder files path then Some (NamedFolder path) else None
+
+abbrev pub named_at : List File → Option (List ℕ) → Option Named
+named_at files None = None
+named_at files (Some path) = named_by files path (file_at files path)
+
+abbrev pub named : List File → List ℕ → Option Named
+named files selector = named_at files (path_of selector)
+
+-- what stands before a name in its selector
+abbrev pub front_of : List ℕ → List ℕ
+front_of folder = if length folder == 0 then 47 ∷ [] else 47 ∷ folder ++ 47 ∷ []
+
+abbrev pub child_line : HomeData → List ℕ → Child → MenuLineData
+child_line home front child = record { kind = child.1; display = child.0; selector = front ++ child.0; host = home.host; port = home.port }
+
+-- `Search`, of type `7`, selector `/search`
+abbrev pub search_line : HomeData → MenuLineData
+search_line home = record { kind = 55; display = 83 ∷ 101 ∷ 97 ∷ 114 ∷ 99 ∷ 104 ∷ []; selector = 47 ∷ 115 ∷ 101 ∷ 97 ∷ 114 ∷ 99 ∷ 104 ∷ []; host = home.host; port = home.port }
+
+-- the root begins with the search line
+abbrev pub head_lines : HomeData → List ℕ → List MenuLineData
+head_lines home folder = if length folder == 0 then search_line home ∷ [] else []
+
+abbrev pub listing_of : HomeData → List ℕ → List Child → List MenuLineData
+listing_of home folder names = head_lines home folder ++ map (child_line home (front_of folder)) names
+
+abbrev pub listing : List File → HomeData → List ℕ → List MenuLineData
+listing files home folder = listing_of home folder (children files folder)
+
+-- a folder's own menu file stands in place of its listing
+abbrev pub folder_menu : List File → HomeData → List ℕ → Option File → List MenuLineData
+folder_menu files home folder (Some file) = written_menu home file.1
+folder_menu files home folder None = listing files home folder
+
+abbrev pub folder_reply : List File → HomeData → List ℕ → List ℕ
+folder_reply files home folder = menu_bytes (folder_menu files home folder (file_at files (menu_path folder)))
+
+-- a file of type `0` (48) is sent as a text, any other as it is
+abbrev pub file_reply : ℕ → List ℕ → List ℕ
+file_reply kind bytes = if kind == 48 then text_bytes (lines_of bytes) else bytes
+
+-- a line of type `3` with this text, which a client shows as an error
+abbrev pub error_line : List ℕ → HomeData → MenuLineData
+error_line text home = record { kind = 51; display = text; selector = []; host = home.host; port = home.port }
+
+abbrev pub error_bytes : List ℕ → HomeData → List ℕ
+error_bytes text home = menu_bytes (error_line text home ∷ [])
+
+-- `Not found`
+abbrev pub not_found_bytes : HomeData → List ℕ
+not_found_bytes home = error_bytes (78 ∷ 111 ∷ 116 ∷ 32 ∷ 102 ∷ 111 ∷ 117 ∷ 110 ∷ 100 ∷ []) home
+
+abbrev pub reply_to : List File → HomeData → Option Named → List ℕ
+reply_to files home (Some (NamedFile kind bytes)) = file_reply kind bytes
+reply_to files home (Some (NamedFolder folder)) = folder_reply files home folder
+reply_to files home None = not_found_bytes home
+
+-- the reply to a selector depends on the list of files, the server's address and the selector alone
+unfoldable pub tree_reply : List File → HomeData → List ℕ → List ℕ
+tree_reply files home selector = reply_to files home (named files selector)

@@ -1,0 +1,196 @@
+//! The replies of a tree that are kept: those of its texts and of its folders.
+
+ghost use Rattle.std.specs.Prelude.{◌≡◌, ◌≤◌, ◌+◌, ◌*◌, [], ◌∷◌, ◌++◌, length, ◌^◌, ◌<◌, ℕ, List, IfOk, IfSome, OnOk};
+ghost use Rattle.gopher_item.specs.Place.{HomeData};
+ghost use Rattle.gopher_tree.specs.Files.{File, total_bytes};
+ghost use Rattle.gopher_tree.specs.Reply.{tree_reply};
+ghost use Rattle.gopher_tree.specs.Kept.{IsReply, IsKept, kept_bytes};
+
+use crate::reply::menu_path;
+use crate::tree::{Found, MOST_NODES, Node, Tree};
+use gopher_item::{ByteString, Home, NoMemory};
+use std::alloc::Global;
+
+// How many bytes of menus are kept at most.
+const MOST_MENUS: usize = 16_777_216;
+
+// How many bytes the text of a file has more than twice the file's, at most.
+const MOST_MORE: usize = 6;
+
+// A reply and its selector.
+#[derive(Debug, Drop)]
+pub(crate) struct KeptReply {
+    selector: ByteString,
+    bytes: ByteString,
+}
+
+// Replies in the order of their selectors' bytes, how many bytes the texts and the menus among them
+// have, and how many the texts may have.
+#[derive(Debug, Drop)]
+pub(crate) struct Kept {
+    replies: Vec<KeptReply>,
+    texts: usize,
+    menus: usize,
+    most_texts: usize,
+}
+
+// The selector of a path.
+fn selector_of(alloc: Global, path: &[u8]) -> Result<Vec<u8>, NoMemory> {
+    let mut selector = Vec::from_slice(alloc, b"/")?;
+    selector.extend_from_slice(path)?;
+    Ok(selector)
+}
+
+// How many bytes a line of a menu has more than the written line and the server's host, at most.
+const MOST_MORE_IN_LINE: usize = 11;
+
+// How many bytes the last line of a menu has: a period, CR and LF.
+const LAST_LINE: usize = 3;
+
+// How many bytes the menu of a menu file has at most.
+fn most_menu_bytes(written: &[u8], home: &Home) -> usize {
+    let line = home.host().len() + MOST_MORE_IN_LINE;
+    let feeds = written.iter().filter(|byte| **byte == b'\n').count();
+    (feeds + 1)
+        .saturating_mul(line)
+        .saturating_add(written.len())
+        .saturating_add(LAST_LINE)
+}
+
+// Whether the folder's menu is sure to have at most `room` bytes.
+fn is_menu_within(
+    alloc: Global,
+    tree: &Tree,
+    home: &Home,
+    folder: &[u8],
+    room: usize,
+) -> Result<bool, NoMemory> {
+    let path = menu_path(alloc, folder)?;
+    match tree.found(&path) {
+        Some(Found::File(file)) => Ok(most_menu_bytes(file.bytes(), home) <= room),
+        _ => Ok(true),
+    }
+}
+
+impl Kept {
+    // What is kept of a tree that a server with the address `home` sends.
+    pub(crate) fn of(alloc: Global, tree: &Tree, home: &Home) -> Result<Kept, NoMemory>
+        ensures { IfOk result (IsKept tree.now home.now) }
+    {
+        let mut kept = Kept {
+            replies: Vec::new(alloc),
+            texts: 0,
+            menus: 0,
+            most_texts: 2 * tree.number_of_bytes() + MOST_MORE * MOST_NODES,
+        };
+        for (path, _entry) in tree.index() {
+            kept = kept.with_node(alloc, tree, home, path)?;
+        }
+        Ok(kept)
+    }
+
+    // Keeps the reply of a node, where it is a text or a folder and there is room.
+    fn with_node(
+        self,
+        alloc: Global,
+        tree: &Tree,
+        home: &Home,
+        path: &[u8],
+    ) -> Result<Kept, NoMemory>
+        requires { IsKept tree.now home.now self }
+        ensures { IfOk result (IsKept tree.now home.now) }
+    {
+        let selector = selector_of(alloc, path)?;
+        match tree.find(&selector) {
+            Some(Node::File(b'0', _)) => self.with_text(alloc, tree, home, selector),
+            Some(Node::Folder) => {
+                if is_menu_within(alloc, tree, home, path, MOST_MENUS - self.menus)? {
+                    self.with_menu(alloc, tree, home, selector)
+                } else {
+                    Ok(self)
+                }
+            }
+            _ => Ok(self),
+        }
+    }
+
+    fn with_text(
+        self,
+        alloc: Global,
+        tree: &Tree,
+        home: &Home,
+        selector: Vec<u8>,
+    ) -> Result<Kept, NoMemory>
+        requires { IsKept tree.now home.now self }
+        ensures { IfOk result (IsKept tree.now home.now) }
+    {
+        let bytes = tree.reply(alloc, &selector, home)?;
+        if bytes.len() > self.most_texts - self.texts {
+            return Ok(self);
+        }
+        let mut kept = self;
+        kept.texts += bytes.len();
+        push_reply(selector, bytes, &mut kept.replies)?;
+        Ok(kept)
+    }
+
+    fn with_menu(
+        self,
+        alloc: Global,
+        tree: &Tree,
+        home: &Home,
+        selector: Vec<u8>,
+    ) -> Result<Kept, NoMemory>
+        requires { IsKept tree.now home.now self }
+        ensures { IfOk result (IsKept tree.now home.now) }
+    {
+        let bytes = tree.reply(alloc, &selector, home)?;
+        if bytes.len() > MOST_MENUS - self.menus {
+            return Ok(self);
+        }
+        let mut kept = self;
+        kept.menus += bytes.len();
+        push_reply(selector, bytes, &mut kept.replies)?;
+        Ok(kept)
+    }
+
+    // The reply that is kept for the selector.
+    pub(crate) fn reply(&self, selector: &[u8]) -> Option<&[u8]>
+        ensures { (files : List File) (home : HomeData) → IsKept files home self.now → IfSome result (λ bytes. bytes.now ≡ tree_reply files home selector.now) }
+    {
+        let place = self
+            .replies
+            .partition_point(|kept| kept.selector.as_slice() < selector);
+        let kept = self.replies.get(place)?;
+        if kept.selector.as_slice() == selector {
+            Some(kept.bytes.as_slice())
+        } else {
+            None
+        }
+    }
+
+    // How many bytes the replies have.
+    pub(crate) fn number_of_bytes(&self) -> usize
+        requires { self.now.texts + self.now.menus < 2 ^ 64 }
+        ensures { result ≡ self.now.texts + self.now.menus }
+    {
+        self.texts + self.menus
+    }
+}
+
+// Adds a reply behind the others.
+fn push_reply(
+    selector: Vec<u8>,
+    bytes: Vec<u8>,
+    replies: &mut Vec<KeptReply>,
+) -> Result<(), NoMemory>
+    ensures { OnOk result (replies.new.items ≡ replies.old.items ++ (record { selector = selector.items; bytes = bytes.items }) ∷ []) }
+{
+    let mut bytes = bytes;
+    bytes.shrink_to_fit();
+    replies.push(KeptReply {
+        selector: ByteString::from(selector),
+        bytes: ByteString::from(bytes),
+    })?;
+    Ok(())
+}

@@ -1,0 +1,31 @@
+//! A list of files as a tree of folders that a Gopher server sends: menus, texts and raw files.
+//!
+//! The crate above rests on one promise: `Tree::reply` is a function of the list of files, the
+//! server's address and the selector.
+#![tactic(auto)]
+
+mod children;
+mod fault;
+mod file;
+mod folder;
+mod index;
+mod kept;
+mod kind;
+mod line;
+mod load;
+#[cfg(test)]
+mod load_tests;
+mod menu_file;
+mod path;
+mod replies;
+#[cfg(test)]
+mod replies_tests;
+mod reply;
+#[cfg(test)]
+mod tests;
+mod tree;
+
+pub use fault::TreeFault;
+pub use replies::{Replies, RepliesRefused, Reply};
+pub use reply::error_reply;
+pub use tree::{Node, Tree};

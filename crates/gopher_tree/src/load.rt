@@ -1,0 +1,178 @@
+//! Trees of folders of the file system.
+
+ghost use Rattle.std.specs.Prelude.{◌≡◌, ◌<◌, ◌≤◌, ◌+◌, ◌++◌, [], ◌∷◌, length, None, Some, IfOk, IfErr, MatchResult};
+ghost use Rattle.gopher_tree.specs.Fault.{file_fault, files_fault};
+ghost use Rattle.gopher_tree.specs.Load.{path_in, folder_fault, RefusesFile, Walks, Loads};
+
+use crate::fault::TreeFault;
+use crate::folder::{Target, names_in, read_file, target_of, without_links};
+use crate::path::{LONGEST_PATH, path_fault};
+use crate::tree::{MOST_NODES, Tree};
+use gopher_item::NoMemory;
+use std::alloc::Global;
+use std::fs::Files;
+use std::path::{Path, PathBuf};
+
+// A walk through a folder: the tree of the files that it listed, and how many nodes it visited, the
+// root, folders without files and these files among them.
+#[derive(Drop)]
+struct Walk {
+    tree: Tree,
+    nodes: usize,
+}
+
+// The path of a name in a folder.
+fn path_in(alloc: Global, folder: &[u8], name: &[u8]) -> Result<Vec<u8>, NoMemory>
+    requires { 0 < length name.now }
+    ensures path { IfOk result (λ path. path.items ≡ path_in folder.now name.now) }
+    ensures longer { IfOk result (λ path. length folder.now < length path.items) }
+{
+    if folder.is_empty() {
+        return Ok(Vec::from_slice(alloc, name)?);
+    }
+    let mut path = Vec::from_slice(alloc, folder)?;
+    path.push(b'/')?;
+    path.extend_from_slice(name)?;
+    Ok(path)
+}
+
+impl Walk {
+    fn new(alloc: Global) -> Result<Walk, TreeFault>
+        ensures { MatchResult result (λ walk. walk.tree ≡ []) (λ fault. fault ≡ TreeFault.NoMemory) }
+    {
+        let Ok(tree) = Tree::empty(alloc) else {
+            return Err(TreeFault::NoMemory);
+        };
+        Ok(Walk { tree, nodes: 1 })
+    }
+
+    // Lists a file, or refuses it for its first fault; empty folders are among the nodes then.
+    fn with_file(self, alloc: Global, path: Vec<u8>, bytes: Vec<u8>) -> Result<Walk, TreeFault>
+        ensures listed { IfOk result (λ walk. (file_fault self.tree (path.items, bytes.items) ≡ None) × (walk.tree ≡ self.tree ++ (path.items, bytes.items) ∷ [])) }
+        ensures counted { IfOk result (λ walk. (self.nodes < 4096) × (walk.nodes ≡ self.nodes + 1)) }
+        ensures refused { IfErr result (RefusesFile self.tree self.nodes (path.items, bytes.items)) }
+    {
+        let number = self.tree.number_of_files();
+        if let Some(fault) = path_fault(number, &path) {
+            return Err(fault);
+        }
+        if self.nodes >= MOST_NODES {
+            return Err(TreeFault::TooBig { file: number });
+        }
+        let nodes = self.nodes + 1;
+        let tree = self.tree.with_file(alloc, path, bytes)?;
+        Ok(Walk { tree, nodes })
+    }
+
+    // Visits a folder, or refuses it for its first fault.
+    fn with_folder(self, path: &[u8]) -> Result<Walk, TreeFault>
+        ensures visited { IfOk result (λ walk. (walk.tree ≡ self.tree) × (walk.nodes ≡ self.nodes + 1) × (folder_fault (length self.tree) self.nodes path.now ≡ None)) }
+        ensures short { IfOk result (λ walk. length path.now ≤ 254) }
+        ensures refused { IfErr result (λ fault. folder_fault (length self.tree) self.nodes path.now ≡ Some fault) }
+    {
+        let number = self.tree.number_of_files();
+        if path.len() > LONGEST_PATH {
+            return Err(TreeFault::LongSelector { file: number });
+        }
+        if self.nodes >= MOST_NODES {
+            return Err(TreeFault::TooBig { file: number });
+        }
+        Ok(Walk {
+            tree: self.tree,
+            nodes: self.nodes + 1,
+        })
+    }
+
+    // Reads a file and lists it.
+    fn through_file<R: Files>(
+        self,
+        rt: &R,
+        alloc: Global,
+        file: Path<'_>,
+        path: Vec<u8>,
+    ) -> Result<Walk, TreeFault>
+        ensures { Walks (λ walk. walk.tree) self.tree result }
+    {
+        let bytes = read_file(rt, alloc, file, self.tree.number_of_files())?;
+        self.with_file(alloc, path, bytes)
+    }
+
+    // Lists what a folder has, and what its folders have, name by name.
+    #[cycle(walk)]
+    fn through_folder<R: Files>(
+        self,
+        rt: &R,
+        alloc: Global,
+        folder: Path<'_>,
+        path: &[u8],
+    ) -> Result<Walk, TreeFault>
+        requires { length path.now ≤ 254 }
+        ensures { Walks (λ walk. walk.tree) self.tree result }
+    {
+        let names = names_in(rt, alloc, folder, self.tree.number_of_files())?;
+        let mut walk = self;
+        for name in names {
+            walk = walk.through_name(rt, alloc, folder, path, name.as_str())?;
+        }
+        Ok(walk)
+    }
+
+    // Lists what a name in a folder leads to.
+    #[cycle(walk)]
+    fn through_name<R: Files>(
+        self,
+        rt: &R,
+        alloc: Global,
+        folder: Path<'_>,
+        path: &[u8],
+        name: &str,
+    ) -> Result<Walk, TreeFault>
+        requires short { length path.now ≤ 254 }
+        requires named { 0 < length name.now }
+        ensures { Walks (λ walk. walk.tree) self.tree result }
+    {
+        let Ok(place) = folder.join(alloc, name) else {
+            return Err(TreeFault::NoMemory);
+        };
+        let Ok(path) = path_in(alloc, path, name.as_bytes()) else {
+            return Err(TreeFault::NoMemory);
+        };
+        match target_of(rt, place.as_path(), self.tree.number_of_files())? {
+            Target::File => self.through_file(rt, alloc, place.as_path(), path),
+            Target::Folder => {
+                let walk = self.with_folder(&path)?;
+                let place = without_links(rt, alloc, place)?;
+                walk.through_folder(rt, alloc, place.as_path(), &path)
+            }
+            Target::Neither => Ok(self),
+        }
+    }
+}
+
+impl Tree {
+    /// The tree of the folder `root` of the file system, with the folders in it; a relative path starts
+    /// at the working directory.
+    ///
+    /// The files are listed depth first, the names of each folder in the order of their bytes. A link
+    /// counts as what it leads to. Names that begin with a period are left out, but for `.menu`, and so
+    /// is what is neither a file nor a folder, as a link that leads nowhere or through a file. No more of
+    /// a file is read than one byte over what a file may have. A folder without files has no place in the
+    /// tree.
+    ///
+    /// # Errors
+    ///
+    /// The first fault in the order of the walk, `file` being how many files were listed before:
+    /// - `Unreadable` (26) where a folder can't be listed, one of its names, hidden or not, is not
+    ///   UTF-8, an entry can't be looked at, or a file can't be read. A link to itself is one of these.
+    /// - `BadName` to `Twice` (20 to 25) for a file as `Tree::of_files` has them. A folder without files
+    ///   counts among the nodes.
+    /// - `LongSelector` (22) and `TooBig` (23) for a folder too, whether it has files or not.
+    /// - `NoMemory` (90).
+    pub fn load<R: Files>(rt: &R, alloc: Global, root: &str) -> Result<Tree, TreeFault>
+        ensures { Loads result }
+    {
+        let walk = Walk::new(alloc)?;
+        let walk = walk.through_folder(rt, alloc, Path::new(root), b"")?;
+        Ok(walk.tree)
+    }
+}

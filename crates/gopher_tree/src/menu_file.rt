@@ -1,0 +1,142 @@
+//! Menu files: the menu of a folder, written by hand in `.menu`.
+
+ghost use Rattle.std.specs.Prelude.{◌≡◌, ℕ, ◌++◌, ◌&&◌, ◌||◌, ◌==◌, not, [], ◌∷◌, None, Some, MatchOption, OnOk, map};
+ghost use Rattle.std.specs.Io.{StartsWith};
+ghost use Rattle.std.specs.List.{filter_map, flat_map};
+ghost use Rattle.std.specs.Option.{option_map};
+ghost use Rattle.gopher_item.specs.Bytes.{is_control};
+ghost use Rattle.gopher_item.specs.Menu.{fields_of};
+ghost use Rattle.gopher_item.specs.MenuLine.{menu_line_bytes, menu_bytes};
+ghost use Rattle.gopher_tree.specs.MenuFile.{is_item, item_of, line_of_fields, server_of, written_line, bad_line, written_menu, line_at};
+ghost use Rattle.gopher_tree.specs.WrittenLine.{line_data, server_data, IsLine};
+
+use crate::line::push_line;
+use gopher_item::{
+    Home, first_line, has_special, is_control, is_host, is_selector, read_number, split_once,
+    trim_spaces,
+};
+use std::alloc::AllocError;
+
+const TAB: u8 = b'\t';
+
+// A line of a menu file. Without a server it is of the server that has the file.
+#[derive(Clone, Copy)]
+struct WrittenLine<'a> {
+    kind: u8,
+    display: &'a [u8],
+    selector: &'a [u8],
+    server: Option<(&'a [u8], u16)>,
+}
+
+fn is_item(kind: u8, display: &[u8], selector: &[u8]) -> bool
+    ensures { result ≡ is_item kind display.now selector.now }
+{
+    is_selector(selector)
+        && !has_special(display)
+        && !(is_control(kind) || kind == b' ' || kind == b'.')
+}
+
+// A written line of these parts, where it is one.
+fn item_of<'a>(
+    kind: u8,
+    display: &'a [u8],
+    selector: &'a [u8],
+    server: Option<(&'a [u8], u16)>,
+) -> Option<WrittenLine<'a>>
+    ensures { IsLine (item_of kind display.now selector.now (server_data server.entry)) result }
+{
+    if !is_item(kind, display, selector) {
+        return None;
+    }
+    Some(WrittenLine {
+        kind,
+        display,
+        selector,
+        server,
+    })
+}
+
+// The server that a host and a port name, without the spaces at their ends.
+fn server_of<'a>(host: &'a [u8], port: &[u8]) -> Option<(&'a [u8], u16)>
+    ensures { server_data result ≡ server_of host.now port.now }
+{
+    let host = trim_spaces(host);
+    let port = read_number(65535, trim_spaces(port))?;
+    if is_host(host) {
+        Some((host, port as u16))
+    } else {
+        None
+    }
+}
+
+// The line of a first field and what stands behind its TAB.
+fn line_of_fields<'a>(first: &'a [u8], rest: &'a [u8]) -> Option<WrittenLine<'a>>
+    ensures { IsLine (line_of_fields (first.now ∷ fields_of rest.now)) result }
+{
+    let [kind, display @ ..] = first else {
+        return None;
+    };
+    let Some((selector, rest)) = split_once(TAB, rest) else {
+        return item_of(*kind, display, rest, None);
+    };
+    let (host, port) = split_once(TAB, rest)?;
+    if let Some(_) = split_once(TAB, port) {
+        return None;
+    }
+    let server = server_of(host, port)?;
+    item_of(*kind, display, selector, Some(server))
+}
+
+fn written_line(line: &[u8]) -> Option<WrittenLine<'_>>
+    ensures { IsLine (written_line line.now) result }
+{
+    match split_once(TAB, line) {
+        Some((first, rest)) => line_of_fields(first, rest),
+        None => item_of(b'i', line, &[], None),
+    }
+}
+
+// The number of the first line, from 1, that has none of a menu file's forms.
+pub(crate) fn bad_line(bytes: &[u8]) -> Option<usize>
+    ensures { result ≡ bad_line bytes.now }
+{
+    let mut number = 0;
+    let mut rest = bytes;
+    while let Some((line, after)) = first_line(rest) {
+        number += 1;
+        if written_line(line).is_none() {
+            return Some(number);
+        }
+        rest = after;
+    }
+    None
+}
+
+// Appends the line as a server with the address `home` sends it.
+fn push_written(line: WrittenLine, home: &Home, out: &mut Vec<u8>) -> Result<(), AllocError>
+    ensures written { OnOk result (out.new.items ≡ out.old.items ++ menu_line_bytes (line_at home.now (line_data line.entry))) }
+{
+    let (host, port) = match line.server {
+        Some(server) => server,
+        None => (home.host(), home.port()),
+    };
+    push_line(line.kind, line.display, line.selector, host, port, out)
+}
+
+// Appends the lines of a menu file as a server with the address `home` sends them.
+pub(crate) fn push_written_lines(
+    bytes: &[u8],
+    home: &Home,
+    out: &mut Vec<u8>,
+) -> Result<(), AllocError>
+    ensures { OnOk result (out.new.items ≡ out.old.items ++ flat_map menu_line_bytes (written_menu home.now bytes.now)) }
+{
+    let mut rest = bytes;
+    while let Some((line, after)) = first_line(rest) {
+        if let Some(line) = written_line(line) {
+            push_written(line, home, out)?;
+        }
+        rest = after;
+    }
+    Ok(())
+}

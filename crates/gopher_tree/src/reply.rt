@@ -1,0 +1,112 @@
+//! Replies: menus, texts and raw files.
+
+ghost use Rattle.std.specs.Prelude.{◌≡◌, ◌++◌, ◌==◌, length, IfOk, OnOk, if◌then◌else◌};
+ghost use Rattle.std.specs.List.{flat_map};
+ghost use Rattle.gopher_item.specs.MenuLine.{menu_line_bytes, menu_bytes};
+ghost use Rattle.gopher_tree.specs.Path.{menu_path};
+ghost use Rattle.gopher_tree.specs.MenuFile.{written_menu};
+ghost use Rattle.gopher_tree.specs.Reply.{front_of, head_lines, listing_of, file_reply, error_bytes, not_found_bytes};
+
+use crate::children::Children;
+use crate::line::{push_last_line, push_line};
+use crate::menu_file::push_written_lines;
+use crate::path::MENU;
+use gopher_item::{Home, NoMemory};
+use gopher_text::write_text_of;
+use std::alloc::{AllocError, Global};
+
+/// The reply that tells a client of an error: a line of type `3` that has `text`, and the period alone
+/// that ends a menu (RFC 1436, sections 3.8 and 3.9). The text holds no TAB, CR, LF or NUL.
+///
+/// Refused only where memory is (90).
+pub fn error_reply(alloc: Global, text: &[u8], home: &Home) -> Result<Vec<u8>, NoMemory>
+    ensures { IfOk result (λ bytes. bytes.items ≡ error_bytes text.now home.now) }
+{
+    let mut out = Vec::new(alloc);
+    push_line(b'3', text, b"", home.host(), home.port(), &mut out)?;
+    push_last_line(&mut out)?;
+    Ok(out)
+}
+
+// The reply to a selector that names nothing.
+pub(crate) fn not_found(alloc: Global, home: &Home) -> Result<Vec<u8>, NoMemory>
+    ensures { IfOk result (λ bytes. bytes.items ≡ not_found_bytes home.now) }
+{
+    error_reply(alloc, b"Not found", home)
+}
+
+// The reply of a file: a text is sent by its lines, any other file as it is.
+pub(crate) fn file_reply(alloc: Global, kind: u8, bytes: &[u8]) -> Result<Vec<u8>, NoMemory>
+    ensures { IfOk result (λ sent. sent.items ≡ file_reply kind bytes.now) }
+{
+    if kind != b'0' {
+        return Ok(Vec::from_slice(alloc, bytes)?);
+    }
+    let mut out = Vec::new(alloc);
+    write_text_of(bytes, &mut out)?;
+    Ok(out)
+}
+
+// The path of a folder's menu file.
+pub(crate) fn menu_path(alloc: Global, folder: &[u8]) -> Result<Vec<u8>, NoMemory>
+    ensures { IfOk result (λ path. path.items ≡ menu_path folder.now) }
+{
+    if folder.is_empty() {
+        return Ok(Vec::from_slice(alloc, MENU)?);
+    }
+    let mut path = Vec::from_slice(alloc, folder)?;
+    path.push(b'/')?;
+    path.extend_from_slice(MENU)?;
+    Ok(path)
+}
+
+// What stands before a name in its selector.
+fn front_of(alloc: Global, folder: &[u8]) -> Result<Vec<u8>, NoMemory>
+    ensures { IfOk result (λ front. front.items ≡ front_of folder.now) }
+{
+    if folder.is_empty() {
+        return Ok(Vec::from_slice(alloc, b"/")?);
+    }
+    let mut front = Vec::from_slice(alloc, b"/")?;
+    front.extend_from_slice(folder)?;
+    front.push(b'/')?;
+    Ok(front)
+}
+
+// Appends the search line, in the root.
+fn push_head(folder: &[u8], home: &Home, out: &mut Vec<u8>) -> Result<(), AllocError>
+    ensures { OnOk result (out.new.items ≡ out.old.items ++ flat_map menu_line_bytes (head_lines home.now folder.now)) }
+{
+    if !folder.is_empty() {
+        return Ok(());
+    }
+    push_line(b'7', b"Search", b"/search", home.host(), home.port(), out)?;
+    Ok(())
+}
+
+// The menu of a folder's names.
+pub(crate) fn listing_reply(
+    alloc: Global,
+    folder: &[u8],
+    children: &Children,
+    home: &Home,
+) -> Result<Vec<u8>, NoMemory>
+    ensures { IfOk result (λ bytes. bytes.items ≡ menu_bytes (listing_of home.now folder.now children.now)) }
+{
+    let front = front_of(alloc, folder)?;
+    let mut out = Vec::new(alloc);
+    push_head(folder, home, &mut out)?;
+    children.push_lines(&front, home, &mut out)?;
+    push_last_line(&mut out)?;
+    Ok(out)
+}
+
+// The menu of a menu file.
+pub(crate) fn written_reply(alloc: Global, bytes: &[u8], home: &Home) -> Result<Vec<u8>, NoMemory>
+    ensures { IfOk result (λ sent. sent.items ≡ menu_bytes (written_menu home.now bytes.now)) }
+{
+    let mut out = Vec::new(alloc);
+    push_written_lines(bytes, home, &mut out)?;
+    push_last_line(&mut out)?;
+    Ok(out)
+}

@@ -1,0 +1,351 @@
+//! Trees.
+
+ghost use Rattle.std.specs.Prelude.{◌≡◌, ℕ, ◌+◌, ◌≤◌, ◌<◌, ◌++◌, ◌∷◌, ◌||◌, ◌&&◌, ◌==◌, not, [], None, Some, List, length, take, slice_index, if◌then◌else◌, map, fold, is_some, IfOk, MatchResult};
+ghost use Rattle.std.specs.List.{list_any};
+ghost use Rattle.gopher_tree.specs.Path.{rest_after};
+ghost use Rattle.gopher_tree.specs.Files.{is_file, is_folder, children, add_path, paths_of, nodes, is_among, file_at, total_bytes};
+ghost use Rattle.gopher_tree.specs.Fault.{is_too_big, is_twice, menu_fault, file_fault, files_fault, MakesTree};
+ghost use Rattle.gopher_tree.specs.Reply.{named, folder_reply, tree_reply};
+ghost use Rattle.gopher_tree.specs.Found.{Finds, Shows, file_data};
+
+use crate::children::Children;
+use crate::fault::TreeFault;
+use crate::file::File;
+use crate::index::{Entry, Index, add_file, is_file_entry};
+use crate::menu_file::bad_line;
+use crate::path::{is_menu_path, path_fault, path_of};
+use crate::reply::{file_reply, listing_reply, menu_path, not_found, written_reply};
+use gopher_item::{Home, NoMemory};
+use std::alloc::Global;
+use std::collections::BTreeMap;
+use std::marker::Model;
+
+const LARGEST_FILE: usize = 16_777_216;
+
+const MOST_BYTES: usize = 67_108_864;
+
+pub(crate) const MOST_NODES: usize = 4_096;
+
+/// Files and the folders that their paths lead through, as a server sends them.
+///
+/// Contracts see it as the list of the files that it was made of, each a path and its bytes.
+#[derive(Debug, Drop)]
+pub struct Tree {
+    files: Vec<File>,
+    index: Index,
+    bytes: usize,
+    nodes: usize,
+}
+
+impl Model for Tree {
+    ghost use Rattle.std.specs.Prelude.{ℕ, List};
+    ghost use Rattle.gopher_tree.specs.Tree.{IsTree};
+
+    ghost Value = { List (List ℕ × List ℕ) };
+
+    ghost view = { λ t. t.files.items };
+
+    ghost invariant = { λ t. IsTree t.files.items t.index t.bytes t.nodes };
+}
+
+/// What a selector names.
+#[derive(Clone, Copy, Debug)]
+pub enum Node<'a> {
+    /// A file: its type (RFC 1436, section 3.8) and its bytes.
+    File(u8, &'a [u8]),
+    /// A folder.
+    Folder,
+}
+
+// What stands at a path.
+#[derive(Clone, Copy)]
+pub(crate) enum Found<'a> {
+    File(&'a File),
+    Folder(&'a Children),
+}
+
+impl Tree {
+    // The tree of no files: its root alone.
+    pub(crate) fn empty(alloc: Global) -> Result<Tree, NoMemory>
+        ensures { IfOk result (λ tree. tree ≡ []) }
+    {
+        let mut index = BTreeMap::new(alloc);
+        index.insert(Vec::new(alloc), Entry::Folder(Children::new(alloc)))?;
+        Ok(Tree {
+            files: Vec::new(alloc),
+            index,
+            bytes: 0,
+            nodes: 1,
+        })
+    }
+
+    // How many files there are.
+    pub(crate) fn number_of_files(&self) -> usize
+        ensures { result ≡ length self.now }
+    {
+        self.files.len()
+    }
+
+    // How many bytes the files have.
+    pub(crate) fn number_of_bytes(&self) -> usize
+        ensures count { result ≡ total_bytes self.now }
+        ensures bound { result ≤ 67108864 }
+    {
+        self.bytes
+    }
+
+    pub(crate) fn index(&self) -> &Index {
+        &self.index
+    }
+
+    pub(crate) fn found(&self, path: &[u8]) -> Option<Found<'_>>
+        ensures { Finds self.now path.now result }
+    {
+        match self.index.get(path)? {
+            Entry::File(number) => Some(Found::File(&self.files[*number])),
+            Entry::Folder(children) => Some(Found::Folder(children)),
+        }
+    }
+
+    fn is_file(&self, path: &[u8]) -> bool
+        ensures { result ≡ is_file self.now path.now }
+    {
+        is_file_entry(self.index.get(path))
+    }
+
+    fn has_node(&self, path: &[u8]) -> bool
+        ensures { result ≡ is_among (nodes self.now) path.now }
+    {
+        self.index.contains_key(path)
+    }
+
+    // Whether the path is a file or a folder.
+    fn has_entry(&self, path: &[u8]) -> bool
+        ensures { result ≡ (is_file self.now path.now || is_folder self.now path.now) }
+    {
+        self.index.contains_key(path)
+    }
+
+    fn leads_through_file(&self, path: &[u8]) -> bool
+        ensures { result ≡ list_any (λ file. is_some (rest_after file.0 path.now)) self.now }
+    {
+        let mut found = false;
+        for place in 0..path.len() {
+            found = self.has_file_before(path, place, found);
+        }
+        found
+    }
+
+    // Whether a file was found, or the path leads through one before this place.
+    fn has_file_before(&self, path: &[u8], place: usize, found: bool) -> bool
+        requires { place < length path.now }
+        ensures { result ≡ (found || ((slice_index path.now place == 47) && is_file self.now (take place path.now))) }
+    {
+        found || (path[place] == b'/' && self.is_file(&path[..place]))
+    }
+
+    fn is_twice(&self, path: &[u8]) -> bool
+        ensures { result ≡ is_twice self.now path.now }
+    {
+        self.has_entry(path) || self.leads_through_file(path)
+    }
+
+    // How many nodes a path adds.
+    fn new_nodes(&self, path: &[u8]) -> usize
+        requires { 0 < length path.now }
+        ensures count { length (fold add_path (nodes self.now) (paths_of path.now)) ≡ length (nodes self.now) + result }
+        ensures bound { result ≤ length path.now }
+    {
+        let mut count = 0;
+        for place in 1..path.len() {
+            count += self.nodes_before(path, place);
+        }
+        if self.has_node(path) {
+            count
+        } else {
+            count + 1
+        }
+    }
+
+    // How many nodes a path adds by the folder before this place, where a slash is there: one, or none.
+    fn nodes_before(&self, path: &[u8], place: usize) -> usize
+        requires { place < length path.now }
+        ensures count { result ≡ (if (slice_index path.now place == 47) && not (is_among (nodes self.now) (take place path.now)) then 1 else 0) }
+        ensures bound { result ≤ 1 }
+    {
+        if path[place] == b'/' && !self.has_node(&path[..place]) {
+            1
+        } else {
+            0
+        }
+    }
+
+    fn is_too_big(&self, path: &[u8], bytes: &[u8]) -> bool
+        requires some { 0 < length path.now }
+        requires short { length path.now ≤ 254 }
+        ensures { result ≡ is_too_big self.now (path.now, bytes.now) }
+    {
+        if bytes.len() > LARGEST_FILE {
+            return true;
+        }
+        if self.bytes + bytes.len() > MOST_BYTES {
+            return true;
+        }
+        self.nodes + self.new_nodes(path) > MOST_NODES
+    }
+
+    // The first fault of a file that comes behind these.
+    fn file_fault(&self, path: &[u8], bytes: &[u8]) -> Option<TreeFault>
+        ensures { result ≡ file_fault self.now (path.now, bytes.now) }
+    {
+        let number = self.files.len();
+        if let Some(fault) = path_fault(number, path) {
+            return Some(fault);
+        }
+        if self.is_too_big(path, bytes) {
+            return Some(TreeFault::TooBig { file: number });
+        }
+        if let Some(fault) = menu_fault(number, path, bytes) {
+            return Some(fault);
+        }
+        if self.is_twice(path) {
+            return Some(TreeFault::Twice { file: number });
+        }
+        None
+    }
+
+    // Adds a file that has no fault.
+    fn add(self, alloc: Global, path: Vec<u8>, bytes: Vec<u8>) -> Result<Tree, TreeFault>
+        requires { file_fault self (path.items, bytes.items) ≡ None }
+        ensures { MatchResult result (λ tree. tree ≡ self ++ (path.items, bytes.items) ∷ []) (λ fault. fault ≡ TreeFault.NoMemory) }
+    {
+        let new_nodes = self.new_nodes(&path);
+        let Tree {
+            mut files,
+            mut index,
+            bytes: total,
+            nodes,
+        } = self;
+        let file = File::new(path, bytes);
+        let total = total + file.bytes().len();
+        let Ok(()) = add_file(alloc, &mut index, file.path(), file.kind(), files.len()) else {
+            return Err(TreeFault::NoMemory);
+        };
+        let Ok(()) = files.push(file) else {
+            return Err(TreeFault::NoMemory);
+        };
+        Ok(Tree {
+            files,
+            index,
+            bytes: total,
+            nodes: nodes + new_nodes,
+        })
+    }
+
+    // Adds a file, or refuses it for its first fault.
+    pub(crate) fn with_file(
+        self,
+        alloc: Global,
+        path: Vec<u8>,
+        bytes: Vec<u8>,
+    ) -> Result<Tree, TreeFault>
+        ensures { MakesTree (file_fault self (path.items, bytes.items)) (self ++ (path.items, bytes.items) ∷ []) result }
+    {
+        if let Some(fault) = self.file_fault(&path, &bytes) {
+            return Err(fault);
+        }
+        self.add(alloc, path, bytes)
+    }
+
+    // The menu of a folder that has these names.
+    fn folder_reply(
+        &self,
+        alloc: Global,
+        folder: &[u8],
+        names: &Children,
+        home: &Home,
+    ) -> Result<Vec<u8>, NoMemory>
+        requires { names.now ≡ children self.now folder.now }
+        ensures { IfOk result (λ bytes. bytes.items ≡ folder_reply self.now home.now folder.now) }
+    {
+        let path = menu_path(alloc, folder)?;
+        match self.found(&path) {
+            Some(Found::File(file)) => written_reply(alloc, file.bytes(), home),
+            Some(Found::Folder(_)) => listing_reply(alloc, folder, names, home),
+            None => listing_reply(alloc, folder, names, home),
+        }
+    }
+
+    /// The tree of a list of files, each a path, its names joined by slashes, and its bytes.
+    ///
+    /// The files are taken in their order. The first fault of the first file that has one is answered;
+    /// for a file these are, in this order: `BadName` (20), `Reserved` (21), `LongSelector` (22),
+    /// `TooBig` (23), `BadMenuLine` (24), `Twice` (25). `NoMemory` (90) where memory is refused before
+    /// that. The list is dropped then.
+    pub fn of_files(alloc: Global, files: Vec<(Vec<u8>, Vec<u8>)>) -> Result<Tree, TreeFault>
+        ensures { MakesTree (files_fault (map file_data files.items)) (map file_data files.items) result }
+    {
+        let Ok(mut tree) = Tree::empty(alloc) else {
+            return Err(TreeFault::NoMemory);
+        };
+        for (path, bytes) in files {
+            tree = tree.with_file(alloc, path, bytes)?;
+        }
+        Ok(tree)
+    }
+
+    /// What a selector names: a file or a folder; none where it is not empty and has no slash in front,
+    /// where nothing has its path, or where that is a `.menu` file. Takes no memory.
+    pub fn find(&self, selector: &[u8]) -> Option<Node<'_>>
+        ensures { Shows (named self.now selector.now) result }
+    {
+        let path = path_of(selector)?;
+        match self.found(path)? {
+            Found::File(file) => {
+                if is_menu_path(path) {
+                    None
+                } else {
+                    Some(Node::File(file.kind(), file.bytes()))
+                }
+            }
+            Found::Folder(_) => Some(Node::Folder),
+        }
+    }
+
+    /// The reply to a selector, from a server with the address `home` (RFC 1436, section 2).
+    ///
+    /// A folder is sent as a menu: its `.menu` file's lines, or else its names in the order of their
+    /// bytes, in the root behind a search line. A file of type `0` is sent as a text, any other as it
+    /// is. A selector that names nothing gets the error reply `Not found`. Refused only where memory
+    /// is (90).
+    pub fn reply(&self, alloc: Global, selector: &[u8], home: &Home) -> Result<Vec<u8>, NoMemory>
+        ensures { IfOk result (λ bytes. bytes.items ≡ tree_reply self.now home.now selector.now) }
+    {
+        let Some(path) = path_of(selector) else {
+            return not_found(alloc, home);
+        };
+        match self.found(path) {
+            Some(Found::File(file)) => {
+                if is_menu_path(path) {
+                    return not_found(alloc, home);
+                }
+                file_reply(alloc, file.kind(), file.bytes())
+            }
+            Some(Found::Folder(children)) => self.folder_reply(alloc, path, children, home),
+            None => not_found(alloc, home),
+        }
+    }
+}
+
+// The fault of a menu file, where the file is one.
+fn menu_fault(number: usize, path: &[u8], bytes: &[u8]) -> Option<TreeFault>
+    ensures { result ≡ menu_fault number (path.now, bytes.now) }
+{
+    if !is_menu_path(path) {
+        return None;
+    }
+    match bad_line(bytes) {
+        Some(line) => Some(TreeFault::BadMenuLine { file: number, line }),
+        None => None,
+    }
+}
