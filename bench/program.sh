@@ -3,9 +3,9 @@
 set -euo pipefail
 cd "$(dirname "$0")/.."
 program=crates/hole/out/hole
-if [ ! -x "$program" ]; then
-  (cd crates/hole && rt run -- replay < stdin > /dev/null)
-fi
+measure=crates/measure/out/measure
+[ -x "$program" ] || (cd crates/hole && rt run -- replay < stdin > /dev/null)
+[ -x "$measure" ] || (cd crates/measure && rt run > /dev/null)
 folder=$(mktemp -d)
 trap 'rm -rf "$folder"' EXIT
 passed=0
@@ -29,6 +29,11 @@ as_wanted() {
   fi
   echo "program: '$*' on '$script' ended with $code, not as wanted"
   return 1
+}
+
+# The examples are read without a fault.
+ends_well() {
+  "$measure" "$@" > "$folder/written" && [ -s "$folder/written" ]
 }
 
 too_long() {
@@ -61,6 +66,10 @@ count as_wanted 'allow\th\t70\t\nseed\t1\th\t70\t\nseed\t1\th\t70\t/b\nstart\t5\
   0 'ok\ntake\t0\t1\th\t70\t\nok\nknown 2 waiting 2 out 0 done 0 dropped 0\ntake\t1\t1\th\t70\t/b\ntake\t0\t1\th\t70\t\nknown 2 waiting 0 out 2 done 0 dropped 0\nok\nidle\nadded 0 0\nknown 2 waiting 0 out 0 done 2 dropped 0\nfinished\n' '' replay
 count as_wanted "$(cat examples/whole_search.script)\n" \
   0 'ok\nknown 1 waiting 1 out 0 done 0 dropped 0\ntake\t0\t1\th.example\t70\t\nidle\nadded 2 0\nknown 3 waiting 2 out 0 done 1 dropped 0\ntake\t1\t1\th.example\t70\t/moon\nrefused 53\ntake\t2\t0\th.example\t70\t/sun.txt\nidle\nadded 0 0\nok\nfinished\nrefused 52\nrefused 52\nhits 2\nhit\t3\t1\th.example\t70\t\tMoon pages\nhit\t3\t0\th.example\t70\t/sun.txt\tThe sun and the moon.\nhits 1\nhit\t1\t0\th.example\t70\t/sun.txt\tThe sun and the moon.\nrefused 40\nhits 0\nplaces 2\nat\t3\t1\th.example\t70\t\nat\t3\t0\th.example\t70\t/sun.txt\nknown 3 waiting 0 out 0 done 3 dropped 0\n' '' replay
+count as_wanted "$(cat examples/first_crawl.script)\n" \
+  0 'ok\ntake\t0\t1\tlocalhost\t70\t\nadded 1 0\ntake\t1\t1\tlocalhost\t70\t/docs\nok\nfinished\nknown 2 waiting 0 out 0 done 2 dropped 0\n' '' replay
+count ends_well settings examples/hole.toml
+count ends_well site examples/site
 count too_long
 count full_device
 echo "program: $passed passed, $failed failed"

@@ -3,14 +3,16 @@
 # of 65,536 pages searched, beside a plain C program over the same postings.
 set -euo pipefail
 cd "$(dirname "$0")/.."
-[ -x crates/hole/out/hole ] || (cd crates/hole && rt run -- replay < stdin > /dev/null)
-[ -x crates/measure/out/measure ] || (cd crates/measure && rt run > /dev/null)
+(cd crates/hole && rt run -- replay < stdin > /dev/null)
+(cd crates/measure && rt run > /dev/null)
 bench/replay.sh crates/hole/out/hole
 folder=$(mktemp -d)
 trap 'rm -rf "$folder"' EXIT
 bench/files.py "$folder"
 crates/measure/out/measure menu "$folder/menu"
 crates/measure/out/measure text "$folder/text"
+crates/measure/out/measure settings examples/hole.toml
+crates/measure/out/measure site "$folder/site"
 crates/measure/out/measure replies "$folder/site"
 bench/pages.py "$folder/pages"
 crates/measure/out/measure search "$folder/pages"

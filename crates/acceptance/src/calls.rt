@@ -3,7 +3,7 @@ ghost use Rattle.std.specs.Prelude.{◌≤◌, length};
 
 use crate::frontier::{check, claim, fail, hand_in};
 use crate::search::{compare, compare_occurrences};
-use gopher_catalogue::{Added, Catalogue, OpenFault, Status, Turn, Why};
+use gopher_catalogue::{Added, Catalogue, OpenFault, OpenRefused, Status, Turn, Why};
 use gopher_item::Place;
 use gopher_page::Page;
 use gopher_scope::{Rule, Scope};
@@ -13,31 +13,46 @@ use std::test::Fail;
 
 const ROOT: &[u8] = b"";
 
-fn directory(alloc: Global, selector: &[u8]) -> Result<Place, Fail> {
-    Ok(Place::new(alloc, b'1', selector, b"h", 70)?)
+const HOST: &[u8] = b"h";
+
+fn directory(alloc: Global, host: &[u8], selector: &[u8]) -> Result<Place, Fail> {
+    Ok(Place::new(alloc, b'1', selector, host, 70)?)
 }
 
-// The scope of all places of the host `h` at port 70.
-fn scope(alloc: Global) -> Result<Scope, Fail> {
+fn directories(alloc: Global, host: &[u8], selectors: &[&[u8]]) -> Result<Vec<Place>, Fail> {
+    let mut places = Vec::new(alloc);
+    for selector in selectors {
+        places.push(directory(alloc, host, selector)?)?;
+    }
+    Ok(places)
+}
+
+// The scope of all places of a host at port 70.
+fn scope(alloc: Global, host: &[u8]) -> Result<Scope, Fail> {
     let mut allow = Vec::new(alloc);
-    allow.push(Rule::new(alloc, b"h", 70, b"")?)?;
+    allow.push(Rule::new(alloc, host, 70, b"")?)?;
     Ok(Scope::new(allow, Vec::new(alloc)))
 }
 
 // The page of a directory.
-fn page(alloc: Global, selector: &[u8], menu: &[u8]) -> Result<Page, Fail>
+fn page(alloc: Global, host: &[u8], selector: &[u8], menu: &[u8]) -> Result<Page, Fail>
     requires { length menu.now ≤ 1048576 }
 {
-    let place = directory(alloc, selector)?;
-    Ok(Page::of(alloc, &scope(alloc)?, &place, menu)?)
+    let place = directory(alloc, host, selector)?;
+    Ok(Page::of(alloc, &scope(alloc, host)?, &place, menu)?)
 }
 
-// A crawl from the root and one more directory.
-fn crawl(alloc: Global, more: &[u8], places: u32, tries: u32) -> Result<Catalogue, Fail> {
-    let mut seeds = Vec::new(alloc);
-    seeds.push(directory(alloc, ROOT)?)?;
-    seeds.push(directory(alloc, more)?)?;
-    Ok(Catalogue::open(alloc, scope(alloc)?, seeds, places, tries)?)
+// A crawl from the directories of a host with these selectors.
+fn crawl(
+    alloc: Global,
+    host: &[u8],
+    selectors: &[&[u8]],
+    places: u32,
+    tries: u32,
+) -> Result<Catalogue, Fail> {
+    let scope = scope(alloc, host)?;
+    let seeds = directories(alloc, host, selectors)?;
+    Ok(Catalogue::open(alloc, scope, seeds, places, tries)?)
 }
 
 /// A claim takes the place of this number and selector.
@@ -126,9 +141,10 @@ pub fn sizes(rt: &impl Abort, catalogue: &Catalogue, numbers: [u32; 4], dropped:
 
 #[test]
 fn first_crawl(rt: HostRuntime) -> Result<(), Fail> {
-    let mut catalogue = crawl(rt.alloc(), ROOT, 10, 1)?;
+    let mut catalogue = crawl(rt.alloc(), b"localhost", &[ROOT], 10, 1)?;
     takes(&rt, &mut catalogue, 0, ROOT)?;
-    let docs = page(rt.alloc(), ROOT, b"1Docs\t/docs\th\t70\r\n.\r\n")?;
+    let menu = b"1Docs\t/docs\tlocalhost\t70\r\n.\r\n";
+    let docs = page(rt.alloc(), b"localhost", ROOT, menu)?;
     adds(
         &rt,
         &mut catalogue,
@@ -149,10 +165,10 @@ fn first_crawl(rt: HostRuntime) -> Result<(), Fail> {
 
 #[test]
 fn place_limit(rt: HostRuntime) -> Result<(), Fail> {
-    let mut catalogue = crawl(rt.alloc(), ROOT, 2, 1)?;
+    let mut catalogue = crawl(rt.alloc(), HOST, &[ROOT], 2, 1)?;
     takes(&rt, &mut catalogue, 0, ROOT)?;
     let menu = b"1A\t/a\th\t70\r\n1B\t/b\th\t70\r\n1C\t/c\th\t70\r\n1A once more\t/a\th\t70\r\n";
-    let three = page(rt.alloc(), ROOT, menu)?;
+    let three = page(rt.alloc(), HOST, ROOT, menu)?;
     adds(
         &rt,
         &mut catalogue,
@@ -165,7 +181,7 @@ fn place_limit(rt: HostRuntime) -> Result<(), Fail> {
     )?;
     sizes(&rt, &catalogue, [2, 1, 0, 1], 2);
     takes(&rt, &mut catalogue, 1, b"/a")?;
-    let again = page(rt.alloc(), b"/a", b"1B\t/b\th\t70\r\n")?;
+    let again = page(rt.alloc(), HOST, b"/a", b"1B\t/b\th\t70\r\n")?;
     adds(
         &rt,
         &mut catalogue,
@@ -182,7 +198,7 @@ fn place_limit(rt: HostRuntime) -> Result<(), Fail> {
 
 #[test]
 fn two_tries(rt: HostRuntime) -> Result<(), Fail> {
-    let mut catalogue = crawl(rt.alloc(), b"/b", 5, 2)?;
+    let mut catalogue = crawl(rt.alloc(), HOST, &[ROOT, b"/b"], 5, 2)?;
     takes(&rt, &mut catalogue, 0, ROOT)?;
     fails(&rt, &mut catalogue, 0, Why::Connect, Ok(()))?;
     sizes(&rt, &catalogue, [2, 2, 0, 0], 0);
@@ -191,7 +207,7 @@ fn two_tries(rt: HostRuntime) -> Result<(), Fail> {
     sizes(&rt, &catalogue, [2, 0, 2, 0], 0);
     fails(&rt, &mut catalogue, 0, Why::Read, Ok(()))?;
     idles(&rt, &mut catalogue)?;
-    let empty = page(rt.alloc(), b"/b", b"")?;
+    let empty = page(rt.alloc(), HOST, b"/b", b"")?;
     adds(
         &rt,
         &mut catalogue,
@@ -208,7 +224,7 @@ fn two_tries(rt: HostRuntime) -> Result<(), Fail> {
 
 #[test]
 fn the_record(rt: HostRuntime) -> Result<(), Fail> {
-    let catalogue = crawl(rt.alloc(), b"/b", 1, 1)?;
+    let catalogue = crawl(rt.alloc(), HOST, &[ROOT, b"/b"], 1, 1)?;
     assert_eq!(rt; catalogue.record().len(), 1);
     assert_eq!(rt; catalogue.places().len(), 1);
     assert_eq!(rt; catalogue.opening().seeds().len(), 2);
@@ -218,10 +234,23 @@ fn the_record(rt: HostRuntime) -> Result<(), Fail> {
 
 #[test]
 fn pages_refused(rt: HostRuntime) -> Result<(), Fail> {
-    let mut catalogue = crawl(rt.alloc(), ROOT, 1, 1)?;
+    // Two equal seeds are one place.
+    let mut catalogue = crawl(rt.alloc(), HOST, &[ROOT, ROOT], 2, 1)?;
     takes(&rt, &mut catalogue, 0, ROOT)?;
-    refuses(&rt, &mut catalogue, 0, page(rt.alloc(), b"/a", b"")?, 53)?;
-    refuses(&rt, &mut catalogue, 1, page(rt.alloc(), b"/a", b"")?, 52)?;
+    refuses(
+        &rt,
+        &mut catalogue,
+        0,
+        page(rt.alloc(), HOST, b"/a", b"")?,
+        53,
+    )?;
+    refuses(
+        &rt,
+        &mut catalogue,
+        1,
+        page(rt.alloc(), HOST, b"/a", b"")?,
+        52,
+    )?;
     fails(&rt, &mut catalogue, 1, Why::TooLong, Err(52))?;
     sizes(&rt, &catalogue, [1, 0, 1, 0], 0);
     Ok(())
@@ -229,8 +258,7 @@ fn pages_refused(rt: HostRuntime) -> Result<(), Fail> {
 
 #[test]
 fn beginnings_refused(rt: HostRuntime) -> Result<(), Fail> {
-    let mut seeds = Vec::new(rt.alloc());
-    seeds.push(directory(rt.alloc(), ROOT)?)?;
+    let seeds = directories(rt.alloc(), HOST, &[ROOT])?;
     let nothing = Scope::new(Vec::new(rt.alloc()), Vec::new(rt.alloc()));
     match Catalogue::open(rt.alloc(), nothing, seeds, 0, 1) {
         Ok(_) => panic!(&rt; "opened"),
@@ -244,10 +272,9 @@ fn beginnings_refused(rt: HostRuntime) -> Result<(), Fail> {
 
 // A crawl from the root, of which the scope denies the selectors that begin with `/p`.
 fn crawl_with_a_denial(alloc: Global) -> Result<Catalogue, Fail> {
-    let (allow, mut deny) = scope(alloc)?.into_rules();
+    let (allow, mut deny) = scope(alloc, HOST)?.into_rules();
     deny.push(Rule::new(alloc, b"H", 70, b"/p")?)?;
-    let mut seeds = Vec::new(alloc);
-    seeds.push(directory(alloc, ROOT)?)?;
+    let seeds = directories(alloc, HOST, &[ROOT])?;
     Ok(Catalogue::open(alloc, Scope::new(allow, deny), seeds, 5, 1)?)
 }
 
@@ -256,7 +283,12 @@ fn deny_rule(rt: HostRuntime) -> Result<(), Fail> {
     let mut catalogue = crawl_with_a_denial(rt.alloc())?;
     takes(&rt, &mut catalogue, 0, ROOT)?;
     // A page of a wider scope: its first link is no mention.
-    let both = page(rt.alloc(), ROOT, b"0X\t/p/x\th\t70\r\n0Y\t/q\th\t70\r\n")?;
+    let both = page(
+        rt.alloc(),
+        HOST,
+        ROOT,
+        b"0X\t/p/x\th\t70\r\n0Y\t/q\th\t70\r\n",
+    )?;
     let added = Added {
         fresh: 1,
         dropped: 0,
@@ -268,16 +300,15 @@ fn deny_rule(rt: HostRuntime) -> Result<(), Fail> {
 
 // The number of the refusal, if any, of a crawl from the root.
 fn refusal(alloc: Global, places: u32, tries: u32) -> Result<Option<u8>, Fail> {
-    let mut seeds = Vec::new(alloc);
-    seeds.push(directory(alloc, ROOT)?)?;
-    match Catalogue::open(alloc, scope(alloc)?, seeds, places, tries) {
+    let seeds = directories(alloc, HOST, &[ROOT])?;
+    match Catalogue::open(alloc, scope(alloc, HOST)?, seeds, places, tries) {
         Ok(_) => Ok(None),
         Err(refused) => Ok(Some(refused.fault.code())),
     }
 }
 
 #[test]
-fn refused_start(rt: HostRuntime) -> Result<(), Fail> {
+fn limits_refused(rt: HostRuntime) -> Result<(), Fail> {
     for (places, tries, code) in [
         (0, 0, Some(51)),
         (0, 1, Some(51)),
@@ -289,7 +320,37 @@ fn refused_start(rt: HostRuntime) -> Result<(), Fail> {
     ] {
         assert_eq!(rt; refusal(rt.alloc(), places, tries)?, code);
     }
-    let mut catalogue = crawl(rt.alloc(), ROOT, 2, 1)?;
+    Ok(())
+}
+
+// The scope and the seeds of a crawl of one try, handed back by a refusal of this number.
+fn handed_back(
+    rt: &(impl Abort + AllocGlobal),
+    scope: Scope,
+    seeds: Vec<Place>,
+    places: u32,
+    code: u8,
+) -> Result<(Scope, Vec<Place>), Fail> {
+    match Catalogue::open(rt.alloc(), scope, seeds, places, 1) {
+        Ok(_) => panic!(rt; "opened"),
+        Err(refused) => {
+            assert_eq!(rt; refused.fault.code(), code);
+            let OpenRefused { scope, seeds, .. } = refused;
+            Ok((scope, seeds))
+        }
+    }
+}
+
+#[test]
+fn refused_start(rt: HostRuntime) -> Result<(), Fail> {
+    let nothing = Scope::new(Vec::new(rt.alloc()), Vec::new(rt.alloc()));
+    let seeds = directories(rt.alloc(), HOST, &[ROOT])?;
+    let (scope, seeds) = handed_back(&rt, nothing, seeds, 2, 50)?;
+    let (mut allow, deny) = scope.into_rules();
+    allow.push(Rule::new(rt.alloc(), HOST, 70, b"")?)?;
+    let (scope, seeds) = handed_back(&rt, Scope::new(allow, deny), seeds, 0, 51)?;
+    let mut catalogue = Catalogue::open(rt.alloc(), scope, seeds, 2, 1)?;
+    check(&rt, rt.alloc(), &catalogue)?;
     takes(&rt, &mut catalogue, 0, ROOT)?;
     sizes(&rt, &catalogue, [1, 0, 1, 0], 0);
     Ok(())

@@ -22,6 +22,13 @@ const ORDERS: u32 = 256;
 
 const CALLS: u32 = 20;
 
+// The places of pages, by their type and selectors.
+const BOTH: (u8, &[&[u8]]) = (b'0', &[b"/a", b"/b"]);
+
+const TEXT_B: (u8, &[&[u8]]) = (b'0', &[b"/b"]);
+
+const MENU_A: (u8, &[&[u8]]) = (b'1', &[b"/a"]);
+
 // What the fetches of each place give.
 #[derive(Clone, Copy)]
 enum Table {
@@ -125,38 +132,50 @@ fn ends_with(rt: &impl Abort, catalogue: &Catalogue, known: u32) {
     assert_eq!(rt; status.dropped, 0);
 }
 
-// The hits of the word are of these selectors, with this title and score 1, in this order.
+// The place is of the host `h`, with this type and selector.
+fn is_place(place: &Place, kind: u8, selector: &[u8]) -> bool {
+    place.kind() == kind
+        && place.selector() == selector
+        && place.host() == b"h".as_slice()
+        && place.port() == 70
+}
+
+// The hits of the word are of the places of this type and these selectors, with this title and score 1,
+// in this order.
 fn finds(
     rt: &impl Abort,
     alloc: Global,
     catalogue: &Catalogue,
     word: &[u8],
     title: &[u8],
-    selectors: &[&[u8]],
+    pages: (u8, &[&[u8]]),
 ) -> Result<(), Fail>
     requires { length word.now ≤ 1024 }
 {
+    let (kind, selectors) = pages;
     let hits = catalogue.search(&Query::read(alloc, word)?)?;
     assert_eq!(rt; hits.len(), selectors.len());
     for (hit, selector) in hits.iter().zip(selectors) {
-        assert_eq!(rt; hit.place.selector(), *selector);
+        assert!(rt; is_place(&hit.place, kind, selector));
         assert_eq!(rt; hit.title.as_slice(), title);
         assert_eq!(rt; hit.score, 1);
     }
     Ok(())
 }
 
-// The word stands once in each of the pages of these selectors, in this order, and in no other page.
+// The word stands once in each of the pages of this type and these selectors, in this order, and in no
+// other page.
 fn occurs(
     rt: &impl Abort,
     catalogue: &Catalogue,
     word: &[u8],
-    selectors: &[&[u8]],
+    pages: (u8, &[&[u8]]),
 ) -> Result<(), NoMemory> {
+    let (kind, selectors) = pages;
     let list = catalogue.occurrences(word)?;
     assert_eq!(rt; list.len(), selectors.len());
     for (occurrence, selector) in list.iter().zip(selectors) {
-        assert_eq!(rt; occurrence.0.selector(), *selector);
+        assert!(rt; is_place(&occurrence.0, kind, selector));
         assert_eq!(rt; occurrence.1, 1);
     }
     Ok(())
@@ -169,8 +188,8 @@ fn two_texts_are_found_in_every_order(rt: HostRuntime) -> Result<(), Fail> {
         let catalogue = crawl(&rt, alloc, Table::TwoTexts, 1, order)?;
         ends_with(&rt, &catalogue, 3);
         assert_eq!(&rt; claims(catalogue.record()), 3);
-        finds(&rt, alloc, &catalogue, b"moon", b"moon", &[b"/a", b"/b"])?;
-        occurs(&rt, &catalogue, b"moon", &[b"/a", b"/b"])?;
+        finds(&rt, alloc, &catalogue, b"moon", b"moon", BOTH)?;
+        occurs(&rt, &catalogue, b"moon", BOTH)?;
     }
     Ok(())
 }
@@ -181,8 +200,8 @@ fn a_failure_after_a_link_back_is_no_hit(rt: HostRuntime) -> Result<(), Fail> {
     for order in 0..ORDERS {
         let catalogue = crawl(&rt, alloc, Table::LinksBack, 1, order)?;
         ends_with(&rt, &catalogue, 3);
-        finds(&rt, alloc, &catalogue, b"b", b"Home", &[b"/a"])?;
-        occurs(&rt, &catalogue, b"home", &[b"/a"])?;
+        finds(&rt, alloc, &catalogue, b"b", b"Home", MENU_A)?;
+        occurs(&rt, &catalogue, b"home", MENU_A)?;
     }
     Ok(())
 }
@@ -194,8 +213,8 @@ fn a_second_try_finds_what_the_first_did_not(rt: HostRuntime) -> Result<(), Fail
         let catalogue = crawl(&rt, alloc, Table::FirstFetchFails, 2, order)?;
         ends_with(&rt, &catalogue, 3);
         assert_eq!(&rt; claims(catalogue.record()), 4);
-        finds(&rt, alloc, &catalogue, b"moon", b"moon", &[b"/a", b"/b"])?;
-        occurs(&rt, &catalogue, b"moon", &[b"/a", b"/b"])?;
+        finds(&rt, alloc, &catalogue, b"moon", b"moon", BOTH)?;
+        occurs(&rt, &catalogue, b"moon", BOTH)?;
     }
     Ok(())
 }
@@ -207,8 +226,8 @@ fn one_try_leaves_out_what_failed(rt: HostRuntime) -> Result<(), Fail> {
         let catalogue = crawl(&rt, alloc, Table::FirstFetchFails, 1, order)?;
         ends_with(&rt, &catalogue, 3);
         assert_eq!(&rt; claims(catalogue.record()), 3);
-        finds(&rt, alloc, &catalogue, b"moon", b"moon", &[b"/b"])?;
-        occurs(&rt, &catalogue, b"moon", &[b"/b"])?;
+        finds(&rt, alloc, &catalogue, b"moon", b"moon", TEXT_B)?;
+        occurs(&rt, &catalogue, b"moon", TEXT_B)?;
     }
     Ok(())
 }

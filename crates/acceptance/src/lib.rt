@@ -7,6 +7,8 @@ mod calls;
 #[cfg(test)]
 mod closure;
 #[cfg(test)]
+mod devices;
+#[cfg(test)]
 mod frontier;
 #[cfg(test)]
 mod plain;

@@ -1,12 +1,18 @@
 // Scripts run as a newcomer would run the program, over streams in memory.
-use crate::worked::{DENY_RULE, FIRST_CRAWL, PLACE_LIMIT, REFUSED_START, SHORT, TWO_TRIES, Worked};
-use gopher_hole::run;
+use crate::devices::ShortWriter;
+use crate::worked::{
+    DENY_RULE, FIRST_CRAWL, PLACE_LIMIT, REFUSED_PAGES, REFUSED_START, SHORT, TWO_TRIES, Worked,
+};
+use gopher_hole::{ReplayFault, replay, run};
 use gopher_text::Watched;
 use std::alloc::{AllocError, Global};
 use std::process::Abort;
 use std::test::Fail;
 
-fn words(alloc: Global, all: &[&str]) -> Result<Vec<String>, AllocError> {
+const USAGE: &[u8] = b"usage: hole replay\n";
+
+/// The words of a program.
+pub fn words(alloc: Global, all: &[&str]) -> Result<Vec<String>, AllocError> {
     let mut words = Vec::new(alloc);
     for word in all {
         words.push(String::from_str(alloc, word)?)?;
@@ -21,8 +27,26 @@ fn error_line(alloc: Global, bad_line: Option<u32>) -> Result<String, AllocError
     }
 }
 
-/// Replays a worked script.
+/// A worked script gives its output, to a call of `replay` and to the program.
 pub fn check(rt: &(impl Abort + AllocGlobal), worked: &Worked) -> Result<(), Fail> {
+    check_replay(rt, worked)?;
+    check_run(rt, worked)
+}
+
+fn check_replay(rt: &(impl Abort + AllocGlobal), worked: &Worked) -> Result<(), Fail> {
+    let mut input = Watched::new(worked.script);
+    let mut output = Watched::new(Vec::new(rt.alloc()));
+    let ended = replay(rt.alloc(), &mut input, &mut output);
+    let wanted = match worked.bad_line {
+        Some(line) => Err(ReplayFault::BadScript(line as usize)),
+        None => Ok(()),
+    };
+    assert_eq!(rt; ended, wanted);
+    assert_eq!(rt; output.into_inner().as_slice(), worked.output);
+    Ok(())
+}
+
+fn check_run(rt: &(impl Abort + AllocGlobal), worked: &Worked) -> Result<(), Fail> {
     let mut input = Watched::new(worked.script);
     let mut output = Watched::new(Vec::new(rt.alloc()));
     let mut error = Watched::new(Vec::new(rt.alloc()));
@@ -43,6 +67,7 @@ fn worked_scripts_give_their_bytes(rt: HostRuntime) -> Result<(), Fail> {
         &REFUSED_START,
         &DENY_RULE,
         &TWO_TRIES,
+        &REFUSED_PAGES,
     ] {
         check(&rt, worked)?;
     }
@@ -56,18 +81,17 @@ fn worked_scripts_give_their_bytes(rt: HostRuntime) -> Result<(), Fail> {
 fn other_words_end_with_status_2(rt: HostRuntime) -> Result<(), Fail> {
     let cases: [&[&str]; 3] = [&[], &["replay", "extra"], &["serve"]];
     for all in cases {
-        let mut input = Watched::new(b"claim\n".as_slice());
-        let mut output = Watched::new(Vec::new(rt.alloc()));
-        let mut error = Watched::new(Vec::new(rt.alloc()));
-        let status = run(
-            &rt,
-            &words(rt.alloc(), all)?,
-            &mut input,
-            &mut output,
-            &mut error,
-        );
-        assert_eq!(rt; status, 2);
-        assert_eq!(rt; output.into_inner().len(), 0);
+        // A failure of the error stream changes nothing.
+        for room in 0..=USAGE.len() {
+            let mut input = Watched::new(b"claim\n".as_slice());
+            let mut output = Watched::new(Vec::new(rt.alloc()));
+            let mut error = Watched::new(ShortWriter::new(rt.alloc(), room, true));
+            let words = words(rt.alloc(), all)?;
+            let status = run(&rt, &words, &mut input, &mut output, &mut error);
+            assert_eq!(rt; status, 2);
+            assert_eq!(rt; output.into_inner().len(), 0);
+            assert_eq!(rt; error.into_inner().taken.as_slice(), &USAGE[..room]);
+        }
     }
     Ok(())
 }

@@ -1,89 +1,24 @@
 // Streams that fail: what is written then, and what the program answers.
+use crate::devices::{ShortReader, ShortWriter};
 use crate::worked::FIRST_CRAWL;
 use gopher_hole::{ReplayFault, replay};
 use gopher_text::{LineFault, Watched, read_line_from};
 use std::alloc::Global;
-use std::io;
-use std::io::{Read, Write};
 use std::test::Fail;
 
 const LINE: &[u8] = b"/a.txt\r\n";
 
-// A writer that takes some bytes, and then fails.
-#[derive(Drop)]
-struct ShortWriter {
-    taken: Vec<u8>,
-    left: usize,
-}
-
-impl Write for ShortWriter {
-    fn write(&mut self, buf: &[u8]) -> io::Result<usize> {
-        let count = buf.len().min(self.left);
-        if count == 0 {
-            return Err(io::Error::from(io::ErrorKind::BrokenPipe));
-        }
-        self.taken.extend_from_slice(&buf[..count])?;
-        self.left -= count;
-        Ok(count)
-    }
-
-    fn flush(&mut self) -> io::Result<()> {
-        Ok(())
-    }
-}
-
-// A reader that gives some bytes, and then fails.
-#[derive(Drop)]
-struct ShortReader<'a> {
-    bytes: &'a [u8],
-}
-
-impl<'a> Read for ShortReader<'a> {
-    fn read(&mut self, buf: &mut [u8]) -> io::Result<usize> {
-        let count = self.bytes.len().min(buf.len());
-        if count == 0 {
-            return Err(io::Error::from(io::ErrorKind::ConnectionReset));
-        }
-        let (now, later) = self.bytes.split_at(count);
-        buf[..count].copy_from_slice(now);
-        self.bytes = later;
-        Ok(count)
-    }
-}
-
-// A writer that counts its writes.
-#[derive(Drop)]
-struct CountingWriter {
-    taken: Vec<u8>,
-    writes: u32,
-}
-
-impl Write for CountingWriter {
-    fn write(&mut self, buf: &[u8]) -> io::Result<usize> {
-        self.taken.extend_from_slice(buf)?;
-        self.writes = self.writes.saturating_add(1);
-        Ok(buf.len())
-    }
-
-    fn flush(&mut self) -> io::Result<()> {
-        Ok(())
-    }
-}
-
 #[test]
-fn each_answer_is_sent_before_the_next_command(rt: HostRuntime) -> Result<(), Fail> {
+fn each_answer_goes_out_in_a_write_of_its_own(rt: HostRuntime) -> Result<(), Fail> {
     let mut input = Watched::new(b"start\t2\nstatus\nclaim\n".as_slice());
-    let mut output = Watched::new(CountingWriter {
-        taken: Vec::new(rt.alloc()),
-        writes: 0,
-    });
+    let mut output = Watched::new(ShortWriter::new(rt.alloc(), 1_000, false));
     assert!(rt; replay(rt.alloc(), &mut input, &mut output).is_ok());
-    let CountingWriter { taken, writes } = output.into_inner();
+    let ShortWriter { taken, writes, .. } = output.into_inner();
     assert_eq!(rt;
         taken.as_slice(),
         b"ok\nknown 0 waiting 0 out 0 done 0 dropped 0\nfinished\n".as_slice()
     );
-    assert!(rt; writes >= 3);
+    assert_eq!(rt; writes, 3);
     Ok(())
 }
 
@@ -106,10 +41,7 @@ fn a_read_that_fails_ends_a_line_at_each_place(rt: HostRuntime) {
 fn a_writer_that_fails_has_taken_a_beginning(rt: HostRuntime) -> Result<(), Fail> {
     for count in 0..FIRST_CRAWL.output.len() {
         let mut input = Watched::new(FIRST_CRAWL.script);
-        let mut output = Watched::new(ShortWriter {
-            taken: Vec::new(rt.alloc()),
-            left: count,
-        });
+        let mut output = Watched::new(ShortWriter::new(rt.alloc(), count, false));
         let ended = replay(rt.alloc(), &mut input, &mut output);
         assert!(rt; matches!(ended, Err(ReplayFault::WriteFailed)));
         assert_eq!(rt;
@@ -135,15 +67,15 @@ fn nothing_is_written_of_a_script_that_cannot_be_read(rt: HostRuntime) -> Result
 
 #[test]
 fn a_script_of_over_a_mebibyte_is_refused(rt: HostRuntime) -> Result<(), Fail> {
-    for (length, ends_well) in [(1_048_576usize, true), (1_048_577, false)] {
+    for (length, ended) in [
+        (1_048_576usize, Ok(())),
+        (1_048_577, Err(ReplayFault::ScriptTooLong)),
+    ] {
         let script = vec![in rt.alloc(); b'#'; length]?;
         let mut input = Watched::new(script.as_slice());
         let mut output = Watched::new(Vec::new(rt.alloc()));
-        let ended = replay(rt.alloc(), &mut input, &mut output);
-        assert_eq!(rt; ended.is_ok(), ends_well);
-        if !ends_well {
-            assert!(rt; matches!(ended, Err(ReplayFault::ScriptTooLong)));
-        }
+        assert_eq!(rt; replay(rt.alloc(), &mut input, &mut output), ended);
+        assert_eq!(rt; output.into_inner().len(), 0);
     }
     Ok(())
 }

@@ -106,5 +106,10 @@ fn a_whole_crawl_and_its_searches_are_as_the_record_says(rt: HostRuntime) -> Res
     for word in WORDS {
         compare_occurrences(&rt, alloc, &catalogue, word)?;
     }
-    Ok(())
+    // A query of 256 terms, in all the bytes that one may have.
+    let mut long = Vec::new(alloc);
+    for _ in 0..256 {
+        long.extend_from_slice(b"sun ")?;
+    }
+    compare(&rt, alloc, &catalogue, &long)
 }

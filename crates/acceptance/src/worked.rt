@@ -122,8 +122,42 @@ pub const TWO_TRIES: Worked<'static> = Worked {
     bad_line: None,
 };
 
+/// Pages that are refused, each with its block, and two tries.
+pub const REFUSED_PAGES: Worked<'static> = Worked {
+    script: b"# rules\n\
+    allow\th\t70\t\n\
+    deny\tH\t70\t/p\n\
+    \n\
+    seed\t1\th\t70\t\n\
+    start\t5\t2\n\
+    claim\n\
+    found\t0\t7\th\t70\t\n\
+    |x\n\
+    found\t0\t1\th\t70\t/q\n\
+    |y\n\
+    found\t9\t1\th\t70\t\n\
+    found\t0\t1\th\t70\t\n\
+    |0X\t/p/x\th\t70\n\
+    |0Y\t/q\th\t70\n\
+    status\n\
+    claim\n\
+    fail\t1\t5\n\
+    claim",
+    output: b"ok\n\
+    take\t0\t1\th\t70\t\n\
+    refused 1\n\
+    refused 53\n\
+    refused 52\n\
+    added 1 0\n\
+    known 2 waiting 1 out 0 done 1 dropped 0\n\
+    take\t1\t0\th\t70\t/q\n\
+    ok\n\
+    take\t1\t0\th\t70\t/q\n",
+    bad_line: None,
+};
+
 /// Short scripts, each for one rule of the language.
-pub const SHORT: [Worked<'static>; 34] = [
+pub const SHORT: [Worked<'static>; 37] = [
     Worked {
         script: b"allow\ta b\t70\t\n",
         output: b"refused 3\n",
@@ -233,6 +267,24 @@ pub const SHORT: [Worked<'static>; 34] = [
         script: b"start\t2\n|x\n",
         output: b"ok\n",
         bad_line: Some(2),
+    },
+    Worked {
+        script: b"start\t2\n\n|x\n",
+        output: b"ok\n",
+        bad_line: Some(3),
+    },
+    Worked {
+        script: b"start\t2\nclaim x\n",
+        output: b"ok\n",
+        bad_line: Some(2),
+    },
+    Worked {
+        script: b"allow\ta b\t70\t\n\
+    seed\t1\th\t0\t\n\
+    start\t2\t6\n\
+    status\n",
+        output: b"refused 3\nrefused 4\nrefused 54\n",
+        bad_line: Some(4),
     },
     Worked {
         script: b"start\t2\nstart\t2\n",

@@ -137,3 +137,22 @@ fn writes_what_it_read(rt: HostRuntime) -> Result<(), Fail> {
     assert_eq!(rt; out.as_slice(), expected.as_slice());
     Ok(())
 }
+
+#[test]
+fn writes_lines_that_were_made(rt: HostRuntime) -> Result<(), Fail> {
+    let parts: [(u8, &[u8], &[u8], &[u8], u16); 3] = [
+        (b'0', b"About us", b"/about", b"Gopher.Example", 70),
+        (b'i', b"", b"", b"h", 0),
+        (b'1', b"Far", b"", b"far.example", 65_535),
+    ];
+    let mut lines = Vec::new(rt.alloc());
+    for (kind, display, selector, host, port) in parts {
+        lines.push(MenuLine::new(rt.alloc(), kind, display, selector, host, port)?)?;
+    }
+    let mut out = Vec::new(rt.alloc());
+    write_menu(&lines, &mut out)?;
+    let expected: &[u8] =
+        b"0About us\t/about\tGopher.Example\t70\r\ni\t\th\t0\r\n1Far\t\tfar.example\t65535\r\n.\r\n";
+    assert_eq!(rt; out.as_slice(), expected);
+    Ok(())
+}

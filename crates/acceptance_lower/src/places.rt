@@ -1,5 +1,6 @@
 // Places, homes, menu lines that are made, and requests: their parts and their refusals.
 use gopher_item::{Entry, Home, ItemFault, MenuLine, Place, lines, read_menu, read_request};
+use std::alloc::Global;
 use std::test::Fail;
 
 #[test]
@@ -28,12 +29,15 @@ fn tests_the_parts_of_a_place_in_order(rt: HostRuntime) -> Result<(), Fail> {
 
 #[test]
 fn keeps_the_parts_of_a_place(rt: HostRuntime) -> Result<(), Fail> {
-    let place = Place::new(rt.alloc(), b'1', b"/X", b"Gopher.Example", 70)?;
-    assert_eq!(rt; place.kind(), b'1');
-    assert_eq!(rt; place.selector(), b"/X".as_slice());
-    assert_eq!(rt; place.host(), b"gopher.example".as_slice());
-    assert_eq!(rt; place.port(), 70);
-    assert!(rt; place.clone()? == place);
+    let selectors: [&[u8]; 2] = [b"/x", b"/X"];
+    for selector in selectors {
+        let place = Place::new(rt.alloc(), b'1', selector, b"Gopher.Example", 70)?;
+        assert_eq!(rt; place.kind(), b'1');
+        assert_eq!(rt; place.selector(), selector);
+        assert_eq!(rt; place.host(), b"gopher.example".as_slice());
+        assert_eq!(rt; place.port(), 70);
+        assert!(rt; place.clone()? == place);
+    }
     Ok(())
 }
 
@@ -94,21 +98,31 @@ fn tests_the_parts_of_a_made_line_in_order(rt: HostRuntime) -> Result<(), Fail> 
     Ok(())
 }
 
+// The number of the fault of an item's place, 0 where the item names one; `None` for an odd line.
+fn place_code(alloc: Global, entry: &Entry) -> Option<u8> {
+    match entry {
+        Entry::Item(line) => match line.place(alloc) {
+            Ok(_) => Some(0),
+            Err(fault) => Some(fault.code()),
+        },
+        Entry::Odd(_) => None,
+    }
+}
+
 #[test]
 fn a_line_names_its_place(rt: HostRuntime) -> Result<(), Fail> {
-    let menu = read_menu(
-        rt.alloc(),
-        b"iWelcome\tfake\t(NULL)\t0\r\nhSite\tURL:http://x/\th\t70\r\n1Dir\t/d\t H \t 70 \t+\n0T\t/t\th\t70\n0N\t/n\t\t70\n0P\t/p\th\t0",
-    )?;
-    let codes: [Option<u8>; 6] = [Some(1), Some(1), None, None, Some(3), Some(4)];
-    assert_eq!(rt; menu.entries.len(), codes.len());
-    for (entry, code) in menu.entries.iter().zip(codes) {
-        match entry {
-            Entry::Item(line) => {
-                let named = line.place(rt.alloc());
-                assert_eq!(rt; named.err().map(ItemFault::code), code);
-            }
-            Entry::Odd(_) => assert!(rt; false, "an odd line"),
+    let cases: [(&[u8], &[Option<u8>]); 2] = [
+        (
+            b"iWelcome\tfake\t(NULL)\t0\r\nhSite\tURL:http://x/\th\t70\r\n1Dir\t/d\t h \t 70 \t+\nbroken\r\n\r\n0T\t/t\th\t70",
+            &[Some(1), Some(1), Some(0), None, Some(0)],
+        ),
+        (b"0N\t/n\t\t70\n0P\t/p\th\t0", &[Some(3), Some(4)]),
+    ];
+    for (bytes, codes) in cases {
+        let menu = read_menu(rt.alloc(), bytes)?;
+        assert_eq!(rt; menu.entries.len(), codes.len());
+        for (entry, code) in menu.entries.iter().zip(codes) {
+            assert_eq!(rt; place_code(rt.alloc(), entry), *code);
         }
     }
     Ok(())

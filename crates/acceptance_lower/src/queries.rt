@@ -52,6 +52,17 @@ fn a_word_in_two_terms_counts_twice(rt: HostRuntime) -> Result<(), Fail> {
     check(&rt, b"sun not mars", TEXT, Some(1))
 }
 
+#[test]
+fn a_query_may_fill_its_bytes(rt: HostRuntime) -> Result<(), Fail> {
+    let mut text = Vec::new(rt.alloc());
+    for _ in 0..512 {
+        text.extend_from_slice(b"a ")?;
+    }
+    assert_eq!(rt; text.len(), 1_024);
+    assert_eq!(rt; query(rt.alloc(), &text)?.wants(), 512);
+    check(&rt, &text, b"a", Some(512))
+}
+
 // The page of the menu and that of the text have these scores, where they match.
 fn check_both(
     rt: &(impl Abort + AllocGlobal),

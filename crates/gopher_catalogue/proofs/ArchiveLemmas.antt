@@ -5,7 +5,7 @@ use Rattle.gopher_page.specs.Packed.{AreCounts}
 use Rattle.gopher_page.specs.Page.{PageData}
 use Rattle.gopher_catalogue.specs.Event.{OpeningData, EventData, Opened, Claimed, Found, Failed}
 use Rattle.gopher_catalogue.specs.declared.postings.Postings.{Postings}
-use Rattle.gopher_catalogue.specs.Postings.{postings_at, postings_in, posted, postings_from, page_in, page_at, ArePostingsOf}
+use Rattle.gopher_catalogue.specs.Postings.{postings_at, postings_in, posted, postings_from, page_in, page_at, KeepsPostedWordsAlone, ArePostingsOf}
 use Rattle.gopher_catalogue.proofs.PostingCounts.{AreCounted}
 
 posted-none : (i : ℕ) (event : EventData) (sought : List ℕ) → page_in (Some event) ≡ None → posted i event sought ≡ []
@@ -43,9 +43,9 @@ counted-push (first ∷ events) event counted last (suc k) page is = counted-pus
 
 -- ---- a record that begins
 
-pub begun : (postings : Postings) (opening : OpeningData) (later : List EventData) → ((sought : List ℕ) → postings_at postings sought ≡ []) → later ≡ [] → ArePostingsOf postings (Opened opening ∷ later)
+pub begun : (postings : Postings) (opening : OpeningData) (later : List EventData) → ((sought : List ℕ) → postings_at postings sought ≡ []) → KeepsPostedWordsAlone postings → later ≡ [] → ArePostingsOf postings (Opened opening ∷ later)
 unfolding postings_from
-begun postings opening later none first = subst (λ events. ArePostingsOf postings (Opened opening ∷ events)) (sym first) (record { all = none; counted = counted })
+begun postings opening later none words first = subst (λ events. ArePostingsOf postings (Opened opening ∷ events)) (sym first) (record { all = none; counted = counted; posted = words })
   where
     counted : AreCounted (Opened opening ∷ [])
     counted zero page is = absurd cc
@@ -64,6 +64,7 @@ after_other postings opening new_opening later new_later event of same more none
           ∙ ap (λ l. postings_from 0 (Opened opening ∷ later) sought ++ l) (sym (posted-none (length (Opened opening ∷ later)) event sought none))
           ∙ sym (events-push (Opened opening ∷ later) event sought);
       counted = counted-push (Opened opening ∷ later) event of.counted (λ page is. absurd (never page (sym none ∙ is)));
+      posted = of.posted;
     })
   where
     never : (page : PageData) → None ≡ Some page → ⊥
@@ -72,19 +73,21 @@ after_other postings opening new_opening later new_later event of same more none
 -- a page that was found adds those of its words
 pub after_found : (postings new_postings : Postings) (opening new_opening : OpeningData) (later new_later : List EventData) (number index : ℕ) (page : PageData) → ArePostingsOf postings (Opened opening ∷ later)
     → index ≡ length (Opened opening ∷ later) → ((sought : List ℕ) → postings_at new_postings sought ≡ postings_at postings sought ++ postings_in index page.counts sought) → AreCounts page.counts
-    → new_opening ≡ opening → new_later ≡ later ++ Found number page ∷ [] → ArePostingsOf new_postings (Opened new_opening ∷ new_later)
-after_found postings new_postings opening new_opening later new_later number index page of last added counted same more =
+    → KeepsPostedWordsAlone new_postings → new_opening ≡ opening → new_later ≡ later ++ Found number page ∷ [] → ArePostingsOf new_postings (Opened new_opening ∷ new_later)
+after_found postings new_postings opening new_opening later new_later number index page of last added counted words same more =
     subst (ArePostingsOf new_postings) (λ i. Opened (sym same i) ∷ sym more i)
     (record {
       all = λ sought.
           added sought ∙ (λ i. of.all sought i ++ postings_in (last i) page.counts sought)
           ∙ sym (events-push (Opened opening ∷ later) (Found number page) sought);
       counted = counted-push (Opened opening ∷ later) (Found number page) of.counted (λ other is. subst (λ p. AreCounts p.counts) (found other is) counted);
+      posted = words;
     })
   where
     found : (other : PageData) → Some page ≡ Some other → page ≡ other
     found other e = cc
 
 -- the postings of before, again
-pub taken_back : (postings new_postings : Postings) (events : List EventData) → ArePostingsOf postings events → ((sought : List ℕ) → postings_at new_postings sought ≡ postings_at postings sought) → ArePostingsOf new_postings events
-taken_back postings new_postings events of same = record { all = λ sought. same sought ∙ of.all sought; counted = of.counted }
+pub taken_back : (postings new_postings : Postings) (events : List EventData) → ArePostingsOf postings events → ((sought : List ℕ) → postings_at new_postings sought ≡ postings_at postings sought) → KeepsPostedWordsAlone new_postings
+    → ArePostingsOf new_postings events
+taken_back postings new_postings events of same words = record { all = λ sought. same sought ∙ of.all sought; counted = of.counted; posted = words }

@@ -21,6 +21,7 @@ pub mod StandingLemmas
 pub mod IndexedLemmas
 pub mod IndexedCalls
 pub mod PostingLemmas
+pub mod PostedWords
 pub mod PostingCombining
 pub mod PostingCounts
 pub mod GatherLemmas

@@ -8,14 +8,7 @@ use Rattle.std.proofs.lemmas.List.Sums.{sum_by-cons, sum_by-append, fold-append}
 use Rattle.gopher_page.specs.Query.{TermData, BeginsWithAnd, joined, is_not, wanted, count_of_term, matches, score}
 use Rattle.gopher_page.specs.declared.query.Operator.{Operator}
 use Rattle.gopher_page.specs.declared.query.Operator.TheVariants.{And, Or, Not}
-
-both_left : (a b : Bool) → (a && b) ≡ true → a ≡ true
-both_left true b h = refl
-both_left false b h = h
-
-only_left : (a : Bool) → (a || false) ≡ true → a ≡ true
-only_left true h = refl
-only_left false h = h
+use Rattle.gopher_page.proofs.Terms.{both_left, only_left}
 
 wanted_kept : (term : TermData) (terms : List TermData) → not (is_not term.operator) ≡ true → wanted (term ∷ terms) ≡ term ∷ wanted terms
 unfolding wanted

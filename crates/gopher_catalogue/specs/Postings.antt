@@ -21,6 +21,10 @@ entry_at map word = get_by (λ key. slice_cmp nat_cmp word key.items) map
 abbrev pub postings_at : Postings → List ℕ → List PostingData
 postings_at postings sought = option_map_or (λ list. list.items) (entry_at postings.words sought) []
 
+-- no word is kept that has no postings
+abbrev pub KeepsPostedWordsAlone : Postings → Type 0
+KeepsPostedWordsAlone postings = (word : List ℕ) → postings_at postings word ≡ [] → entry_at postings.words word ≡ None
+
 -- the posting of one word, as postings of another: those of the same word alone
 abbrev pub posting_for : PostingData → List ℕ → List ℕ → List PostingData
 posting_for posting word sought = if same_word word sought then posting ∷ [] else []
@@ -51,7 +55,9 @@ page_in event = None
 abbrev pub page_at : List EventData → ℕ → Option PageData
 page_at events index = page_in (slice_get events index)
 
--- the postings are those of the pages that the events found, whose words are counted
+-- the postings are those of the pages that the events found, whose words are counted, and of no other
+-- word is there even an empty list
 pub record ArePostingsOf (postings : Postings) (events : List EventData) : Type 0 where
   pub all : (sought : List ℕ) → postings_at postings sought ≡ postings_from 0 events sought
   pub counted : (index : ℕ) (page : PageData) → page_at events index ≡ Some page → AreCounts page.counts
+  pub posted : KeepsPostedWordsAlone postings

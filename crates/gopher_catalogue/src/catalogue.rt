@@ -229,6 +229,9 @@ impl Catalogue {
     }
 
     /// Whether the crawl is at its end: no place waits, and none is out. Takes no memory.
+    ///
+    /// Where it is, and `status` tells that no mention was dropped, `places`, `search` and
+    /// `occurrences` answer what every such crawl of the same servers does (`closure`).
     pub fn is_finished(&self) -> bool
         ensures finished { result ≡ is_finished self.now }
         ensures legal { IsLegal self.now }
@@ -280,6 +283,9 @@ impl Catalogue {
 
     /// The places of the pages in which `word` stands, with how often, in place order. Refused only
     /// where memory is (90).
+    ///
+    /// Once the crawl is finished and no mention was dropped, these are the occurrences in the pages of
+    /// all places that can be reached.
     pub fn occurrences(&self, word: &[u8]) -> Result<Vec<(Place, u32)>, NoMemory>
         ensures occurrences { IfOk result (λ list. list.items ≡ occurrences_of (pages_found self.now) word.now) }
         ensures once_complete { IfOk result (λ list. AreFinalOnceComplete self.now word.now list.items) }

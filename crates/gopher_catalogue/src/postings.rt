@@ -7,7 +7,7 @@ ghost use Rattle.gopher_catalogue.specs.Posting.{PostingData};
 ghost use Rattle.gopher_catalogue.specs.Event.{EventData};
 ghost use Rattle.gopher_catalogue.specs.Gathered.{added_up, gathered_count, ArePositive, AllPositive, AreOrdered};
 ghost use Rattle.gopher_catalogue.specs.Listing.{count_for, ListsCounts};
-ghost use Rattle.gopher_catalogue.specs.Postings.{postings_at, posting_for, postings_in, SamePostings, ArePostingsOf};
+ghost use Rattle.gopher_catalogue.specs.Postings.{postings_at, KeepsPostedWordsAlone, posting_for, postings_in, SamePostings, ArePostingsOf};
 
 use gopher_item::NoMemory;
 use gopher_page::Counts;
@@ -90,7 +90,8 @@ pub(crate) struct Postings {
 impl Postings {
     /// The postings of no page.
     pub fn new(alloc: Global) -> Postings
-        ensures { (word : List ℕ) → postings_at result word ≡ [] }
+        ensures none { (word : List ℕ) → postings_at result word ≡ [] }
+        ensures words { KeepsPostedWordsAlone result }
     {
         Postings {
             words: BTreeMap::new(alloc),
@@ -112,6 +113,7 @@ impl Postings {
     fn push(&mut self, alloc: Global, word: &[u8], posting: Posting) -> Result<(), NoMemory>
         ensures ok { OnOk result ((sought : List ℕ) → postings_at self.new sought ≡ postings_at self.old sought ++ posting_for posting word.now sought) }
         ensures err { OnErr result (SamePostings self.old self.new) }
+        ensures words { KeepsPostedWordsAlone self.old → KeepsPostedWordsAlone self.new }
     {
         if let Some(postings) = self.words.get_mut(word) {
             let Ok(()) = grow(postings) else {
@@ -128,7 +130,8 @@ impl Postings {
 
     // Takes back the last posting of a word, and the word with its only one.
     fn pop(&mut self, word: &[u8])
-        ensures { (posting : PostingData) (rest : List ℕ → List PostingData) → ((sought : List ℕ) → postings_at self.old sought ≡ rest sought ++ posting_for posting word.now sought) → (sought : List ℕ) → postings_at self.new sought ≡ rest sought }
+        ensures postings { (posting : PostingData) (rest : List ℕ → List PostingData) → ((sought : List ℕ) → postings_at self.old sought ≡ rest sought ++ posting_for posting word.now sought) → (sought : List ℕ) → postings_at self.new sought ≡ rest sought }
+        ensures words { KeepsPostedWordsAlone self.old → KeepsPostedWordsAlone self.new }
     {
         let Some(postings) = self.words.get_mut(word) else {
             return;
@@ -142,7 +145,8 @@ impl Postings {
     // Takes back the postings of the first `added` words of a page, the last ones added.
     fn take_back(&mut self, event: u32, counts: &Counts, added: usize)
         requires { added ≤ length counts.now }
-        ensures { (rest : List ℕ → List PostingData) → ((sought : List ℕ) → postings_at self.old sought ≡ rest sought ++ postings_in event (take added counts.now) sought) → (sought : List ℕ) → postings_at self.new sought ≡ rest sought }
+        ensures postings { (rest : List ℕ → List PostingData) → ((sought : List ℕ) → postings_at self.old sought ≡ rest sought ++ postings_in event (take added counts.now) sought) → (sought : List ℕ) → postings_at self.new sought ≡ rest sought }
+        ensures words { KeepsPostedWordsAlone self.old → KeepsPostedWordsAlone self.new }
     {
         let mut left = added;
         while left > 0 {
@@ -159,6 +163,7 @@ impl Postings {
         ensures counted { AreCounts counts.now }
         ensures ok { OnOk result ((sought : List ℕ) → postings_at self.new sought ≡ postings_at self.old sought ++ postings_in event counts.now sought) }
         ensures err { OnErr result (SamePostings self.old self.new) }
+        ensures words { KeepsPostedWordsAlone self.old → KeepsPostedWordsAlone self.new }
     {
         for index in 0..counts.len() {
             let (word, count) = counts.get(index);
@@ -172,7 +177,8 @@ impl Postings {
 
     /// Takes back the postings of the page that was added last.
     pub fn remove(&mut self, event: u32, counts: &Counts)
-        ensures { (rest : List ℕ → List PostingData) → ((sought : List ℕ) → postings_at self.old sought ≡ rest sought ++ postings_in event counts.now sought) → (sought : List ℕ) → postings_at self.new sought ≡ rest sought }
+        ensures postings { (rest : List ℕ → List PostingData) → ((sought : List ℕ) → postings_at self.old sought ≡ rest sought ++ postings_in event counts.now sought) → (sought : List ℕ) → postings_at self.new sought ≡ rest sought }
+        ensures words { KeepsPostedWordsAlone self.old → KeepsPostedWordsAlone self.new }
     {
         self.take_back(event, counts, counts.len());
     }

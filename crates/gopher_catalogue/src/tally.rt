@@ -2,7 +2,6 @@
 
 ghost use Rattle.std.specs.Prelude.{◌≡◌, ℕ, ◌+◌, ◌^◌, ◌≤◌, List, ◌++◌, map, IfOk, OnOk};
 ghost use Rattle.std.specs.List.{All, flat_map};
-ghost use Rattle.gopher_page.specs.Query.{joined, is_not};
 ghost use Rattle.gopher_catalogue.specs.Posting.{PostingData};
 ghost use Rattle.gopher_catalogue.specs.declared.tally.Tally.{Tally};
 ghost use Rattle.gopher_catalogue.specs.Tally.{first_tally, without_term, with_term, new_tally, merged_next, merged};
@@ -19,22 +18,6 @@ pub(crate) struct Tally {
     pub event: u32,
     pub matches: bool,
     pub score: u64,
-}
-
-fn joined(operator: Operator, truth: bool, holds: bool) -> bool
-    ensures { result ≡ joined operator truth holds }
-{
-    match operator {
-        Operator::And => truth && holds,
-        Operator::Or => truth || holds,
-        Operator::Not => truth && !holds,
-    }
-}
-
-fn is_not(operator: Operator) -> bool
-    ensures { result ≡ is_not operator }
-{
-    matches!(operator, Operator::Not)
 }
 
 /// The tally of a page that has the first term of a query.
@@ -54,7 +37,7 @@ fn without_term(operator: Operator, tally: &Tally) -> Tally
 {
     Tally {
         event: tally.event,
-        matches: joined(operator, tally.matches, false),
+        matches: operator.join(tally.matches, false),
         score: tally.score,
     }
 }
@@ -64,14 +47,14 @@ fn with_term(operator: Operator, tally: &Tally, posting: &Posting) -> Tally
     ensures value { result ≡ with_term operator tally.now posting.now }
     ensures few { result.score ≤ tally.now.score + 2 ^ 32 }
 {
-    let more = if is_not(operator) {
+    let more = if operator.is_not() {
         0
     } else {
         u64::from(posting.count())
     };
     Tally {
         event: tally.event,
-        matches: joined(operator, tally.matches, true),
+        matches: operator.join(tally.matches, true),
         score: tally.score + more,
     }
 }
@@ -93,10 +76,10 @@ fn push_new(operator: Operator, posting: &Posting, tallies: &mut Vec<Tally>) -> 
     ensures tallies { OnOk result (tallies.new.items ≡ tallies.old.items ++ new_tally operator posting.now) }
     ensures few { (bound : ℕ) → 2 ^ 32 ≤ bound → All (λ tally. tally.score ≤ bound) tallies.old.items → OnOk result (All (λ tally. tally.score ≤ bound) tallies.new.items) }
 {
-    if !is_not(operator) {
+    if !operator.is_not() {
         tallies.push(Tally {
             event: posting.event(),
-            matches: joined(operator, false, true),
+            matches: operator.join(false, true),
             score: u64::from(posting.count()),
         })?;
     }

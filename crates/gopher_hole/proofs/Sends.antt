@@ -66,14 +66,14 @@ some-kept A old mid new output kept (inr none) = inr (Keeps-trans old mid new no
 
 ends-kept : {T : Type 0} (bytes : List ℕ) (left : Option (List ℕ)) (missed missing : ℕ) (old mid new : Option (List ℕ)) (before after later : ℕ) (end : Result T ReplayFault)
     → Keeps mid new → after ≤ later → ReplayEnds bytes left missed missing old mid before after end → ReplayEnds bytes left missed missing old new before later end
-ends-kept bytes left missed missing old mid new before after later (Ok end) kept more (all, (good, sent, counted)) = (all, (good, Appends-kept old mid new _ sent kept, omega arith))
-ends-kept bytes left missed missing old mid new before after later (Err (BadScript line)) kept more (all, (bad, sent)) = (all, (bad, Appends-kept old mid new _ sent kept))
-ends-kept bytes left missed missing old mid new before after later (Err WriteFailed) kept more (all, (part, failed)) =
-    (all, (part-kept old mid new _ kept part, has_failed-later before after later failed more))
+ends-kept bytes left missed missing old mid new before after later (Ok end) kept more (few, all, (good, sent, counted)) = (few, all, (good, Appends-kept old mid new _ sent kept, omega arith))
+ends-kept bytes left missed missing old mid new before after later (Err (BadScript line)) kept more (few, all, (bad, sent)) = (few, all, (bad, Appends-kept old mid new _ sent kept))
+ends-kept bytes left missed missing old mid new before after later (Err WriteFailed) kept more (few, all, (part, failed)) =
+    (few, all, (part-kept old mid new _ kept part, has_failed-later before after later failed more))
 ends-kept bytes left missed missing old mid new before after later (Err NoMemory) kept more (few, some) = (few, some-kept (IsAtEnd left) old mid new (script_output bytes).output kept some)
 ends-kept bytes left missed missing old mid new before after later (Err ScriptTooLong) kept more (long, none) = (long, Keeps-trans old mid new none kept)
-ends-kept bytes left missed missing old mid new before after later (Err ReadFailed) kept more (failed, none) = (failed, Keeps-trans old mid new none kept)
-ends-kept bytes left missed missing old mid new before after later (Err TooManyTurns) kept more (failed, none) = (failed, Keeps-trans old mid new none kept)
+ends-kept bytes left missed missing old mid new before after later (Err ReadFailed) kept more (few, failed, none) = (few, failed, Keeps-trans old mid new none kept)
+ends-kept bytes left missed missing old mid new before after later (Err TooManyTurns) kept more (few, failed, spent, none) = (few, failed, spent, Keeps-trans old mid new none kept)
 
 -- what a writer holds is kept, and its count of failures doesn't fall
 pub replays-kept : {T : Type 0} (had left : Option (List ℕ)) (missed missing : ℕ) (old mid new : Option (List ℕ)) (before after later : ℕ) (end : Result T ReplayFault)

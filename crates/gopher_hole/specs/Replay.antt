@@ -1,6 +1,7 @@
 -- What a replay read and wrote, by how it ended.
 use Rattle.std.specs.Prelude.{◌≡◌, ℕ, ◌<◌, ◌≤◌, ◌⊎◌, List, [], ◌++◌, length, Option, None, Some, Result, Ok, Err}
 use Rattle.std.specs.Io.KnownBytes.{Appends, Consumes, IsAtEnd, Keeps}
+use Rattle.gopher_text.specs.Reply.{SpendsTurns}
 use Rattle.gopher_text.specs.Watched.{WatchedData, HasFailed}
 use Rattle.gopher_hole.specs.Statement.{StatementData}
 use Rattle.gopher_hole.specs.Script.{RunData, script_output, answer_at, after_at}
@@ -46,15 +47,19 @@ script_limit = 1048576
 -- how a replay ended, after these bytes of the script were read: what the reader has left, its count
 -- of failures before and after, and the writer's contents and count of failures before and after
 abbrev pub ReplayEnds : {T : Type 0} → List ℕ → Option (List ℕ) → ℕ → ℕ → Option (List ℕ) → Option (List ℕ) → ℕ → ℕ → Result T ReplayFault → Type 0
-ReplayEnds bytes left missed missing old new before after (Ok end) = IsAtEnd left × RunEnds (script_output bytes) old new before after (Ok end)
+ReplayEnds bytes left missed missing old new before after (Ok end) =
+    (length bytes ≤ script_limit) × IsAtEnd left × RunEnds (script_output bytes) old new before after (Ok end)
 ReplayEnds bytes left missed missing old new before after (Err (BadScript line)) =
-    IsAtEnd left × RunEnds {T = Unit {0}} (script_output bytes) old new before after (Err (BadScript line))
-ReplayEnds bytes left missed missing old new before after (Err WriteFailed) = IsAtEnd left × RunEnds {T = Unit {0}} (script_output bytes) old new before after (Err WriteFailed)
+    (length bytes ≤ script_limit) × IsAtEnd left × RunEnds {T = Unit {0}} (script_output bytes) old new before after (Err (BadScript line))
+ReplayEnds bytes left missed missing old new before after (Err WriteFailed) =
+    (length bytes ≤ script_limit) × IsAtEnd left × RunEnds {T = Unit {0}} (script_output bytes) old new before after (Err WriteFailed)
 ReplayEnds bytes left missed missing old new before after (Err NoMemory) =
     (length bytes ≤ script_limit) × ((IsAtEnd left × AppendsPart old new (script_output bytes).output) ⊎ Keeps old new)
 ReplayEnds bytes left missed missing old new before after (Err ScriptTooLong) = (script_limit < length bytes) × Keeps old new
-ReplayEnds bytes left missed missing old new before after (Err ReadFailed) = HasFailed missed missing × Keeps old new
-ReplayEnds bytes left missed missing old new before after (Err TooManyTurns) = HasFailed missed missing × Keeps old new
+ReplayEnds bytes left missed missing old new before after (Err ReadFailed) =
+    (length bytes ≤ script_limit) × HasFailed missed missing × Keeps old new
+ReplayEnds bytes left missed missing old new before after (Err TooManyTurns) =
+    (length bytes ≤ script_limit) × HasFailed missed missing × SpendsTurns 2097152 missed missing (length bytes) × Keeps old new
 
 -- a replay, by how it ended: what the reader has left before and after, its count of failures before
 -- and after, and the writer's contents and count of failures before and after

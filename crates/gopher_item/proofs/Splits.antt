@@ -3,6 +3,7 @@ use Rattle.std.proofs.Common.{◌≡◌, ℕ, zero, suc, ◌+◌, ◌-◌, ◌<�
 use Rattle.std.specs.List.{list_any, slice_split}
 use Rattle.std.proofs.lemmas.List.{take_all}
 use Rattle.std.proofs.lemmas.List.Folds.{list_any_at}
+use Rattle.std.specs.Io.BufRead.{drop_through}
 use Rattle.std.specs.Str.Lines.{lines_of_parts, strip_carriage_return}
 use Rattle.std.proofs.lemmas.List.Splits.{slice_split-cons_yes, slice_split-cons_no}
 use Rattle.std.proofs.lemmas.Bool.Decides.{nat_tests}
@@ -61,6 +62,21 @@ slice_split_nowhere c [] none = refl
 slice_split_nowhere c (b ∷ bs) none =
     slice_split-cons_no (is_cut c) b bs (not_first c b bs (length bs) none)
     ∙ rw (slice_split_nowhere c bs (later c b bs (length bs) none)) refl
+
+-- what stands after their first c
+pub drop_through_at_first : (c : ℕ) (bs : List ℕ) (k : ℕ) → k < length bs → Nowhere (Passes (is_byte c) bs) 0 k → eqb (get_or bs k 0) c ≡ true
+    → drop_through c bs ≡ drop (suc k) bs
+drop_through_at_first c [] k within none here = absurd (omega arith)
+drop_through_at_first c (b ∷ bs) zero within none here = ap (λ t. cond t bs (drop_through c bs)) here
+drop_through_at_first c (b ∷ bs) (suc k) within none here =
+    ap (λ t. cond t bs (drop_through c bs)) (not_first c b bs k none)
+    ∙ drop_through_at_first c bs k (omega arith) (later c b bs k none) here
+
+pub drop_through_nowhere : (c : ℕ) (bs : List ℕ) → Nowhere (Passes (is_byte c) bs) 0 (length bs) → drop_through c bs ≡ []
+drop_through_nowhere c [] none = refl
+drop_through_nowhere c (b ∷ bs) none =
+    ap (λ t. cond t bs (drop_through c bs)) (not_first c b bs (length bs) none)
+    ∙ drop_through_nowhere c bs (later c b bs (length bs) none)
 
 -- a split has a first part
 pub some_part : {X : Type 0} (p : X → Bool) (xs : List X) → (first : List X) × (more : List (List X)) × (slice_split p xs ≡ first ∷ more)

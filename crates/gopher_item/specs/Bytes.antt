@@ -2,7 +2,7 @@
 use Rattle.std.specs.Prelude.{ℕ, Bool, ◌==◌, ◌||◌, nat_lt, List}
 use Rattle.std.specs.List.{list_any}
 
--- a TAB, an LF, a CR or a NUL, none of which stands inside a field (RFC 1436, section 2.2 and the appendix)
+-- a TAB, an LF, a CR or a NUL, none of which stands inside a field (RFC 1436, section 2 and the appendix)
 abbrev pub is_special : ℕ → Bool
 is_special byte = (byte == 9) || (byte == 10) || (byte == 13) || (byte == 0)
 

@@ -1,6 +1,7 @@
 //! The lines of bytes.
 
 ghost use Rattle.std.specs.Prelude.{◌≡◌, ◌<◌, ◌==◌, false, [], ◌∷◌, ◌++◌, length, map, IfOk, IfSome, MatchOption};
+ghost use Rattle.std.specs.Io.BufRead.{drop_through};
 ghost use Rattle.std.specs.List.{list_any};
 ghost use Rattle.std.specs.Str.Lines.{strip_carriage_return};
 ghost use Rattle.gopher_item.specs.Lines.{lines_of};
@@ -16,6 +17,7 @@ use std::alloc::Global;
 pub fn first_line(bytes: &[u8]) -> Option<(&[u8], &[u8])>
     ensures line { MatchOption result (bytes.now ≡ []) (λ parts. lines_of bytes.now ≡ parts.0.now ∷ lines_of parts.1.now) }
     ensures no_feed { IfSome result (λ parts. list_any (λ byte. byte == 10) parts.0.now ≡ false) }
+    ensures rest { IfSome result (λ parts. parts.1.now ≡ drop_through 10 bytes.now) }
     ensures shorter { IfSome result (λ parts. length parts.1.now < length bytes.now) }
 {
     if bytes.is_empty() {

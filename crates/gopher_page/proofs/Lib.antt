@@ -8,6 +8,6 @@ mod Joining
 pub mod Order
 mod Search
 mod Tallies
-mod Terms
+pub mod Terms
 mod Short
 mod Pages

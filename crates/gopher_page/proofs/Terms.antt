@@ -10,11 +10,11 @@ use Rattle.gopher_page.specs.declared.query.Operator.TheVariants.{And, Or, Not}
 use Rattle.gopher_page.specs.Query.{TermData, BeginsWithAnd, HasWanted, count_of_term, joined, is_not, wanted, matches, score, query_of, terms_of}
 use Rattle.gopher_page.specs.Words.{Token, tokens_of}
 
-both_left : (a b : Bool) → (a && b) ≡ true → a ≡ true
+pub both_left : (a b : Bool) → (a && b) ≡ true → a ≡ true
 both_left true b h = refl
 both_left false b h = h
 
-only_left : (a : Bool) → (a || false) ≡ true → a ≡ true
+pub only_left : (a : Bool) → (a || false) ≡ true → a ≡ true
 only_left true h = refl
 only_left false h = h
 

@@ -24,6 +24,27 @@ pub enum Operator {
     Not,
 }
 
+impl Operator {
+    /// Whether the terms so far hold, by whether those before the term did (`truth`) and whether the
+    /// term does (`holds`).
+    pub fn join(self, truth: bool, holds: bool) -> bool
+        ensures { result ≡ joined self truth holds }
+    {
+        match self {
+            Operator::And => truth && holds,
+            Operator::Or => truth || holds,
+            Operator::Not => truth && !holds,
+        }
+    }
+
+    /// Whether this is `Not`, which introduces a term that scores nothing.
+    pub fn is_not(self) -> bool
+        ensures { result ≡ is_not self }
+    {
+        matches!(self, Operator::Not)
+    }
+}
+
 /// One term of a query.
 #[derive(Debug, Drop)]
 pub struct Term {
@@ -130,20 +151,10 @@ fn terms_from(
     Ok(terms)
 }
 
-fn joined(operator: Operator, truth: bool, holds: bool) -> bool
-    ensures { result ≡ joined operator truth holds }
-{
-    match operator {
-        Operator::And => truth && holds,
-        Operator::Or => truth || holds,
-        Operator::Not => truth && !holds,
-    }
-}
-
 fn is_wanted(term: &Term) -> bool
     ensures { result ≡ not (is_not term.now.operator) }
 {
-    !matches!(term.operator, Operator::Not)
+    !term.operator.is_not()
 }
 
 /// What a search asks: words and prefixes, joined by `and`, `or` and `not` from left to right.
@@ -202,7 +213,7 @@ impl Query {
     {
         let mut truth = true;
         for term in &self.terms {
-            truth = joined(term.operator(), truth, term.count_in(page) > 0);
+            truth = term.operator().join(truth, term.count_in(page) > 0);
         }
         truth
     }

@@ -12,13 +12,13 @@ use Rattle.gopher_text.specs.Line.{has_feed, without_end, IsWholeLine, StopsInLi
 use Rattle.gopher_text.specs.declared.fault.LineFault.{LineFault}
 use Rattle.gopher_text.specs.declared.fault.LineFault.TheVariants.{LineTooLong, ReadFailed, TooManyTurns, NoMemory}
 
--- how the reading of a line stands after some turns: what is filled was read and holds no LF, and each turn took a byte or failed
+-- how the reading of a line stands after some turns: what is filled was read and holds no LF, and each turn took a byte or failed, not both
 pub record InLine (old new : Option (List ℕ)) (before after turns filled : ℕ) (held : List ℕ) : Type 0 where
   pub within : filled ≤ 1025
   pub read : Consumes old new (take filled held)
   pub unfed : has_feed (take filled held) ≡ false
   pub rises : before ≤ after
-  pub slowly : after ≤ before + turns
+  pub slowly : after + filled ≤ before + turns
   pub spent : SpendsTurns turns before after filled
 
 true_false : true ≡ false → ⊥
@@ -162,3 +162,9 @@ pub refusal_answered : {V : Type 0} (old new : Option (List ℕ)) (before after 
     → IfErr result (RefusesLength (length (without_end bytes))) → IfErr result (RefusesLine old new before after)
 refusal_answered old new before after bytes (Ok line) read whole within refused = tt
 refusal_answered old new before after bytes (Err fault) read whole within refused = whole_line_refused old new before after bytes fault read whole within refused
+
+-- what was read, in so many turns
+pub few_turns : (old new : Option (List ℕ)) (before after filled : ℕ) (held : List ℕ) → Consumes old new (take filled held)
+    → before ≤ after → after + filled ≤ before + 4096
+    → (before ≤ after) × ((bytes : List ℕ) × Consumes old new bytes × (after + length bytes ≤ before + 4096))
+few_turns old new before after filled held read rises few = (rises, (take filled held, read, omega (arith, length-take filled held)))

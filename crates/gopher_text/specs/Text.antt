@@ -1,4 +1,4 @@
--- Texts (RFC 1436, section 3.1 and the appendix's TextFile).
+-- Texts (RFC 1436, section 2 and the appendix's TextFile).
 use Rattle.std.specs.Prelude.{◌≡◌, ℕ, Bool, false, ◌==◌, ◌&&◌, List, [], ◌∷◌, ◌++◌, map, All, if◌then◌else◌}
 use Rattle.std.specs.List.{flat_map}
 use Rattle.gopher_item.specs.Lines.{lines_of}

@@ -40,7 +40,8 @@ pub fn read_line_from<R: Read>(alloc: Global, reader: &mut Watched<R>) -> Result
     ensures refused { IfErr result (RefusesLine (R.remaining reader.old.device)
         (R.remaining reader.new.device) reader.old.failures reader.new.failures) }
     ensures turns { (reader.old.failures ≤ reader.new.failures)
-        × (reader.new.failures ≤ reader.old.failures + 4096) }
+        × ((bytes : List ℕ) × Consumes (R.remaining reader.old.device) (R.remaining reader.new.device) bytes
+        × (reader.new.failures + length bytes ≤ reader.old.failures + 4096)) }
 {
     let mut held = [0; MOST_WITH_END];
     let (filled, end) = fill(reader, &mut held);
@@ -73,7 +74,7 @@ fn fill<R: Read>(reader: &mut Watched<R>, held: &mut [u8]) -> (usize, Result<(),
     ensures stop { StopsInLine (R.remaining reader.new.device) reader.old.failures
         reader.new.failures (take result.0 held.new) result.1 }
     ensures turns { (reader.old.failures ≤ reader.new.failures)
-        × (reader.new.failures ≤ reader.old.failures + 4096) }
+        × (reader.new.failures + result.0 ≤ reader.old.failures + 4096) }
 {
     let mut filled = 0;
     for _turn in 0..MOST_TURNS {

@@ -64,6 +64,49 @@ impl Read for Interrupted<'_> {
     }
 }
 
+/// Gives the bytes one a read, each and the end after three reads that are interrupted.
+#[derive(Drop)]
+struct Hesitant<'a> {
+    interrupted: u8,
+    bytes: &'a [u8],
+}
+
+impl Read for Hesitant<'_> {
+    fn read(&mut self, buf: &mut [u8]) -> io::Result<usize> {
+        if self.interrupted < 3 {
+            self.interrupted += 1;
+            return Err(Error::new(ErrorKind::Interrupted, "again"));
+        }
+        self.interrupted = 0;
+        let one = buf.len().min(1);
+        self.bytes.read(&mut buf[..one])
+    }
+}
+
+/// Holds the length of the buffer that it was given last. It gives nothing, and takes all.
+#[derive(Drop)]
+struct Measure {
+    length: usize,
+}
+
+impl Read for Measure {
+    fn read(&mut self, buf: &mut [u8]) -> io::Result<usize> {
+        self.length = buf.len();
+        Ok(0)
+    }
+}
+
+impl Write for Measure {
+    fn write(&mut self, buf: &[u8]) -> io::Result<usize> {
+        self.length = buf.len();
+        Ok(buf.len())
+    }
+
+    fn flush(&mut self) -> io::Result<()> {
+        Ok(())
+    }
+}
+
 /// How a writer goes on.
 #[derive(Clone, Copy)]
 enum Ending {
@@ -201,6 +244,42 @@ fn sends_all_or_says_how_much(rt: HostRuntime) {
 }
 
 #[test]
+fn says_how_much_went_out_wherever_a_write_fails(rt: HostRuntime) {
+    let bytes = b"0123456789";
+    for taken in 0..bytes.len() {
+        let mut writer = Watched::new(Narrow {
+            held: Vec::new(rt.alloc()),
+            room: taken,
+            interruptions: 0,
+            ending: Ending::Fails,
+        });
+        match send(&mut writer, bytes) {
+            Ok(()) => panic!(rt; "no failure at {taken}"),
+            Err(fault) => {
+                assert_eq!(rt; fault.code(), 13);
+                assert_eq!(rt; fault.sent, taken);
+            }
+        }
+        assert_eq!(rt; writer.failures(), 1);
+        let Narrow { held, .. } = writer.into_inner();
+        assert!(rt; held.as_slice() == &bytes[..taken]);
+    }
+}
+
+#[test]
+fn a_watched_call_has_the_whole_buffer(rt: HostRuntime) {
+    for length in [0usize, 1, 5, 4_097] {
+        let mut buffer = vec![in rt.alloc(); b'a'; length].expect(&rt, "memory");
+        let mut reader = Watched::new(Measure { length: usize::MAX });
+        assert!(rt; reader.read(&mut buffer).is_ok());
+        assert_eq!(rt; reader.into_inner().length, length);
+        let mut writer = Watched::new(Measure { length: usize::MAX });
+        assert!(rt; writer.write(&buffer).is_ok());
+        assert_eq!(rt; writer.into_inner().length, length);
+    }
+}
+
+#[test]
 fn reads_a_line_and_nothing_after_it(rt: HostRuntime) {
     for (text, line, rest) in [
         ("/a.txt\r\nextra", "/a.txt", "extra"),
@@ -252,6 +331,25 @@ fn reads_a_line_after_interruptions(rt: HostRuntime) {
     match read_line_from(rt.alloc(), &mut reader) {
         Ok(_) => panic!(rt; "a failure"),
         Err(fault) => assert_eq!(rt; fault.code(), 10),
+    }
+}
+
+#[test]
+fn counts_the_reads_of_bytes_too(rt: HostRuntime) {
+    // Four reads a byte: 4,096 of them reach the LF after 1,023 bytes, and none after 1,024.
+    for (count, expected, failures) in [
+        (1_023, Ok(1_023), 3 * 1_024),
+        (1_024, Err(LineFault::TooManyTurns), 3 * 1_024),
+    ] {
+        let mut bytes = vec![in rt.alloc(); b'a'; count].expect(&rt, "memory");
+        bytes.push(b'\n').expect(&rt, "memory");
+        let mut reader = Watched::new(Hesitant {
+            interrupted: 0,
+            bytes: bytes.as_slice(),
+        });
+        let line = read_line_from(rt.alloc(), &mut reader);
+        assert_eq!(rt; line.map(|line| line.len()), expected);
+        assert_eq!(rt; reader.failures(), failures);
     }
 }
 

@@ -2,6 +2,7 @@
 
 ghost use Rattle.std.specs.Prelude.{◌≡◌, ◌<◌, ◌++◌, ◌==◌, [], ◌∷◌, false, true, not, length, IfOk, IfSome, MatchOption, OnOk, OnErr};
 ghost use Rattle.std.specs.Io.{StartsWith};
+ghost use Rattle.std.specs.Io.BufRead.{drop_through};
 ghost use Rattle.std.specs.List.{flat_map};
 ghost use Rattle.gopher_item.specs.Lines.{lines_of};
 ghost use Rattle.gopher_item.specs.Menu.{any_last_line, is_last_line};
@@ -20,7 +21,7 @@ pub struct Text {
     pub ended: bool,
 }
 
-/// Reads a text (RFC 1436, section 3.1 and the appendix), whatever the bytes are.
+/// Reads a text (RFC 1436, section 2 and the appendix), whatever the bytes are.
 ///
 /// Its lines are those up to the first that is a period alone; what follows is ignored. A line that
 /// begins with two periods loses one. Refused only where memory is (90).
@@ -49,6 +50,7 @@ pub fn first_text_line(bytes: &[u8]) -> Option<(&[u8], &[u8])>
         (any_last_line (lines_of bytes.now) ≡ not (length bytes.now == 0))
         (λ parts. any_last_line (lines_of bytes.now) ≡ any_last_line (lines_of parts.1.now)) }
     ensures no_feed { IfSome result (λ parts. has_feed parts.0.now ≡ false) }
+    ensures rest { IfSome result (λ parts. parts.1.now ≡ drop_through 10 bytes.now) }
     ensures shorter { IfSome result (λ parts. length parts.1.now < length bytes.now) }
 {
     let (line, rest) = first_line(bytes)?;

@@ -12,7 +12,7 @@ use std::alloc::AllocError;
 const MOST_MORE: usize = 3;
 
 /// Appends the text of these lines, none of which holds an LF, ended by a period alone (RFC 1436,
-/// section 3.1 and the appendix).
+/// section 2 and the appendix).
 ///
 /// All or nothing: refused only where memory is (90), and then `out` is as it was. What was written
 /// is read back by `read_text` as these lines, ended.

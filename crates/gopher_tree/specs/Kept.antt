@@ -16,7 +16,7 @@ IsReply files home kept = kept.bytes ≡ tree_reply files home kept.selector
 abbrev pub kept_bytes : List KeptReply → ℕ
 kept_bytes replies = sum_by (λ kept. length kept.bytes) replies
 
--- each reply is that of its selector; texts are at most twice the files' bytes and 6 for each node, menus at most 16 MiB
+-- each reply is that of its selector; texts are at most twice the files' bytes and 24,576 more, menus at most 16 MiB
 pub record IsKept (files : List File) (home : HomeData) (kept : Kept) : Type 0 where
   pub right : All (IsReply files home) kept.replies.items
   pub whole : kept_bytes kept.replies.items ≡ kept.texts + kept.menus
@@ -25,7 +25,7 @@ pub record IsKept (files : List File) (home : HomeData) (kept : Kept) : Type 0 w
   pub few_texts : kept.texts ≤ kept.most_texts
   pub few_menus : kept.menus ≤ 16777216
 
--- the replies of a tree: its files, the server's address, and how many bytes are kept beside the files'
+-- the replies of a tree: its files, the server's address, and how many bytes the kept texts and menus have
 pub record RepliesData : Type 0 where
   pub files : List File
   pub home : HomeData

@@ -11,10 +11,6 @@ abbrev pub is_shown : List ℕ → Bool
 is_shown [] = false
 is_shown (byte ∷ more) = not (byte == 46) || is_menu_name (byte ∷ more)
 
--- the path of a name in a folder
-abbrev pub path_in : List ℕ → List ℕ → List ℕ
-path_in folder name = if length folder == 0 then name else folder ++ 47 ∷ name
-
 -- the fault of a folder that is visited behind so many files and so many nodes: its selector is too long, or it is a node too many
 abbrev pub folder_fault : ℕ → ℕ → List ℕ → Option TreeFault
 folder_fault number nodes path = if nat_lt 254 (length path) then Some (LongSelector number) else (if nat_lt 4095 nodes then Some (TooBig number) else None)

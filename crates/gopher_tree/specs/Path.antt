@@ -70,6 +70,10 @@ abbrev pub path_of : List ℕ → Option (List ℕ)
 path_of [] = Some []
 path_of (byte ∷ path) = if byte == 47 then Some path else None
 
+-- the path of a name in a folder
+abbrev pub path_in : List ℕ → List ℕ → List ℕ
+path_in folder name = if length folder == 0 then name else folder ++ 47 ∷ name
+
 -- the path of a folder's menu file
 abbrev pub menu_path : List ℕ → List ℕ
-menu_path folder = if length folder == 0 then menu_name else folder ++ 47 ∷ menu_name
+menu_path folder = path_in folder menu_name

@@ -128,7 +128,7 @@ pub(crate) fn target_of<R: Files>(
 fn target_found(found: fs::Metadata) -> Target
     ensures folder { IsDir (file_type found) → result ≡ Target.Folder }
     ensures file { IsFile (file_type found) → result ≡ Target.File }
-    ensures neither { result ≡ Target.Neither → (IsDir (file_type found) → ⊥) × (IsFile (file_type found) → ⊥) }
+    ensures neither { (IsDir (file_type found) → ⊥) → (IsFile (file_type found) → ⊥) → result ≡ Target.Neither }
 {
     if found.is_dir() {
         Target::Folder

@@ -1,12 +1,13 @@
 //! The replies of a tree that are kept: those of its texts and of its folders.
 
 ghost use Rattle.std.specs.Prelude.{◌≡◌, ◌≤◌, ◌+◌, ◌*◌, [], ◌∷◌, ◌++◌, length, ◌^◌, ◌<◌, ℕ, List, IfOk, IfSome, OnOk};
+ghost use Rattle.std.specs.List.{All};
 ghost use Rattle.gopher_item.specs.Place.{HomeData};
 ghost use Rattle.gopher_tree.specs.Files.{File, total_bytes};
 ghost use Rattle.gopher_tree.specs.Reply.{tree_reply};
 ghost use Rattle.gopher_tree.specs.Kept.{IsReply, IsKept, kept_bytes};
 
-use crate::reply::menu_path;
+use crate::path::menu_path;
 use crate::tree::{Found, MOST_NODES, Node, Tree};
 use gopher_item::{ByteString, Home, NoMemory};
 use std::alloc::Global;
@@ -101,57 +102,25 @@ impl Kept {
         ensures { IfOk result (IsKept tree.now home.now) }
     {
         let selector = selector_of(alloc, path)?;
+        let mut kept = self;
         match tree.find(&selector) {
-            Some(Node::File(b'0', _)) => self.with_text(alloc, tree, home, selector),
-            Some(Node::Folder) => {
-                if is_menu_within(alloc, tree, home, path, MOST_MENUS - self.menus)? {
-                    self.with_menu(alloc, tree, home, selector)
-                } else {
-                    Ok(self)
-                }
+            Some(Node::File(b'0', _)) => {
+                let room = kept.most_texts - kept.texts;
+                let count = push_within(alloc, tree, home, selector, room, &mut kept.replies)?;
+                kept.texts += count;
+                Ok(kept)
             }
-            _ => Ok(self),
+            Some(Node::Folder) => {
+                let room = MOST_MENUS - kept.menus;
+                if !is_menu_within(alloc, tree, home, path, room)? {
+                    return Ok(kept);
+                }
+                let count = push_within(alloc, tree, home, selector, room, &mut kept.replies)?;
+                kept.menus += count;
+                Ok(kept)
+            }
+            _ => Ok(kept),
         }
-    }
-
-    fn with_text(
-        self,
-        alloc: Global,
-        tree: &Tree,
-        home: &Home,
-        selector: Vec<u8>,
-    ) -> Result<Kept, NoMemory>
-        requires { IsKept tree.now home.now self }
-        ensures { IfOk result (IsKept tree.now home.now) }
-    {
-        let bytes = tree.reply(alloc, &selector, home)?;
-        if bytes.len() > self.most_texts - self.texts {
-            return Ok(self);
-        }
-        let mut kept = self;
-        kept.texts += bytes.len();
-        push_reply(selector, bytes, &mut kept.replies)?;
-        Ok(kept)
-    }
-
-    fn with_menu(
-        self,
-        alloc: Global,
-        tree: &Tree,
-        home: &Home,
-        selector: Vec<u8>,
-    ) -> Result<Kept, NoMemory>
-        requires { IsKept tree.now home.now self }
-        ensures { IfOk result (IsKept tree.now home.now) }
-    {
-        let bytes = tree.reply(alloc, &selector, home)?;
-        if bytes.len() > MOST_MENUS - self.menus {
-            return Ok(self);
-        }
-        let mut kept = self;
-        kept.menus += bytes.len();
-        push_reply(selector, bytes, &mut kept.replies)?;
-        Ok(kept)
     }
 
     // The reply that is kept for the selector.
@@ -176,6 +145,30 @@ impl Kept {
     {
         self.texts + self.menus
     }
+}
+
+// Adds the reply to the selector behind the others, where it has at most `room` bytes, and tells how
+// many bytes were added.
+fn push_within(
+    alloc: Global,
+    tree: &Tree,
+    home: &Home,
+    selector: Vec<u8>,
+    room: usize,
+    replies: &mut Vec<KeptReply>,
+) -> Result<usize, NoMemory>
+    requires { All (IsReply tree.now home.now) replies.old.items }
+    ensures right { OnOk result (All (IsReply tree.now home.now) replies.new.items) }
+    ensures whole { IfOk result (λ count. kept_bytes replies.new.items ≡ kept_bytes replies.old.items + count) }
+    ensures within { IfOk result (λ count. count ≤ room) }
+{
+    let bytes = tree.reply(alloc, &selector, home)?;
+    let count = bytes.len();
+    if count > room {
+        return Ok(0);
+    }
+    push_reply(selector, bytes, replies)?;
+    Ok(count)
 }
 
 // Adds a reply behind the others.

@@ -2,13 +2,12 @@
 
 ghost use Rattle.std.specs.Prelude.{◌≡◌, ◌<◌, ◌≤◌, ◌+◌, ◌++◌, [], ◌∷◌, length, None, Some, IfOk, IfErr, MatchResult};
 ghost use Rattle.gopher_tree.specs.Fault.{file_fault, files_fault};
-ghost use Rattle.gopher_tree.specs.Load.{path_in, folder_fault, RefusesFile, Walks, Loads};
+ghost use Rattle.gopher_tree.specs.Load.{folder_fault, RefusesFile, Walks, Loads};
 
 use crate::fault::TreeFault;
 use crate::folder::{Target, names_in, read_file, target_of, without_links};
-use crate::path::{LONGEST_PATH, path_fault};
+use crate::path::{LONGEST_PATH, path_fault, path_in};
 use crate::tree::{MOST_NODES, Tree};
-use gopher_item::NoMemory;
 use std::alloc::Global;
 use std::fs::Files;
 use std::path::{Path, PathBuf};
@@ -19,21 +18,6 @@ use std::path::{Path, PathBuf};
 struct Walk {
     tree: Tree,
     nodes: usize,
-}
-
-// The path of a name in a folder.
-fn path_in(alloc: Global, folder: &[u8], name: &[u8]) -> Result<Vec<u8>, NoMemory>
-    requires { 0 < length name.now }
-    ensures path { IfOk result (λ path. path.items ≡ path_in folder.now name.now) }
-    ensures longer { IfOk result (λ path. length folder.now < length path.items) }
-{
-    if folder.is_empty() {
-        return Ok(Vec::from_slice(alloc, name)?);
-    }
-    let mut path = Vec::from_slice(alloc, folder)?;
-    path.push(b'/')?;
-    path.extend_from_slice(name)?;
-    Ok(path)
 }
 
 impl Walk {

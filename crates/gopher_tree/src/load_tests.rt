@@ -118,11 +118,13 @@ fn follows_links(rt: HostRuntime) -> Result<(), Fail> {
     symlink(&rt, "../other/deep/x", "linked/file")?;
     symlink(&rt, "nowhere", "linked/nothing")?;
     symlink(&rt, "../other/deep/x/y", "linked/through")?;
+    symlink(&rt, "/dev/null", "linked/device")?;
     let tree = Tree::load(&rt, alloc, "linked")?;
     assert!(rt; has_text(&tree, b"/folder/x", b"x"));
     assert!(rt; has_text(&tree, b"/file", b"x"));
     assert!(rt; tree.find(b"/nothing").is_none());
     assert!(rt; tree.find(b"/through").is_none());
+    assert!(rt; tree.find(b"/device").is_none());
     Ok(())
 }
 
@@ -244,12 +246,14 @@ fn refuses_what_is_not_readable(rt: HostRuntime) -> Result<(), Fail> {
     fs::create_dir(&rt, "locked")?;
     fs::write(&rt, "locked/a", "a")?;
     let fault = Some(TreeFault::Unreadable { file: 0 });
-    let hidden = Faulty {
-        host: &rt,
-        name: b".\xff\0",
-        is_locked: false,
-    };
-    assert_eq!(rt; fault_of(&hidden, alloc, "locked"), fault);
+    for name in [b".\xff\0", b"z\xff\0"] {
+        let misnamed = Faulty {
+            host: &rt,
+            name,
+            is_locked: false,
+        };
+        assert_eq!(rt; fault_of(&misnamed, alloc, "locked"), fault);
+    }
     let locked = Faulty {
         host: &rt,
         name: b"",

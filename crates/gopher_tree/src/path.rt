@@ -1,17 +1,18 @@
 //! Paths and selectors.
 
-ghost use Rattle.std.specs.Prelude.{◌≡◌, ◌&&◌, not};
+ghost use Rattle.std.specs.Prelude.{◌≡◌, ◌<◌, ◌&&◌, not, length, IfOk};
 ghost use Rattle.std.specs.Option.{option_map};
 ghost use Rattle.gopher_tree.specs.Fault.{path_fault};
-ghost use Rattle.gopher_tree.specs.Path.{names_of, first_name, last_name, is_menu_name, is_search_name, is_bad_name, has_bad_name, is_menu_path, path_of};
+ghost use Rattle.gopher_tree.specs.Path.{names_of, first_name, last_name, is_menu_name, is_search_name, is_bad_name, has_bad_name, is_menu_path, path_of, path_in, menu_path};
 
 use crate::fault::TreeFault;
-use gopher_item::{has_special, split_once};
+use gopher_item::{NoMemory, has_special, split_once};
+use std::alloc::Global;
 
 // The longest path, in bytes: a selector has a slash more, and at most 255 bytes.
 pub(crate) const LONGEST_PATH: usize = 254;
 
-pub(crate) const MENU: &[u8] = b".menu";
+const MENU: &[u8] = b".menu";
 
 const SEARCH: &[u8] = b"search";
 
@@ -92,6 +93,28 @@ pub(crate) fn is_menu_path(path: &[u8]) -> bool
     ensures { result ≡ is_menu_path path.now }
 {
     is_menu_name(last_name(path))
+}
+
+// The path of a name in a folder.
+pub(crate) fn path_in(alloc: Global, folder: &[u8], name: &[u8]) -> Result<Vec<u8>, NoMemory>
+    requires { 0 < length name.now }
+    ensures path { IfOk result (λ path. path.items ≡ path_in folder.now name.now) }
+    ensures longer { IfOk result (λ path. length folder.now < length path.items) }
+{
+    if folder.is_empty() {
+        return Ok(Vec::from_slice(alloc, name)?);
+    }
+    let mut path = Vec::from_slice(alloc, folder)?;
+    path.push(b'/')?;
+    path.extend_from_slice(name)?;
+    Ok(path)
+}
+
+// The path of a folder's menu file.
+pub(crate) fn menu_path(alloc: Global, folder: &[u8]) -> Result<Vec<u8>, NoMemory>
+    ensures { IfOk result (λ path. path.items ≡ menu_path folder.now) }
+{
+    path_in(alloc, folder, MENU)
 }
 
 // The path that a selector names.

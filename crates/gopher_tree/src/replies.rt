@@ -17,9 +17,9 @@ use thiserror::Error;
 /// A tree whose replies are made once, by a server with one address, and not at each request.
 ///
 /// The texts of files and the menus of folders are kept as they are sent, and so is the reply to a
-/// selector that names nothing; files of other types are sent from the tree. Beside the files' bytes
-/// the texts take at most twice as many and 6 for each node, and the menus at most 16,777,216; a menu
-/// that is past that, and one that could be, is made at each request.
+/// selector that names nothing; files of other types are sent from the tree. The texts take at most
+/// twice as many bytes as the files and 24,576 more, however many files there are, and the menus at most
+/// 16,777,216; a menu that is past that, and one that could be, is made at each request.
 ///
 /// Contracts see it as the list of the tree's files, the server's address, and how many bytes are kept.
 #[derive(Debug, Drop)]
@@ -116,8 +116,8 @@ impl Replies {
         })
     }
 
-    /// The reply to a selector, as `Tree::reply` has it. Refused only where memory is (90), and only
-    /// for a menu that is not kept.
+    /// The reply to a selector, as `Tree::reply` has it. 90 where memory is refused for a reply that is
+    /// made anew.
     pub fn reply(&self, alloc: Global, selector: &[u8]) -> Result<Reply<'_>, NoMemory>
         ensures { IfOk result (λ reply. reply_bytes reply ≡ tree_reply self.now.files self.now.home selector.now) }
     {
@@ -134,7 +134,8 @@ impl Replies {
         }
     }
 
-    /// How many bytes are kept beside the files'. Takes no memory.
+    /// How many bytes the texts and the menus have that are kept; their selectors and the reply to a
+    /// selector that names nothing are not counted. Takes no memory.
     pub fn number_of_bytes(&self) -> usize
         ensures count { result ≡ self.now.size }
         ensures bound { result ≤ 2 * total_bytes self.now.files + 24576 + 16777216 }

@@ -1,17 +1,11 @@
-use crate::{Replies, RepliesRefused, Reply, Tree};
+use crate::tests::tree_of;
+use crate::{Replies, RepliesRefused, Reply};
 use gopher_item::Home;
 use std::alloc::Global;
 use std::test::Fail;
 
 fn replies_of(alloc: Global, files: &[(&[u8], &[u8])]) -> Result<Replies, Fail> {
-    let mut list = Vec::new(alloc);
-    for (path, bytes) in files {
-        list.push((
-            Vec::from_slice(alloc, path)?,
-            Vec::from_slice(alloc, bytes)?,
-        ))?;
-    }
-    let tree = Tree::of_files(alloc, list)?;
+    let tree = tree_of(alloc, files)?;
     match Replies::new(alloc, tree, Home::new(alloc, b"localhost", 7070)?) {
         Ok(replies) => Ok(replies),
         Err(RepliesRefused { fault, .. }) => Err(Fail::new(fault)),

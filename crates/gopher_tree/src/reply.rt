@@ -3,20 +3,19 @@
 ghost use Rattle.std.specs.Prelude.{◌≡◌, ◌++◌, ◌==◌, length, IfOk, OnOk, if◌then◌else◌};
 ghost use Rattle.std.specs.List.{flat_map};
 ghost use Rattle.gopher_item.specs.MenuLine.{menu_line_bytes, menu_bytes};
-ghost use Rattle.gopher_tree.specs.Path.{menu_path};
 ghost use Rattle.gopher_tree.specs.MenuFile.{written_menu};
 ghost use Rattle.gopher_tree.specs.Reply.{front_of, head_lines, listing_of, file_reply, error_bytes, not_found_bytes};
 
 use crate::children::Children;
 use crate::line::{push_last_line, push_line};
 use crate::menu_file::push_written_lines;
-use crate::path::MENU;
 use gopher_item::{Home, NoMemory};
 use gopher_text::write_text_of;
 use std::alloc::{AllocError, Global};
 
 /// The reply that tells a client of an error: a line of type `3` that has `text`, and the period alone
-/// that ends a menu (RFC 1436, sections 3.8 and 3.9). The text holds no TAB, CR, LF or NUL.
+/// that ends a menu (RFC 1436, sections 3.8 and 3.9). The caller sees to it that the text holds no TAB,
+/// CR, LF or NUL.
 ///
 /// Refused only where memory is (90).
 pub fn error_reply(alloc: Global, text: &[u8], home: &Home) -> Result<Vec<u8>, NoMemory>
@@ -45,19 +44,6 @@ pub(crate) fn file_reply(alloc: Global, kind: u8, bytes: &[u8]) -> Result<Vec<u8
     let mut out = Vec::new(alloc);
     write_text_of(bytes, &mut out)?;
     Ok(out)
-}
-
-// The path of a folder's menu file.
-pub(crate) fn menu_path(alloc: Global, folder: &[u8]) -> Result<Vec<u8>, NoMemory>
-    ensures { IfOk result (λ path. path.items ≡ menu_path folder.now) }
-{
-    if folder.is_empty() {
-        return Ok(Vec::from_slice(alloc, MENU)?);
-    }
-    let mut path = Vec::from_slice(alloc, folder)?;
-    path.push(b'/')?;
-    path.extend_from_slice(MENU)?;
-    Ok(path)
 }
 
 // What stands before a name in its selector.

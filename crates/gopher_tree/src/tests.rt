@@ -15,7 +15,7 @@ fn list(alloc: Global, files: &[(&[u8], &[u8])]) -> Result<Vec<(Vec<u8>, Vec<u8>
     Ok(made)
 }
 
-fn tree_of(alloc: Global, files: &[(&[u8], &[u8])]) -> Result<Tree, Fail> {
+pub(crate) fn tree_of(alloc: Global, files: &[(&[u8], &[u8])]) -> Result<Tree, Fail> {
     Ok(Tree::of_files(alloc, list(alloc, files)?)?)
 }
 
@@ -41,6 +41,18 @@ fn lists_the_root(rt: HostRuntime) -> Result<(), Fail> {
     assert!(rt; replies(alloc, &tree, b"//a.txt", none)?);
     assert!(rt; replies(alloc, &tree, b"//", none)?);
     assert!(rt; replies(alloc, &tree, b"a.txt", none)?);
+    Ok(())
+}
+
+#[test]
+fn finds_nothing_behind_a_last_slash(rt: HostRuntime) -> Result<(), Fail> {
+    let alloc = rt.alloc();
+    let tree = tree_of(alloc, &[(b"a.txt", b"a"), (b"docs/b.txt", b"b")])?;
+    let none = b"3Not found\t\tlocalhost\t7070\r\n.\r\n";
+    for selector in [b"/docs/".as_slice(), b"/a.txt/", b"/docs/b.txt/"] {
+        assert!(rt; replies(alloc, &tree, selector, none)?);
+        assert!(rt; tree.find(selector).is_none());
+    }
     Ok(())
 }
 
@@ -96,50 +108,27 @@ fn sends_menu_files(rt: HostRuntime) -> Result<(), Fail> {
 fn refuses_by_the_first_fault(rt: HostRuntime) -> Result<(), Fail> {
     let alloc = rt.alloc();
     let long = vec![in alloc; b'a'; 255]?;
-    for (path, bytes, fault) in [
-        (
-            b"a//b".as_slice(),
-            b"".as_slice(),
-            TreeFault::BadName { file: 0 },
-        ),
-        (
-            b".a".as_slice(),
-            b"".as_slice(),
-            TreeFault::BadName { file: 0 },
-        ),
-        (
-            b".menu/a".as_slice(),
-            b"".as_slice(),
-            TreeFault::BadName { file: 0 },
-        ),
-        (
-            b"search".as_slice(),
-            b"".as_slice(),
-            TreeFault::Reserved { file: 0 },
-        ),
-        (
-            b"search//a".as_slice(),
-            b"".as_slice(),
-            TreeFault::BadName { file: 0 },
-        ),
-        (
-            long.as_slice(),
-            b"".as_slice(),
-            TreeFault::LongSelector { file: 0 },
-        ),
-        (
-            b".menu".as_slice(),
-            b"0x\ta\tb".as_slice(),
-            TreeFault::BadMenuLine { file: 0, line: 1 },
-        ),
-        (
-            b"a/.menu".as_slice(),
-            b"\n.\r\n0x\ta\n\ta".as_slice(),
-            TreeFault::BadMenuLine { file: 0, line: 4 },
-        ),
+    for (path, fault) in [
+        (b"a//b".as_slice(), TreeFault::BadName { file: 0 }),
+        (b".a".as_slice(), TreeFault::BadName { file: 0 }),
+        (b".menu/a".as_slice(), TreeFault::BadName { file: 0 }),
+        (b"search".as_slice(), TreeFault::Reserved { file: 0 }),
+        (b"search//a".as_slice(), TreeFault::BadName { file: 0 }),
+        (long.as_slice(), TreeFault::LongSelector { file: 0 }),
     ] {
-        assert_eq!(rt; fault_of(alloc, &[(path, bytes)])?, Some(fault));
+        assert_eq!(rt; fault_of(alloc, &[(path, b"")])?, Some(fault));
     }
+    Ok(())
+}
+
+#[test]
+fn refuses_the_first_bad_menu_line(rt: HostRuntime) -> Result<(), Fail> {
+    let alloc = rt.alloc();
+    let fault = Some(TreeFault::BadMenuLine { file: 0, line: 1 });
+    assert_eq!(rt; fault_of(alloc, &[(b".menu", b"0x\ta\tb")])?, fault);
+    let fault = Some(TreeFault::BadMenuLine { file: 0, line: 4 });
+    let lines = b"\n.\r\n0x\ta\n\ta";
+    assert_eq!(rt; fault_of(alloc, &[(b"a/.menu", lines)])?, fault);
     Ok(())
 }
 
@@ -163,6 +152,7 @@ fn refuses_menu_lines_by_their_fields(rt: HostRuntime) -> Result<(), Fail> {
 #[test]
 fn refuses_menu_lines_by_their_bytes(rt: HostRuntime) -> Result<(), Fail> {
     refuses_line(&rt, b"x\0")?;
+    refuses_line(&rt, b"x\r")?;
     refuses_line(&rt, b"0x\ta\0")?;
     refuses_line(&rt, b"0x\ra\tb")?;
     refuses_line(&rt, b".x\ta")?;
@@ -185,6 +175,17 @@ fn sends_menu(rt: &(impl Abort + AllocGlobal), bytes: &[u8], wanted: &[u8]) -> R
     let tree = tree_of(rt.alloc(), &[(b".menu", bytes)])?;
     assert!(rt; replies(rt.alloc(), &tree, b"", wanted)?);
     Ok(())
+}
+
+#[test]
+fn sends_texts_of_menu_files(rt: HostRuntime) -> Result<(), Fail> {
+    let lone_period = b"i.\t\tlocalhost\t7070\r\n.\r\n";
+    sends_menu(&rt, b".", lone_period)?;
+    sends_menu(&rt, b".\r\n", lone_period)?;
+    let empty_line = b"i\t\tlocalhost\t7070\r\n.\r\n";
+    sends_menu(&rt, b"\n", empty_line)?;
+    let both = b"i.\t\tlocalhost\t7070\r\ni\t\tlocalhost\t7070\r\n.\r\n";
+    sends_menu(&rt, b".\n\n", both)
 }
 
 #[test]
@@ -307,8 +308,19 @@ fn replies_with_an_error(rt: HostRuntime) -> Result<(), Fail> {
 #[test]
 fn faults_are_numbered_and_told(rt: HostRuntime) -> Result<(), Fail> {
     let alloc = rt.alloc();
+    for (fault, code) in [
+        (TreeFault::BadName { file: 3 }, 20),
+        (TreeFault::Reserved { file: 3 }, 21),
+        (TreeFault::LongSelector { file: 3 }, 22),
+        (TreeFault::TooBig { file: 3 }, 23),
+        (TreeFault::BadMenuLine { file: 3, line: 7 }, 24),
+        (TreeFault::Twice { file: 3 }, 25),
+        (TreeFault::Unreadable { file: 3 }, 26),
+        (TreeFault::NoMemory, 90),
+    ] {
+        assert_eq!(rt; fault.code(), code);
+    }
     let fault = TreeFault::BadMenuLine { file: 3, line: 7 };
-    assert_eq!(rt; fault.code(), 24);
     assert_eq!(rt;
         format!(in alloc; "{fault}")?.as_str(),
         "file 3: line 7 is no menu line"

@@ -13,8 +13,8 @@ use crate::fault::TreeFault;
 use crate::file::File;
 use crate::index::{Entry, Index, add_file, is_file_entry};
 use crate::menu_file::bad_line;
-use crate::path::{is_menu_path, path_fault, path_of};
-use crate::reply::{file_reply, listing_reply, menu_path, not_found, written_reply};
+use crate::path::{is_menu_path, menu_path, path_fault, path_of};
+use crate::reply::{file_reply, listing_reply, not_found, written_reply};
 use gopher_item::{Home, NoMemory};
 use std::alloc::Global;
 use std::collections::BTreeMap;
@@ -113,15 +113,10 @@ impl Tree {
         is_file_entry(self.index.get(path))
     }
 
-    fn has_node(&self, path: &[u8]) -> bool
-        ensures { result ≡ is_among (nodes self.now) path.now }
-    {
-        self.index.contains_key(path)
-    }
-
     // Whether the path is a file or a folder.
-    fn has_entry(&self, path: &[u8]) -> bool
-        ensures { result ≡ (is_file self.now path.now || is_folder self.now path.now) }
+    fn has_node(&self, path: &[u8]) -> bool
+        ensures among { result ≡ is_among (nodes self.now) path.now }
+        ensures either { result ≡ (is_file self.now path.now || is_folder self.now path.now) }
     {
         self.index.contains_key(path)
     }
@@ -147,7 +142,7 @@ impl Tree {
     fn is_twice(&self, path: &[u8]) -> bool
         ensures { result ≡ is_twice self.now path.now }
     {
-        self.has_entry(path) || self.leads_through_file(path)
+        self.has_node(path) || self.leads_through_file(path)
     }
 
     // How many nodes a path adds.

@@ -1,13 +1,15 @@
-//! Times the crates on a file or a folder: `measure menu FILE`, `measure text FILE`,
-//! `measure search FILE`, or `measure replies FOLDER`.
+//! Times the crates on a file or a folder: `measure menu|text|settings|search FILE`, or
+//! `measure site|replies FOLDER`.
 //!
 //! A line gives the best of several rounds: for menus, texts and replies in megabytes a second, beside
-//! a plain copy of the same bytes in the same run, for a catalogue in microseconds.
+//! a plain copy of the same bytes in the same run, for the others in microseconds.
 #![tactic(auto)]
 
 mod menus;
 mod replies;
 mod searches;
+mod settings;
+mod site;
 mod texts;
 mod timing;
 
@@ -21,10 +23,12 @@ fn main(rt: HostRuntime) -> anyhow::Result<()> {
     match words.as_slice() {
         [what, path] if what.as_str() == "menu" => menus::measure(&rt, path.as_str()),
         [what, path] if what.as_str() == "text" => texts::measure(&rt, path.as_str()),
+        [what, path] if what.as_str() == "settings" => settings::measure(&rt, path.as_str()),
+        [what, path] if what.as_str() == "site" => site::measure(&rt, path.as_str()),
         [what, path] if what.as_str() == "replies" => replies::measure(&rt, path.as_str()),
         [what, path] if what.as_str() == "search" => searches::measure(&rt, path.as_str()),
         _ => {
-            println!(rt; "usage: measure menu|text|search FILE, or measure replies FOLDER")?;
+            println!(rt; "usage: measure menu|text|settings|search FILE, or measure site|replies FOLDER")?;
             Ok(())
         }
     }

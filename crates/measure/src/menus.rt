@@ -37,7 +37,6 @@ pub fn measure(rt: &HostRuntime, path: &str) -> anyhow::Result<()> {
     }
     let length = bytes.len();
     println!(rt; "copy: {} MB/s", copied.megabytes_per_second(length))?;
-    println!(rt; "read_menu: {} MB/s", read.megabytes_per_second(length))?;
-    println!(rt; "write_menu: {} MB/s", written.megabytes_per_second(length))?;
-    Ok(())
+    read.print_beside(rt, "read_menu", length, &copied)?;
+    written.print_beside(rt, "write_menu", length, &copied)
 }

@@ -12,7 +12,8 @@ const ROUND_BYTES: usize = 67_108_864;
 const MOST_REQUESTS: usize = 200_000;
 
 /// Prints how many replies a second the folder's site gives, and how many megabytes a second, beside a
-/// plain copy of the same bytes: for a small menu, a large one, a text and an image.
+/// plain copy of the same bytes: for a small menu, a large one, one of many small texts, a large text and
+/// an image.
 pub fn measure(rt: &HostRuntime, folder: &str) -> anyhow::Result<()> {
     let tree = Tree::load(rt, rt.alloc(), folder)?;
     let home = Home::new(rt.alloc(), b"localhost", 7070)?;
@@ -20,7 +21,13 @@ pub fn measure(rt: &HostRuntime, folder: &str) -> anyhow::Result<()> {
         Ok(replies) => replies,
         Err(refused) => return Err(refused.fault.into()),
     };
-    for selector in ["/small", "/large", "/text.txt", "/image.png"] {
+    for selector in [
+        "/small",
+        "/large",
+        "/many/2000.txt",
+        "/text.txt",
+        "/image.png",
+    ] {
         measure_selector(rt, &replies, selector)?;
     }
     Ok(())

@@ -25,7 +25,6 @@ pub fn measure(rt: &HostRuntime, path: &str) -> anyhow::Result<()> {
     }
     let length = bytes.len();
     println!(rt; "copy: {} MB/s", copied.megabytes_per_second(length))?;
-    println!(rt; "read_text: {} MB/s", read.megabytes_per_second(length))?;
-    println!(rt; "write_text: {} MB/s", written.megabytes_per_second(length))?;
-    Ok(())
+    read.print_beside(rt, "read_text", length, &copied)?;
+    written.print_beside(rt, "write_text", length, &copied)
 }

@@ -45,6 +45,21 @@ impl Best {
         count.saturating_mul(1_000_000_000) / self.nanoseconds()
     }
 
+    /// Prints how many megabytes a second a call made of `bytes` bytes, and how many times the time
+    /// of a copy it took.
+    pub fn print_beside(
+        &self,
+        rt: &HostRuntime,
+        name: &str,
+        bytes: usize,
+        copied: &Best,
+    ) -> anyhow::Result<()> {
+        let speed = self.megabytes_per_second(bytes);
+        let tenths = self.nanoseconds().saturating_mul(10) / copied.nanoseconds();
+        println!(rt; "{name}: {speed} MB/s, {}.{} times a copy", tenths / 10, tenths % 10)?;
+        Ok(())
+    }
+
     // The shortest round, at least 1.
     fn nanoseconds(&self) -> u64
         ensures { 0 < result }

@@ -1,9 +1,12 @@
-use Rattle.std.proofs.Common.{◌≡◌, suc, ◌+◌, ◌-◌, List, ◌∷◌, length, take, drop, add-one, arith, ap, sym, ◌∙◌}
+use Rattle.std.proofs.Common.{◌≡◌, ℕ, suc, ◌+◌, ◌-◌, List, ◌∷◌, length, take, drop, add-one, arith, ap, sym, ◌∙◌}
 use Rattle.std.specs.List.{slice_split}
 use Rattle.std.proofs.lemmas.List.{take_all, length-drop}
 use Rattle.std.specs.Prelude.{◌==◌}
-use Rattle.gopher_item.proofs.Splits.{slice_split_at_first, slice_split_nowhere, list_any_before, list_any_nowhere}
+use Rattle.gopher_item.proofs.Splits.{slice_split_at_first, slice_split_nowhere, drop_through_at_first, drop_through_nowhere, list_any_before, list_any_nowhere}
 use Rattle.gopher_item.proofs.split.split_once.Goals as goal
+
+after_cut : (bytes : List ℕ) (end : ℕ) → take (length bytes - (end + 1)) (drop (end + 1) bytes) ≡ drop (suc end) bytes
+after_cut bytes end = take_all _ _ (omega (arith, length-drop (end + 1) bytes)) ∙ ap (λ k. drop k bytes) (add-one end)
 
 pub returns-in-Some-clause-parts : goal.returns-in-Some-clause-parts
 returns-in-Some-clause-parts c =
@@ -11,9 +14,7 @@ returns-in-Some-clause-parts c =
     let end = c.in-Some.end in
     let found = c.in-Some.ensures in
     let cut = slice_split_at_first c.args.byte bytes end found.0.high found.0.before found.1 in
-    let rest : take (length bytes - (end + 1)) (drop (end + 1) bytes) ≡ drop (suc end) bytes =
-    take_all _ _ (omega (arith, length-drop (end + 1) bytes)) ∙ ap (λ k. drop k bytes) (add-one end) in
-    cut ∙ ap (λ tail. take end bytes ∷ slice_split (λ b. b == c.args.byte) tail) (sym rest)
+    cut ∙ ap (λ tail. take end bytes ∷ slice_split (λ b. b == c.args.byte) tail) (sym (after_cut bytes end))
 
 pub returns-in-None-clause-parts : goal.returns-in-None-clause-parts
 returns-in-None-clause-parts c = slice_split_nowhere c.args.byte c.args.bytes.now c.in-None.ensures
@@ -25,3 +26,13 @@ returns-in-Some-clause-none c =
 
 pub returns-in-None-clause-none : goal.returns-in-None-clause-none
 returns-in-None-clause-none c = list_any_nowhere (λ b. b == c.args.byte) c.args.bytes.now c.in-None.ensures
+
+pub returns-in-Some-clause-rest : goal.returns-in-Some-clause-rest
+returns-in-Some-clause-rest c =
+    let bytes = c.args.bytes.now in
+    let end = c.in-Some.end in
+    let found = c.in-Some.ensures in
+    after_cut bytes end ∙ sym (drop_through_at_first c.args.byte bytes end found.0.high found.0.before found.1)
+
+pub returns-in-None-clause-rest : goal.returns-in-None-clause-rest
+returns-in-None-clause-rest c = drop_through_nowhere c.args.byte c.args.bytes.now c.in-None.ensures

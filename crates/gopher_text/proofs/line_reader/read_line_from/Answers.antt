@@ -1,5 +1,5 @@
 use Rattle.std.proofs.Common.{arith, take, length, length-take, ◌≤◌}
-use Rattle.gopher_text.proofs.LineLemmas.{line_read, line_answered, rest_answered, refusal_answered, line_refused}
+use Rattle.gopher_text.proofs.LineLemmas.{line_read, line_answered, rest_answered, refusal_answered, line_refused, few_turns}
 use Rattle.gopher_text.proofs.line_reader.read_line_from.Goals as goal
 
 pub returns-in-Ok-clause-line : goal.returns-in-Ok-clause-line
@@ -20,3 +20,11 @@ returns-in-Ok-clause-refused g c =
 
 pub returns-in-Err-clause-refused : goal.returns-in-Err-clause-refused
 returns-in-Err-clause-refused g c = line_refused _ _ _ _ _ _ c.fill-filled.ensures.read (rw c.in-Err.is at c.fill-filled.ensures.stop)
+
+pub returns-in-Ok-clause-turns : goal.returns-in-Ok-clause-turns
+returns-in-Ok-clause-turns g c =
+    few_turns _ _ _ _ c.fill-filled.result.0 c.fill-filled.new.held c.fill-filled.ensures.read c.fill-filled.ensures.turns.0 c.fill-filled.ensures.turns.1
+
+pub returns-in-Err-clause-turns : goal.returns-in-Err-clause-turns
+returns-in-Err-clause-turns g c =
+    few_turns _ _ _ _ c.fill-filled.result.0 c.fill-filled.new.held c.fill-filled.ensures.read c.fill-filled.ensures.turns.0 c.fill-filled.ensures.turns.1

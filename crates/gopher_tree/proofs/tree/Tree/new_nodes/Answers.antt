@@ -14,7 +14,7 @@ loop-place-preserved c =
     (omega (arith, step, c.loop-place.invariant.0, c.nodes_before-count.ensures.count), omega (arith, c.loop-place.invariant.1, c.nodes_before-count.ensures.bound))
 
 pub returns-then-has_node-clause-count : goal.returns-then-has_node-clause-count
-returns-then-has_node-clause-count c = omega (arith, all_counted c.args.self.now c.args.path.now true c.loop-place.place c.loop-place.count (omega arith) (omega arith) (sym c.has_node.ensures ∙ c.if-has_node.true) c.loop-place.invariant.0)
+returns-then-has_node-clause-count c = omega (arith, all_counted c.args.self.now c.args.path.now true c.loop-place.place c.loop-place.count (omega arith) (omega arith) (sym c.has_node.ensures.among ∙ c.if-has_node.true) c.loop-place.invariant.0)
 
 pub returns-else-has_node-clause-count : goal.returns-else-has_node-clause-count
-returns-else-has_node-clause-count c = omega (arith, all_counted c.args.self.now c.args.path.now false c.loop-place.place c.loop-place.count (omega arith) (omega arith) (sym c.has_node.ensures ∙ c.if-has_node.false) c.loop-place.invariant.0)
+returns-else-has_node-clause-count c = omega (arith, all_counted c.args.self.now c.args.path.now false c.loop-place.place c.loop-place.count (omega arith) (omega arith) (sym c.has_node.ensures.among ∙ c.if-has_node.false) c.loop-place.invariant.0)
