@@ -28,7 +28,9 @@ fn main(rt: HostRuntime) -> anyhow::Result<()> {
         [what, path] if what.as_str() == "replies" => replies::measure(&rt, path.as_str()),
         [what, path] if what.as_str() == "search" => searches::measure(&rt, path.as_str()),
         _ => {
-            println!(rt; "usage: measure menu|text|settings|search FILE, or measure site|replies FOLDER")?;
+            println!(rt;
+                "usage: measure menu|text|settings|search FILE, or measure site|replies FOLDER"
+            )?;
             Ok(())
         }
     }

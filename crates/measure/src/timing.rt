@@ -56,7 +56,11 @@ impl Best {
     ) -> anyhow::Result<()> {
         let speed = self.megabytes_per_second(bytes);
         let tenths = self.nanoseconds().saturating_mul(10) / copied.nanoseconds();
-        println!(rt; "{name}: {speed} MB/s, {}.{} times a copy", tenths / 10, tenths % 10)?;
+        println!(rt;
+            "{name}: {speed} MB/s, {}.{} times a copy",
+            tenths / 10,
+            tenths % 10
+        )?;
         Ok(())
     }
 
