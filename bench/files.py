@@ -8,7 +8,7 @@ FILE_SIZE = 1024 * 1024
 
 
 def lines_up_to(size, line):
-    """The lines of these numbers, as long as they have fewer bytes than this."""
+    """Lines by their numbers, from 0, up to the first with which they have at least `size` bytes."""
     parts, used, number = [], 0, 0
     while used < size:
         parts.append(line(number))

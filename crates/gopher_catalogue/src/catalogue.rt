@@ -230,8 +230,9 @@ impl Catalogue {
 
     /// Whether the crawl is at its end: no place waits, and none is out. Takes no memory.
     ///
-    /// Where it is, and `status` tells that no mention was dropped, `places`, `search` and
-    /// `occurrences` answer what every such crawl of the same servers does (`closure`).
+    /// Where it is, and `status` tells that no mention was dropped, `search` and `occurrences` answer
+    /// what every such crawl with the same scope and seeds does, if both agree with one table of what
+    /// the servers reply (`closure`).
     pub fn is_finished(&self) -> bool
         ensures finished { result ≡ is_finished self.now }
         ensures legal { IsLegal self.now }
