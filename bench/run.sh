@@ -1,6 +1,6 @@
 #!/usr/bin/env bash
-# Every timing: scripts replayed, menus and texts read and written, replies of a site, and a catalogue
-# of 65,536 pages searched, beside a plain C program over the same postings.
+# Every timing: scripts replayed, menus and texts read and written, settings read, a site loaded and its
+# replies made, and a catalogue of 65,536 pages searched, beside a plain C program over the same postings.
 set -euo pipefail
 cd "$(dirname "$0")/.."
 (cd crates/hole && rt run -- replay < stdin > /dev/null)

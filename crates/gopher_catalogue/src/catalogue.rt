@@ -252,7 +252,8 @@ impl Catalogue {
     /// The known places, each at its number. Takes no memory.
     ///
     /// Once the crawl is finished and no mention was dropped, they are the places that can be reached
-    /// from the seeds, whatever the order of its events.
+    /// from the seeds, by any table of what the servers reply with which the crawl agrees, whatever the
+    /// order of its events.
     pub fn places(&self) -> &[Arc<Place>]
         ensures places { map arc_value result.now ≡ places_of self.now }
         ensures reach { HoldsReachOnceComplete self.now }
@@ -273,7 +274,7 @@ impl Catalogue {
     /// the first 50. Refused only where memory is (90).
     ///
     /// Once the crawl is finished and no mention was dropped, these are the hits of the pages of all
-    /// places that can be reached.
+    /// places that can be reached, as `places` tells.
     pub fn search(&self, query: &Query) -> Result<Vec<Hit>, NoMemory>
         ensures hits { IfOk result (λ hits. hits.items ≡ answer_of (pages_found self.now) query.now) }
         ensures once_complete { IfOk result (λ hits. IsFinalOnceComplete self.now query.now hits.items) }
@@ -286,7 +287,7 @@ impl Catalogue {
     /// where memory is (90).
     ///
     /// Once the crawl is finished and no mention was dropped, these are the occurrences in the pages of
-    /// all places that can be reached.
+    /// all places that can be reached, as `places` tells.
     pub fn occurrences(&self, word: &[u8]) -> Result<Vec<(Place, u32)>, NoMemory>
         ensures occurrences { IfOk result (λ list. list.items ≡ occurrences_of (pages_found self.now) word.now) }
         ensures once_complete { IfOk result (λ list. AreFinalOnceComplete self.now word.now list.items) }

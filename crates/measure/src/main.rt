@@ -2,7 +2,8 @@
 //! `measure site|replies FOLDER`.
 //!
 //! A line gives the best of several rounds: for menus, texts and replies in megabytes a second, beside
-//! a plain copy of the same bytes in the same run, for the others in microseconds.
+//! a plain copy of the same bytes in the same run, for the others in microseconds. The building of a
+//! catalogue alone has one round.
 #![tactic(auto)]
 
 mod menus;
