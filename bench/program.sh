@@ -23,8 +23,7 @@ as_wanted() {
   printf "$output" > "$folder/output"
   printf "$error" > "$folder/error"
   "$program" "$@" < "$folder/script" > "$folder/written" 2> "$folder/told" || code=$?
-  if [ "$code" = "$status" ] && cmp -s "$folder/written" "$folder/output" &&
-    { [ "$error" = any ] || cmp -s "$folder/told" "$folder/error"; }; then
+  if [ "$code" = "$status" ] && cmp -s "$folder/written" "$folder/output" && cmp -s "$folder/told" "$folder/error"; then
     return 0
   fi
   echo "program: '$*' on '$script' ended with $code, not as wanted"
@@ -52,9 +51,9 @@ count as_wanted 'allow\ta b\t70\t\n' 0 'refused 3\n' '' replay
 count as_wanted 'claim\n' 1 '' 'hole: 70 line 1\n' replay
 count as_wanted 'start\t1\n\nstart\t1\n' 1 'ok\n' 'hole: 70 line 3\n' replay
 count as_wanted 'start\t1\nsearch\t--\noccurs\tmoon\n' 0 'ok\nrefused 40\nplaces 0\n' '' replay
-count as_wanted '' 2 '' any
-count as_wanted '' 2 '' any replay extra
-count as_wanted '' 2 '' any serve
+count as_wanted '' 2 '' 'usage: hole replay\n'
+count as_wanted '' 2 '' 'usage: hole replay\n' replay extra
+count as_wanted '' 2 '' 'usage: hole replay\n' serve
 count as_wanted 'start\t2\t0\nstart\t2\t6\nstart\t0\t0\n' 0 'refused 54\nrefused 54\nrefused 51\n' '' replay
 count as_wanted 'seed\t1\th\t70\t\nstart\t2\nallow\th\t70\t\nstart\t0\nstart\t2\nclaim\nfail\t0\t6\n' \
   1 'refused 50\nrefused 51\nok\ntake\t0\t1\th\t70\t\n' 'hole: 70 line 7\n' replay

@@ -102,7 +102,7 @@ pub fn compare(
     text: &[u8],
 ) -> Result<(), Fail> {
     if text.len() > 1_024 {
-        return Ok(());
+        return Err("a query that is too long".into());
     }
     let query = Query::read(alloc, text)?;
     let found = pages(alloc, catalogue.record())?;

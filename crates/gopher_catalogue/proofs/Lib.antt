@@ -4,6 +4,7 @@ pub mod Steps
 pub mod Sizes
 pub mod Lists
 pub mod Legal
+pub mod CountedLemmas
 pub mod Counting
 pub mod States
 pub mod LegalSizes

@@ -1,20 +1,18 @@
 -- A list of postings that counts for each page is the list of what the pages give.
-use Rattle.std.proofs.Common.{◌≡◌, ◌⊎◌, ℕ, zero, suc, ◌+◌, ◌-◌, ◌<◌, ◌≤◌, Bool, true, false, cond, List, [], ◌∷◌, ◌++◌, map, slice_get, refl, sym, ap, subst, ◌∙◌, inl, inr, arith}
+use Rattle.std.proofs.Common.{◌≡◌, ◌⊎◌, ℕ, suc, ◌+◌, ◌-◌, ◌<◌, ◌≤◌, Bool, true, false, cond, List, [], ◌∷◌, ◌++◌, map, slice_get, refl, sym, ap, ◌∙◌, inl, inr, arith}
 use Rattle.std.specs.Prelude.{Option, Some, None, nat_lt, nat_eq}
-use Rattle.std.specs.List.{sum_by}
 use Rattle.std.specs.List.Sorted.{IsStrictlySortedBy}
 use Rattle.std.specs.Option.{option_map_or}
 use Rattle.std.specs.Ordering.{nat_cmp}
 use Rattle.std.specs.declared.cmp.Ordering.TheVariants.{Less, Equal, Greater}
-use Rattle.std.proofs.lemmas.Bool.{cases_lt, cond-true, cond-false, lt-ltb, le-ltb, ltb-true, eq-eqb, ne_eqb}
-use Rattle.std.proofs.lemmas.Bool.Decides.{nat_tests}
+use Rattle.std.proofs.lemmas.Bool.{cases_lt, cond-true, cond-false, lt-ltb, le-ltb, eq-eqb, ne_eqb}
 use Rattle.std.proofs.lemmas.List.Sums.{sum_by-cons}
 use Rattle.std.proofs.lemmas.Map.Keys.{sorted_head, sorted_tail}
 use Rattle.gopher_page.specs.Page.{PageData}
 use Rattle.gopher_page.specs.Counts.{count_meant}
 use Rattle.gopher_catalogue.specs.Event.{EventData}
-use Rattle.gopher_catalogue.specs.Listing.{meant_at, count_for, ListsCounts}
-use Rattle.gopher_catalogue.specs.Postings.{page_in, page_at}
+use Rattle.gopher_catalogue.specs.Listing.{count_for, ListsCounts}
+use Rattle.gopher_catalogue.specs.Postings.{page_in}
 use Rattle.gopher_catalogue.specs.Tally.{given_by, posting_of}
 use Rattle.gopher_catalogue.specs.Posting.{PostingData}
 

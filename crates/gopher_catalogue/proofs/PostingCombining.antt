@@ -69,7 +69,7 @@ events-added_up P (last ∷ []) posting all one = by (eqb last.event posting.eve
     by false = (all.0, (one, tt))
 events-added_up P (first ∷ next ∷ list) posting all one = (all.0, events-added_up P (next ∷ list) posting all.1 one)
 
-less_cmp : (x y : ℕ) → x < y → nat_cmp x y ≡ Less
+pub less_cmp : (x y : ℕ) → x < y → nat_cmp x y ≡ Less
 less_cmp x y less = ap (λ b. cond b Less (cond (eqb x y) Equal Greater)) (lt-ltb x y less)
 
 pub lt_from_Less : (x y : ℕ) → nat_cmp x y ≡ Less → x < y

@@ -1,8 +1,8 @@
 -- What the words of a map count together is how often words that begin with a prefix stand in each page.
-use Rattle.std.proofs.Common.{◌≡◌, ◌⊎◌, ℕ, ◌+◌, ◌<◌, ◌≤◌, Bool, true, false, cond, eqb, List, [], ◌∷◌, Option, Some, None, refl, sym, ap, subst, ◌∙◌, inl, inr, arith}
+use Rattle.std.proofs.Common.{◌≡◌, ◌⊎◌, ℕ, ◌+◌, ◌<◌, ◌≤◌, Bool, true, false, cond, List, [], ◌∷◌, Option, Some, None, refl, sym, ap, subst, ◌∙◌, inl, inr, arith}
 use Rattle.std.specs.Prelude.{nat_eq}
-use Rattle.std.specs.List.{fold, sum_by, starts_with, AllByRecursion}
-use Rattle.std.specs.List.Sorted.{IsStrictlySortedBy, IsNonDecreasingBy, IsPermutation}
+use Rattle.std.specs.List.{sum_by, starts_with, AllByRecursion}
+use Rattle.std.specs.List.Sorted.{IsStrictlySortedBy}
 use Rattle.std.specs.Map.{lookup, keys_of}
 use Rattle.std.specs.Option.{option_map_or}
 use Rattle.std.specs.Ordering.{nat_cmp, is_eq, ordering_reverse}
@@ -10,8 +10,6 @@ use Rattle.std.specs.declared.cmp.Ordering.TheVariants.{Less}
 use Rattle.std.specs.Cmp.Lexicographic.{slice_cmp, bytes_decides, nat_list_cmp_total, nat_list_eq_equiv, texts_ties}
 use Rattle.std.specs.Global.{Vec}
 use Rattle.std.proofs.lemmas.Bool.{cases_Bool, cond-true, cond-false}
-use Rattle.std.proofs.lemmas.List.Elements.{All-from_recursion, recursion_from_All}
-use Rattle.std.proofs.lemmas.List.Sorted.{All-permutation, sum_by-IsPermutation}
 use Rattle.std.proofs.lemmas.List.Sums.{sum_by-cons, sum_by-le-sum_by}
 use Rattle.std.proofs.lemmas.Map.Keys.{sorted_head, sorted_tail}
 use Rattle.gopher_page.specs.Words.{same_word}
@@ -21,10 +19,9 @@ use Rattle.gopher_catalogue.specs.Posting.{PostingData}
 use Rattle.gopher_catalogue.specs.declared.postings.Postings.{Postings}
 use Rattle.gopher_catalogue.specs.Event.{EventData}
 use Rattle.gopher_catalogue.specs.Listing.{count_for, meant_at, ListsCounts}
-use Rattle.gopher_catalogue.specs.Gathered.{added_up, gathered_count, ArePositive, AllPositive}
+use Rattle.gopher_catalogue.specs.Gathered.{AddsUp, gathered_count, ArePositive, AllPositive}
 use Rattle.gopher_catalogue.specs.Postings.{page_at, ArePostingsOf}
 use Rattle.gopher_catalogue.proofs.PostingLemmas.{by_word, list_of}
-use Rattle.gopher_catalogue.proofs.PostingCombining.{IsCombined, combined_all}
 use Rattle.gopher_catalogue.proofs.PostingCounts.{times, times_in, count_for-events, positive-events, positive_at}
 use Rattle.gopher_catalogue.proofs.GatherLemmas.{Entry}
 
@@ -196,24 +193,21 @@ few_at postings events prefix index of = by (page_at events index) refl
     by None is = omega arith
     by (Some page) is = omega (arith, part page.counts, (of.counted index page is).few)
 
--- what was gathered, sorted and added up lists the words that begin with the prefix
-pub lists_prefix : (postings : Postings) (events : List EventData) (prefix : List ℕ) (gathered sorted list : List PostingData) → ArePostingsOf postings events → IsStrictlySortedBy by_word (keys_of postings.words.entries)
+-- what was gathered, added up, lists the words that begin with the prefix
+pub lists_prefix : (postings : Postings) (events : List EventData) (prefix : List ℕ) (gathered list : List PostingData) → ArePostingsOf postings events → IsStrictlySortedBy by_word (keys_of postings.words.entries)
     → ((index : ℕ) → count_for gathered index ≡ gathered_count prefix postings.words.entries index) → (AllPositive postings.words.entries → ArePositive gathered)
-    → IsPermutation gathered sorted → IsNonDecreasingBy (λ posting. posting.event) sorted → list ≡ fold added_up [] sorted → ListsCounts events true prefix list
-lists_prefix postings events prefix gathered sorted list of keys counts positive moved order is = record {
-  ascending = combined.ascending;
-  positive = positive_at list combined.positive;
-  counts = λ index. omega (arith, combined.counts index, each index);
+    → (ArePositive gathered → ((index : ℕ) → count_for gathered index ≤ 1048576) → AddsUp gathered list) → ListsCounts events true prefix list
+lists_prefix postings events prefix gathered list of keys counts positive adds_up = record {
+  ascending = added.ascending;
+  positive = positive_at list added.positive;
+  counts = λ index. added.counts index ∙ each index;
 }
   where
-    each : (index : ℕ) → count_for sorted index ≡ meant_at events true prefix index
-    each index = sum_by-IsPermutation (λ posting. cond (eqb posting.event index) posting.count 0) gathered sorted moved ∙ counts index ∙ gathered_total postings events prefix index of keys
+    each : (index : ℕ) → count_for gathered index ≡ meant_at events true prefix index
+    each index = counts index ∙ gathered_total postings events prefix index of keys
 
     all_positive : AllPositive postings.words.entries
     all_positive = positive_entries postings.words.entries postings.words.entries (λ word. subst ArePositive (sym (of.all word)) (positive-events 0 events word of.counted)) (each_found postings.words.entries keys)
 
-    some : ArePositive sorted
-    some = recursion_from_All (λ posting. 0 < posting.count) sorted (All-permutation (λ posting. 0 < posting.count) gathered sorted moved (All-from_recursion (λ posting. 0 < posting.count) gathered (positive all_positive)))
-
-    combined : IsCombined [] sorted list
-    combined = subst (IsCombined [] sorted) (sym is) (combined_all sorted order some (λ index. omega (arith, each index, few_at postings events prefix index of)))
+    added : AddsUp gathered list
+    added = adds_up (positive all_positive) (λ index. omega (arith, each index, few_at postings events prefix index of))

@@ -1,8 +1,7 @@
 -- The steps of the loops that merge a list of postings into tallies.
-use Rattle.std.proofs.Common.{◌≡◌, ℕ, ◌+◌, ◌*◌, ◌^◌, ◌<◌, ◌≤◌, List, [], ◌∷◌, ◌++◌, length, take, drop, get_or, refl, sym, ap, ◌∙◌, arith}
+use Rattle.std.proofs.Common.{◌≡◌, ℕ, ◌+◌, ◌*◌, ◌^◌, ◌<◌, ◌≤◌, List, [], ◌∷◌, ◌++◌, length, take, drop, get_or, sym, ap, ◌∙◌, arith}
 use Rattle.std.specs.List.{All, flat_map}
 use Rattle.std.proofs.lemmas.List.{append_assoc, take_more, drop_more, flat_map_more}
-use Rattle.std.proofs.lemmas.List.Elements.{All-get_or}
 use Rattle.gopher_page.specs.Query.{TermData}
 use Rattle.gopher_page.specs.declared.query.Operator.{Operator}
 use Rattle.gopher_catalogue.specs.Event.{EventData}

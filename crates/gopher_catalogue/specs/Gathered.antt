@@ -1,5 +1,5 @@
 -- Postings of several words, gathered word by word, and as one for each event.
-use Rattle.std.specs.Prelude.{ℕ, ◌+◌, ◌-◌, ◌^◌, ◌<◌, List, [], ◌∷◌, min, nat_eq, ◌==◌, if◌then◌else◌}
+use Rattle.std.specs.Prelude.{◌≡◌, ℕ, ◌+◌, ◌-◌, ◌^◌, ◌<◌, List, [], ◌∷◌, map, get_or, min, nat_eq, ◌==◌, if◌then◌else◌}
 use Rattle.std.specs.List.{sum_by, starts_with, AllByRecursion}
 use Rattle.std.specs.List.Sorted.{IsStrictlySortedBy}
 use Rattle.std.specs.Map.{keys_of}
@@ -33,3 +33,15 @@ unfoldable pub added_up : List PostingData → PostingData → List PostingData
 added_up [] posting = posting ∷ []
 added_up (last ∷ []) posting = if last.event == posting.event then together last posting ∷ [] else last ∷ posting ∷ []
 added_up (first ∷ next ∷ list) posting = first ∷ added_up (next ∷ list) posting
+
+-- one posting for each event of a list, in their order, with what the list counts for it
+pub record AddsUp (gathered list : List PostingData) : Type 0 where
+  pub ascending : IsStrictlySortedBy nat_cmp (map (λ posting. posting.event) list)
+  pub positive : ArePositive list
+  pub counts : (index : ℕ) → count_for list index ≡ count_for gathered index
+
+-- the same of counts that stand at the indexes of their events
+pub record ListsAll (numbers : List ℕ) (list : List PostingData) : Type 0 where
+  pub ascending : IsStrictlySortedBy nat_cmp (map (λ posting. posting.event) list)
+  pub positive : ArePositive list
+  pub counts : (index : ℕ) → count_for list index ≡ get_or numbers index 0

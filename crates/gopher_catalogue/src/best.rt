@@ -1,13 +1,13 @@
 //! The best of many hits, without a sort of them all.
 
-ghost use Rattle.std.specs.Prelude.{◌≡◌, ℕ, ◌<◌, ◌≤◌, true, false, List, [], ◌∷◌, ◌++◌, length, map, take, slice_get, nat_lt, IfOk, OnOk};
+ghost use Rattle.std.specs.Prelude.{◌≡◌, ℕ, ◌<◌, ◌≤◌, true, false, List, [], ◌∷◌, ◌++◌, length, map, take, slice_get, IfOk, OnOk};
 ghost use Rattle.std.specs.List.Sorted.{IsStrictlySortedBy};
 ghost use Rattle.std.specs.Option.{option_map_or};
 ghost use Rattle.std.specs.Ordering.{is_eq, is_gt};
 ghost use Rattle.std.specs.BTreeSet.{insert_key};
 ghost use Rattle.gopher_catalogue.specs.Answer.{rank_cmp, ranked};
 ghost use Rattle.gopher_catalogue.specs.declared.hit.Hit.{Hit};
-ghost use Rattle.gopher_catalogue.specs.Best.{ranked_hit};
+ghost use Rattle.gopher_catalogue.specs.Best.{ranked_hit, lowest_score};
 
 use crate::hit::Hit;
 use gopher_item::{ByteString, NoMemory};
@@ -35,12 +35,12 @@ fn rank(a: &Ranked, b: &Ranked) -> Ordering
     }
 }
 
-/// Whether there are as many as are answered, and the last of them has a score above this one.
-pub(crate) fn is_below(best: &[Ranked], score: u64) -> bool
-    ensures { result ≡ option_map_or (λ last. nat_lt score last.score) (slice_get best.now 49) false }
+/// The lowest score with which a page can come among the best: that of the last of them, where there
+/// are as many as are answered, else 0.
+pub(crate) fn lowest_score(best: &[Ranked]) -> u64
+    ensures { result ≡ lowest_score best.now }
 {
-    best.get(MOST_HITS - 1)
-        .is_some_and(|last| score < last.score)
+    best.get(MOST_HITS - 1).map_or(0, |last| last.score)
 }
 
 // Whether there are as many as are answered, and the candidate comes behind the last of them.

@@ -76,6 +76,18 @@ fn open_fault(scope: &Scope, seeds: &[Place], places: u32, tries: u32) -> Option
     }
 }
 
+fn refused(fault: OpenFault, scope: Scope, seeds: Vec<Place>) -> OpenRefused
+    ensures fault { result.fault ≡ fault }
+    ensures scope { result.scope ≡ scope }
+    ensures seeds { result.seeds.items ≡ seeds.items }
+{
+    OpenRefused {
+        fault,
+        scope,
+        seeds,
+    }
+}
+
 impl Catalogue {
     /// The catalogue of a crawl that begins: at most `places` places may become known, and each may
     /// be claimed at most `tries` times.
@@ -98,19 +110,10 @@ impl Catalogue {
         ensures seeds_back { IfErr result (λ refused. refused.seeds.items ≡ seeds.items) }
     {
         if let Some(fault) = open_fault(&scope, &seeds, places, tries) {
-            return Err(OpenRefused {
-                fault,
-                scope,
-                seeds,
-            });
+            return Err(refused(fault, scope, seeds));
         }
-        let fault = OpenFault::NoMemory;
         let Ok(frontier) = Frontier::open(alloc, places, &seeds) else {
-            return Err(OpenRefused {
-                fault,
-                scope,
-                seeds,
-            });
+            return Err(refused(OpenFault::NoMemory, scope, seeds));
         };
         match Archive::begin(alloc, Opening::new(scope, seeds, places, tries)) {
             Ok(history) => Ok(Catalogue {
@@ -120,11 +123,7 @@ impl Catalogue {
             }),
             Err(opening) => {
                 let (scope, seeds) = opening.into_parts();
-                Err(OpenRefused {
-                    fault,
-                    scope,
-                    seeds,
-                })
+                Err(refused(OpenFault::NoMemory, scope, seeds))
             }
         }
     }

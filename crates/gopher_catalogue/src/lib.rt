@@ -1,5 +1,8 @@
 //! The catalogue of a crawl: its frontier, its record, and the postings by which it is searched.
 //!
+//! RFC 1436 says nothing of crawls, and leaves it to a search server what it answers: all of this is
+//! this profile's.
+//!
 //! The crates above rest on one promise: each call of `Catalogue` is the step of the sequential
 //! catalogue, from the record before to the record after; the record is always legal; and a search
 //! answers from all pages that the record found.
@@ -10,6 +13,7 @@ mod archive;
 mod best;
 mod catalogue;
 pub mod closure;
+mod combining;
 mod event;
 mod fault;
 mod frontier;

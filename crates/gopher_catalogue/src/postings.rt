@@ -1,14 +1,14 @@
 //! Postings: for each word, the pages that have it.
 
 ghost use Rattle.std.specs.Prelude.{◌≡◌, ℕ, ◌+◌, ◌/◌, ◌^◌, ◌<◌, ◌≤◌, max, true, false, List, [], ◌++◌, length, take, vec_len, vec_capacity, IfOk, OnOk, OnErr};
-ghost use Rattle.std.specs.List.{fold};
 ghost use Rattle.gopher_page.specs.Packed.{AreCounts};
 ghost use Rattle.gopher_catalogue.specs.Posting.{PostingData};
 ghost use Rattle.gopher_catalogue.specs.Event.{EventData};
-ghost use Rattle.gopher_catalogue.specs.Gathered.{added_up, gathered_count, ArePositive, AllPositive, AreOrdered};
+ghost use Rattle.gopher_catalogue.specs.Gathered.{gathered_count, ArePositive, AllPositive, AreOrdered};
 ghost use Rattle.gopher_catalogue.specs.Listing.{count_for, ListsCounts};
 ghost use Rattle.gopher_catalogue.specs.Postings.{postings_at, KeepsPostedWordsAlone, posting_for, postings_in, SamePostings, ArePostingsOf};
 
+use crate::combining::combined;
 use gopher_item::NoMemory;
 use gopher_page::Counts;
 use std::alloc::Global;
@@ -16,7 +16,7 @@ use std::collections::BTreeMap;
 use std::marker::Model;
 
 /// The highest number that a posting holds.
-const MOST: u32 = (1 << 24) - 1;
+pub(crate) const MOST: u32 = (1 << 24) - 1;
 
 /// That a page has a word: the index of the event that found the page, and how often the word stands
 /// in it. Each number is packed into 24 bits, since a page has some hundred postings.
@@ -207,9 +207,7 @@ impl Postings {
     pub fn of_prefix(&self, alloc: Global, prefix: &[u8]) -> Result<Vec<Posting>, NoMemory>
         ensures { IfOk result (λ list. (events : List EventData) → ArePostingsOf self.now events → ListsCounts events true prefix.now list.items) }
     {
-        let mut gathered = self.gather(alloc, prefix)?;
-        gathered.sort_unstable_by_key(|posting| posting.event());
-        combine(alloc, &gathered)
+        combined(alloc, self.gather(alloc, prefix)?)
     }
 }
 
@@ -224,32 +222,4 @@ fn grow(list: &mut Vec<Posting>) -> Result<(), NoMemory>
         list.reserve_exact((list.len() / 8).max(1))?;
     }
     Ok(())
-}
-
-// Adds a posting at the end of a list, and where it is of the last one's event, to that one's count. No
-// count of a page's postings saturates, since a page has at most 1,048,576 words.
-fn add_up(list: &mut Vec<Posting>, posting: Posting) -> Result<(), NoMemory>
-    ensures { OnOk result (list.new.items ≡ added_up list.old.items posting) }
-{
-    if let Some(last) = list.last_mut() {
-        let event = last.event();
-        if event == posting.event() {
-            let count = (last.count() + posting.count()).min(MOST);
-            *last = Posting::new(event, count);
-            return Ok(());
-        }
-    }
-    list.push(posting)?;
-    Ok(())
-}
-
-// The postings of each event as one, where they stand in the order of their events.
-fn combine(alloc: Global, gathered: &[Posting]) -> Result<Vec<Posting>, NoMemory>
-    ensures { IfOk result (λ list. list.items ≡ fold added_up [] gathered.now) }
-{
-    let mut combined = Vec::new(alloc);
-    for posting in gathered {
-        add_up(&mut combined, *posting)?;
-    }
-    Ok(combined)
 }

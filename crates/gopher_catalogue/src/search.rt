@@ -1,6 +1,6 @@
 //! Searches over the pages of a record, by their postings.
 
-ghost use Rattle.std.specs.Prelude.{◌≡◌, ℕ, ◌+◌, ◌≤◌, ◌^◌, List, [], ◌∷◌, ◌++◌, map, take, length, IfOk, OnOk};
+ghost use Rattle.std.specs.Prelude.{◌≡◌, ℕ, ◌+◌, ◌≤◌, ◌^◌, true, List, [], ◌∷◌, ◌++◌, map, take, length, IfOk, OnOk};
 ghost use Rattle.std.specs.List.{All, flat_map};
 ghost use Rattle.std.specs.Option.{option_map};
 ghost use Rattle.gopher_page.specs.Query.{TermData, BeginsWithAnd};
@@ -13,11 +13,11 @@ ghost use Rattle.gopher_catalogue.specs.Postings.{ArePostingsOf, page_at};
 ghost use Rattle.gopher_catalogue.specs.Tally.{first_tally, tally_hit, tallies_of, posting_occurrence};
 ghost use Rattle.gopher_catalogue.specs.declared.hit.Hit.{Hit};
 
-use crate::best::{Ranked, hits_of, is_below, take_in};
+use crate::best::{Ranked, hits_of, lowest_score, take_in};
 use crate::event::Event;
 use crate::hit::Hit;
 use crate::postings::{Posting, Postings};
-use crate::tally::{Tally, first_tallies, first_tally, merge};
+use crate::tally::{Tally, first_tallies, merge};
 use gopher_item::{NoMemory, Place};
 use gopher_page::{Page, Query, Term};
 use std::alloc::Global;
@@ -32,27 +32,20 @@ fn page_at(events: &[Event], index: u32) -> Option<&Page>
     }
 }
 
-// ---- the best of the pages
+// ---- the best of the pages: a page whose score alone leaves it out isn't looked up
 
-// Takes the page of a tally in among the best of these hits, if it matches. Where its score alone leaves
-// it out, the page isn't looked up.
-fn consider<'a>(
+// Takes the page that an event found in among the best of these hits, with its score.
+fn take_page_in<'a>(
     events: &'a [Event],
-    tally: &Tally,
+    event: u32,
+    score: u64,
     best: &mut Vec<Ranked<'a>>,
 ) -> Result<(), NoMemory>
-    ensures { (hits : List Hit) → map ranked_hit best.old.items ≡ take 50 (ranked hits) → OnOk result (map ranked_hit best.new.items ≡ take 50 (ranked (hits ++ tally_hit (map event_data events.now) tally.now))) }
+    ensures { (hits : List Hit) → map ranked_hit best.old.items ≡ take 50 (ranked hits) → OnOk result (map ranked_hit best.new.items ≡ take 50 (ranked (hits ++ tally_hit (map event_data events.now) (record { event = event; matches = true; score = score })))) }
 {
-    if !tally.matches {
-        return Ok(());
-    }
-    if is_below(best, tally.score) {
-        return Ok(());
-    }
-    let Some(page) = page_at(events, tally.event) else {
+    let Some(page) = page_at(events, event) else {
         return Ok(());
     };
-    let score = tally.score;
     take_in(best, Ranked { score, page })
 }
 
@@ -65,8 +58,12 @@ fn best_of_tallies<'a>(
     ensures { IfOk result (λ best. map ranked_hit best.items ≡ take 50 (ranked (flat_map (tally_hit (map event_data events.now)) tallies.now))) }
 {
     let mut best = Vec::new(alloc);
+    let mut lowest = 0;
     for tally in tallies {
-        consider(events, tally, &mut best)?;
+        if tally.matches && tally.score >= lowest {
+            take_page_in(events, tally.event, tally.score, &mut best)?;
+            lowest = lowest_score(&best);
+        }
     }
     Ok(best)
 }
@@ -80,8 +77,13 @@ fn best_of_list<'a>(
     ensures { IfOk result (λ best. map ranked_hit best.items ≡ take 50 (ranked (flat_map (tally_hit (map event_data events.now)) (map first_tally list.now)))) }
 {
     let mut best = Vec::new(alloc);
+    let mut lowest = 0;
     for posting in list {
-        consider(events, &first_tally(posting), &mut best)?;
+        let score = u64::from(posting.count());
+        if score >= lowest {
+            take_page_in(events, posting.event(), score, &mut best)?;
+            lowest = lowest_score(&best);
+        }
     }
     Ok(best)
 }

@@ -20,8 +20,8 @@ pub(crate) struct Tally {
     pub score: u64,
 }
 
-/// The tally of a page that has the first term of a query.
-pub(crate) fn first_tally(posting: &Posting) -> Tally
+// The tally of a page that has the first term of a query.
+fn first_tally(posting: &Posting) -> Tally
     ensures value { result ≡ first_tally posting.now }
     ensures few { result.score ≤ 2 ^ 32 }
 {

@@ -1,5 +1,7 @@
 //! A crawl replayed from a script, and the program.
 //!
+//! RFC 1436 names no program: the script, its answers and the words of the program are this profile's.
+//!
 //! The program rests on one promise: what `replay` writes is the output of the script.
 #![tactic(auto)]
 

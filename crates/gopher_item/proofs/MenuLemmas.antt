@@ -1,6 +1,5 @@
 -- What one more line gives to a menu.
-use Rattle.std.proofs.Common.{◌≡◌, ℕ, ◌<◌, Bool, true, false, not, eqb, cond, List, [], ◌∷◌, ◌++◌, length, take, one-add, map, filter, refl, sym, ap, ◌∙◌, append_assoc, arith}
-use Rattle.gopher_item.specs.declared.menu.Entry.{Entry}
+use Rattle.std.proofs.Common.{◌≡◌, ℕ, true, false, not, eqb, List, ◌∷◌, length, take, one-add, map, filter, refl, ap, ◌∙◌}
 use Rattle.gopher_item.specs.Menu.{entry_of, entries_of, is_last_line, any_last_line, lines_before_last}
 
 -- a line that isn't the last one stays

@@ -1,5 +1,5 @@
 -- What is written of menu lines is read back as these lines.
-use Rattle.std.proofs.Common.{◌≡◌, ℕ, suc, ◌+◌, ◌-◌, ◌<◌, ◌≤◌, ◌^◌, Bool, true, false, ◌&&◌, ◌||◌, not, eqb, ltb, leb, cond, List, [], ◌∷◌, ◌++◌, length, get_or, take, map, reverse, Option, None, Some, refl, sym, ap, subst, ◌∙◌, append_assoc, arith}
+use Rattle.std.proofs.Common.{◌≡◌, ℕ, ◌-◌, ◌<◌, ◌≤◌, ◌^◌, Bool, true, false, ◌||◌, eqb, ltb, leb, cond, List, [], ◌∷◌, ◌++◌, length, get_or, map, reverse, Some, refl, sym, ap, ◌∙◌, append_assoc, arith}
 use Rattle.std.specs.Prelude.{decimal}
 use Rattle.std.specs.List.{list_any, list_all, slice_split, flat_map, AllByRecursion}
 use Rattle.std.specs.Char.{is_ascii_digit}
@@ -19,9 +19,8 @@ use Rattle.gopher_item.specs.Bytes.{is_special, has_special}
 use Rattle.gopher_item.specs.Lines.{lines_of}
 use Rattle.gopher_item.specs.Number.{number_of}
 use Rattle.gopher_item.specs.MenuLine.{MenuLineData, IsMenuLine, trim_front, trim_spaces, menu_line_bytes, menu_bytes}
-use Rattle.gopher_item.specs.declared.menu.Entry.{Entry}
 use Rattle.gopher_item.specs.declared.menu.Entry.TheVariants.{Item}
-use Rattle.gopher_item.specs.Menu.{ReadsMenu, fields_of, item_of, item_of_list, item_of_fields, entry_of, entries_of, is_last_line, any_last_line}
+use Rattle.gopher_item.specs.Menu.{ReadsMenu, fields_of, item_of, entry_of, entries_of, is_last_line, any_last_line}
 use Rattle.gopher_item.proofs.Splits.{lines_of_cut}
 use Rattle.gopher_item.proofs.Trims.{none_in_reverse}
 use Rattle.gopher_item.proofs.MenuLemmas.{any_last_line-line, entries_of-line}

@@ -1,5 +1,5 @@
 -- A menu, read from bytes (RFC 1436, section 2 and the appendix; odd lines are this profile's).
-use Rattle.std.specs.Prelude.{◌≡◌, ℕ, ◌+◌, Bool, ◌&&◌, ◌||◌, not, List, [], ◌∷◌, length, map, filter, Option, None, Some, ◌==◌, nat_eq, if◌then◌else◌}
+use Rattle.std.specs.Prelude.{◌≡◌, ℕ, Bool, ◌||◌, not, List, [], ◌∷◌, length, map, filter, Option, None, ◌==◌, nat_eq, if◌then◌else◌}
 use Rattle.std.specs.List.{before_first, list_any, slice_split}
 use Rattle.std.specs.Option.{option_map, option_map_or}
 use Rattle.std.specs.Cmp.Lexicographic.{pointwise}

@@ -6,7 +6,7 @@ ghost use Rattle.std.specs.Option.{option_map};
 ghost use Rattle.gopher_page.specs.Page.{plain_byte, title_text, has_word, place_title, title_of};
 
 use crate::word::next_token;
-use gopher_item::{ByteString, NoMemory, Place, trim_spaces};
+use gopher_item::{ByteString, NoMemory, Place, is_control, trim_spaces};
 use std::alloc::{AllocError, Global};
 
 // A title has at most so many bytes.
@@ -15,7 +15,7 @@ const LIMIT: usize = 69;
 fn plain_byte(byte: u8) -> u8
     ensures { result ≡ plain_byte byte }
 {
-    if byte < 32 || byte == 127 { b' ' } else { byte }
+    if is_control(byte) { b' ' } else { byte }
 }
 
 fn plain(alloc: Global, bytes: &[u8]) -> Result<Vec<u8>, AllocError>

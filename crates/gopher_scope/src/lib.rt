@@ -1,5 +1,7 @@
 //! Which places a crawl may visit, and the settings of a server.
 //!
+//! RFC 1436 says nothing of crawls, nor of what a server is set to: all of this is this profile's.
+//!
 //! The crates above rest on one promise: `Scope::allows` is the rule of allow and deny.
 #![tactic(auto)]
 

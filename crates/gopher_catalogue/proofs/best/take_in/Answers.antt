@@ -3,7 +3,7 @@ use Rattle.std.specs.List.{take-map}
 use Rattle.std.specs.Option.{option_map_or}
 use Rattle.std.specs.Ordering.{is_gt}
 use Rattle.std.specs.Prelude.{slice_get}
-use Rattle.gopher_catalogue.specs.Answer.{rank_cmp, ranked}
+use Rattle.gopher_catalogue.specs.Answer.{rank_cmp}
 use Rattle.gopher_catalogue.specs.Best.{ranked_hit}
 use Rattle.gopher_catalogue.proofs.AnswerLemmas.{best_push, best_beyond, get_through}
 use Rattle.gopher_catalogue.proofs.best.take_in.Goals as goal

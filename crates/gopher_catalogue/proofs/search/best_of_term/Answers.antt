@@ -1,7 +1,6 @@
-use Rattle.std.proofs.Common.{◌≡◌, List, [], ◌∷◌, ◌++◌, map, take, sym, ap, subst, ◌∙◌}
+use Rattle.std.proofs.Common.{◌≡◌, [], ◌∷◌, map, take, sym, subst, ◌∙◌}
 use Rattle.std.specs.List.{flat_map}
-use Rattle.std.specs.Prelude.{true, false, IfOk, Result, Ok, Err}
-use Rattle.gopher_page.specs.Query.{TermData}
+use Rattle.std.specs.Prelude.{true, false}
 use Rattle.gopher_catalogue.specs.Answer.{ranked, answer_of}
 use Rattle.gopher_catalogue.specs.Best.{ranked_hit}
 use Rattle.gopher_catalogue.specs.EventOf.{event_data}

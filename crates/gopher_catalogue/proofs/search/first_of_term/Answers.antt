@@ -1,4 +1,4 @@
-use Rattle.std.proofs.Common.{◌≡◌, [], ◌∷◌, map, sym, ap, subst, ◌∙◌}
+use Rattle.std.proofs.Common.{◌≡◌, [], ◌∷◌, map, sym, subst, ◌∙◌}
 use Rattle.std.specs.Prelude.{true, false}
 use Rattle.gopher_catalogue.specs.Listing.{ListsCounts}
 use Rattle.gopher_catalogue.specs.Tally.{first_tally, tallies_of}

@@ -1,4 +1,4 @@
-use Rattle.std.proofs.Common.{◌≡◌, map, ◌∙◌, subst}
+use Rattle.std.proofs.Common.{map, ◌∙◌, subst}
 use Rattle.std.specs.List.Sorted.{IsPermutation}
 use Rattle.gopher_catalogue.specs.EventOf.{event_data}
 use Rattle.gopher_catalogue.proofs.HitLemmas.{occurrences_from_list}

@@ -1,4 +1,4 @@
-use Rattle.std.proofs.Common.{◌≡◌, eq-eqb, [], ◌∷◌, length, map, take, sym, ap, subst, ◌∙◌}
+use Rattle.std.proofs.Common.{◌≡◌, eq-eqb, ◌∷◌, length, map, sym, ap, subst, ◌∙◌}
 use Rattle.gopher_page.specs.Query.{BeginsWithAnd}
 use Rattle.gopher_catalogue.specs.Answer.{answer_of}
 use Rattle.gopher_catalogue.specs.Best.{ranked_hit}

@@ -1,4 +1,4 @@
-use Rattle.std.proofs.Common.{◌≤◌, ◌*◌, ◌+◌, ◌^◌, ◌<◌, ◌∷◌, length, take, arith, ◌∙◌}
+use Rattle.std.proofs.Common.{◌*◌, ◌+◌, ◌^◌, ◌<◌, ◌∷◌, length, take, arith, ◌∙◌}
 use Rattle.gopher_catalogue.proofs.TallySteps.{term_step, tallies_within}
 use Rattle.gopher_catalogue.proofs.search.tallies_of.Goals as goal
 

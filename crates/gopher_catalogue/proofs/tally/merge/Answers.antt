@@ -1,5 +1,4 @@
-use Rattle.std.proofs.Common.{◌≤◌, ◌+◌, ◌^◌, ◌<◌, false, length, get_or, arith}
-use Rattle.std.specs.List.{All}
+use Rattle.std.proofs.Common.{◌≤◌, ◌+◌, ◌^◌, ◌<◌, false, length, arith}
 use Rattle.std.proofs.lemmas.List.Elements.{All-get_or}
 use Rattle.gopher_catalogue.specs.declared.tally.Tally.{Tally}
 use Rattle.gopher_catalogue.proofs.TallySteps.{merged_step}

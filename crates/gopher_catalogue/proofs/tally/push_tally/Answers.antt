@@ -1,5 +1,4 @@
 use Rattle.std.proofs.Common.{◌≤◌, ◌<◌, ◌++◌, ◌∙◌, length, get_or, ap, arith}
-use Rattle.std.specs.List.{All}
 use Rattle.std.proofs.lemmas.List.Elements.{All-push, All-same}
 use Rattle.gopher_catalogue.specs.Posting.{PostingData}
 use Rattle.gopher_catalogue.specs.Tally.{new_tally}

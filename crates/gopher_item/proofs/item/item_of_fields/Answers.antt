@@ -1,6 +1,5 @@
-use Rattle.std.proofs.Common.{ap, ◌∙◌, arith}
-use Rattle.gopher_item.specs.Bytes.{is_special, has_special}
-use Rattle.gopher_item.specs.MenuLine.{trim_spaces}
+use Rattle.std.proofs.Common.{arith}
+use Rattle.gopher_item.specs.Bytes.{is_special}
 use Rattle.gopher_item.proofs.FieldLemmas.{plain_parts}
 use Rattle.gopher_item.proofs.Trims.{none_in_trim, trim_spaces-trim_spaces}
 use Rattle.gopher_item.proofs.item.item_of_fields.Goals as goal

@@ -1,6 +1,6 @@
-use Rattle.std.proofs.Common.{◌≡◌, ◌++◌, ◌∷◌, [], ap, sym, ◌∙◌, append_assoc}
+use Rattle.std.proofs.Common.{◌++◌, ap, sym, ◌∙◌, append_assoc}
 use Rattle.gopher_item.specs.Lines.{lines_of}
-use Rattle.gopher_item.specs.Menu.{entry_of, entries_of, any_last_line}
+use Rattle.gopher_item.specs.Menu.{entries_of, any_last_line}
 use Rattle.gopher_item.proofs.MenuLemmas.{any_last_line-line, entries_of-line, entries_of-empty}
 use Rattle.gopher_item.proofs.menu.read_menu.Goals as goal
 

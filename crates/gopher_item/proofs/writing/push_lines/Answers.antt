@@ -1,4 +1,4 @@
-use Rattle.std.proofs.Common.{◌≡◌, ◌++◌, List, ℕ, length, take, drop, refl, ap, sym, subst, ◌∙◌, append_assoc, OnOk, Result, Ok, Err, All, arith}
+use Rattle.std.proofs.Common.{◌≡◌, ◌++◌, List, ℕ, length, take, refl, ap, subst, ◌∙◌, append_assoc, OnOk, Result, Ok, Err, arith}
 use Rattle.std.specs.Io.{StartsWith}
 use Rattle.std.proofs.KnownBytes.{starts_with_rest}
 use Rattle.std.proofs.lemmas.List.{take_at, take_all}

@@ -4,8 +4,8 @@ use Rattle.std.proofs.lemmas.Bool.{eq-eqb, ne_eqb, cases_lt, both_ways}
 use Rattle.gopher_catalogue.specs.Posting.{PostingData}
 use Rattle.gopher_catalogue.specs.Gathered.{together}
 use Rattle.gopher_catalogue.proofs.PostingCombining.{together_is, added_up-last, added_up-apart, added_up-none}
-use Rattle.gopher_catalogue.proofs.postings.add_up.Goals as goal
-use Rattle.gopher_catalogue.proofs.postings.add_up.Goals.{in-Some+else-event, in_default}
+use Rattle.gopher_catalogue.proofs.combining.add_up.Goals as goal
+use Rattle.gopher_catalogue.proofs.combining.add_up.Goals.{in-Some+else-event, in_default}
 
 pub returns-then-event : goal.returns-then-event
 returns-then-event c =
