@@ -1,15 +1,22 @@
-# The two commands of the README, and the timings of bench/.
+# The two commands of the README, the wrong bodies of one crate, and the timings of bench/.
 
 # Builds the program and replays the example's crawl and searches.
 .PHONY: run
 run:
 	cd crates/hole && rt run -- replay < ../../examples/whole_search.script
 
-# Every proof from nothing, the wrong bodies, the tests, and the program as a user runs it.
+# Every proof and test from nothing, the wrong bodies, and the program as a user runs it.
 .PHONY: test
 test:
 	rt ci
+	tools/test_wrong_bodies.py
+	tools/wrong_bodies.py
 	bench/program.sh
+
+# The wrong bodies of one crate, for work on it: make wrong-bodies CRATE=gopher_item
+.PHONY: wrong-bodies
+wrong-bodies:
+	tools/wrong_bodies.py --reasons $(CRATE)
 
 # Seconds and megabytes a second, on scripts and files that bench/ makes.
 .PHONY: bench

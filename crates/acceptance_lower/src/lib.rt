@@ -2,6 +2,14 @@
 #![tactic(auto)]
 
 #[cfg(test)]
+mod devices;
+#[cfg(test)]
+mod folders;
+#[cfg(test)]
+mod kept_replies;
+#[cfg(test)]
+mod menu_files;
+#[cfg(test)]
 mod menus;
 #[cfg(test)]
 mod pages;
@@ -10,8 +18,18 @@ mod places;
 #[cfg(test)]
 mod queries;
 #[cfg(test)]
+mod request_lines;
+#[cfg(test)]
 mod scopes;
 #[cfg(test)]
 mod settings;
+#[cfg(test)]
+mod streams;
+#[cfg(test)]
+mod texts;
+#[cfg(test)]
+mod tree_limits;
+#[cfg(test)]
+mod trees;
 #[cfg(test)]
 mod words;

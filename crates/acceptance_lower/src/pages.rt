@@ -35,10 +35,13 @@ fn place(alloc: Global, kind: u8, selector: &[u8]) -> Result<Place, Fail> {
 }
 
 // The page of a reply, of which no byte after the first 1,048,576 is read.
-pub(crate) fn page(alloc: Global, kind: u8, selector: &[u8], reply: &[u8]) -> Result<Page, Fail> {
+fn page_at(alloc: Global, place: &Place, reply: &[u8]) -> Result<Page, Fail> {
     let reply = &reply[..reply.len().min(1_048_576)];
-    let place = place(alloc, kind, selector)?;
-    Ok(Page::of(alloc, &worked_scope(alloc)?, &place, reply)?)
+    Ok(Page::of(alloc, &worked_scope(alloc)?, place, reply)?)
+}
+
+pub(crate) fn page(alloc: Global, kind: u8, selector: &[u8], reply: &[u8]) -> Result<Page, Fail> {
+    page_at(alloc, &place(alloc, kind, selector)?, reply)
 }
 
 fn may_cross_threads<T: Send + Sync>(_value: &T) {}
@@ -179,7 +182,7 @@ fn a_title_is_else_the_selector_or_the_host(rt: HostRuntime) -> Result<(), Fail>
 #[test]
 fn a_title_may_be_a_host_of_one_letter(rt: HostRuntime) -> Result<(), Fail> {
     let place = Place::new(rt.alloc(), b'0', b"", b"h", 70)?;
-    let page = Page::of(rt.alloc(), &worked_scope(rt.alloc())?, &place, b"")?;
+    let page = page_at(rt.alloc(), &place, b"")?;
     assert_eq!(rt; page.title(), b"h".as_slice());
     Ok(())
 }

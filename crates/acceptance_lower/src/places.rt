@@ -1,6 +1,7 @@
 // Places, homes, menu lines that are made, and requests: their parts and their refusals.
 use gopher_item::{Entry, Home, ItemFault, MenuLine, Place, lines, read_menu, read_request};
 use std::alloc::Global;
+use std::process::Abort;
 use std::test::Fail;
 
 #[test]
@@ -109,23 +110,28 @@ fn place_code(alloc: Global, entry: &Entry) -> Option<u8> {
     }
 }
 
+fn check_codes(
+    rt: &(impl Abort + AllocGlobal),
+    bytes: &[u8],
+    wanted: &[Option<u8>],
+) -> Result<(), Fail> {
+    let menu = read_menu(rt.alloc(), bytes)?;
+    let mut codes = Vec::new(rt.alloc());
+    for entry in &menu.entries {
+        codes.push(place_code(rt.alloc(), entry))?;
+    }
+    assert_eq!(rt; codes.as_slice(), wanted);
+    Ok(())
+}
+
 #[test]
 fn a_line_names_its_place(rt: HostRuntime) -> Result<(), Fail> {
-    let cases: [(&[u8], &[Option<u8>]); 2] = [
-        (
-            b"iWelcome\tfake\t(NULL)\t0\r\nhSite\tURL:http://x/\th\t70\r\n1Dir\t/d\t h \t 70 \t+\nbroken\r\n\r\n0T\t/t\th\t70",
-            &[Some(1), Some(1), Some(0), None, Some(0)],
-        ),
-        (b"0N\t/n\t\t70\n0P\t/p\th\t0", &[Some(3), Some(4)]),
-    ];
-    for (bytes, codes) in cases {
-        let menu = read_menu(rt.alloc(), bytes)?;
-        assert_eq!(rt; menu.entries.len(), codes.len());
-        for (entry, code) in menu.entries.iter().zip(codes) {
-            assert_eq!(rt; place_code(rt.alloc(), entry), *code);
-        }
-    }
-    Ok(())
+    check_codes(
+        &rt,
+        b"iWelcome\tfake\t(NULL)\t0\r\nhSite\tURL:http://x/\th\t70\r\n1Dir\t/d\t h \t 70 \t+\nbroken\r\n\r\n0T\t/t\th\t70",
+        &[Some(1), Some(1), Some(0), None, Some(0)],
+    )?;
+    check_codes(&rt, b"0N\t/n\t\t70\n0P\t/p\th\t0", &[Some(3), Some(4)])
 }
 
 #[test]
@@ -187,9 +193,6 @@ fn reads_requests(rt: HostRuntime) -> Result<(), Fail> {
 fn cuts_lines(rt: HostRuntime) -> Result<(), Fail> {
     let found = lines(rt.alloc(), b"a\r\n\nb\r\r\nc\r")?;
     let expected: [&[u8]; 4] = [b"a", b"", b"b\r", b"c\r"];
-    assert_eq!(rt; found.len(), expected.len());
-    for (line, wanted) in found.iter().zip(expected) {
-        assert_eq!(rt; *line, wanted);
-    }
+    assert!(rt; found.as_slice() == expected.as_slice());
     Ok(())
 }

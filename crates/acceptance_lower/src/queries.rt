@@ -19,6 +19,17 @@ fn score(query: &Query, page: &Page) -> Option<u64> {
     }
 }
 
+fn check_page(
+    rt: &(impl Abort + AllocGlobal),
+    text: &[u8],
+    page: &Page,
+    wanted: Option<u64>,
+) -> Result<(), Fail> {
+    let query = query(rt.alloc(), text)?;
+    assert_eq!(rt; score(&query, page), wanted);
+    Ok(())
+}
+
 // A page of this line has this score, where it matches.
 fn check(
     rt: &(impl Abort + AllocGlobal),
@@ -27,8 +38,7 @@ fn check(
     wanted: Option<u64>,
 ) -> Result<(), Fail> {
     let page = page(rt.alloc(), b'0', b"/line", line)?;
-    assert_eq!(rt; score(&query(rt.alloc(), text)?, &page), wanted);
-    Ok(())
+    check_page(rt, text, &page, wanted)
 }
 
 #[test]
@@ -70,13 +80,13 @@ fn check_both(
     of_menu: Option<u64>,
     of_text: Option<u64>,
 ) -> Result<(), Fail> {
-    let query = query(rt.alloc(), text)?;
-    assert_eq!(rt; score(&query, &page(rt.alloc(), b'1', b"", MENU)?), of_menu);
-    assert_eq!(rt;
-        score(&query, &page(rt.alloc(), b'0', b"/sun.txt", TEXT)?),
-        of_text
-    );
-    Ok(())
+    check_page(rt, text, &page(rt.alloc(), b'1', b"", MENU)?, of_menu)?;
+    check_page(
+        rt,
+        text,
+        &page(rt.alloc(), b'0', b"/sun.txt", TEXT)?,
+        of_text,
+    )
 }
 
 #[test]

@@ -20,6 +20,3 @@ pub use sending::send;
 pub use text::{Text, first_text_line, read_text};
 pub use watched::Watched;
 pub use writing::{write_text, write_text_of};
-
-#[cfg(test)]
-mod tests;

@@ -13,16 +13,10 @@ mod kept;
 mod kind;
 mod line;
 mod load;
-#[cfg(test)]
-mod load_tests;
 mod menu_file;
 mod path;
 mod replies;
-#[cfg(test)]
-mod replies_tests;
 mod reply;
-#[cfg(test)]
-mod tests;
 mod tree;
 
 pub use fault::TreeFault;

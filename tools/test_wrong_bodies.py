@@ -1,0 +1,91 @@
+#!/usr/bin/env python3
+"""Tests tools/wrong_bodies.py on a small repository: what it must report as not refused, and which edits it must not accept."""
+import os
+import pathlib
+import subprocess
+import sys
+import tempfile
+import unittest
+
+TOOLS = pathlib.Path(__file__).resolve().parent
+sys.path.insert(0, str(TOOLS))
+import wrong_bodies
+
+SOURCE = """//! Two functions.
+#![tactic(auto)]
+
+ghost use Rattle.std.specs.Prelude.{◌≡◌, ◌+◌, ◌<◌};
+
+/// The number after this one.
+pub fn next(number: u32) -> u32
+    requires { number < 1000 }
+    ensures { result ≡ number + 1 }
+{
+    number + 1
+}
+
+/// The number two places after this one.
+pub fn after_next(number: u32) -> u32
+    requires { number < 100 }
+    ensures { result ≡ number + 2 }
+{
+    next(next(number))
+}
+"""
+
+
+def edit(function, old, new):
+    return f"function: {function}\nfile: src/lib.rt\nold: {old}\nnew: {new}\n"
+
+
+ONE_TOO_MANY = edit("next", "    number + 1", "    number + 2")
+HARMLESS_CALLER = edit("after_next", "next(next(number))", "next(next(number + 0))")
+HARMLESS = edit("next", "    number + 1", "    1 + number")
+TEXT_IS_GONE = edit("next", "number + 7", "number + 2")
+OF_A_CONTRACT = edit("next", "result ≡ number + 1", "result ≡ number + 2")
+OF_ANOTHER_FUNCTION = edit("after_next", "    number + 1", "    number + 2")
+NO_SUCH_NAME = edit("after_next", "next(next(number))", "before(number)")
+
+
+class WrongBodies(unittest.TestCase):
+    def tried(self, **edits):
+        """What the script prints for these edits, and its status."""
+        with tempfile.TemporaryDirectory() as room:
+            root = pathlib.Path(room)
+            folder = root / "crates" / "small"
+            (folder / "wrong-bodies").mkdir(parents=True)
+            (folder / "src").mkdir()
+            (folder / "src" / "lib.rt").write_text(SOURCE)
+            (root / "crates.txt").write_text("small:\n")
+            (root / "HANDLES").write_text("Handles allowed: none.\n")
+            for name, text in edits.items():
+                (folder / "wrong-bodies" / f"{name}.edit").write_text(text)
+            environment = {**os.environ, "ROOT": room}
+            ran = subprocess.run([TOOLS / "wrong_bodies.py"], env=environment, capture_output=True, text=True)
+            return ran.stdout, ran.returncode
+
+    def test_a_caller_of_a_refused_function_is_not_refused(self):
+        said = "small/b: NOT REFUSED\n1 passed, 1 failed\n"
+        self.assertEqual(self.tried(a=ONE_TOO_MANY, b=HARMLESS_CALLER), (said, 1))
+
+    def test_a_harmless_edit_alone_is_not_refused(self):
+        self.assertEqual(self.tried(a=HARMLESS), ("small/a: NOT REFUSED\n0 passed, 1 failed\n", 1))
+
+    def test_an_edit_that_does_not_compile_is_not_refused(self):
+        said, status = self.tried(a=NO_SUCH_NAME)
+        self.assertTrue(said.startswith("small/a: NOTHING JUDGED") and status == 1, said)
+
+    def test_edits_that_show_nothing_fail(self):
+        said, status = self.tried(a=TEXT_IS_GONE, b=OF_A_CONTRACT, c=OF_ANOTHER_FUNCTION, d="new: text\n")
+        self.assertEqual(said.count("BAD EDIT"), 4, said)
+        self.assertTrue(said.endswith("\n0 passed, 4 failed\n") and status == 1, said)
+
+    def test_a_proof_file_that_only_lacks_names_shows_nothing(self):
+        said = "./proofs/a/f/Answers.antt:7:9: error: `returns`: `c.gone` is not in scope\nfn small::a::f: not proved\nonly=1 proved=0\n"
+        self.assertEqual(wrong_bodies.lacking("small", said), {})
+        said = "./proofs/a/f/Answers.antt:7:9: error: `returns`: the two types differ\n" + said
+        self.assertEqual(wrong_bodies.lacking("small", said), {"a::f": "`returns`: the two types differ"})
+
+
+if __name__ == "__main__":
+    unittest.main()

@@ -1,0 +1,215 @@
+#!/usr/bin/env python3
+"""Tries the wrong bodies: edits that turn the meaning of a function, each of which the prover has to refuse.
+
+    tools/wrong_bodies.py [--reasons] [CRATE|CRATE/NAME ..]
+
+tries those of these crates, or these, or all; with --reasons it prints for each what its function lacks.
+
+An edit is a file crates/CRATE/wrong-bodies/NAME.edit: a line 'function: PATH', the function whose meaning it turns, as a
+check names it below its crate; a line 'file: src/NAME.rt'; then pairs of lines 'old: TEXT' and 'new: TEXT'. An old text
+stands exactly once in the file, as the pairs before it left that, and only bodies of functions may change.
+
+Edits of different functions are tried in one check of a copy of the crate, since the prover goes on after a refusal and
+says of each function what it lacks. An edit counts as refused only where its own function lacks the proof of a goal: not
+where the function only calls a refused one, and not where a proof file only names what the edit took away. What isn't
+refused in company is tried alone. The last line is 'N passed, M failed'; the status is 0 where none failed.
+"""
+import os
+import pathlib
+import re
+import shutil
+import subprocess
+import sys
+import tempfile
+from concurrent.futures import ThreadPoolExecutor
+
+ROOT = pathlib.Path(os.environ.get("ROOT") or pathlib.Path(__file__).resolve().parent.parent)
+MEMORY_OF_A_CHECK = 3 << 20  # KiB
+FUNCTION = re.compile(r"(?ms)^( *)(?:pub(?:\(\w+\))? )?(?:const )?fn (?=\w).*?^\1\}\n")
+CLAUSE = re.compile(r"(?m)^ *(?:ensures|requires|ghost)\b.*$")
+NAMES_ALONE = re.compile(r"is not in scope|has no field|has no `|is no name|was not admitted|were not checked|: module `|\(nearest: ")
+
+
+class BadEdit(Exception):
+    """Why an edit shows nothing."""
+
+
+def pieces(text):
+    """A source file cut into what stands between functions (at even indexes) and functions (at odd ones)."""
+    cuts = [0, *(cut for found in FUNCTION.finditer(text) for cut in found.span()), len(text)]
+    return [text[start:end] for start, end in zip(cuts, cuts[1:])]
+
+
+class Edit:
+    """A wrong body: the pieces of one source file that it changes, by their index."""
+
+    def __init__(self, path):
+        self.crate, self.name = path.parent.parent.name, path.stem
+        self.function = self.file = old = pristine = edited = None
+        for line in path.read_text().splitlines():
+            word, _, text = line.partition(": ")
+            if word == "function" and not self.function:
+                self.function = text
+            elif word == "file" and not self.file:
+                self.file = text
+                pristine = edited = self.source()
+            elif word == "old" and text and edited and not old:
+                old = text
+            elif word in ("new", "new:") and old:
+                if edited.count(old) != 1:
+                    raise BadEdit(f"its old text stands {edited.count(old)} times, and not once: {old}")
+                edited, old = edited.replace(old, text), None
+            else:
+                raise BadEdit(f"it can't be read: {line}")
+        if old or not self.function or not pristine:
+            raise BadEdit("it lacks a function, a file, or a new text")
+        self.compare(pieces(pristine), pieces(edited))
+
+    def __str__(self):
+        return f"{self.crate}/{self.name}"
+
+    def source(self):
+        path = ROOT / "crates" / self.crate / self.file
+        if not self.file.startswith("src/") or not path.is_file():
+            raise BadEdit(f"there is no source file {self.file}")
+        return path.read_text()
+
+    def compare(self, before, after):
+        if len(before) != len(after) or before[::2] != after[::2]:
+            raise BadEdit("it changes something outside of functions")
+        self.changes = {at: new for at, (old, new) in enumerate(zip(before, after)) if new != old}
+        for at, new in self.changes.items():
+            if CLAUSE.findall(before[at]) != CLAUSE.findall(new):
+                raise BadEdit("it changes a contract")
+        changed = "".join(before[at] for at in self.changes)
+        if not re.search(rf"\bfn {self.function.split('::')[-1]}\b", changed):
+            raise BadEdit(f"it changes nothing in {self.function}")
+
+
+def groups_of(edits):
+    """Parts edits into groups of one crate, with at most one edit in any function."""
+    groups = []
+    for edit in edits:
+        stands = {(edit.file, at) for at in edit.changes}
+        for crate, taken, group in groups:
+            if crate == edit.crate and not taken & stands:
+                taken |= stands
+                group.append(edit)
+                break
+        else:
+            groups.append((edit.crate, stands, [edit]))
+    return [group for *_, group in groups]
+
+
+def libraries_below():
+    """For each crate the crates of the repository on which it stands, lowest first."""
+    lines = [line.split("#")[0].partition(":") for line in (ROOT / "crates.txt").read_text().splitlines()]
+    named = {name.split()[0]: below.split() for name, _, below in lines if name.strip()}
+    every = lambda name: dict.fromkeys(it for low in named[name] if low in named for it in [*every(low), low])
+    return {name: list(every(name)) for name in named}
+
+
+def run(words, folder):
+    how = {"stdin": subprocess.DEVNULL, "stdout": subprocess.PIPE, "stderr": subprocess.STDOUT, "text": True}
+    return subprocess.run(words, cwd=folder, **how)
+
+
+def copy_with(edits, below, room):
+    """Copies what a check of the crate reads, with the proofs that were kept, and makes the edits in the copy."""
+    crate = edits[0].crate
+    for name in ("crates.txt", "HANDLES"):
+        shutil.copy(ROOT / name, room / name)
+    for other in (ROOT / "crates").iterdir():
+        skipped = ["wrong-bodies"] if other.name == crate else ["incremental"] if other.name in below else ["out"]
+        shutil.copytree(other, room / "crates" / other.name, ignore=shutil.ignore_patterns(*skipped))
+    folder = room / "crates" / crate
+    for edit in edits:
+        text = pieces((folder / edit.file).read_text())
+        for at, new in edit.changes.items():
+            text[at] = new
+        (folder / edit.file).write_text("".join(text))
+    return folder
+
+
+def lacking(crate, said):
+    """What each function lacks by itself, from what a check said; None where it judged no function."""
+    if not re.search(r"(?m)^only=", said):
+        return None
+    lacks = {}
+    for function, reason in re.findall(rf"(?m)^fn {crate}::(\S+): no proof: (.*)$", said):
+        own = [part for part in reason.split("; ") if not part.startswith("it calls ")]
+        lacks[function] = "" if "the borrow checker does not cover" in reason else "; ".join(own)
+    for function in re.findall(rf"(?m)^fn {crate}::(\S+): not proved", said):
+        folder = re.escape(function.replace("::", "/"))
+        errors = re.findall(rf"(?m)^\./proofs/{folder}/\w+\.antt:\d+:\d+: error: (.*)$", said)
+        lacks[function] = "; ".join(error[:200] for error in errors if not NAMES_ALONE.search(error))
+    return {function: lack for function, lack in lacks.items() if lack}
+
+
+def try_group(edits, below):
+    """What the check of a copy with these edits says: for each edit what its function lacks, or why it isn't refused."""
+    crate = edits[0].crate
+    with tempfile.TemporaryDirectory(prefix="wrong-bodies-") as room:
+        folder = copy_with(edits, below, pathlib.Path(room))
+        only = [word for edit in edits for word in ("--only", edit.function)]
+        said = run(["rt", "check", "--jobs", "1", *only], folder).stdout
+    lacks = lacking(crate, said)
+    if lacks is None:
+        return {edit: (False, "NOTHING JUDGED, the check said:\n" + said[-2000:]) for edit in edits}
+    return {edit: (edit.function in lacks, lacks.get(edit.function, "NOT REFUSED")) for edit in edits}
+
+
+def build(crates):
+    """Builds the libraries that checks of these crates stand on."""
+    for crate in crates:
+        ran = run(["rt", "lib"], ROOT / "crates" / crate)
+        if ran.returncode:
+            sys.exit(f"{crate} is not proved:\n{ran.stdout[-2000:]}")
+
+
+def read_edits(wanted):
+    """The wanted edits, or all, and why others show nothing."""
+    edits, bad = [], []
+    for path in sorted((ROOT / "crates").glob("*/wrong-bodies/*.edit")):
+        crate = path.parent.parent.name
+        if not wanted or {crate, f"{crate}/{path.stem}"} & set(wanted):
+            try:
+                edits.append(Edit(path))
+            except BadEdit as why:
+                bad.append(f"{crate}/{path.stem}: BAD EDIT: {why}")
+    return edits, bad
+
+
+def lanes():
+    """How many checks fit side by side."""
+    free = re.search(r"MemAvailable:\s+(\d+)", pathlib.Path("/proc/meminfo").read_text())
+    return max(1, min(len(os.sched_getaffinity(0)), int(free[1]) // MEMORY_OF_A_CHECK))
+
+
+def try_all(edits, below):
+    """Tries edits in groups, and alone those that weren't refused in company."""
+    groups, tried = groups_of(edits), {}
+    with ThreadPoolExecutor(lanes()) as pool:
+        for result in pool.map(lambda group: try_group(group, below[group[0].crate]), groups):
+            tried.update(result)
+        again = [[edit] for group in groups if len(group) > 1 for edit in group if not tried[edit][0]]
+        for result in pool.map(lambda group: try_group(group, below[group[0].crate]), again):
+            tried.update(result)
+    return tried
+
+
+def main(words):
+    below = libraries_below()
+    edits, failed = read_edits([word for word in words if word != "--reasons"])
+    build(dict.fromkeys(low for edit in edits for low in below[edit.crate]))
+    tried = try_all(edits, below)
+    refused = [f"{edit}: {why}" for edit, (is_refused, why) in tried.items() if is_refused]
+    failed += [f"{edit}: {why}" for edit, (is_refused, why) in tried.items() if not is_refused]
+    for line in [*(refused if "--reasons" in words else []), *failed]:
+        print(line)
+    print(f"{len(refused)} passed, {len(failed)} failed")
+    return 1 if failed or not refused else 0
+
+
+if __name__ == "__main__":
+    sys.exit(main(sys.argv[1:]))
