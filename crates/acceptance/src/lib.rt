@@ -11,6 +11,10 @@ mod devices;
 #[cfg(test)]
 mod frontier;
 #[cfg(test)]
+mod generated;
+#[cfg(test)]
+mod indexes;
+#[cfg(test)]
 mod plain;
 #[cfg(test)]
 mod plain_search;

@@ -1,22 +1,12 @@
-// The plain, slow search: each answer computed from the whole record, page by page.
-use gopher_catalogue::Event;
+// The plain, slow search: each answer computed from all pages, page by page.
+use gopher_index::Hit;
 use gopher_item::{NoMemory, Place};
 use gopher_page::{Operator, Page, Query, Term};
 use std::alloc::Global;
 use std::cmp::Reverse;
+use std::process::Abort;
 
 const MOST_HITS: usize = 50;
-
-/// The pages that a record found, in the order of their events.
-pub fn pages(alloc: Global, record: &[Event]) -> Result<Vec<&Page>, NoMemory> {
-    let mut pages = Vec::new(alloc);
-    for event in record {
-        if let Event::Found(_, page) = event {
-            pages.push(&**page)?;
-        }
-    }
-    Ok(pages)
-}
 
 // How often the words of a page that a term means stand there, by going over all of them.
 fn count(page: &Page, term: &Term) -> u64 {
@@ -89,4 +79,23 @@ pub fn occurrences<'a>(
     }
     all.sort()?;
     Ok(all)
+}
+
+/// The hits of a search are those of the plain one.
+pub fn assert_hits(rt: &impl Abort, hits: &[Hit], wanted: &[(Reverse<u64>, &Place, &[u8])]) {
+    assert_eq!(rt; hits.len(), wanted.len());
+    for (hit, (Reverse(score), place, title)) in hits.iter().zip(wanted) {
+        assert!(rt; hit.place == **place);
+        assert_eq!(rt; hit.score, *score);
+        assert_eq!(rt; hit.title.as_slice(), *title);
+    }
+}
+
+/// The occurrences of a word are those of the plain search.
+pub fn assert_occurrences(rt: &impl Abort, list: &[(Place, u32)], wanted: &[(&Place, u32)]) {
+    assert_eq!(rt; list.len(), wanted.len());
+    for ((place, count), (wanted_place, wanted_count)) in list.iter().zip(wanted) {
+        assert!(rt; place == *wanted_place);
+        assert_eq!(rt; *count, *wanted_count);
+    }
 }

@@ -1,66 +1,18 @@
 // The catalogue's search beside the plain one, on a generated catalogue.
-use crate::plain_search::{self, pages};
-use gopher_catalogue::{Catalogue, Turn};
+use crate::generated::{WORDS, question, text};
+use crate::plain_search::{self, assert_hits, assert_occurrences};
+use gopher_catalogue::{Catalogue, Event, Turn};
 use gopher_item::{NoMemory, Place};
 use gopher_page::{Page, Query};
 use gopher_scope::{Rule, Scope};
-use rand_core::Rng;
 use rand_pcg::Pcg32;
 use std::alloc::Global;
-use std::cmp::Reverse;
 use std::process::Abort;
 use std::test::Fail;
 
 const PAGES: u32 = 150;
 
 const QUERIES: u32 = 300;
-
-// Few words, so that scores are often equal, and some that begin alike.
-const WORDS: [&str; 12] = [
-    "moon",
-    "moo",
-    "mood",
-    "m",
-    "sun",
-    "sunny",
-    "rain",
-    "and",
-    "or",
-    "not",
-    "a",
-    "\u{e9}t\u{e9}",
-];
-
-fn below(rng: &mut Pcg32, limit: u32) -> u32 {
-    rng.next_u32().checked_rem(limit).unwrap_or(0)
-}
-
-fn word(rng: &mut Pcg32) -> &'static str {
-    let index = below(rng, 12) as usize;
-    WORDS.get(index).copied().unwrap_or("moon")
-}
-
-fn text(alloc: Global, rng: &mut Pcg32) -> Result<Vec<u8>, NoMemory> {
-    let mut text = Vec::new(alloc);
-    for _ in 0..below(rng, 20) {
-        text.extend_from_slice(word(rng).as_bytes())?;
-        text.extend_from_slice(if below(rng, 5) == 0 { b"\r\n" } else { b" " })?;
-    }
-    Ok(text)
-}
-
-// A query's text: words, operators and prefixes, in any order.
-fn question(alloc: Global, rng: &mut Pcg32) -> Result<Vec<u8>, NoMemory> {
-    let mut question = Vec::new(alloc);
-    for _ in 0..below(rng, 6).saturating_add(1) {
-        question.extend_from_slice(word(rng).as_bytes())?;
-        if below(rng, 4) == 0 {
-            question.push(b'*')?;
-        }
-        question.push(b' ')?;
-    }
-    Ok(question)
-}
 
 // A crawl whose seeds are the places of the pages, in an order that isn't theirs.
 fn opened(alloc: Global) -> Result<Option<Catalogue>, Fail> {
@@ -94,6 +46,17 @@ fn crawled(alloc: Global, rng: &mut Pcg32) -> Result<Catalogue, Fail> {
     Ok(catalogue)
 }
 
+// The pages that a record found, in the order of their events.
+fn pages(alloc: Global, record: &[Event]) -> Result<Vec<&Page>, NoMemory> {
+    let mut pages = Vec::new(alloc);
+    for event in record {
+        if let Event::Found(_, page) = event {
+            pages.push(&**page)?;
+        }
+    }
+    Ok(pages)
+}
+
 /// A search answers what the plain one does.
 pub fn compare(
     rt: &impl Abort,
@@ -108,12 +71,7 @@ pub fn compare(
     let found = pages(alloc, catalogue.record())?;
     let wanted = plain_search::search(alloc, &found, &query)?;
     let hits = catalogue.search(&query)?;
-    assert_eq!(rt; hits.len(), wanted.len());
-    for (hit, (Reverse(score), place, title)) in hits.iter().zip(&wanted) {
-        assert!(rt; hit.place == **place);
-        assert_eq!(rt; hit.score, *score);
-        assert_eq!(rt; hit.title.as_slice(), *title);
-    }
+    assert_hits(rt, &hits, &wanted);
     Ok(())
 }
 
@@ -127,11 +85,7 @@ pub fn compare_occurrences(
     let found = pages(alloc, catalogue.record())?;
     let wanted = plain_search::occurrences(alloc, &found, word)?;
     let list = catalogue.occurrences(word)?;
-    assert_eq!(rt; list.len(), wanted.len());
-    for ((place, count), (wanted_place, wanted_count)) in list.iter().zip(&wanted) {
-        assert!(rt; place == *wanted_place);
-        assert_eq!(rt; *count, *wanted_count);
-    }
+    assert_occurrences(rt, &list, &wanted);
     Ok(())
 }
 

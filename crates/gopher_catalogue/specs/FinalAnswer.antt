@@ -9,11 +9,11 @@ use Rattle.gopher_scope.specs.Scope.{ScopeData}
 use Rattle.gopher_page.specs.Page.{PageData}
 use Rattle.gopher_page.specs.Query.{TermData, matches, score}
 use Rattle.gopher_page.specs.Counts.{count_meant}
-use Rattle.gopher_catalogue.specs.declared.hit.Hit.{Hit}
+use Rattle.gopher_index.specs.declared.hit.Hit.{Hit}
 use Rattle.gopher_catalogue.specs.Event.{OpeningData, EventData, Opened}
 use Rattle.gopher_catalogue.specs.Legal.{IsLegal}
 use Rattle.gopher_catalogue.specs.Pages.{pages_found}
-use Rattle.gopher_catalogue.specs.Answer.{rank_cmp, answer_of, occurrences_of}
+use Rattle.gopher_index.specs.Answer.{rank_cmp, answer_of, occurrences_of}
 use Rattle.gopher_catalogue.specs.Closure.{OutcomeTable, IsReachedPage, Agrees, IsComplete, SamePlaces}
 
 -- ---- the answer over any pages

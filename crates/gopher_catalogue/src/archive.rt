@@ -1,43 +1,40 @@
-//! The record of a crawl with the postings of its pages.
+//! The record of a crawl with the index of its pages.
 
-ghost use Rattle.std.specs.Prelude.{◌≡◌, ◌+◌, ◌^◌, ◌<◌, ◌≤◌, Some, None, [], ◌∷◌, ◌++◌, length, map, MatchResult, IfOk, IfErr, OnOk, OnErr};
-ghost use Rattle.gopher_catalogue.specs.Answer.{answer_of, AreOccurrences};
+ghost use Rattle.std.specs.Prelude.{◌≡◌, ◌+◌, ◌<◌, ◌≤◌, [], ◌∷◌, ◌++◌, length, map, MatchResult, IfOk, IfErr, OnOk, OnErr};
+ghost use Rattle.gopher_index.specs.Answer.{answer_of, AreOccurrences};
 ghost use Rattle.gopher_catalogue.specs.Event.{Opened, Found};
 ghost use Rattle.gopher_catalogue.specs.EventOf.{event_data};
-ghost use Rattle.gopher_catalogue.specs.Pages.{pages_found};
-ghost use Rattle.gopher_catalogue.specs.Postings.{page_in};
+ghost use Rattle.gopher_catalogue.specs.Pages.{page_of_event, pages_found};
 
 use crate::event::Event;
 use crate::history::History;
-use crate::hit::Hit;
 use crate::opening::Opening;
-use crate::postings::Postings;
-use crate::search;
+use gopher_index::{Hit, Index};
 use gopher_item::{NoMemory, Place};
 use gopher_page::{Page, Query};
 use std::alloc::Global;
 use std::marker::Model;
 use std::sync::Arc;
 
-/// The record of a crawl, and the postings of the pages that it found.
+/// The record of a crawl, and the index of the pages that it found.
 #[derive(Debug, Drop)]
 pub(crate) struct Archive {
     history: History,
-    postings: Postings,
+    index: Index,
 }
 
 impl Model for Archive {
-    ghost use Rattle.std.specs.Prelude.{◌∷◌};
+    ghost use Rattle.std.specs.Prelude.{◌≡◌, ◌∷◌};
     ghost use Rattle.gopher_catalogue.specs.Event.{Opened};
     ghost use Rattle.gopher_catalogue.specs.Tables.{HistoryData};
 
     ghost Value = { HistoryData };
 
-    ghost use Rattle.gopher_catalogue.specs.Postings.{ArePostingsOf};
+    ghost use Rattle.gopher_catalogue.specs.Pages.{pages_found};
 
     ghost view = { λ a. a.history };
 
-    ghost invariant = { λ a. ArePostingsOf a.postings (Opened a.history.opening ∷ a.history.later) };
+    ghost invariant = { λ a. a.index ≡ pages_found (Opened a.history.opening ∷ a.history.later) };
 }
 
 impl Archive {
@@ -48,7 +45,7 @@ impl Archive {
         match History::begin(alloc, opening) {
             Ok(history) => Ok(Archive {
                 history,
-                postings: Postings::new(alloc),
+                index: Index::new(alloc),
             }),
             Err(opening) => Err(opening),
         }
@@ -81,7 +78,7 @@ impl Archive {
     /// Adds an event at the end, for which there is room, and which found no page.
     pub fn push(&mut self, event: Event)
         requires room { 0 < self.old.room }
-        requires no_page { page_in (Some (event_data event)) ≡ None }
+        requires no_page { page_of_event (event_data event) ≡ [] }
         ensures opening { self.new.opening ≡ self.old.opening }
         ensures later { self.new.later ≡ self.old.later ++ event_data event ∷ [] }
         ensures room { self.new.room + 1 ≡ self.old.room }
@@ -89,45 +86,44 @@ impl Archive {
         self.history.push(event);
     }
 
-    /// Adds at the end that the page of a number was found, for which there is room, and the postings
-    /// of its words. A refusal of memory hands the page back, and leaves all as it was.
+    /// Adds at the end that the page of a number was found, for which there is room, and the page to the
+    /// index. A refusal of memory hands the page back, and leaves all as it was.
     pub fn push_found(&mut self, alloc: Global, number: u32, page: Page) -> Result<(), Page>
         requires room { 0 < self.old.room }
-        requires few { length self.old.later + 1 < 2 ^ 24 }
+        requires few { length (pages_found (Opened self.old.opening ∷ self.old.later)) < 65536 }
         ensures opening { self.new.opening ≡ self.old.opening }
         ensures later { OnOk result (self.new.later ≡ self.old.later ++ Found number page ∷ []) }
         ensures room { OnOk result (self.new.room + 1 ≡ self.old.room) }
         ensures err { OnErr result (self.new ≡ self.old) }
         ensures page_back { IfErr result (λ back. back ≡ page) }
     {
-        let event = self.history.as_slice().len() as u32;
-        let Ok(()) = self.postings.add(alloc, event, page.counts()) else {
+        let Ok(back) = page.again() else {
             return Err(page);
         };
-        match Arc::new(alloc, page) {
-            Ok(page) => {
-                self.history.push(Event::Found(number, page));
-                Ok(())
-            }
-            Err(refused) => {
-                let page = refused.value;
-                self.postings.remove(event, page.counts());
-                Err(page)
-            }
-        }
+        let Ok(page) = Arc::new(alloc, page) else {
+            return Err(back);
+        };
+        let Ok(shared) = page.clone() else {
+            return Err(back);
+        };
+        let Ok(()) = self.index.add(shared) else {
+            return Err(back);
+        };
+        self.history.push(Event::Found(number, page));
+        Ok(())
     }
 
     /// The answer to a query. Refused only where memory is (90).
     pub fn search(&self, alloc: Global, query: &Query) -> Result<Vec<Hit>, NoMemory>
         ensures { IfOk result (λ hits. hits.items ≡ answer_of (pages_found (Opened self.now.opening ∷ self.now.later)) query.now) }
     {
-        search::search(alloc, self.history.as_slice(), &self.postings, query)
+        self.index.search(alloc, query)
     }
 
     /// The occurrences of a word. Refused only where memory is (90).
     pub fn occurrences(&self, alloc: Global, word: &[u8]) -> Result<Vec<(Place, u32)>, NoMemory>
         ensures { IfOk result (λ list. AreOccurrences (pages_found (Opened self.now.opening ∷ self.now.later)) word.now list.items) }
     {
-        search::occurrences(alloc, self.history.as_slice(), &self.postings, word)
+        self.index.occurrences(alloc, word)
     }
 }

@@ -1,4 +1,4 @@
-//! The catalogue of a crawl: its frontier, its record, and the postings by which it is searched.
+//! The catalogue of a crawl: its frontier, its record, and the index by which it is searched.
 //!
 //! RFC 1436 says nothing of crawls, and leaves it to a search server what it answers: all of this is
 //! this profile's.
@@ -10,26 +10,20 @@
 
 mod answer;
 mod archive;
-mod best;
 mod catalogue;
 pub mod closure;
-mod combining;
 mod event;
 mod fault;
 mod frontier;
 mod history;
-mod hit;
 mod known;
 pub mod laws;
 mod opening;
-mod postings;
 mod queue;
-mod search;
-mod tally;
 
 pub use answer::{Added, Claim, Status, Turn};
 pub use catalogue::Catalogue;
 pub use event::{Event, Why};
 pub use fault::{FailRefused, FoundFault, FoundRefused, OpenFault, OpenRefused};
-pub use hit::Hit;
+pub use gopher_index::Hit;
 pub use opening::Opening;

@@ -11,6 +11,7 @@ mod counts;
 mod fault;
 mod line;
 mod links;
+mod numbered;
 mod page;
 mod query;
 mod repeats;

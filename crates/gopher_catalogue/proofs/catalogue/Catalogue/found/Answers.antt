@@ -7,7 +7,7 @@ use Rattle.gopher_catalogue.specs.declared.fault.FoundFault.TheVariants.{NotOut,
 use Rattle.gopher_catalogue.specs.Step.{found_fault, added_by}
 use Rattle.gopher_catalogue.specs.Tables.{Learned}
 use Rattle.gopher_catalogue.specs.Indexed.{IsIndexed}
-use Rattle.gopher_catalogue.proofs.CallSteps.{few_events}
+use Rattle.gopher_catalogue.proofs.ArchiveLemmas.{few_pages}
 use Rattle.gopher_catalogue.proofs.KnownLemmas.{length-after_mentions}
 use Rattle.gopher_catalogue.proofs.IndexedCalls.{learned_of, limit_fits, places_fit, places_within, out_fits, done_fits, dropped_fits, some_out, fault_not_out, fault_wrong, fault_none, still_stands, added_shown, after_found}
 use Rattle.gopher_catalogue.proofs.catalogue.Catalogue.found.Goals as goal
@@ -81,7 +81,9 @@ pub push_found-requires-clause-room : goal.push_found-requires-clause-room
 push_found-requires-clause-room c = omega (arith, some_out c.self.inside.history c.self.inside.frontier c.self.invariant c.args.number c.in-Some.standing c.in-Some.ensures.0 c.in-Some.ensures.1, c.self.invariant.record_room)
 
 pub push_found-requires-clause-few : goal.push_found-requires-clause-few
-push_found-requires-clause-few c = omega (arith, few_events c.self.inside.history.opening c.self.inside.history.later c.self.invariant.legal)
+push_found-requires-clause-few c =
+    few_pages c.self.inside.history.opening c.self.inside.history.later c.self.invariant.legal
+    (omega (arith, some_out c.self.inside.history c.self.inside.frontier c.self.invariant c.args.number c.in-Some.standing c.in-Some.ensures.0 c.in-Some.ensures.1, c.self.invariant.tells.out_is))
 
 -- ---- found
 

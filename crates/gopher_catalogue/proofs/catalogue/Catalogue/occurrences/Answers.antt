@@ -1,6 +1,6 @@
 use Rattle.std.proofs.Common.{subst}
 use Rattle.std.specs.Prelude.{IfOk}
-use Rattle.gopher_catalogue.specs.Answer.{AreOccurrences}
+use Rattle.gopher_index.specs.Answer.{AreOccurrences}
 use Rattle.gopher_catalogue.specs.Legal.{IsLegal}
 use Rattle.gopher_catalogue.specs.Pages.{pages_found}
 use Rattle.gopher_catalogue.proofs.FinalAnswers.{occurrences_sorted, occurrences_final}

@@ -1,6 +1,6 @@
 use Rattle.std.proofs.Common.{◌≡◌, subst}
 use Rattle.std.specs.Prelude.{IfOk}
-use Rattle.gopher_catalogue.specs.Answer.{answer_of}
+use Rattle.gopher_index.specs.Answer.{answer_of}
 use Rattle.gopher_catalogue.specs.Legal.{IsLegal}
 use Rattle.gopher_catalogue.specs.Pages.{pages_found}
 use Rattle.gopher_catalogue.proofs.FinalAnswers.{hits_final}
