@@ -12,6 +12,13 @@ test:
 	tools/test_wrong_bodies.py
 	tools/wrong_bodies.py
 	bench/program.sh
+	tests/replays.py
+	bench/refusals.sh
+
+# The program beside the plain model of tests/model.py, on scripts that are drawn anew each time.
+.PHONY: fuzz
+fuzz: crates/hole/out/hole
+	tests/replays.py --scripts 10000 --seed "$$(date)"
 
 # The wrong bodies of one crate, for work on it: make wrong-bodies CRATE=gopher_item
 .PHONY: wrong-bodies
@@ -22,3 +29,6 @@ wrong-bodies:
 .PHONY: bench
 bench:
 	bench/run.sh
+
+crates/hole/out/hole:
+	cd crates/hole && rt run -- replay < stdin > /dev/null

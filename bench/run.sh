@@ -1,6 +1,7 @@
 #!/usr/bin/env bash
 # Every timing: scripts replayed, menus and texts read and written, settings read, a site loaded and its
-# replies made, and a catalogue of 65,536 pages searched, beside a plain C program over the same postings.
+# replies made, a host in memory of 16,384 texts crawled by 4, 2 and 1 workers, and a catalogue of 65,536 pages
+# built and searched, beside a plain C program that makes the same pages, adds them to postings and searches these.
 set -euo pipefail
 cd "$(dirname "$0")/.."
 (cd crates/hole && rt run -- replay < stdin > /dev/null)
@@ -16,6 +17,8 @@ crates/measure/out/measure site "$folder/site"
 crates/measure/out/measure replies "$folder/site"
 bench/pages.py "$folder/pages"
 crates/measure/out/measure search "$folder/pages"
+bench/pages.py "$folder/crawled" 16384
+crates/measure/out/measure crawl "$folder/crawled"
 cc -O2 -o "$folder/postings" bench/postings.c
 echo "the plain C program:"
 "$folder/postings" "$folder/pages"

@@ -33,6 +33,22 @@ pub fn after_next(number: u32) -> u32
 }
 """
 
+ABOVE = """//! A function that stands on `small`.
+#![tactic(auto)]
+
+use small::next;
+
+ghost use Rattle.std.specs.Prelude.{◌≡◌, ◌+◌, ◌<◌};
+
+/// The number three places after this one.
+pub fn third(number: u32) -> u32
+    requires { number < 100 }
+    ensures { result ≡ number + 3 }
+{
+    next(next(next(number)))
+}
+"""
+
 
 def edit(function, old, new):
     return f"function: {function}\nfile: src/lib.rt\nold: {old}\nnew: {new}\n"
@@ -44,22 +60,27 @@ HARMLESS = edit("next", "    number + 1", "    1 + number")
 TEXT_IS_GONE = edit("next", "number + 7", "number + 2")
 OF_A_CONTRACT = edit("next", "result ≡ number + 1", "result ≡ number + 2")
 OF_ANOTHER_FUNCTION = edit("after_next", "    number + 1", "    number + 2")
+ONE_TOO_FEW = edit("third", "next(next(next(number)))", "next(next(number))")
 NO_SUCH_NAME = edit("after_next", "next(next(number))", "before(number)")
 
 
+def write_crate(folder, source, edits):
+    (folder / "wrong-bodies").mkdir(parents=True)
+    (folder / "src").mkdir()
+    (folder / "src" / "lib.rt").write_text(source)
+    for name, text in edits.items():
+        (folder / "wrong-bodies" / f"{name}.edit").write_text(text)
+
+
 class WrongBodies(unittest.TestCase):
-    def tried(self, **edits):
-        """What the script prints for these edits, and its status."""
+    def tried(self, above=None, **edits):
+        """What the script prints for these edits, and those of the crate above, and its status."""
         with tempfile.TemporaryDirectory() as room:
             root = pathlib.Path(room)
-            folder = root / "crates" / "small"
-            (folder / "wrong-bodies").mkdir(parents=True)
-            (folder / "src").mkdir()
-            (folder / "src" / "lib.rt").write_text(SOURCE)
-            (root / "crates.txt").write_text("small:\n")
+            write_crate(root / "crates" / "small", SOURCE, edits)
+            write_crate(root / "crates" / "above", ABOVE, above or {})
+            (root / "crates.txt").write_text("small:\nabove: small\n")
             (root / "HANDLES").write_text("Handles allowed: none.\n")
-            for name, text in edits.items():
-                (folder / "wrong-bodies" / f"{name}.edit").write_text(text)
             environment = {**os.environ, "ROOT": room}
             ran = subprocess.run([TOOLS / "wrong_bodies.py"], env=environment, capture_output=True, text=True)
             return ran.stdout, ran.returncode
@@ -74,6 +95,9 @@ class WrongBodies(unittest.TestCase):
     def test_an_edit_that_does_not_compile_is_not_refused(self):
         said, status = self.tried(a=NO_SUCH_NAME)
         self.assertTrue(said.startswith("small/a: NOTHING JUDGED") and status == 1, said)
+
+    def test_edits_of_a_crate_and_of_one_above_it(self):
+        self.assertEqual(self.tried(a=ONE_TOO_MANY, above={"b": ONE_TOO_FEW}), ("2 passed, 0 failed\n", 0))
 
     def test_edits_that_show_nothing_fail(self):
         said, status = self.tried(a=TEXT_IS_GONE, b=OF_A_CONTRACT, c=OF_ANOTHER_FUNCTION, d="new: text\n")

@@ -114,13 +114,13 @@ def run(words, folder):
     return subprocess.run(words, cwd=folder, **how)
 
 
-def copy_with(edits, below, room):
+def copy_with(edits, built, room):
     """Copies what a check of the crate reads, with the proofs that were kept, and makes the edits in the copy."""
     crate = edits[0].crate
     for name in ("crates.txt", "HANDLES"):
         shutil.copy(ROOT / name, room / name)
     for other in (ROOT / "crates").iterdir():
-        skipped = ["wrong-bodies"] if other.name == crate else ["incremental"] if other.name in below else ["out"]
+        skipped = ["wrong-bodies"] if other.name == crate else ["incremental"] if other.name in built else ["out"]
         shutil.copytree(other, room / "crates" / other.name, ignore=shutil.ignore_patterns(*skipped))
     folder = room / "crates" / crate
     for edit in edits:
@@ -146,11 +146,11 @@ def lacking(crate, said):
     return {function: lack for function, lack in lacks.items() if lack}
 
 
-def try_group(edits, below):
+def try_group(edits, built):
     """What the check of a copy with these edits says: for each edit what its function lacks, or why it isn't refused."""
-    crate = edits[0].crate
+    crate, built = edits[0].crate, [library.result() for library in built]
     with tempfile.TemporaryDirectory(prefix="wrong-bodies-") as room:
-        folder = copy_with(edits, below, pathlib.Path(room))
+        folder = copy_with(edits, built, pathlib.Path(room))
         only = [word for edit in edits for word in ("--only", edit.function)]
         said = run(["rt", "check", "--jobs", "1", *only], folder).stdout
     lacks = lacking(crate, said)
@@ -159,12 +159,12 @@ def try_group(edits, below):
     return {edit: (edit.function in lacks, lacks.get(edit.function, "NOT REFUSED")) for edit in edits}
 
 
-def build(crates):
-    """Builds the libraries that checks of these crates stand on."""
-    for crate in crates:
-        ran = run(["rt", "lib"], ROOT / "crates" / crate)
-        if ran.returncode:
-            sys.exit(f"{crate} is not proved:\n{ran.stdout[-2000:]}")
+def build(crate):
+    """Builds a library that checks of other crates stand on."""
+    ran = run(["rt", "lib"], ROOT / "crates" / crate)
+    if ran.returncode:
+        raise RuntimeError(f"{crate} is not proved:\n{ran.stdout[-2000:]}")
+    return crate
 
 
 def read_edits(wanted):
@@ -187,13 +187,20 @@ def lanes():
 
 
 def try_all(edits, below):
-    """Tries edits in groups, and alone those that weren't refused in company."""
-    groups, tried = groups_of(edits), {}
-    with ThreadPoolExecutor(lanes()) as pool:
-        for result in pool.map(lambda group: try_group(group, below[group[0].crate]), groups):
+    """Tries edits in groups, and alone those that weren't refused in company.
+
+    The libraries are built meanwhile, one after another. A group waits for those that it stands on, and for its own
+    crate where that is one of them: a folder that is being written can't be copied."""
+    order = list(dict.fromkeys(low for edit in edits for low in below[edit.crate]))
+    awaited = {crate: [low for low in order if low == crate or low in below[crate]] for crate in below}
+    groups, tried = groups_of(sorted(edits, key=lambda edit: max(map(order.index, awaited[edit.crate]), default=-1))), {}
+    with ThreadPoolExecutor(1) as builder, ThreadPoolExecutor(lanes()) as pool:
+        libraries = {crate: builder.submit(build, crate) for crate in order}
+        attempt = lambda group: try_group(group, [libraries[low] for low in awaited[group[0].crate]])
+        for result in pool.map(attempt, groups):
             tried.update(result)
         again = [[edit] for group in groups if len(group) > 1 for edit in group if not tried[edit][0]]
-        for result in pool.map(lambda group: try_group(group, below[group[0].crate]), again):
+        for result in pool.map(attempt, again):
             tried.update(result)
     return tried
 
@@ -201,7 +208,6 @@ def try_all(edits, below):
 def main(words):
     below = libraries_below()
     edits, failed = read_edits([word for word in words if word != "--reasons"])
-    build(dict.fromkeys(low for edit in edits for low in below[edit.crate]))
     tried = try_all(edits, below)
     refused = [f"{edit}: {why}" for edit, (is_refused, why) in tried.items() if is_refused]
     failed += [f"{edit}: {why}" for edit, (is_refused, why) in tried.items() if not is_refused]

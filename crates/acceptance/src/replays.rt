@@ -62,10 +62,10 @@ fn flushes_all_that_it_wrote(rt: HostRuntime) -> Result<(), Fail> {
     for wanted in &RUNS {
         let mut error = Watched::new(Vec::new(rt.alloc()));
         let (status, output) = outcome(&rt, wanted, &mut error)?;
-        assert_eq!(rt; status, wanted.status);
-        assert_eq!(rt; error.into_inner().as_slice(), wanted.error);
+        assert!(rt; status == wanted.status);
+        assert!(rt; error.into_inner().as_slice() == wanted.error);
         assert!(rt; output.flushes > 0);
-        assert_eq!(rt; output.flushed, wanted.worked.output.len());
+        assert!(rt; output.flushed == wanted.worked.output.len());
     }
     Ok(())
 }
@@ -75,9 +75,9 @@ fn runs_alike_where_the_error_stream_fails(rt: HostRuntime) -> Result<(), Fail> 
     for wanted in &RUNS {
         let mut error = Watched::new(ShortWriter::new(rt.alloc(), 0, true));
         let (status, output) = outcome(&rt, wanted, &mut error)?;
-        assert_eq!(rt; status, wanted.status);
+        assert!(rt; status == wanted.status);
         assert!(rt; output.flushes > 0);
-        assert_eq!(rt; output.flushed, wanted.worked.output.len());
+        assert!(rt; output.flushed == wanted.worked.output.len());
     }
     Ok(())
 }
@@ -87,9 +87,9 @@ fn gives_up_on_a_script_that_is_always_interrupted(rt: HostRuntime) {
     let mut input = Watched::new(Interrupted);
     let mut output = Watched::new(Vec::new(rt.alloc()));
     let ended = replay(rt.alloc(), &mut input, &mut output);
-    assert_eq!(rt; ended, Err(ReplayFault::TooManyTurns));
-    assert_eq!(rt; ReplayFault::TooManyTurns.code(), 11);
-    assert_eq!(rt; output.into_inner().len(), 0);
+    assert!(rt; ended == Err(ReplayFault::TooManyTurns));
+    assert!(rt; ReplayFault::TooManyTurns.code() == 11);
+    assert!(rt; output.into_inner().len() == 0);
 }
 
 // The status of the program where its script is what this reader gives, how many bytes it wrote, and its
@@ -106,10 +106,10 @@ fn ended<R: Read + Drop>(rt: &HostRuntime, reader: R) -> Result<(u8, usize, Vec<
 #[test]
 fn tells_why_its_script_was_not_read(rt: HostRuntime) -> Result<(), Fail> {
     let (status, written, line) = ended(&rt, ShortReader { bytes: b"" })?;
-    assert_eq!(rt; (status, written), (1, 0));
-    assert_eq!(rt; line.as_slice(), b"hole: 10\n".as_slice());
+    assert!(rt; (status, written) == (1, 0));
+    assert!(rt; line.as_slice() == b"hole: 10\n".as_slice());
     let (status, written, line) = ended(&rt, Interrupted)?;
-    assert_eq!(rt; (status, written), (1, 0));
-    assert_eq!(rt; line.as_slice(), b"hole: 11\n".as_slice());
+    assert!(rt; (status, written) == (1, 0));
+    assert!(rt; line.as_slice() == b"hole: 11\n".as_slice());
     Ok(())
 }

@@ -41,8 +41,8 @@ fn check_replay(rt: &(impl Abort + AllocGlobal), worked: &Worked) -> Result<(), 
         Some(line) => Err(ReplayFault::BadScript(line as usize)),
         None => Ok(()),
     };
-    assert_eq!(rt; ended, wanted);
-    assert_eq!(rt; output.into_inner().as_slice(), worked.output);
+    assert!(rt; ended == wanted);
+    assert!(rt; output.into_inner().as_slice() == worked.output);
     Ok(())
 }
 
@@ -52,10 +52,10 @@ fn check_run(rt: &(impl Abort + AllocGlobal), worked: &Worked) -> Result<(), Fai
     let mut error = Watched::new(Vec::new(rt.alloc()));
     let words = words(rt.alloc(), &["replay"])?;
     let status = run(rt, &words, &mut input, &mut output, &mut error);
-    assert_eq!(rt; output.into_inner().as_slice(), worked.output);
+    assert!(rt; output.into_inner().as_slice() == worked.output);
     let line = error_line(rt.alloc(), worked.bad_line)?;
-    assert_eq!(rt; error.into_inner().as_slice(), line.as_bytes());
-    assert_eq!(rt; status, if worked.bad_line.is_some() { 1 } else { 0 });
+    assert!(rt; error.into_inner().as_slice() == line.as_bytes());
+    assert!(rt; status == if worked.bad_line.is_some() { 1 } else { 0 });
     Ok(())
 }
 
@@ -88,9 +88,9 @@ fn other_words_end_with_status_2(rt: HostRuntime) -> Result<(), Fail> {
             let mut error = Watched::new(ShortWriter::new(rt.alloc(), room, true));
             let words = words(rt.alloc(), all)?;
             let status = run(&rt, &words, &mut input, &mut output, &mut error);
-            assert_eq!(rt; status, 2);
-            assert_eq!(rt; output.into_inner().len(), 0);
-            assert_eq!(rt; error.into_inner().taken.as_slice(), &USAGE[..room]);
+            assert!(rt; status == 2);
+            assert!(rt; output.into_inner().len() == 0);
+            assert!(rt; error.into_inner().taken.as_slice() == &USAGE[..room]);
         }
     }
     Ok(())

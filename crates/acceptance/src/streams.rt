@@ -14,11 +14,10 @@ fn each_answer_goes_out_in_a_write_of_its_own(rt: HostRuntime) -> Result<(), Fai
     let mut output = Watched::new(ShortWriter::new(rt.alloc(), 1_000, false));
     assert!(rt; replay(rt.alloc(), &mut input, &mut output).is_ok());
     let ShortWriter { taken, writes, .. } = output.into_inner();
-    assert_eq!(rt;
-        taken.as_slice(),
-        b"ok\nknown 0 waiting 0 out 0 done 0 dropped 0\nfinished\n".as_slice()
+    assert!(rt;
+        taken.as_slice() == b"ok\nknown 0 waiting 0 out 0 done 0 dropped 0\nfinished\n".as_slice()
     );
-    assert_eq!(rt; writes, 3);
+    assert!(rt; writes == 3);
     Ok(())
 }
 
@@ -32,9 +31,9 @@ fn line_code(alloc: Global, bytes: &[u8]) -> Option<u8> {
 #[test]
 fn a_read_that_fails_ends_a_line_at_each_place(rt: HostRuntime) {
     for count in 0..LINE.len() {
-        assert_eq!(rt; line_code(rt.alloc(), &LINE[..count]), Some(10));
+        assert!(rt; line_code(rt.alloc(), &LINE[..count]) == Some(10));
     }
-    assert_eq!(rt; line_code(rt.alloc(), LINE), None);
+    assert!(rt; line_code(rt.alloc(), LINE) == None);
 }
 
 #[test]
@@ -44,10 +43,7 @@ fn a_writer_that_fails_has_taken_a_beginning(rt: HostRuntime) -> Result<(), Fail
         let mut output = Watched::new(ShortWriter::new(rt.alloc(), count, false));
         let ended = replay(rt.alloc(), &mut input, &mut output);
         assert!(rt; matches!(ended, Err(ReplayFault::WriteFailed)));
-        assert_eq!(rt;
-            output.into_inner().taken.as_slice(),
-            &FIRST_CRAWL.output[..count]
-        );
+        assert!(rt; output.into_inner().taken.as_slice() == &FIRST_CRAWL.output[..count]);
     }
     Ok(())
 }
@@ -60,7 +56,7 @@ fn nothing_is_written_of_a_script_that_cannot_be_read(rt: HostRuntime) -> Result
         let mut output = Watched::new(Vec::new(rt.alloc()));
         let ended = replay(rt.alloc(), &mut input, &mut output);
         assert!(rt; matches!(ended, Err(ReplayFault::ReadFailed)));
-        assert_eq!(rt; output.into_inner().len(), 0);
+        assert!(rt; output.into_inner().len() == 0);
     }
     Ok(())
 }
@@ -74,8 +70,8 @@ fn a_script_of_over_a_mebibyte_is_refused(rt: HostRuntime) -> Result<(), Fail> {
         let script = vec![in rt.alloc(); b'#'; length]?;
         let mut input = Watched::new(script.as_slice());
         let mut output = Watched::new(Vec::new(rt.alloc()));
-        assert_eq!(rt; replay(rt.alloc(), &mut input, &mut output), ended);
-        assert_eq!(rt; output.into_inner().len(), 0);
+        assert!(rt; replay(rt.alloc(), &mut input, &mut output) == ended);
+        assert!(rt; output.into_inner().len() == 0);
     }
     Ok(())
 }

@@ -16,11 +16,7 @@ mod pages;
 #[cfg(test)]
 mod places;
 #[cfg(test)]
-mod queries;
-#[cfg(test)]
 mod request_lines;
-#[cfg(test)]
-mod scopes;
 #[cfg(test)]
 mod settings;
 #[cfg(test)]

@@ -8,17 +8,17 @@ use std::test::Fail;
 fn refuses_the_first_bad_menu_line(rt: HostRuntime) -> Result<(), Fail> {
     let alloc = rt.alloc();
     let fault = Some(TreeFault::BadMenuLine { file: 0, line: 1 });
-    assert_eq!(rt; fault_of(alloc, &[(b".menu", b"0x\ta\tb")])?, fault);
+    assert!(rt; fault_of(alloc, &[(b".menu", b"0x\ta\tb")])? == fault);
     let fault = Some(TreeFault::BadMenuLine { file: 0, line: 4 });
     let lines = b"\n.\r\n0x\ta\n\ta";
-    assert_eq!(rt; fault_of(alloc, &[(b"a/.menu", lines)])?, fault);
+    assert!(rt; fault_of(alloc, &[(b"a/.menu", lines)])? == fault);
     Ok(())
 }
 
 // The first line of a menu file of these bytes has none of a menu file's forms.
 fn refuses_line(rt: &(impl Abort + AllocGlobal), bytes: &[u8]) -> Result<(), Fail> {
     let fault = fault_of(rt.alloc(), &[(b".menu", bytes)])?;
-    assert_eq!(rt; fault, Some(TreeFault::BadMenuLine { file: 0, line: 1 }));
+    assert!(rt; fault == Some(TreeFault::BadMenuLine { file: 0, line: 1 }));
     Ok(())
 }
 

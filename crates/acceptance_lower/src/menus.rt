@@ -62,7 +62,7 @@ fn reads_menus_by_the_grammar(rt: HostRuntime) -> Result<(), Fail> {
         (b"0A\t/a\0\th\t70\r\n", b"odd 0A\nopen!"),
     ];
     for (bytes, expected) in cases {
-        assert_eq!(rt; read_as(rt.alloc(), bytes)?.as_slice(), expected);
+        assert!(rt; read_as(rt.alloc(), bytes)?.as_slice() == expected);
     }
     Ok(())
 }
@@ -86,25 +86,25 @@ fn reads_every_type_byte(rt: HostRuntime) -> Result<(), Fail> {
             }
         };
         if !expected.is_empty() {
-            assert_eq!(rt; found.as_slice(), expected);
+            assert!(rt; found.as_slice() == expected);
         } else {
             let mut item = Vec::from_slice(rt.alloc(), b"item ")?;
             item.push(kind)?;
             item.extend_from_slice(b"|x|/s|h|70\nopen!")?;
-            assert_eq!(rt; found.as_slice(), item.as_slice());
+            assert!(rt; found.as_slice() == item.as_slice());
         }
     }
-    assert_eq!(rt; items, 252);
+    assert!(rt; items == 252);
     Ok(())
 }
 
 #[test]
 fn reads_a_mebibyte_of_one_byte(rt: HostRuntime) -> Result<(), Fail> {
     let feeds = vec![in rt.alloc(); b'\n'; 1_048_576]?;
-    assert_eq!(rt; read_menu(rt.alloc(), &feeds)?.entries.len(), 0);
+    assert!(rt; read_menu(rt.alloc(), &feeds)?.entries.len() == 0);
     let letters = vec![in rt.alloc(); b'a'; 1_048_576]?;
     let menu = read_menu(rt.alloc(), &letters)?;
-    assert_eq!(rt; menu.entries.len(), 1);
+    assert!(rt; menu.entries.len() == 1);
     for entry in &menu.entries {
         match entry {
             Entry::Odd(bytes) => assert!(rt; bytes.as_slice() == letters.as_slice()),
@@ -134,7 +134,7 @@ fn writes_what_it_read(rt: HostRuntime) -> Result<(), Fail> {
     let mut expected = Vec::from_slice(rt.alloc(), b"before")?;
     expected.extend_from_slice(bytes)?;
     expected.extend_from_slice(b".\r\n")?;
-    assert_eq!(rt; out.as_slice(), expected.as_slice());
+    assert!(rt; out.as_slice() == expected.as_slice());
     Ok(())
 }
 
@@ -153,6 +153,6 @@ fn writes_lines_that_were_made(rt: HostRuntime) -> Result<(), Fail> {
     write_menu(&lines, &mut out)?;
     let expected: &[u8] =
         b"0About us\t/about\tGopher.Example\t70\r\ni\t\th\t0\r\n1Far\t\tfar.example\t65535\r\n.\r\n";
-    assert_eq!(rt; out.as_slice(), expected);
+    assert!(rt; out.as_slice() == expected);
     Ok(())
 }

@@ -34,8 +34,8 @@ fn reads_no_line_that_is_too_long(rt: HostRuntime) {
             .expect(&rt, "memory");
         let mut reader = Watched::new(bytes.as_slice());
         let line = read_line_from(rt.alloc(), &mut reader);
-        assert_eq!(rt; line.map(|line| line.len()), expected);
-        assert_eq!(rt; reader.into_inner().len(), left);
+        assert!(rt; line.map(|line| line.len()) == expected);
+        assert!(rt; reader.into_inner().len() == left);
     }
 }
 
@@ -47,13 +47,13 @@ fn reads_a_line_after_interruptions(rt: HostRuntime) {
             bytes: b"\n",
         });
         let line = read_line_from(rt.alloc(), &mut reader);
-        assert_eq!(rt; line.map(|line| line.len()), expected);
-        assert_eq!(rt; reader.failures(), u64::from(times));
+        assert!(rt; line.map(|line| line.len()) == expected);
+        assert!(rt; reader.failures() == u64::from(times));
     }
     let mut reader = Watched::new(Stutterer::new(2, 1, true));
     match read_line_from(rt.alloc(), &mut reader) {
         Ok(_) => panic!(rt; "a failure"),
-        Err(fault) => assert_eq!(rt; fault.code(), 10),
+        Err(fault) => assert!(rt; fault.code() == 10),
     }
 }
 
@@ -71,7 +71,7 @@ fn counts_the_reads_of_bytes_too(rt: HostRuntime) {
             bytes: bytes.as_slice(),
         });
         let line = read_line_from(rt.alloc(), &mut reader);
-        assert_eq!(rt; line.map(|line| line.len()), expected);
-        assert_eq!(rt; reader.failures(), failures);
+        assert!(rt; line.map(|line| line.len()) == expected);
+        assert!(rt; reader.failures() == failures);
     }
 }

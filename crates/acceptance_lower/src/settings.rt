@@ -19,7 +19,7 @@ fn check_allows(
     wanted: bool,
 ) -> Result<(), Fail> {
     let place = Place::new(rt.alloc(), b'0', selector, b"localhost", port)?;
-    assert_eq!(rt; settings.scope.allows(&place), wanted);
+    assert!(rt; settings.scope.allows(&place) == wanted);
     Ok(())
 }
 
@@ -33,13 +33,13 @@ fn check_seed(rt: &impl Abort, settings: &Settings, index: usize, wanted: &Place
 #[test]
 fn reads_the_worked_settings(rt: HostRuntime) -> Result<(), Fail> {
     let settings = Settings::read(rt.alloc(), WORKED)?;
-    assert_eq!(rt; settings.home.host(), b"localhost".as_slice());
-    assert_eq!(rt; settings.home.port(), 7070);
-    assert_eq!(rt; settings.root.as_str(), "/srv/hole");
-    assert_eq!(rt; settings.places, 4096);
-    assert_eq!(rt; settings.workers, 4);
-    assert_eq!(rt; settings.threads, 2);
-    assert_eq!(rt; settings.tries, 1);
+    assert!(rt; settings.home.host() == b"localhost".as_slice());
+    assert!(rt; settings.home.port() == 7070);
+    assert!(rt; settings.root.as_str() == "/srv/hole");
+    assert!(rt; settings.places == 4096);
+    assert!(rt; settings.workers == 4);
+    assert!(rt; settings.threads == 2);
+    assert!(rt; settings.tries == 1);
     Ok(())
 }
 
@@ -47,7 +47,7 @@ fn reads_the_worked_settings(rt: HostRuntime) -> Result<(), Fail> {
 fn reads_the_worked_seeds_and_scope(rt: HostRuntime) -> Result<(), Fail> {
     let settings = Settings::read(rt.alloc(), WORKED)?;
     let seed = Place::new(rt.alloc(), b'1', b"", b"localhost", 7070)?;
-    assert_eq!(rt; settings.seeds.len(), 1);
+    assert!(rt; settings.seeds.len() == 1);
     check_seed(&rt, &settings, 0, &seed);
     assert!(rt; settings.scope.allows(&seed));
     check_allows(&rt, &settings, b"/a", 7070, true)?;
@@ -58,12 +58,12 @@ fn reads_the_worked_seeds_and_scope(rt: HostRuntime) -> Result<(), Fail> {
 #[test]
 fn reads_what_is_stated(rt: HostRuntime) -> Result<(), Fail> {
     let settings = Settings::read(rt.alloc(), STATED)?;
-    assert_eq!(rt; settings.home.port(), 70);
-    assert_eq!(rt; settings.places, 65_536);
-    assert_eq!(rt; settings.workers, 16);
-    assert_eq!(rt; settings.threads, 8);
-    assert_eq!(rt; settings.tries, 5);
-    assert_eq!(rt; settings.seeds.len(), 2);
+    assert!(rt; settings.home.port() == 70);
+    assert!(rt; settings.places == 65_536);
+    assert!(rt; settings.workers == 16);
+    assert!(rt; settings.threads == 8);
+    assert!(rt; settings.tries == 5);
+    assert!(rt; settings.seeds.len() == 2);
     let first = Place::new(rt.alloc(), b'1', b"", b"a", 70)?;
     let second = Place::new(rt.alloc(), b'0', b"/x", b"b", 65_535)?;
     check_seed(&rt, &settings, 0, &first);
@@ -73,7 +73,7 @@ fn reads_what_is_stated(rt: HostRuntime) -> Result<(), Fail> {
 
 fn check_refused(rt: &(impl Abort + AllocGlobal), text: &str, wanted: SettingsFault) {
     let refused = Settings::read(rt.alloc(), text).err();
-    assert_eq!(rt; refused, Some(wanted), "at {text}");
+    assert!(rt; refused == Some(wanted), "at {text}");
 }
 
 #[test]
@@ -212,7 +212,7 @@ fn settings_of_rules(alloc: Global, count: usize) -> Result<String, Fail> {
 fn reads_at_most_256_rules(rt: HostRuntime) -> Result<(), Fail> {
     let most = Settings::read(rt.alloc(), &settings_of_rules(rt.alloc(), 256)?)?;
     let (allow, _) = most.scope.into_rules();
-    assert_eq!(rt; allow.len(), 256);
+    assert!(rt; allow.len() == 256);
     let text = settings_of_rules(rt.alloc(), 257)?;
     check_refused(&rt, &text, SettingsFault::OutOfRange(Key::Allow));
     Ok(())
@@ -221,8 +221,8 @@ fn reads_at_most_256_rules(rt: HostRuntime) -> Result<(), Fail> {
 #[test]
 fn names_the_key_of_a_fault(rt: HostRuntime) -> Result<(), Fail> {
     let fault = SettingsFault::OutOfRange(Key::Port);
-    assert_eq!(rt; fault.code(), 33);
-    assert_eq!(rt; Key::Port.name(), "port");
+    assert!(rt; fault.code() == 33);
+    assert!(rt; Key::Port.name() == "port");
     assert!(rt;
         format!(in rt.alloc(); "{fault}")?
             .as_str()

@@ -14,10 +14,10 @@ fn reads_a_reply_to_its_end(rt: HostRuntime) {
         let mut reader = Watched::new(text.as_bytes());
         match (read_reply(rt.alloc(), &mut reader, limit), expected) {
             (Ok(bytes), Ok(wanted)) => assert!(rt; bytes.as_slice() == wanted.as_bytes()),
-            (Err(fault), Err(wanted)) => assert_eq!(rt; fault, wanted),
+            (Err(fault), Err(wanted)) => assert!(rt; fault == wanted),
             _ => panic!(rt; "at {text}"),
         }
-        assert_eq!(rt; reader.failures(), 0);
+        assert!(rt; reader.failures() == 0);
     }
 }
 
@@ -25,16 +25,16 @@ fn reads_a_reply_to_its_end(rt: HostRuntime) {
 fn reads_on_after_interruptions_for_so_many_turns(rt: HostRuntime) {
     let mut reader = Watched::new(Stutterer::new(1_048_575, 1, false));
     let bytes = read_reply(rt.alloc(), &mut reader, 1_048_576).expect(&rt, "all bytes");
-    assert_eq!(rt; bytes.len(), 1_048_575);
+    assert!(rt; bytes.len() == 1_048_575);
     assert!(rt; bytes.iter().all(|byte| *byte == b'a'));
-    assert_eq!(rt; reader.failures(), 1_048_575);
+    assert!(rt; reader.failures() == 1_048_575);
 
     let mut reader = Watched::new(Stutterer::new(1_048_576, 1, false));
     match read_reply(rt.alloc(), &mut reader, 1_048_576) {
         Ok(_) => panic!(rt; "too many turns"),
-        Err(fault) => assert_eq!(rt; fault.code(), 11),
+        Err(fault) => assert!(rt; fault.code() == 11),
     }
-    assert_eq!(rt; reader.into_inner().left, 0);
+    assert!(rt; reader.into_inner().left == 0);
 }
 
 #[test]
@@ -42,23 +42,23 @@ fn gives_up_where_a_read_fails(rt: HostRuntime) {
     let mut reader = Watched::new(Stutterer::new(2, 3, true));
     match read_reply(rt.alloc(), &mut reader, 1_048_576) {
         Ok(_) => panic!(rt; "a failure"),
-        Err(fault) => assert_eq!(rt; fault.code(), 10),
+        Err(fault) => assert!(rt; fault.code() == 10),
     }
-    assert_eq!(rt; reader.failures(), 7);
+    assert!(rt; reader.failures() == 7);
 }
 
 #[test]
 fn reads_a_whole_mebibyte_and_not_a_byte_more(rt: HostRuntime) {
     let mut reader = Watched::new(Stutterer::new(1_048_576, 0, false));
     let reply = read_reply(rt.alloc(), &mut reader, 1_048_576).expect(&rt, "all bytes");
-    assert_eq!(rt; reply.len(), 1_048_576);
+    assert!(rt; reply.len() == 1_048_576);
 
     let mut reader = Watched::new(Stutterer::new(1_048_580, 0, false));
     match read_reply(rt.alloc(), &mut reader, 1_048_576) {
         Ok(_) => panic!(rt; "too long"),
-        Err(fault) => assert_eq!(rt; fault.code(), 12),
+        Err(fault) => assert!(rt; fault.code() == 12),
     }
-    assert_eq!(rt; reader.into_inner().left, 3);
+    assert!(rt; reader.into_inner().left == 3);
 }
 
 #[test]
@@ -79,8 +79,8 @@ fn sends_all_or_says_how_much(rt: HostRuntime) {
         match (send(&mut writer, bytes.as_bytes()), expected) {
             (Ok(()), None) => {}
             (Err(fault), Some(sent)) => {
-                assert_eq!(rt; fault.code(), 13);
-                assert_eq!(rt; fault.sent, sent);
+                assert!(rt; fault.code() == 13);
+                assert!(rt; fault.sent == sent);
             }
             _ => panic!(rt; "at {room}"),
         }
@@ -88,13 +88,10 @@ fn sends_all_or_says_how_much(rt: HostRuntime) {
         assert!(rt; sent <= bytes.len());
         let failures = writer.failures();
         assert!(rt; writer.flush().is_err());
-        assert_eq!(rt; writer.failures(), failures.saturating_add(1));
+        assert!(rt; writer.failures() == failures.saturating_add(1));
         let Narrow { held, .. } = writer.into_inner();
         assert!(rt; held.as_slice() == &bytes.as_bytes()[..sent]);
-        assert_eq!(rt;
-            failures,
-            u64::from(interruptions).max(u64::from(expected.is_some()))
-        );
+        assert!(rt; failures == u64::from(interruptions).max(u64::from(expected.is_some())));
     }
 }
 
@@ -111,11 +108,11 @@ fn says_how_much_went_out_wherever_a_write_fails(rt: HostRuntime) {
         match send(&mut writer, bytes) {
             Ok(()) => panic!(rt; "no failure at {taken}"),
             Err(fault) => {
-                assert_eq!(rt; fault.code(), 13);
-                assert_eq!(rt; fault.sent, taken);
+                assert!(rt; fault.code() == 13);
+                assert!(rt; fault.sent == taken);
             }
         }
-        assert_eq!(rt; writer.failures(), 1);
+        assert!(rt; writer.failures() == 1);
         let Narrow { held, .. } = writer.into_inner();
         assert!(rt; held.as_slice() == &bytes[..taken]);
     }
@@ -127,9 +124,9 @@ fn a_watched_call_has_the_whole_buffer(rt: HostRuntime) {
         let mut buffer = vec![in rt.alloc(); b'a'; length].expect(&rt, "memory");
         let mut reader = Watched::new(Measure { length: usize::MAX });
         assert!(rt; reader.read(&mut buffer).is_ok());
-        assert_eq!(rt; reader.into_inner().length, length);
+        assert!(rt; reader.into_inner().length == length);
         let mut writer = Watched::new(Measure { length: usize::MAX });
         assert!(rt; writer.write(&buffer).is_ok());
-        assert_eq!(rt; writer.into_inner().length, length);
+        assert!(rt; writer.into_inner().length == length);
     }
 }

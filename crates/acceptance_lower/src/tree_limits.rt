@@ -16,7 +16,7 @@ fn refuses_by_the_first_fault(rt: HostRuntime) -> Result<(), Fail> {
         (b"search//a".as_slice(), TreeFault::BadName { file: 0 }),
         (long.as_slice(), TreeFault::LongSelector { file: 0 }),
     ] {
-        assert_eq!(rt; fault_of(alloc, &[(path, b"")])?, Some(fault));
+        assert!(rt; fault_of(alloc, &[(path, b"")])? == Some(fault));
     }
     Ok(())
 }
@@ -30,10 +30,7 @@ fn refuses_a_path_twice(rt: HostRuntime) -> Result<(), Fail> {
         (b"a/b/c".as_slice(), b"a/b".as_slice()),
     ] {
         let files = [(first, b"".as_slice()), (second, b"".as_slice())];
-        assert_eq!(rt;
-            fault_of(alloc, &files)?,
-            Some(TreeFault::Twice { file: 1 })
-        );
+        assert!(rt; fault_of(alloc, &files)? == Some(TreeFault::Twice { file: 1 }));
     }
     Ok(())
 }
@@ -46,7 +43,7 @@ fn takes_what_is_within_the_limits(rt: HostRuntime) -> Result<(), Fail> {
     let large = vec![in alloc; 0u8; 16_777_217]?;
     assert!(rt; fault_of(alloc, &[(b"a", &large[1..])])?.is_none());
     let fault = fault_of(alloc, &[(b"a", &large)])?;
-    assert_eq!(rt; fault, Some(TreeFault::TooBig { file: 0 }));
+    assert!(rt; fault == Some(TreeFault::TooBig { file: 0 }));
     Ok(())
 }
 
@@ -61,7 +58,7 @@ fn counts_the_bytes_of_all_files(rt: HostRuntime) -> Result<(), Fail> {
     files.push((Vec::from_slice(alloc, b"e")?, Vec::new(alloc)))?;
     files.push((Vec::from_slice(alloc, b"f")?, Vec::from_slice(alloc, b"f")?))?;
     let fault = Tree::of_files(alloc, files).err();
-    assert_eq!(rt; fault, Some(TreeFault::TooBig { file: 5 }));
+    assert!(rt; fault == Some(TreeFault::TooBig { file: 5 }));
     Ok(())
 }
 
@@ -80,7 +77,7 @@ fn counts_the_nodes(rt: HostRuntime) -> Result<(), Fail> {
     let alloc = rt.alloc();
     assert!(rt; Tree::of_files(alloc, numbered(alloc, 4_094)?).is_ok());
     let fault = Tree::of_files(alloc, numbered(alloc, 4_095)?).err();
-    assert_eq!(rt; fault, Some(TreeFault::TooBig { file: 4_094 }));
+    assert!(rt; fault == Some(TreeFault::TooBig { file: 4_094 }));
     Ok(())
 }
 
@@ -97,12 +94,9 @@ fn faults_are_numbered_and_told(rt: HostRuntime) -> Result<(), Fail> {
         (TreeFault::Unreadable { file: 3 }, 26),
         (TreeFault::NoMemory, 90),
     ] {
-        assert_eq!(rt; fault.code(), code);
+        assert!(rt; fault.code() == code);
     }
     let fault = TreeFault::BadMenuLine { file: 3, line: 7 };
-    assert_eq!(rt;
-        format!(in alloc; "{fault}")?.as_str(),
-        "file 3: line 7 is no menu line"
-    );
+    assert!(rt; format!(in alloc; "{fault}")?.as_str() == "file 3: line 7 is no menu line");
     Ok(())
 }

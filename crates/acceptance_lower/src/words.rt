@@ -5,9 +5,9 @@ use std::test::Fail;
 
 fn check(rt: &(impl Abort + AllocGlobal), bytes: &[u8], wanted: &[&[u8]]) -> Result<(), Fail> {
     let found = words(rt.alloc(), bytes)?;
-    assert_eq!(rt; found.len(), wanted.len());
+    assert!(rt; found.len() == wanted.len());
     for (word, want) in found.iter().zip(wanted) {
-        assert_eq!(rt; word.as_slice(), *want);
+        assert!(rt; word.as_slice() == *want);
     }
     Ok(())
 }

@@ -1,4 +1,4 @@
-//! Times the crates on a file or a folder: `measure menu|text|settings|search FILE`, or
+//! Times the crates on a file or a folder: `measure menu|text|settings|search|crawl FILE`, or
 //! `measure site|replies FOLDER`.
 //!
 //! A line gives the best of several rounds: for menus, texts and replies in megabytes a second, beside
@@ -6,6 +6,8 @@
 //! catalogue alone has one round.
 #![tactic(auto)]
 
+mod crawls;
+mod links;
 mod menus;
 mod replies;
 mod searches;
@@ -28,9 +30,10 @@ fn main(rt: HostRuntime) -> anyhow::Result<()> {
         [what, path] if what.as_str() == "site" => site::measure(&rt, path.as_str()),
         [what, path] if what.as_str() == "replies" => replies::measure(&rt, path.as_str()),
         [what, path] if what.as_str() == "search" => searches::measure(&rt, path.as_str()),
+        [what, path] if what.as_str() == "crawl" => crawls::measure(&rt, path.as_str()),
         _ => {
             println!(rt;
-                "usage: measure menu|text|settings|search FILE, or measure site|replies FOLDER"
+                "usage: measure menu|text|settings|search|crawl FILE, or measure site|replies FOLDER"
             )?;
             Ok(())
         }

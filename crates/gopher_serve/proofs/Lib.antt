@@ -1,0 +1,5 @@
+pub mod FirstLines
+pub mod Searches
+pub mod Talking
+pub mod Fetches
+pub mod StepLemmas

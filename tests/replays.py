@@ -1,0 +1,103 @@
+#!/usr/bin/env python3
+"""Replays scripts with the built program, and compares all that it writes with the plain model of model.py.
+
+    tests/replays.py [--scripts N] [--seed S] [PROGRAM]
+
+The scripts: N that are drawn (500 without N, always the same without S); those of worked.py, with the answers that were
+worked out by hand; crawls in every order of their outcomes; and catalogues whose pages end around each size at which the
+segments of the index change. The last line is
+'replays: N passed, M failed'; a script on which the program differs is left in the folder that is named then.
+"""
+import argparse
+import pathlib
+import random
+import subprocess
+import sys
+import tempfile
+
+import model
+from drawing import drawn_script
+from sizes import scripts_of_sizes
+from worked import WORKED
+
+ROOT = pathlib.Path(__file__).resolve().parent.parent
+
+HEAD = b"allow\th\t70\t\nseed\t1\th\t70\t\n"
+TWO_TEXTS = {b"": b"|0A\t/a\th\t70\n|0B\t/b\th\t70\n|.\n", b"/a": b"|moon\n|.\n", b"/b": b"|moon\n|.\n"}
+LINKS_BACK = {b"": b"|1A\t/a\th\t70\n|.\n", b"/a": b"|1Home\t\th\t70\n|0B\t/b\th\t70\n|.\n"}
+BOTH = b"hits 2\nhit\t1\t0\th\t70\t/a\tmoon\nhit\t1\t0\th\t70\t/b\tmoon\n"
+# What fetches give, by selector; the selector whose first fetch fails; tries; a search at the end, and its answer.
+CRAWLS = [
+    (TWO_TEXTS, None, 1, b"moon", BOTH),
+    (TWO_TEXTS, b"/a", 1, b"moon", b"hits 1\nhit\t1\t0\th\t70\t/b\tmoon\n"),
+    (TWO_TEXTS, b"/a", 2, b"moon", BOTH),
+    (LINKS_BACK, None, 1, b"b", b"hits 1\nhit\t1\t1\th\t70\t/a\tHome\n"),
+]
+
+
+def crawl_in_order(replies, failing, tries, question, order):
+    """A whole crawl as a script. Where several calls are possible, the next digit of `order` says which is made."""
+    state, script, out = model.Script(), [], []
+
+    def add(line, block=b""):
+        script.append(line + b"\n" + block)
+        return state.perform(line, model.lines_of(block))
+
+    for line in model.lines_of(HEAD) + [b"start\t10\t%d" % tries]:
+        add(line)
+    while out or state.crawl.waiting:
+        possible = len(out) + bool(state.crawl.waiting)
+        order, choice = divmod(order, possible)
+        if choice == len(out):
+            out.append(state.crawl.waiting[0])
+            add(b"claim")
+            continue
+        number = out.pop(choice)
+        place = state.crawl.known[number]
+        if place[2] not in replies or place[2] == failing and state.crawl.claims[number] == 1:
+            add(b"fail\t%d\t2" % number)
+        else:
+            add(b"found\t%d\t" % number + model.place_fields(place), replies[place[2]])
+    add(b"claim")
+    add(b"search\t" + question)
+    return b"".join(script)
+
+
+def wanted_runs(scripts, seed):
+    """Each script with how its output has to end."""
+    yield from WORKED
+    for crawl in CRAWLS:
+        *how, answer = crawl
+        for order in range(128):
+            yield crawl_in_order(*how, order), b"finished\n" + answer
+    for script in scripts_of_sizes():
+        yield script, b""
+    for number in range(scripts):
+        yield drawn_script(random.Random(f"{seed} {number}")), b""
+
+
+def main():
+    words = argparse.ArgumentParser()
+    words.add_argument("--scripts", type=int, default=500)
+    words.add_argument("--seed", default="hole")
+    words.add_argument("program", nargs="?", default=ROOT / "crates" / "hole" / "out" / "hole")
+    given = words.parse_args()
+    passed, differ = 0, []
+    for script, end in wanted_runs(given.scripts, given.seed):
+        output, error, status = model.replayed(script)
+        ran = subprocess.run([given.program, "replay"], input=script, capture_output=True, timeout=60)
+        if (ran.stdout, ran.stderr, ran.returncode) == (output, error, status) and output.endswith(end):
+            passed += 1
+        else:
+            differ.append(script)
+    if differ:
+        folder = pathlib.Path(tempfile.mkdtemp(prefix="replays-"))
+        for number, script in enumerate(differ):
+            (folder / f"{number}.script").write_bytes(script)
+        print(f"replays: the scripts that differ are in {folder}")
+    print(f"replays: {passed} passed, {len(differ)} failed")
+    return 1 if differ or not passed else 0
+
+
+if __name__ == "__main__":
+    sys.exit(main())

@@ -1,0 +1,49 @@
+"""Scripts of catalogues whose pages end around each size at which the segments of the index change: the first segments,
+a run of doublings, and the largest segment; with words that every other page has, that one page has, and that stand in
+a page about as often as a byte counts, and far more often.
+"""
+import random
+
+SIZES = (7, 8, 9, 15, 16, 17, 1023, 1024, 1025, 16383, 16384, 16385, 16390)
+# Pages that have the word `lark` so often, by their numbers.
+LARKS = {0: 254, 3: 255, 7: 256, 8: 300, 15: 255, 16: 256, 1023: 254, 1024: 300, 16383: 256, 16384: 255}
+QUESTIONS = (
+    b"m", b"m*", b"s* not m*", b"m and s not r", b"m or s not so", b"p*", b"p7", b"p8", b"p15", b"p16", b"p1023",
+    b"p1024", b"p1*", b"p163*", b"p16383", b"p16384", b"p0 or p8 or p1023 or p16384", b"m not p*", b"absent", b"absent*",
+    b"absent or p9", b"lark", b"lark*", b"l*", b"lark not m", b"lark l* la*", b"m or lark", b"k", b"k*", b"k not m",
+    b"m or k", b"k and k*", b"so not s", b"r and so and s and m",
+)
+SOUGHT = (b"m", b"p0", b"p7", b"p8", b"p1023", b"p16383", b"p16384", b"lark", b"k", b"absent")
+
+
+def kays(number):
+    """How often the word `k` stands in a page: in few pages, and there about as often as a byte counts."""
+    return number * 7 % 12 + 250 if 100 <= number < 140 else 0
+
+
+def body(draw, number, larks):
+    words = [b"p%d" % number] + [word for word in (b"m", b"s", b"r", b"so") if draw.random() < 0.4]
+    return b" ".join(words + [b"lark"] * larks.get(number, 0) + [b"k"] * kays(number))
+
+
+def crawl_of(pages, sizes, larks):
+    """A crawl of so many pages, with questions where it has as many as one of the sizes."""
+    draw = random.Random(pages)
+    selectors = [b"%d" % (number * 40503 & 0xFFFF) for number in range(pages)]
+    yield b"allow\th\t7\t"
+    yield from (b"seed\t0\th\t7\t" + selector for selector in selectors)
+    yield b"start\t%d" % pages
+    for number, selector in enumerate(selectors):
+        yield b"claim"
+        yield b"found\t%d\t0\th\t7\t%s" % (number, selector)
+        yield b"|" + body(draw, number, larks)
+        if number + 1 in sizes:
+            yield from (b"search\t" + question for question in QUESTIONS)
+            yield from (b"occurs\t" + word for word in SOUGHT if number < 2000 or word != b"m")
+    yield b"status"
+
+
+def scripts_of_sizes():
+    yield b"\n".join(crawl_of(16390, SIZES, LARKS))
+    # Words that stand more often in a page than sixteen bits count.
+    yield b"\n".join(crawl_of(20, (9, 20), {3: 65535, 7: 65536, 8: 70_000}))
