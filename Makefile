@@ -1,9 +1,14 @@
-# The two commands of the README, the wrong bodies of one crate, and the timings of bench/.
+# The commands of the README, the wrong bodies of one crate, and the timings of bench/.
 
-# Builds the program and replays the example's crawl and searches.
+# Serves the example's site on localhost, built without its proofs, and tells how to ask it. Ctrl-C ends it.
 .PHONY: run
 run:
-	cd crates/hole && rt run -- replay < ../../examples/whole_search.script
+	tools/run_example.py
+
+# Proves everything that the program stands on, and leaves it in crates/hole/out/hole.
+.PHONY: build
+build:
+	cd crates/hole && rt run -- --version
 
 # Every proof and test from nothing, the wrong bodies, and the program as a user runs it.
 .PHONY: test

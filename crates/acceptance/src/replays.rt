@@ -1,8 +1,9 @@
 // The program and its streams: flushes, an error stream that fails, and scripts that can't be read.
 use crate::devices::{Interrupted, ShortReader, ShortWriter};
-use crate::scripts::words;
+use crate::scripts::{Host, words};
 use crate::worked::{FIRST_CRAWL, REFUSED_START, Worked};
-use gopher_hole::{ReplayFault, replay, run};
+use gopher_hole::{ReplayFault, replay};
+use gopher_program::run;
 use gopher_text::Watched;
 use std::io::{Read, Write};
 use std::test::Fail;
@@ -46,7 +47,7 @@ const RUNS: [Run<'static>; 4] = [
 
 // The status of a run over this error stream, and the output that it leaves.
 fn outcome<E: Write>(
-    rt: &impl AllocGlobal,
+    rt: &impl Host,
     wanted: &Run,
     error: &mut Watched<E>,
 ) -> Result<(u8, ShortWriter), Fail> {
@@ -94,7 +95,7 @@ fn gives_up_on_a_script_that_is_always_interrupted(rt: HostRuntime) {
 
 // The status of the program where its script is what this reader gives, how many bytes it wrote, and its
 // error line.
-fn ended<R: Read + Drop>(rt: &HostRuntime, reader: R) -> Result<(u8, usize, Vec<u8>), Fail> {
+fn ended<R: Read + Drop>(rt: &impl Host, reader: R) -> Result<(u8, usize, Vec<u8>), Fail> {
     let words = words(rt.alloc(), &["replay"])?;
     let mut input = Watched::new(reader);
     let mut output = Watched::new(Vec::new(rt.alloc()));

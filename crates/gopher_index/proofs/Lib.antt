@@ -21,3 +21,4 @@ pub mod Pieces
 pub mod Walking
 pub mod WordPostings
 pub mod Between
+pub mod WordSegments

@@ -1,5 +1,5 @@
 -- What the terms of a query say of pages: an array with an element for each page.
-use Rattle.std.specs.Prelude.{◌≡◌, ℕ, Bool, false, ◌&&◌, ◌||◌, nat_le, List, [], ◌∷◌, map}
+use Rattle.std.specs.Prelude.{◌≡◌, ℕ, Bool, List, [], ◌∷◌, map}
 use Rattle.gopher_page.specs.Counts.{count_meant}
 use Rattle.gopher_page.specs.Page.{PageData}
 use Rattle.gopher_page.specs.Query.{TermData, count_of_term, matches, score}
@@ -30,9 +30,3 @@ scores_of terms pages = map (λ page. score terms page.counts) pages
 pub record AreCells (terms : List TermData) (pages : List PageData) (truths : List Bool) (scores : List ℕ) : Type 0 where
   pub matching : truths ≡ truths_of terms pages
   pub scoring : scores ≡ scores_of terms pages
-
--- whether a page matches with a score that reaches the lowest
-abbrev pub any_reaches : ℕ → List Bool → List ℕ → Bool
-any_reaches lowest [] scores = false
-any_reaches lowest (truth ∷ truths) [] = false
-any_reaches lowest (truth ∷ truths) (score ∷ scores) = (truth && nat_le lowest score) || any_reaches lowest truths scores

@@ -80,13 +80,6 @@ impl Segment {
         })
     }
 
-    /// The number of the first page.
-    pub fn first(&self) -> usize
-        ensures { result ≡ self.now.first }
-    {
-        self.first
-    }
-
     /// The pages.
     pub fn pages(&self) -> &[Arc<Page>]
         ensures pages { map arc_value result.now ≡ self.now.pages }
@@ -96,20 +89,11 @@ impl Segment {
         &self.pages
     }
 
-    fn table(&self) -> &Table
+    /// The table of the words.
+    pub fn table(&self) -> &Table
         ensures { AreRowsOf self.now.first self.now.pages result.now }
     {
         &self.table
-    }
-
-    /// How many bytes the words have.
-    pub fn bytes_len(&self) -> usize {
-        self.table.bytes_len()
-    }
-
-    /// How many postings there are.
-    pub fn postings_len(&self) -> usize {
-        self.table.postings_len()
     }
 
     /// Writes into the cells of the pages how often the word `sought` stands in each, or all words that

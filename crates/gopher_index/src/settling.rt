@@ -27,8 +27,8 @@ impl Size {
     fn of(segment: &Segment) -> Size {
         Size {
             pages: segment.pages().len(),
-            bytes: segment.bytes_len(),
-            postings: segment.postings_len(),
+            bytes: segment.table().bytes_len(),
+            postings: segment.table().postings_len(),
         }
     }
 

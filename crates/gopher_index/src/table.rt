@@ -1,8 +1,8 @@
 //! Words with their postings.
 
-ghost use Rattle.std.specs.Prelude.{◌≡◌, true, false, ℕ, ◌+◌, ◌^◌, ◌<◌, ◌≤◌, List, Some, length, slice_get, slice_index, slice_index_or, [], IfOk};
+ghost use Rattle.std.specs.Prelude.{◌≡◌, true, false, ℕ, ◌+◌, ◌^◌, ◌<◌, ◌≤◌, List, Some, length, slice_get, slice_index, IfOk};
 ghost use Rattle.std.specs.List.{zip};
-ghost use Rattle.gopher_page.specs.Counts.{is_meant, is_before};
+ghost use Rattle.gopher_page.specs.Counts.{is_meant};
 ghost use Rattle.gopher_index.specs.Postings.{AreWithin};
 ghost use Rattle.gopher_index.specs.Rows.{words_of_rows, runs_of_rows, is_before_at, is_meant_at, AreInOrder, AreMeant, rows_count, postings_of, page_rows};
 
@@ -110,7 +110,7 @@ impl Table {
 
     fn is_before(&self, index: usize, sought: &[u8]) -> bool
         requires { index < length self.now }
-        ensures { result ≡ is_before (slice_index_or (words_of_rows self.now) index []) sought.now }
+        ensures { result ≡ is_before_at self.now sought.now index }
     {
         self.word(index).cmp(sought).is_lt()
     }
@@ -119,8 +119,8 @@ impl Table {
     fn words_before(&self, sought: &[u8]) -> usize
         requires { AreInOrder self.now }
         ensures within { result ≤ length self.now }
-        ensures before { (k : ℕ) → k < result → is_before (slice_index_or (words_of_rows self.now) k []) sought.now ≡ true }
-        ensures after { (k : ℕ) → result ≤ k → k < length self.now → is_before (slice_index_or (words_of_rows self.now) k []) sought.now ≡ false }
+        ensures before { (k : ℕ) → k < result → is_before_at self.now sought.now k ≡ true }
+        ensures after { (k : ℕ) → result ≤ k → k < length self.now → is_before_at self.now sought.now k ≡ false }
     {
         let mut low = 0;
         let mut high = self.len();

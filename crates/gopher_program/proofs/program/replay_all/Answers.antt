@@ -1,6 +1,6 @@
 use Rattle.std.proofs.Common.{Err}
 use Rattle.gopher_hole.proofs.Sends.{counts-grow, replays-kept}
-use Rattle.gopher_hole.proofs.program.replay_all.Goals as goal
+use Rattle.gopher_program.proofs.program.replay_all.Goals as goal
 
 pub returns-in-Err : goal.returns-in-Err
 returns-in-Err g c =
