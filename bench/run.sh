@@ -1,6 +1,7 @@
 #!/usr/bin/env bash
 # Every timing: scripts replayed, menus and texts read and written, settings read, a site loaded and its
-# replies made, and a catalogue of 65,536 pages searched, beside a plain C program over the same postings.
+# replies made, and a catalogue of 65,536 pages built and searched, beside a plain C program that makes the
+# same pages, adds them to postings and searches these.
 set -euo pipefail
 cd "$(dirname "$0")/.."
 (cd crates/hole && rt run -- replay < stdin > /dev/null)

@@ -146,9 +146,9 @@ def lacking(crate, said):
     return {function: lack for function, lack in lacks.items() if lack}
 
 
-def try_group(edits, below):
+def try_group(edits, built):
     """What the check of a copy with these edits says: for each edit what its function lacks, or why it isn't refused."""
-    crate = edits[0].crate
+    crate, below = edits[0].crate, [library.result() for library in built]
     with tempfile.TemporaryDirectory(prefix="wrong-bodies-") as room:
         folder = copy_with(edits, below, pathlib.Path(room))
         only = [word for edit in edits for word in ("--only", edit.function)]
@@ -159,12 +159,12 @@ def try_group(edits, below):
     return {edit: (edit.function in lacks, lacks.get(edit.function, "NOT REFUSED")) for edit in edits}
 
 
-def build(crates):
-    """Builds the libraries that checks of these crates stand on."""
-    for crate in crates:
-        ran = run(["rt", "lib"], ROOT / "crates" / crate)
-        if ran.returncode:
-            sys.exit(f"{crate} is not proved:\n{ran.stdout[-2000:]}")
+def build(crate):
+    """Builds a library that checks of other crates stand on."""
+    ran = run(["rt", "lib"], ROOT / "crates" / crate)
+    if ran.returncode:
+        raise RuntimeError(f"{crate} is not proved:\n{ran.stdout[-2000:]}")
+    return crate
 
 
 def read_edits(wanted):
@@ -187,13 +187,18 @@ def lanes():
 
 
 def try_all(edits, below):
-    """Tries edits in groups, and alone those that weren't refused in company."""
-    groups, tried = groups_of(edits), {}
-    with ThreadPoolExecutor(lanes()) as pool:
-        for result in pool.map(lambda group: try_group(group, below[group[0].crate]), groups):
+    """Tries edits in groups, and alone those that weren't refused in company.
+
+    The libraries are built meanwhile, one after another, and a group waits for those that it stands on."""
+    order = list(dict.fromkeys(low for edit in edits for low in below[edit.crate]))
+    groups, tried = groups_of(sorted(edits, key=lambda edit: max(map(order.index, below[edit.crate]), default=-1))), {}
+    with ThreadPoolExecutor(1) as builder, ThreadPoolExecutor(lanes()) as pool:
+        libraries = {crate: builder.submit(build, crate) for crate in order}
+        attempt = lambda group: try_group(group, [libraries[low] for low in below[group[0].crate]])
+        for result in pool.map(attempt, groups):
             tried.update(result)
         again = [[edit] for group in groups if len(group) > 1 for edit in group if not tried[edit][0]]
-        for result in pool.map(lambda group: try_group(group, below[group[0].crate]), again):
+        for result in pool.map(attempt, again):
             tried.update(result)
     return tried
 
@@ -201,7 +206,6 @@ def try_all(edits, below):
 def main(words):
     below = libraries_below()
     edits, failed = read_edits([word for word in words if word != "--reasons"])
-    build(dict.fromkeys(low for edit in edits for low in below[edit.crate]))
     tried = try_all(edits, below)
     refused = [f"{edit}: {why}" for edit, (is_refused, why) in tried.items() if is_refused]
     failed += [f"{edit}: {why}" for edit, (is_refused, why) in tried.items() if not is_refused]

@@ -12,8 +12,8 @@ use Rattle.gopher_item.specs.Place.{PlaceData, place_cmp, place_cmp_total, same_
 use Rattle.gopher_item.proofs.PlaceLemmas.{same_place-true}
 use Rattle.gopher_page.specs.Page.{PageData}
 use Rattle.gopher_page.specs.Query.{TermData, matches}
-use Rattle.gopher_catalogue.specs.declared.hit.Hit.{Hit}
-use Rattle.gopher_catalogue.specs.Answer.{rank_cmp, hit_of, hits_among, ranked, answer_of}
+use Rattle.gopher_index.specs.declared.hit.Hit.{Hit}
+use Rattle.gopher_index.specs.Answer.{rank_cmp, hit_of, hits_among, ranked, answer_of}
 use Rattle.gopher_catalogue.specs.FinalAnswer.{hit_at, IsHitAmong, IsAnswerAmong}
 use Rattle.gopher_catalogue.proofs.SortedLists.{contains_here, contains_none, contains_cases, sorted_inserts, All-inserts, contains_inserts, sorted_one}
 

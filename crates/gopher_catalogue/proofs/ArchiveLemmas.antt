@@ -1,93 +1,108 @@
--- The postings of a record with one event more.
-use Rattle.std.proofs.Common.{◌≡◌, ℕ, zero, suc, ◌+◌, List, [], ◌∷◌, ◌++◌, length, Some, None, refl, sym, ap, subst, ◌∙◌, arith}
-use Rattle.std.proofs.lemmas.List.{append-nil, append_assoc}
-use Rattle.gopher_page.specs.Packed.{AreCounts}
+-- The pages that a record holds, after one more event, how many they are, and that an index takes all.
+use Rattle.std.proofs.Common.{◌≡◌, ℕ, suc, zero, ◌≤◌, ◌<◌, List, [], ◌∷◌, ◌++◌, length, take, inl, inr, refl, sym, ◌∙◌, ap, arith}
+use Rattle.std.specs.Arc.{arc_value}
+use Rattle.std.specs.List.{flat_map}
+use Rattle.std.specs.declared.sync.Arc.{Arc}
+use Rattle.std.specs.Global.{Global}
+use Rattle.std.proofs.lemmas.Bool.{cases_lt}
+use Rattle.std.proofs.lemmas.Grind.{flat_map-append}
+use Rattle.std.proofs.lemmas.List.{append-nil, length_push, length-take, take_all, take_at}
+use Rattle.std.proofs.lemmas.List.Concat.{flat_map-cons}
 use Rattle.gopher_page.specs.Page.{PageData}
+use Rattle.gopher_catalogue.specs.declared.event.Event.{Event}
+use Rattle.gopher_catalogue.specs.declared.event.Event.TheVariants.{Opened as OpenedEvent, Claimed as ClaimedEvent, Found as FoundEvent, Failed as FailedEvent}
+use Rattle.gopher_catalogue.specs.EventOf.{event_data}
 use Rattle.gopher_catalogue.specs.Event.{OpeningData, EventData, Opened, Claimed, Found, Failed}
-use Rattle.gopher_catalogue.specs.declared.postings.Postings.{Postings}
-use Rattle.gopher_catalogue.specs.Postings.{postings_at, postings_in, posted, postings_from, page_in, page_at, KeepsPostedWordsAlone, ArePostingsOf}
-use Rattle.gopher_catalogue.proofs.PostingCounts.{AreCounted}
+use Rattle.gopher_catalogue.specs.Frontier.{claims, done}
+use Rattle.gopher_catalogue.specs.Legal.{MayFollow, FollowEachOther, IsLegal}
+use Rattle.gopher_catalogue.specs.Pages.{page_of_event, pages_found, pages_indexed}
+use Rattle.gopher_catalogue.proofs.Legal.{legal_ind}
+use Rattle.gopher_catalogue.proofs.Steps.{length-known}
+use Rattle.gopher_catalogue.proofs.StateSizes.{state_sizes}
+use Rattle.gopher_catalogue.proofs.FinalAnswers.{pages_found-opened}
+use Rattle.gopher_catalogue.proofs.LegalSizes.{legal_claim-done, legal_found-done, legal_failed_again-done, legal_failed_last-done}
 
-posted-none : (i : ℕ) (event : EventData) (sought : List ℕ) → page_in (Some event) ≡ None → posted i event sought ≡ []
-posted-none i (Opened opening) sought none = refl
-posted-none i (Claimed number) sought none = refl
-posted-none i (Found number page) sought none = absurd cc
-posted-none i (Failed number why) sought none = refl
+-- ---- one more event
 
-postings_from-push : (i : ℕ) (events : List EventData) (event : EventData) (sought : List ℕ) → postings_from i (events ++ event ∷ []) sought ≡ postings_from i events sought ++ posted (i + length events) event sought
-unfolding postings_from
-postings_from-push i [] event sought =
-    let here : i ≡ i + 0 = omega arith in
-    append-nil (posted i event sought) ∙ ap (λ n. posted n event sought) here
-postings_from-push i (first ∷ events) event sought =
-    let there : suc i + length events ≡ i + suc (length events) = omega arith in
-    ap (λ l. posted i first sought ++ l) (postings_from-push (suc i) events event sought ∙ ap (λ n. postings_from (suc i) events sought ++ posted n event sought) there)
-    ∙ sym (append_assoc (posted i first sought) (postings_from (suc i) events sought) (posted (i + suc (length events)) event sought))
+pages-none : pages_found [] ≡ []
+unfolding pages_found
+pages-none = refl
 
--- one event more, by its index
-events-push : (events : List EventData) (event : EventData) (sought : List ℕ) → postings_from 0 (events ++ event ∷ []) sought ≡ postings_from 0 events sought ++ posted (length events) event sought
-events-push events event sought = postings_from-push 0 events event sought ∙ ap (λ n. postings_from 0 events sought ++ posted n event sought) none
-  where
-    none : 0 + length events ≡ length events
-    none = omega arith
+pub pages-push : (events : List EventData) (event : EventData) → pages_found (events ++ event ∷ []) ≡ pages_found events ++ page_of_event event
+unfolding pages_found
+pages-push events event =
+    flat_map-append page_of_event events (event ∷ [])
+    ∙ ap (λ l. flat_map page_of_event events ++ l) (flat_map-cons page_of_event event [] ∙ append-nil (page_of_event event))
 
-no_page : (k : ℕ) (page : PageData) → page_at [] k ≡ Some page → ⊥
-no_page zero page is = cc
-no_page (suc k) page is = cc
+-- what an index takes of pages and more of them
+take-more : {X : Type 0} (n : ℕ) (xs ys : List X) → take n (xs ++ ys) ≡ take n (take n xs ++ ys)
+take-more zero xs ys = refl
+take-more (suc n) [] ys = refl
+take-more (suc n) (x ∷ xs) ys = ap (λ l. x ∷ l) (take-more n xs ys)
 
-counted-push : (events : List EventData) (event : EventData) → AreCounted events → ((page : PageData) → page_in (Some event) ≡ Some page → AreCounts page.counts) → AreCounted (events ++ event ∷ [])
-counted-push [] event counted last zero page is = last page is
-counted-push [] event counted last (suc k) page is = absurd (no_page k page is)
-counted-push (first ∷ events) event counted last zero page is = counted 0 page is
-counted-push (first ∷ events) event counted last (suc k) page is = counted-push events event (λ j other found. counted (suc j) other found) last k page is
+pub indexed-none : pages_indexed [] ≡ []
+unfolding pages_found
+indexed-none = refl
 
--- ---- a record that begins
+pub indexed-push : (events : List EventData) (event : EventData) → pages_indexed (events ++ event ∷ []) ≡ take 65536 (pages_indexed events ++ page_of_event event)
+indexed-push events event = ap (take 65536) (pages-push events event) ∙ take-more 65536 (pages_found events) (page_of_event event)
 
-pub begun : (postings : Postings) (opening : OpeningData) (later : List EventData) → ((sought : List ℕ) → postings_at postings sought ≡ []) → KeepsPostedWordsAlone postings → later ≡ [] → ArePostingsOf postings (Opened opening ∷ later)
-unfolding postings_from
-begun postings opening later none words first = subst (λ events. ArePostingsOf postings (Opened opening ∷ events)) (sym first) (record { all = none; counted = counted; posted = words })
-  where
-    counted : AreCounted (Opened opening ∷ [])
-    counted zero page is = absurd cc
-    counted (suc k) page is = absurd (no_page k page is)
+-- an event without a page leaves the index as it is
+pub indexed-no_page : (events : List EventData) (event : EventData) → page_of_event event ≡ [] → pages_indexed (events ++ event ∷ []) ≡ pages_indexed events
+indexed-no_page events event none = ap (take 65536) (pages-push events event ∙ ap (λ l. pages_found events ++ l) none ∙ append-nil (pages_found events))
 
--- ---- one event more
+pub few_indexed : (events : List EventData) → length (pages_indexed events) ≤ 65536
+few_indexed events = omega (arith, length-take 65536 (pages_found events))
 
--- an event that found no page adds no posting
-pub after_other : (postings : Postings) (opening new_opening : OpeningData) (later new_later : List EventData) (event : EventData) → ArePostingsOf postings (Opened opening ∷ later) → new_opening ≡ opening → new_later ≡ later ++ event ∷ []
-    → page_in (Some event) ≡ None → ArePostingsOf postings (Opened new_opening ∷ new_later)
-after_other postings opening new_opening later new_later event of same more none =
-    subst (ArePostingsOf postings) (λ i. Opened (sym same i) ∷ sym more i)
-    (record {
-      all = λ sought.
-          of.all sought ∙ sym (append-nil (postings_from 0 (Opened opening ∷ later) sought))
-          ∙ ap (λ l. postings_from 0 (Opened opening ∷ later) sought ++ l) (sym (posted-none (length (Opened opening ∷ later)) event sought none))
-          ∙ sym (events-push (Opened opening ∷ later) event sought);
-      counted = counted-push (Opened opening ∷ later) event of.counted (λ page is. absurd (never page (sym none ∙ is)));
-      posted = of.posted;
-    })
-  where
-    never : (page : PageData) → None ≡ Some page → ⊥
-    never page e = cc
+-- ---- what an index takes of an event
 
--- a page that was found adds those of its words
-pub after_found : (postings new_postings : Postings) (opening new_opening : OpeningData) (later new_later : List EventData) (number index : ℕ) (page : PageData) → ArePostingsOf postings (Opened opening ∷ later)
-    → index ≡ length (Opened opening ∷ later) → ((sought : List ℕ) → postings_at new_postings sought ≡ postings_at postings sought ++ postings_in index page.counts sought) → AreCounts page.counts
-    → KeepsPostedWordsAlone new_postings → new_opening ≡ opening → new_later ≡ later ++ Found number page ∷ [] → ArePostingsOf new_postings (Opened new_opening ∷ new_later)
-after_found postings new_postings opening new_opening later new_later number index page of last added counted words same more =
-    subst (ArePostingsOf new_postings) (λ i. Opened (sym same i) ∷ sym more i)
-    (record {
-      all = λ sought.
-          added sought ∙ (λ i. of.all sought i ++ postings_in (last i) page.counts sought)
-          ∙ sym (events-push (Opened opening ∷ later) (Found number page) sought);
-      counted = counted-push (Opened opening ∷ later) (Found number page) of.counted (λ other is. subst (λ p. AreCounts p.counts) (found other is) counted);
-      posted = words;
-    })
-  where
-    found : (other : PageData) → Some page ≡ Some other → page ≡ other
-    found other e = cc
+no_page : (event : Event) → ((n : ℕ) (page : Arc PageData Global) → event ≡ FoundEvent n page → ⊥) → page_of_event (event_data event) ≡ []
+no_page (OpenedEvent opening) none = refl
+no_page (ClaimedEvent n) none = refl
+no_page (FoundEvent n page) none = absurd (none n page refl)
+no_page (FailedEvent n why) none = refl
 
--- the postings of before, again
-pub taken_back : (postings new_postings : Postings) (events : List EventData) → ArePostingsOf postings events → ((sought : List ℕ) → postings_at new_postings sought ≡ postings_at postings sought) → KeepsPostedWordsAlone new_postings
-    → ArePostingsOf new_postings events
-taken_back postings new_postings events of same words = record { all = λ sought. same sought ∙ of.all sought; counted = of.counted; posted = words }
+module _ (event : Event) (pages : List PageData) where
+  pub none_taken : ((n : ℕ) (page : Arc PageData Global) → event ≡ FoundEvent n page → ⊥) → length pages ≤ 65536 → pages ≡ take 65536 (pages ++ page_of_event (event_data event))
+  none_taken none few = sym (ap (λ more. take 65536 (pages ++ more)) (no_page event none) ∙ ap (take 65536) (append-nil pages) ∙ take_all 65536 pages few)
+
+  pub full_taken : length pages ≡ 65536 → pages ≡ take 65536 (pages ++ page_of_event (event_data event))
+  full_taken full = sym (take_at pages (page_of_event (event_data event)) 65536 full)
+
+  pub page_taken : (n : ℕ) (page shared : Arc PageData Global) → event ≡ FoundEvent n page → arc_value shared ≡ arc_value page → length pages < 65536 → pages ++ arc_value shared ∷ [] ≡ take 65536 (pages ++ page_of_event (event_data event))
+  page_taken n page shared is same few =
+      let more : page_of_event (event_data event) ≡ arc_value page ∷ [] = ap (λ e. page_of_event (event_data e)) is in
+      ap (λ p. pages ++ p ∷ []) same
+      ∙ sym (ap (λ more. take 65536 (pages ++ more)) more ∙ take_all 65536 (pages ++ arc_value page ∷ []) (omega (arith, length_push pages (arc_value page))))
+
+-- ---- how many
+
+none_found : (events : List EventData) (event : EventData) → page_of_event event ≡ [] → length (pages_found (events ++ event ∷ [])) ≡ length (pages_found events)
+none_found events event none = ap length (pages-push events event ∙ ap (λ l. pages_found events ++ l) none ∙ append-nil (pages_found events))
+
+-- each page found is of a number that is done
+pub pages_are_done : (opening : OpeningData) (events : List EventData) → IsLegal (Opened opening ∷ events) → length (pages_found events) ≤ length (done opening events)
+pages_are_done opening events legal = legal_ind (λ es. length (pages_found es) ≤ length (done opening es)) opening base step events legal.1 where
+  base : length (pages_found []) ≤ length (done opening [])
+  base = rw pages-none (omega arith)
+
+  step : (es : List EventData) (e : EventData) → FollowEachOther opening es → MayFollow opening es e → length (pages_found es) ≤ length (done opening es) → length (pages_found (es ++ e ∷ [])) ≤ length (done opening (es ++ e ∷ []))
+  step es (Opened other) follows may ih = absurd may
+  step es (Claimed n) follows may ih = omega (arith, ih, none_found es (Claimed n) refl, legal_claim-done opening es n)
+  step es (Found n page) follows may ih =
+      omega (arith, ih, ap length (pages-push es (Found n page)), length_push (pages_found es) page, legal_found-done opening es n page (legal.0, follows) may.0.is_out)
+  step es (Failed n why) follows may ih =
+      elim (cases_lt (claims es n) opening.tries) as (λ c. length (pages_found (es ++ Failed n why ∷ [])) ≤ length (done opening (es ++ Failed n why ∷ []))) [
+        | inl left ↦ omega (arith, ih, none_found es (Failed n why) refl, legal_failed_again-done opening es n why (legal.0, follows) may.is_out left)
+        | inr last ↦ omega (arith, ih, none_found es (Failed n why) refl, legal_failed_last-done opening es n why (legal.0, follows) may.is_out last)
+      ]
+
+-- an index takes each page that a legal record found
+pub all_indexed : (events : List EventData) → IsLegal events → pages_indexed events ≡ pages_found events
+all_indexed [] legal = absurd legal
+all_indexed (Opened opening ∷ events) legal =
+    take_all 65536 (pages_found (Opened opening ∷ events))
+    (omega (arith, pages_are_done opening events legal, state_sizes opening events legal, length-known opening events, legal.0.few_places, ap length (pages_found-opened opening events)))
+all_indexed (Claimed number ∷ events) legal = absurd legal
+all_indexed (Found number page ∷ events) legal = absurd legal
+all_indexed (Failed number why ∷ events) legal = absurd legal

@@ -10,12 +10,12 @@ use Rattle.gopher_item.proofs.PlaceLemmas.{same_place-true}
 use Rattle.gopher_scope.specs.Scope.{ScopeData}
 use Rattle.gopher_page.specs.Page.{PageData}
 use Rattle.gopher_page.specs.Query.{TermData}
-use Rattle.gopher_catalogue.specs.declared.hit.Hit.{Hit}
+use Rattle.gopher_index.specs.declared.hit.Hit.{Hit}
 use Rattle.gopher_catalogue.specs.Event.{OpeningData, EventData, Opened, Claimed, Found, Failed}
 use Rattle.gopher_catalogue.specs.Legal.{IsLegal}
 use Rattle.gopher_catalogue.specs.Pages.{pages_found}
 use Rattle.gopher_catalogue.specs.Closure.{OutcomeTable, IsReachedPage, Agrees, IsComplete, HoldsReachOnceComplete, SamePlaces}
-use Rattle.gopher_catalogue.specs.Answer.{answer_of, occurrences_of, AreOccurrences}
+use Rattle.gopher_index.specs.Answer.{answer_of, occurrences_of, AreOccurrences}
 use Rattle.gopher_catalogue.specs.FinalAnswer.{IsAnswerAmong, AreOccurrencesAmong, FinalAnswer, FinalOccurrences, IsFinalOnceComplete, AreFinalOnceComplete}
 use Rattle.gopher_catalogue.proofs.Reach.{holds_reach}
 use Rattle.gopher_catalogue.proofs.FinishedCrawls.{page_once, same_reached_pages}

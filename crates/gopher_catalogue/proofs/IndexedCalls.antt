@@ -21,7 +21,7 @@ use Rattle.gopher_catalogue.specs.Frontier.{known, dropped, waiting, out, done, 
 use Rattle.gopher_catalogue.specs.Legal.{IsLegalOpening, IsOut, IsLegal}
 use Rattle.gopher_catalogue.specs.Step.{Take, Idle, Finished, open_fault, turn_of, is_out_in, is_place_in, found_fault, added_by, status_of, places_of}
 use Rattle.gopher_catalogue.specs.Turn.{IsTake}
-use Rattle.gopher_catalogue.specs.Tables.{FrontierData, HistoryData, KeepsFrontier, Learned, Begins, unclaimed, is_out_at, after_claim, after_find, after_failure}
+use Rattle.gopher_catalogue.specs.Tables.{FrontierData, RecordData, IsOpened, opening_in, later_in, KeepsFrontier, Learned, Begins, unclaimed, is_out_at, after_claim, after_find, after_failure}
 use Rattle.gopher_catalogue.specs.Indexed.{standing_of, Tells, IsIndexed}
 use Rattle.gopher_catalogue.proofs.Lists.{slice_get-append_left}
 use Rattle.gopher_catalogue.proofs.States.{place_waiting}
@@ -38,13 +38,21 @@ pub learned_of : (limit limit' : ℕ) (scope scope' : ScopeData) (links links' :
     → Learned limit' (filter (allows scope') links') before after dropped_now
 learned_of limit limit' scope scope' links links' before after dropped_now e f g learned = rw (← e, ← f, ← g) learned
 
--- the tables of the same record, once the history and the frontier are known to be its
-indexed : (opening : OpeningData) (events : List EventData) (history : HistoryData) (frontier : FrontierData) → history.opening ≡ opening → history.later ≡ events → IsLegal (Opened opening ∷ events) → Tells opening events frontier → frontier.out ≤ history.room → frontier.out ≤ frontier.room
-    → length opening.seeds < 2 ^ 63 → IsIndexed history frontier
-indexed opening events history frontier e f legal tells record_room queue_room few =
+-- a legal record begins with its opening
+pub opened : (events : List EventData) → IsLegal events → IsOpened events
+opened [] legal = absurd legal
+opened (Opened opening ∷ events) legal = refl
+opened (Claimed number ∷ events) legal = absurd legal
+opened (Found number page ∷ events) legal = absurd legal
+opened (Failed number why ∷ events) legal = absurd legal
+
+-- the tables of the same record, once the record and the frontier are known to be its
+indexed : (opening : OpeningData) (events : List EventData) (record_ : RecordData) (frontier : FrontierData) → record_.events ≡ Opened opening ∷ events → IsLegal (Opened opening ∷ events) → Tells opening events frontier → frontier.out ≤ record_.room → frontier.out ≤ frontier.room
+    → length opening.seeds < 2 ^ 63 → IsIndexed record_ frontier
+indexed opening events record_ frontier e legal tells record_room queue_room few =
     record {
-      legal = rw (e, f) legal;
-      tells = rw (e, f) tells;
+      legal = rw e legal;
+      tells = rw e tells;
       record_room = record_room;
       queue_room = queue_room;
       few_seeds = rw e few;
@@ -62,177 +70,198 @@ Tells-keeps opening events before after tells keeps =
       few_dropped = omega (arith, keeps.counts.dropped, tells.few_dropped);
     }
 
-module _ (history : HistoryData) (frontier : FrontierData) (is : IsIndexed history frontier) where
+module _ (record_ : RecordData) (frontier : FrontierData) (is : IsIndexed record_ frontier) where
+  abbrev opening : OpeningData
+  opening = opening_in record_.events
+
+  abbrev later : List EventData
+  later = later_in record_.events
+
+  begins : record_.events ≡ Opened opening ∷ later
+  begins = opened record_.events is.legal
+
+  legal : IsLegal (Opened opening ∷ later)
+  legal = subst IsLegal begins is.legal
+
   -- ---- sizes
 
-  pub limit_fits : history.opening.limit ≤ 65536
-  limit_fits = is.legal.0.few_places
+  pub limit_fits : opening.limit ≤ 65536
+  limit_fits = legal.0.few_places
 
-  pub places_within : length frontier.places ≤ history.opening.limit
-  places_within = omega (arith, few_known history.opening history.later, ap length is.tells.places_is)
+  pub places_within : length frontier.places ≤ opening.limit
+  places_within = omega (arith, few_known opening later, ap length is.tells.places_is)
 
   pub places_fit : length frontier.places ≤ 65536
   places_fit = omega (arith, places_within, limit_fits)
 
   pub waiting_fits : length frontier.waiting ≤ 327680
-  waiting_fits = omega (arith, few_waiting history.opening history.later is.legal, ap length is.tells.waiting_is)
+  waiting_fits = omega (arith, few_waiting opening later legal, ap length is.tells.waiting_is)
 
   pub out_fits : frontier.out ≤ 65536
-  out_fits = omega (arith, few_out history.opening history.later, few_known history.opening history.later, limit_fits, is.tells.out_is)
+  out_fits = omega (arith, few_out opening later, few_known opening later, limit_fits, is.tells.out_is)
 
   pub done_fits : frontier.done ≤ 65536
-  done_fits = omega (arith, few_done history.opening history.later, few_known history.opening history.later, limit_fits, is.tells.done_is)
+  done_fits = omega (arith, few_done opening later, few_known opening later, limit_fits, is.tells.done_is)
 
   pub dropped_fits : frontier.dropped + 1048576 < 2 ^ 64
-  dropped_fits = omega (arith, is.tells.few_dropped, few_events history.opening history.later is.legal, is.few_seeds)
+  dropped_fits = omega (arith, is.tells.few_dropped, few_events opening later legal, is.few_seeds)
 
   -- ---- reading
 
-  status_is : status_of (Opened history.opening ∷ history.later) ≡ record { known = length (known history.opening history.later); waiting = length (waiting history.opening history.later); out = length (out history.opening history.later); done = length (done history.opening history.later); dropped = dropped history.opening history.later }
+  status_is : status_of (Opened opening ∷ later) ≡ record { known = length (known opening later); waiting = length (waiting opening later); out = length (out opening later); done = length (done opening later); dropped = dropped opening later }
   unfolding status_of
   status_is = refl
 
-  pub status_shown : ◌≡◌ {A = Status} (record { known = length frontier.places; waiting = length frontier.waiting; out = frontier.out; done = frontier.done; dropped = frontier.dropped }) (status_of (Opened history.opening ∷ history.later))
+  pub status_shown : ◌≡◌ {A = Status} (record { known = length frontier.places; waiting = length frontier.waiting; out = frontier.out; done = frontier.done; dropped = frontier.dropped }) (status_of record_.events)
   status_shown =
-      (λ i. record { known = length (is.tells.places_is i); waiting = length (is.tells.waiting_is i); out = is.tells.out_is i; done = is.tells.done_is i; dropped = is.tells.dropped_is i }) ∙ sym status_is
+      (λ i. record { known = length (is.tells.places_is i); waiting = length (is.tells.waiting_is i); out = is.tells.out_is i; done = is.tells.done_is i; dropped = is.tells.dropped_is i }) ∙ sym status_is ∙ ap status_of (sym begins)
 
-  pub places_shown : frontier.places ≡ places_of (Opened history.opening ∷ history.later)
+  places_are : frontier.places ≡ places_of (Opened opening ∷ later)
   unfolding places_of
-  places_shown = is.tells.places_is
+  places_are = is.tells.places_is
+
+  pub places_shown : frontier.places ≡ places_of record_.events
+  places_shown = places_are ∙ ap places_of (sym begins)
 
   -- ---- the first that waits
 
   module _ (n : ℕ) (first : slice_get frontier.waiting 0 ≡ Some n) where
-    first_waits : slice_get (waiting history.opening history.later) 0 ≡ Some n
+    first_waits : slice_get (waiting opening later) 0 ≡ Some n
     first_waits = ap (λ l. slice_get l 0) (sym is.tells.waiting_is) ∙ first
 
-    first_step : ClaimStep history.opening history.later n
-    first_step = claim_step history.opening history.later n is.legal first_waits
+    first_step : ClaimStep opening later n
+    first_step = claim_step opening later n legal first_waits
 
-    pub first_stands : slice_get frontier.standings n ≡ Some (standing_of history.later n)
-    first_stands = standing_at history.opening history.later frontier is.tells n first_step.is_known
+    pub first_stands : slice_get frontier.standings n ≡ Some (standing_of later n)
+    first_stands = standing_at opening later frontier is.tells n first_step.is_known
 
     pub first_known : n < length frontier.places
     first_known = omega (arith, first_step.is_known, ap length is.tells.places_is)
 
     pub first_tries : (standing : Standing) → slice_get frontier.standings n ≡ Some standing → standing.claims < 5
     first_tries standing at' =
-        omega (arith, first_step.few_claims, is.legal.0.few_tries, ap (λ s. s.claims) (standing_known history.opening history.later frontier is.tells n standing at').1)
+        omega (arith, first_step.few_claims, legal.0.few_tries, ap (λ s. s.claims) (standing_known opening later frontier is.tells n standing at').1)
 
-    pub first_turn : (place : PlaceData) → slice_get frontier.places n ≡ Some place → turn_of (Opened history.opening ∷ history.later) ≡ Take n place
-    first_turn place at' = turn-take history.opening history.later n place first_waits (ap (λ l. slice_get l n) (sym is.tells.places_is) ∙ at')
+    pub first_turn : (place : PlaceData) → slice_get frontier.places n ≡ Some place → turn_of record_.events ≡ Take n place
+    first_turn place at' = ap turn_of begins ∙ turn-take opening later n place first_waits (ap (λ l. slice_get l n) (sym is.tells.places_is) ∙ at')
 
-    pub first_due : IsTake (turn_of (Opened history.opening ∷ history.later))
+    pub first_due : IsTake (turn_of record_.events)
     first_due =
-        let there = place_waiting history.opening history.later is.legal n first_waits in
-        subst IsTake (sym (turn-take history.opening history.later n there.0 first_waits there.1)) tt
+        let there = place_waiting opening later legal n first_waits in
+        subst IsTake (sym (ap turn_of begins ∙ turn-take opening later n there.0 first_waits there.1)) tt
 
-  pub none_waits_finished : slice_get frontier.waiting 0 ≡ None → frontier.out ≡ 0 → turn_of (Opened history.opening ∷ history.later) ≡ Finished
-  none_waits_finished none no_more = turn-finished history.opening history.later (ap (λ l. slice_get l 0) (sym is.tells.waiting_is) ∙ none) (sym is.tells.out_is ∙ no_more)
+  pub none_waits_finished : slice_get frontier.waiting 0 ≡ None → frontier.out ≡ 0 → turn_of record_.events ≡ Finished
+  none_waits_finished none no_more = ap turn_of begins ∙ turn-finished opening later (ap (λ l. slice_get l 0) (sym is.tells.waiting_is) ∙ none) (sym is.tells.out_is ∙ no_more)
 
-  pub none_waits_idle : slice_get frontier.waiting 0 ≡ None → frontier.out ≢ 0 → turn_of (Opened history.opening ∷ history.later) ≡ Idle
-  none_waits_idle none some = turn-idle history.opening history.later (ap (λ l. slice_get l 0) (sym is.tells.waiting_is) ∙ none) (λ e. some (is.tells.out_is ∙ e))
+  pub none_waits_idle : slice_get frontier.waiting 0 ≡ None → frontier.out ≢ 0 → turn_of record_.events ≡ Idle
+  none_waits_idle none some = ap turn_of begins ∙ turn-idle opening later (ap (λ l. slice_get l 0) (sym is.tells.waiting_is) ∙ none) (λ e. some (is.tells.out_is ∙ e))
 
   -- ---- what is out
 
-  pub out_shown : (n : ℕ) → is_out_at frontier.standings n ≡ is_out_in (Opened history.opening ∷ history.later) n
-  out_shown n =
-      elim (cases_lt n (length (known history.opening history.later))) as (λ c. is_out_at frontier.standings n ≡ is_out_in (Opened history.opening ∷ history.later) n) [
+  out_is_out : (n : ℕ) → is_out_at frontier.standings n ≡ is_out_in (Opened opening ∷ later) n
+  out_is_out n =
+      elim (cases_lt n (length (known opening later))) as (λ c. is_out_at frontier.standings n ≡ is_out_in (Opened opening ∷ later) n) [
         | inl below ↦
-            let stands = standing_at history.opening history.later frontier is.tells n below in
-            ap (λ o. option_map_or (λ standing. standing.is_out) o false) stands ∙ sym (is_out_in_is history.opening history.later n ∙ ap (λ b. b && is_out history.later n) (lt-ltb n (length (known history.opening history.later)) below))
+            let stands = standing_at opening later frontier is.tells n below in
+            ap (λ o. option_map_or (λ standing. standing.is_out) o false) stands ∙ sym (is_out_in_is opening later n ∙ ap (λ b. b && is_out later n) (lt-ltb n (length (known opening later)) below))
         | inr beyond ↦
             let past : slice_get frontier.standings n ≡ None = none_past (slice_get frontier.standings n) refl beyond in
-            ap (λ o. option_map_or (λ standing. standing.is_out) o false) past ∙ sym (is_out_in_is history.opening history.later n ∙ ap (λ b. b && is_out history.later n) (le-ltb n (length (known history.opening history.later)) beyond))
+            ap (λ o. option_map_or (λ standing. standing.is_out) o false) past ∙ sym (is_out_in_is opening later n ∙ ap (λ b. b && is_out later n) (le-ltb n (length (known opening later)) beyond))
       ]
     where
-      none_past : (o : Option Standing) → slice_get frontier.standings n ≡ o → length (known history.opening history.later) ≤ n → slice_get frontier.standings n ≡ None
+      none_past : (o : Option Standing) → slice_get frontier.standings n ≡ o → length (known opening later) ≤ n → slice_get frontier.standings n ≡ None
       none_past None e beyond = e
-      none_past (Some standing) e beyond = let known_one = (standing_known history.opening history.later frontier is.tells n standing e).0 in absurd (omega arith)
+      none_past (Some standing) e beyond = let known_one = (standing_known opening later frontier is.tells n standing e).0 in absurd (omega arith)
+
+  pub out_shown : (n : ℕ) → is_out_at frontier.standings n ≡ is_out_in record_.events n
+  out_shown n = out_is_out n ∙ ap (λ events. is_out_in events n) (sym begins)
 
   module _ (n : ℕ) (standing : Standing) (at' : slice_get frontier.standings n ≡ Some standing) (outside : standing.is_out ≡ true) where
-    pub is_out_now : IsOut history.opening history.later n
+    pub is_out_now : IsOut opening later n
     is_out_now =
-        let there = standing_known history.opening history.later frontier is.tells n standing at' in
+        let there = standing_known opening later frontier is.tells n standing at' in
         record { is_known = there.0; is_out = sym (ap (λ s. s.is_out) there.1) ∙ outside }
 
-    pub out_tested : is_out_in (Opened history.opening ∷ history.later) n ≡ true
+    pub out_tested : is_out_in record_.events n ≡ true
     out_tested = sym (out_shown n) ∙ ap (λ o. option_map_or (λ standing. standing.is_out) o false) at' ∙ outside
 
     pub some_out : 0 < frontier.out
-    some_out = omega (arith, (fail_step history.opening history.later n Read is.legal is_out_now).out_size, is.tells.out_is)
+    some_out = omega (arith, (fail_step opening later n Read legal is_out_now).out_size, is.tells.out_is)
 
-  pub place_shown : (n : ℕ) (place : PlaceData) → option_map_or (λ other. same_place other place) (slice_get frontier.places n) false ≡ is_place_in (Opened history.opening ∷ history.later) n place
+  place_is : (n : ℕ) (place : PlaceData) → option_map_or (λ other. same_place other place) (slice_get frontier.places n) false ≡ is_place_in (Opened opening ∷ later) n place
   unfolding is_place_in
-  place_shown n place = ap (λ l. option_map_or (λ other. same_place other place) (slice_get l n) false) is.tells.places_is
+  place_is n place = ap (λ l. option_map_or (λ other. same_place other place) (slice_get l n) false) is.tells.places_is
+
+  pub place_shown : (n : ℕ) (place : PlaceData) → option_map_or (λ other. same_place other place) (slice_get frontier.places n) false ≡ is_place_in record_.events n place
+  place_shown n place = place_is n place ∙ ap (λ events. is_place_in events n place) (sym begins)
 
   -- ---- which fault a page has
 
-  pub fault_not_out : (n : ℕ) (place : PlaceData) → is_out_at frontier.standings n ≡ false → found_fault (Opened history.opening ∷ history.later) n place ≡ Some NotOut
+  pub fault_not_out : (n : ℕ) (place : PlaceData) → is_out_at frontier.standings n ≡ false → found_fault record_.events n place ≡ Some NotOut
   fault_not_out n place gone = rw (sym (out_shown n) ∙ gone) refl
 
   module _ (n : ℕ) (standing : Standing) (at' : slice_get frontier.standings n ≡ Some standing) (outside : standing.is_out ≡ true) (place : PlaceData) where
-    pub fault_wrong : option_map_or (λ other. same_place other place) (slice_get frontier.places n) false ≡ false → found_fault (Opened history.opening ∷ history.later) n place ≡ Some WrongPlace
+    pub fault_wrong : option_map_or (λ other. same_place other place) (slice_get frontier.places n) false ≡ false → found_fault record_.events n place ≡ Some WrongPlace
     fault_wrong wrong = rw (out_tested n standing at' outside, sym (place_shown n place) ∙ wrong) refl
 
-    pub fault_none : option_map_or (λ other. same_place other place) (slice_get frontier.places n) false ≡ true → found_fault (Opened history.opening ∷ history.later) n place ≡ None
+    pub fault_none : option_map_or (λ other. same_place other place) (slice_get frontier.places n) false ≡ true → found_fault record_.events n place ≡ None
     fault_none right = rw (out_tested n standing at' outside, sym (place_shown n place) ∙ right) refl
 
   -- ---- the tables after a call
 
-  pub after_claimed : (h1 h2 : HistoryData) (f1 f2 : FrontierData) (n : ℕ) (standing : Standing) → slice_get frontier.waiting 0 ≡ Some n → slice_get frontier.standings n ≡ Some standing → h1.opening ≡ history.opening → h1.later ≡ history.later → frontier.out + 2 ≤ h1.room → KeepsFrontier frontier f1
-      → frontier.out + 1 ≤ f1.room → f2 ≡ after_claim f1 n standing → h2.opening ≡ h1.opening → h2.later ≡ h1.later ++ Claimed n ∷ [] → h2.room + 1 ≡ h1.room → IsIndexed h2 f2
-  after_claimed h1 h2 f1 f2 n standing first at' o1 l1 r1 keeps q1 e2 o2 l2 r2 =
-      let tells = Tells-keeps history.opening history.later frontier f1 is.tells keeps in
-      let tells2 = Tells-claim history.opening history.later f1 n standing is.legal tells (ap (λ l. slice_get l 0) keeps.counts.waiting ∙ first) (ap (λ l. slice_get l n) keeps.standings ∙ at') in
-      indexed history.opening (history.later ++ Claimed n ∷ []) h2 f2 (o2 ∙ o1) (l2 ∙ ap (λ l. l ++ Claimed n ∷ []) l1) (first_step n first).legal (subst (Tells history.opening (history.later ++ Claimed n ∷ [])) (sym e2) tells2)
+  pub after_claimed : (h1 h2 : RecordData) (f1 f2 : FrontierData) (n : ℕ) (standing : Standing) → slice_get frontier.waiting 0 ≡ Some n → slice_get frontier.standings n ≡ Some standing → h1.events ≡ record_.events → frontier.out + 2 ≤ h1.room → KeepsFrontier frontier f1
+      → frontier.out + 1 ≤ f1.room → f2 ≡ after_claim f1 n standing → h2.events ≡ h1.events ++ Claimed n ∷ [] → h2.room + 1 ≡ h1.room → IsIndexed h2 f2
+  after_claimed h1 h2 f1 f2 n standing first at' l1 r1 keeps q1 e2 l2 r2 =
+      let tells = Tells-keeps opening later frontier f1 is.tells keeps in
+      let tells2 = Tells-claim opening later f1 n standing legal tells (ap (λ l. slice_get l 0) keeps.counts.waiting ∙ first) (ap (λ l. slice_get l n) keeps.standings ∙ at') in
+      indexed opening (later ++ Claimed n ∷ []) h2 f2 (l2 ∙ ap (λ l. l ++ Claimed n ∷ []) (l1 ∙ begins)) (first_step n first).legal (subst (Tells opening (later ++ Claimed n ∷ [])) (sym e2) tells2)
       (omega (arith, ap (λ f. f.out) e2, keeps.counts.out)) (omega (arith, ap (λ f. f.out) e2, ap (λ f. f.room) e2, keeps.counts.out)) is.few_seeds
 
-  pub after_failed : (h1 : HistoryData) (f1 : FrontierData) (n : ℕ) (standing : Standing) (why : Why) → slice_get frontier.standings n ≡ Some standing → standing.is_out ≡ true → f1 ≡ after_failure frontier n standing history.opening.tries → h1.opening ≡ history.opening
-      → h1.later ≡ history.later ++ Failed n why ∷ [] → h1.room + 1 ≡ history.room → IsIndexed h1 f1
-  after_failed h1 f1 n standing why at' outside e1 o1 l1 r1 =
+  pub after_failed : (h1 : RecordData) (f1 : FrontierData) (n : ℕ) (standing : Standing) (why : Why) → slice_get frontier.standings n ≡ Some standing → standing.is_out ≡ true → f1 ≡ after_failure frontier n standing opening.tries
+      → h1.events ≡ record_.events ++ Failed n why ∷ [] → h1.room + 1 ≡ record_.room → IsIndexed h1 f1
+  after_failed h1 f1 n standing why at' outside e1 l1 r1 =
       let gone = is_out_now n standing at' outside in
       let some = some_out n standing at' outside in
-      let tells1 = Tells-failure history.opening history.later frontier n standing why is.legal is.tells gone at' in
-      let room : (after_failure frontier n standing history.opening.tries).out ≤ (after_failure frontier n standing history.opening.tries).room =
-      elim (cases_lt standing.claims history.opening.tries) as (λ c. (after_failure frontier n standing history.opening.tries).out ≤ (after_failure frontier n standing history.opening.tries).room) [
-        | inl left ↦ rw (lt-ltb standing.claims history.opening.tries left) (omega (arith, is.queue_room))
-        | inr last ↦ rw (le-ltb standing.claims history.opening.tries last) (omega (arith, is.queue_room))
+      let tells1 = Tells-failure opening later frontier n standing why legal is.tells gone at' in
+      let room : (after_failure frontier n standing opening.tries).out ≤ (after_failure frontier n standing opening.tries).room =
+      elim (cases_lt standing.claims opening.tries) as (λ c. (after_failure frontier n standing opening.tries).out ≤ (after_failure frontier n standing opening.tries).room) [
+        | inl left ↦ rw (lt-ltb standing.claims opening.tries left) (omega (arith, is.queue_room))
+        | inr last ↦ rw (le-ltb standing.claims opening.tries last) (omega (arith, is.queue_room))
       ] in
-      indexed history.opening (history.later ++ Failed n why ∷ []) h1 f1 o1 l1 (fail_step history.opening history.later n why is.legal gone).legal (subst (Tells history.opening (history.later ++ Failed n why ∷ [])) (sym e1) tells1) (omega (arith, ap (λ f. f.out) e1, is.record_room))
+      indexed opening (later ++ Failed n why ∷ []) h1 f1 (l1 ∙ ap (λ l. l ++ Failed n why ∷ []) begins) (fail_step opening later n why legal gone).legal (subst (Tells opening (later ++ Failed n why ∷ [])) (sym e1) tells1) (omega (arith, ap (λ f. f.out) e1, is.record_room))
       (omega (arith, ap (λ f. f.out) e1, ap (λ f. f.room) e1, room)) is.few_seeds
 
   -- ---- a find
 
-  module _ (f1 : FrontierData) (n : ℕ) (standing : Standing) (page : PageData) (added : Added) (learned : Learned history.opening.limit (filter (allows history.opening.scope) page.links) frontier f1 added.dropped) where
+  module _ (f1 : FrontierData) (n : ℕ) (standing : Standing) (page : PageData) (added : Added) (learned : Learned opening.limit (filter (allows opening.scope) page.links) frontier f1 added.dropped) where
     pub still_stands : slice_get frontier.standings n ≡ Some standing → slice_get f1.standings n ≡ Some standing
     still_stands at' = ap (λ l. slice_get l n) learned.grows.standings ∙ slice_get-append_left frontier.standings (replicate (length learned.grows.more) unclaimed) n (slice_get_within frontier.standings n standing at') ∙ at'
 
-    right_place : option_map_or (λ other. same_place other page.place) (slice_get frontier.places n) false ≡ true → slice_get (known history.opening history.later) n ≡ Some page.place
-    right_place right = place_from_test history.opening history.later n page.place (sym (place_shown n page.place) ∙ right)
+    right_place : option_map_or (λ other. same_place other page.place) (slice_get frontier.places n) false ≡ true → slice_get (known opening later) n ≡ Some page.place
+    right_place right = place_from_test opening later n page.place (sym (place_is n page.place) ∙ right)
 
-    added_is : added_by (Opened history.opening ∷ history.later) n page
-        ≡ record { fresh = length (known history.opening (history.later ++ Found n page ∷ [])) - length (known history.opening history.later); dropped = dropped history.opening (history.later ++ Found n page ∷ []) - dropped history.opening history.later }
+    added_is : added_by (Opened opening ∷ later) n page
+        ≡ record { fresh = length (known opening (later ++ Found n page ∷ [])) - length (known opening later); dropped = dropped opening (later ++ Found n page ∷ []) - dropped opening later }
     unfolding added_by
     added_is = refl
 
-    pub added_shown : added.fresh + length frontier.places ≡ length f1.places → added ≡ added_by (Opened history.opening ∷ history.later) n page
+    pub added_shown : added.fresh + length frontier.places ≡ length f1.places → added ≡ added_by record_.events n page
     added_shown grown =
-        let places = places-found history.opening history.later frontier f1 n standing page added.dropped learned is.tells in
-        let gone = dropped-found history.opening history.later frontier f1 n standing page added.dropped learned is.tells in
-        let fresh : added.fresh ≡ length (known history.opening (history.later ++ Found n page ∷ [])) - length (known history.opening history.later) = omega (arith, ap length places, ap length is.tells.places_is) in
-        let lost : added.dropped ≡ dropped history.opening (history.later ++ Found n page ∷ []) - dropped history.opening history.later = omega (arith, gone) in
-        (λ i. record { fresh = fresh i; dropped = lost i }) ∙ sym added_is
+        let places = places-found opening later frontier f1 n standing page added.dropped learned is.tells in
+        let gone = dropped-found opening later frontier f1 n standing page added.dropped learned is.tells in
+        let fresh : added.fresh ≡ length (known opening (later ++ Found n page ∷ [])) - length (known opening later) = omega (arith, ap length places, ap length is.tells.places_is) in
+        let lost : added.dropped ≡ dropped opening (later ++ Found n page ∷ []) - dropped opening later = omega (arith, gone) in
+        (λ i. record { fresh = fresh i; dropped = lost i }) ∙ sym added_is ∙ ap (λ events. added_by events n page) (sym begins)
 
-    pub after_found : (h1 : HistoryData) (f2 : FrontierData) (before : ℕ) → slice_get frontier.standings n ≡ Some standing → standing.is_out ≡ true → option_map_or (λ other. same_place other page.place) (slice_get frontier.places n) false ≡ true → before ≡ length frontier.places → added.dropped ≤ 1048576
-        → added.fresh + length frontier.places ≡ length f1.places → added.fresh + frontier.out ≤ f1.room → f2 ≡ after_find f1 n standing before added.dropped → h1.opening ≡ history.opening → h1.later ≡ history.later ++ Found n page ∷ [] → h1.room + 1 ≡ history.room → IsIndexed h1 f2
-    after_found h1 f2 before at' outside right size few grown room e2 o1 l1 r1 =
+    pub after_found : (h1 : RecordData) (f2 : FrontierData) (before : ℕ) → slice_get frontier.standings n ≡ Some standing → standing.is_out ≡ true → option_map_or (λ other. same_place other page.place) (slice_get frontier.places n) false ≡ true → before ≡ length frontier.places → added.dropped ≤ 1048576
+        → added.fresh + length frontier.places ≡ length f1.places → added.fresh + frontier.out ≤ f1.room → f2 ≡ after_find f1 n standing before added.dropped → h1.events ≡ record_.events ++ Found n page ∷ [] → h1.room + 1 ≡ record_.room → IsIndexed h1 f2
+    after_found h1 f2 before at' outside right size few grown room e2 l1 r1 =
         let gone = is_out_now n standing at' outside in
         let some = some_out n standing at' outside in
         let there = right_place right in
-        let tells2 = Tells-find history.opening history.later frontier f1 n standing page added.dropped learned is.legal is.tells gone there (still_stands at') few in
+        let tells2 = Tells-find opening later frontier f1 n standing page added.dropped learned legal is.tells gone there (still_stands at') few in
         let made : f2 ≡ after_find f1 n standing (length frontier.places) added.dropped = e2 ∙ ap (λ k. after_find f1 n standing k added.dropped) size in
-        indexed history.opening (history.later ++ Found n page ∷ []) h1 f2 o1 l1 (found_step history.opening history.later n page is.legal gone there).legal (subst (Tells history.opening (history.later ++ Found n page ∷ [])) (sym made) tells2)
+        indexed opening (later ++ Found n page ∷ []) h1 f2 (l1 ∙ ap (λ l. l ++ Found n page ∷ []) begins) (found_step opening later n page legal gone there).legal (subst (Tells opening (later ++ Found n page ∷ [])) (sym made) tells2)
         (omega (arith, ap (λ f. f.out) made, learned.keeps.out, is.record_room)) (omega (arith, ap (λ f. f.out) made, ap (λ f. f.room) made, learned.keeps.out)) is.few_seeds
 
 -- ---- the beginning
@@ -278,6 +307,6 @@ legal_opening scope seeds limit tries h =
       allowed_seeds = none_refused (allows scope) seeds tests.0;
     }
 
-pub begun : (opening : OpeningData) (history : HistoryData) (frontier : FrontierData) → IsLegalOpening opening → length opening.seeds < 2 ^ 63 → Begins opening.limit opening.seeds frontier → history.opening ≡ opening → history.later ≡ [] → IsIndexed history frontier
-begun opening history frontier legal few begins o l =
-    indexed opening [] history frontier o l (begin_step opening legal).legal (Tells-begin opening frontier legal begins) (omega (arith, begins.out)) (omega (arith, begins.out)) few
+pub begun : (opening : OpeningData) (record_ : RecordData) (frontier : FrontierData) → IsLegalOpening opening → length opening.seeds < 2 ^ 63 → Begins opening.limit opening.seeds frontier → record_.events ≡ Opened opening ∷ [] → IsIndexed record_ frontier
+begun opening record_ frontier legal few begins e =
+    indexed opening [] record_ frontier e (begin_step opening legal).legal (Tells-begin opening frontier legal begins) (omega (arith, begins.out)) (omega (arith, begins.out)) few

@@ -3,6 +3,8 @@ use Rattle.std.specs.Prelude.{◌≡◌, ℕ, Option, None, Some}
 use Rattle.gopher_catalogue.specs.declared.fault.OpenFault.{OpenFault}
 use Rattle.gopher_catalogue.specs.declared.fault.OpenFault.TheVariants.{SeedOutOfScope, BadPlaces, BadTries, NoMemory}
 use Rattle.gopher_catalogue.specs.declared.fault.FoundFault.{FoundFault}
+use Rattle.gopher_catalogue.specs.declared.fault.OpenRefused.{OpenRefused}
+use Rattle.gopher_catalogue.specs.declared.fault.FoundRefused.{FoundRefused}
 use Rattle.gopher_catalogue.specs.declared.fault.FoundFault.TheVariants.{NotOut, WrongPlace, NoMemory as NoMemoryFound}
 
 abbrev pub open_fault_code : OpenFault → ℕ
@@ -21,6 +23,12 @@ abbrev pub IsOpenFault : Option OpenFault → OpenFault → Type 0
 IsOpenFault (Some fault) answered = answered ≡ fault
 IsOpenFault None answered = answered ≡ NoMemory
 
+abbrev pub HasOpenFault : Option OpenFault → OpenRefused → Type 0
+HasOpenFault due refused = IsOpenFault due refused.fault
+
 abbrev pub IsFoundFault : Option FoundFault → FoundFault → Type 0
 IsFoundFault (Some fault) answered = answered ≡ fault
 IsFoundFault None answered = answered ≡ NoMemoryFound
+
+abbrev pub HasFoundFault : Option FoundFault → FoundRefused → Type 0
+HasFoundFault due refused = IsFoundFault due refused.fault

@@ -4,16 +4,17 @@ use Rattle.std.specs.Prelude.{◌≡◌, ℕ, ◌<◌, false, ◌↔◌, List, �
 use Rattle.std.specs.List.{Contains}
 use Rattle.std.specs.List.Sorted.{IsStrictlySortedBy}
 use Rattle.std.specs.Ordering.{on}
+use Rattle.std.specs.Global.{Vec}
 use Rattle.gopher_item.specs.Place.{PlaceData, place_cmp}
 use Rattle.gopher_scope.specs.Scope.{ScopeData}
 use Rattle.gopher_page.specs.Page.{PageData}
 use Rattle.gopher_page.specs.Query.{TermData, matches, score}
 use Rattle.gopher_page.specs.Counts.{count_meant}
-use Rattle.gopher_catalogue.specs.declared.hit.Hit.{Hit}
+use Rattle.gopher_index.specs.declared.hit.Hit.{Hit}
 use Rattle.gopher_catalogue.specs.Event.{OpeningData, EventData, Opened}
 use Rattle.gopher_catalogue.specs.Legal.{IsLegal}
 use Rattle.gopher_catalogue.specs.Pages.{pages_found}
-use Rattle.gopher_catalogue.specs.Answer.{rank_cmp, answer_of, occurrences_of}
+use Rattle.gopher_index.specs.Answer.{rank_cmp, answer_of, occurrences_of}
 use Rattle.gopher_catalogue.specs.Closure.{OutcomeTable, IsReachedPage, Agrees, IsComplete, SamePlaces}
 
 -- ---- the answer over any pages
@@ -92,6 +93,13 @@ abbrev pub AreFinalOnceComplete : List EventData → List ℕ → List (PlaceDat
 AreFinalOnceComplete record_ word list =
     (opening : OpeningData) (events : List EventData) (table : OutcomeTable) → record_ ≡ Opened opening ∷ events →
     IsComplete record_ → Agrees opening events table → FinalOccurrences opening.scope opening.seeds table word list
+
+-- of hits and occurrences as the program has them
+abbrev pub AreFinalHits : List EventData → List TermData → Vec Hit → Type 0
+AreFinalHits record_ query hits = IsFinalOnceComplete record_ query hits.items
+
+abbrev pub AreFinalOccurrences : List EventData → List ℕ → Vec (PlaceData × ℕ) → Type 0
+AreFinalOccurrences record_ word list = AreFinalOnceComplete record_ word list.items
 
 -- a finished crawl answers each query with the final answer
 abbrev pub FinishedCrawlGivesFinalAnswers : Type 0

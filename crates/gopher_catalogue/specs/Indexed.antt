@@ -1,11 +1,11 @@
 -- What the catalogue keeps beside its record says what the record says.
-use Rattle.std.specs.Prelude.{◌≡◌, ℕ, ◌+◌, ◌*◌, ◌^◌, ◌<◌, ◌≤◌, List, ◌∷◌, length, map}
+use Rattle.std.specs.Prelude.{◌≡◌, ℕ, ◌+◌, ◌*◌, ◌^◌, ◌<◌, ◌≤◌, List, length, map}
 use Rattle.std.specs.List.{range_with_len}
 use Rattle.gopher_catalogue.specs.declared.known.Standing.{Standing}
-use Rattle.gopher_catalogue.specs.Event.{OpeningData, EventData, Opened}
+use Rattle.gopher_catalogue.specs.Event.{OpeningData, EventData}
 use Rattle.gopher_catalogue.specs.Frontier.{known, dropped, waiting, out, done, claims, is_out}
 use Rattle.gopher_catalogue.specs.Legal.{IsLegal}
-use Rattle.gopher_catalogue.specs.Tables.{FrontierData, HistoryData}
+use Rattle.gopher_catalogue.specs.Tables.{FrontierData, RecordData, opening_in, later_in}
 
 -- how a number stands after these events
 abbrev pub standing_of : List EventData → ℕ → Standing
@@ -23,9 +23,9 @@ pub record Tells (opening : OpeningData) (events : List EventData) (frontier : F
 
 -- the record is legal, the frontier is its frontier, and there is room for each outcome that is due,
 -- in the record and in the queue
-pub record IsIndexed (history : HistoryData) (frontier : FrontierData) : Type 0 where
-  pub legal : IsLegal (Opened history.opening ∷ history.later)
-  pub tells : Tells history.opening history.later frontier
-  pub record_room : frontier.out ≤ history.room
+pub record IsIndexed (record_ : RecordData) (frontier : FrontierData) : Type 0 where
+  pub legal : IsLegal record_.events
+  pub tells : Tells (opening_in record_.events) (later_in record_.events) frontier
+  pub record_room : frontier.out ≤ record_.room
   pub queue_room : frontier.out ≤ frontier.room
-  pub few_seeds : length history.opening.seeds < 2 ^ 63
+  pub few_seeds : length (opening_in record_.events).seeds < 2 ^ 63

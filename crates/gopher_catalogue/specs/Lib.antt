@@ -1,3 +1,4 @@
+pub mod Opening
 pub mod Event
 pub mod EventOf
 pub mod Fault
@@ -10,11 +11,4 @@ pub mod Indexed
 pub mod Laws
 pub mod Pages
 pub mod Closure
-pub mod Posting
-pub mod Postings
-pub mod Listing
-pub mod Gathered
-pub mod Answer
-pub mod Best
-pub mod Tally
 pub mod FinalAnswer

@@ -1,7 +1,12 @@
 -- The pages that a record holds.
-use Rattle.std.specs.Prelude.{List, [], ◌∷◌}
+use Rattle.std.specs.Prelude.{◌≡◌, ℕ, List, [], ◌∷◌, ◌++◌, take}
 use Rattle.std.specs.List.{flat_map}
+use Rattle.std.specs.Global.{Vec}
+use Rattle.gopher_item.specs.Place.{PlaceData}
 use Rattle.gopher_page.specs.Page.{PageData}
+use Rattle.gopher_page.specs.Query.{TermData}
+use Rattle.gopher_index.specs.declared.hit.Hit.{Hit}
+use Rattle.gopher_index.specs.Answer.{answer_of, occurrences_of}
 use Rattle.gopher_catalogue.specs.Event.{EventData, Found}
 
 abbrev pub page_of_event : EventData → List PageData
@@ -11,3 +16,18 @@ page_of_event event = []
 -- the pages found, in the order in which they were
 unfoldable pub pages_found : List EventData → List PageData
 pages_found events = flat_map page_of_event events
+
+-- the pages of an index, which takes 65,536, after one more event
+abbrev pub with_page_of : List PageData → EventData → List PageData
+with_page_of pages event = take 65536 (pages ++ page_of_event event)
+
+-- those of a record that an index takes; a record that a catalogue can have found no others
+abbrev pub pages_indexed : List EventData → List PageData
+pages_indexed events = take 65536 (pages_found events)
+
+-- what a search of a record finds, and where a word occurs in it
+abbrev pub AreHitsIn : List EventData → List TermData → Vec Hit → Type 0
+AreHitsIn events query hits = hits.items ≡ answer_of (pages_found events) query
+
+abbrev pub AreOccurrencesIn : List EventData → List ℕ → Vec (PlaceData × ℕ) → Type 0
+AreOccurrencesIn events word list = list.items ≡ occurrences_of (pages_found events) word

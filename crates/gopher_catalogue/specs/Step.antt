@@ -1,6 +1,6 @@
 -- The sequential catalogue: what each call answers on a record, and the record that it leaves, where
 -- memory is ample.
-use Rattle.std.specs.Prelude.{ℕ, ◌-◌, Bool, false, ◌&&◌, not, List, [], ◌∷◌, ◌++◌, length, Option, None, Some, slice_get, position, ◌==◌, nat_lt, nat_le, if◌then◌else◌}
+use Rattle.std.specs.Prelude.{◌≡◌, ℕ, ◌-◌, Bool, false, ◌&&◌, not, List, [], ◌∷◌, ◌++◌, length, Option, None, Some, slice_get, position, ◌==◌, nat_lt, nat_le, if◌then◌else◌}
 use Rattle.std.specs.Option.{option_map, option_and_then, option_map_or}
 use Rattle.gopher_item.specs.Place.{PlaceData, same_place}
 use Rattle.gopher_scope.specs.Scope.{ScopeData, allows}
@@ -11,6 +11,7 @@ use Rattle.gopher_catalogue.specs.declared.fault.FoundFault.{FoundFault}
 use Rattle.gopher_catalogue.specs.declared.fault.FoundFault.TheVariants.{NotOut, WrongPlace}
 use Rattle.gopher_catalogue.specs.declared.answer.Added.{Added}
 use Rattle.gopher_catalogue.specs.declared.answer.Status.{Status}
+use Rattle.gopher_catalogue.specs.Opening.{opening_of}
 use Rattle.gopher_catalogue.specs.Event.{OpeningData, EventData, Opened, Claimed, Found}
 use Rattle.gopher_catalogue.specs.Frontier.{known, dropped, waiting, out, done, is_out}
 
@@ -24,7 +25,10 @@ open_fault scope seeds limit tries =
 
 -- the record of a crawl that begins
 abbrev pub opened_record : ScopeData → List PlaceData → ℕ → ℕ → List EventData
-opened_record scope seeds limit tries = Opened (record { scope = scope; seeds = seeds; limit = limit; tries = tries }) ∷ []
+opened_record scope seeds limit tries = Opened (opening_of scope seeds limit tries) ∷ []
+
+abbrev pub IsOpenedRecord : ScopeData → List PlaceData → ℕ → ℕ → List EventData → Type 0
+IsOpenedRecord scope seeds limit tries events = events ≡ opened_record scope seeds limit tries
 
 -- ---- claim
 

@@ -53,16 +53,28 @@ pub record QueueData : Type 0 where
   pub waiting : List ℕ
   pub room : ℕ
 
--- a record by its opening and the events after it, and how many more it takes without memory
-pub record HistoryData : Type 0 where
-  pub opening : OpeningData
-  pub later : List EventData
+-- the events of a record, and how many more it takes without memory
+pub record RecordData : Type 0 where
+  pub events : List EventData
   pub room : ℕ
 
--- the opening of a record, which stands first
+-- there is one more event, in the room that there was
+pub record Grown (before : RecordData) (event : EventData) (after : RecordData) : Type 0 where
+  pub events : after.events ≡ before.events ++ event ∷ []
+  pub room : after.room + 1 ≡ before.room
+
+-- the opening of a record, which stands first, and the events after it
 abbrev pub opening_in : List EventData → OpeningData
 opening_in (Opened opening ∷ events) = opening
 opening_in events = record { scope = record { allow = []; deny = [] }; seeds = []; limit = 0; tries = 0 }
+
+abbrev pub later_in : List EventData → List EventData
+later_in (event ∷ events) = events
+later_in [] = []
+
+-- the first event opens the record
+abbrev pub IsOpened : List EventData → Type 0
+IsOpened events = events ≡ Opened (opening_in events) ∷ later_in events
 
 -- ---- the frontier
 

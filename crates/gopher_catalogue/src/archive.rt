@@ -1,77 +1,132 @@
-//! The record of a crawl with the postings of its pages.
+//! The record of a crawl with the index of its pages.
 
-ghost use Rattle.std.specs.Prelude.{◌≡◌, ◌+◌, ◌^◌, ◌<◌, ◌≤◌, Some, None, [], ◌∷◌, ◌++◌, length, map, MatchResult, IfOk, IfErr, OnOk, OnErr};
-ghost use Rattle.gopher_catalogue.specs.Answer.{answer_of, AreOccurrences};
+ghost use Rattle.std.specs.Prelude.{◌≡◌, ◌+◌, ◌<◌, ◌≤◌, [], ◌∷◌, ◌++◌, length, map, IfOk, IfErr, OnOk, OnErr};
+ghost use Rattle.std.specs.Arc.{arc_value};
 ghost use Rattle.gopher_catalogue.specs.Event.{Opened, Found};
 ghost use Rattle.gopher_catalogue.specs.EventOf.{event_data};
-ghost use Rattle.gopher_catalogue.specs.Pages.{pages_found};
-ghost use Rattle.gopher_catalogue.specs.Postings.{page_in};
+ghost use Rattle.gopher_catalogue.specs.Pages.{page_of_event, pages_indexed, with_page_of};
+ghost use Rattle.gopher_catalogue.specs.Tables.{Grown, IsOpened, opening_in};
 
 use crate::event::Event;
 use crate::history::History;
-use crate::hit::Hit;
 use crate::opening::Opening;
-use crate::postings::Postings;
-use crate::search;
-use gopher_item::{NoMemory, Place};
-use gopher_page::{Page, Query};
+use gopher_index::Index;
+use gopher_item::NoMemory;
+use gopher_page::Page;
 use std::alloc::Global;
 use std::marker::Model;
 use std::sync::Arc;
 
-/// The record of a crawl, and the postings of the pages that it found.
+// How many pages an index takes. No record that a catalogue can have found more.
+const MOST_PAGES: usize = 65_536;
+
+/// Events, and the index of the pages that they found: of the first 65,536 of these.
 #[derive(Debug, Drop)]
 pub(crate) struct Archive {
     history: History,
-    postings: Postings,
+    index: Index,
 }
 
 impl Model for Archive {
-    ghost use Rattle.std.specs.Prelude.{◌∷◌};
-    ghost use Rattle.gopher_catalogue.specs.Event.{Opened};
-    ghost use Rattle.gopher_catalogue.specs.Tables.{HistoryData};
+    ghost use Rattle.std.specs.Prelude.{◌≡◌};
+    ghost use Rattle.gopher_catalogue.specs.Tables.{RecordData};
 
-    ghost Value = { HistoryData };
+    ghost Value = { RecordData };
 
-    ghost use Rattle.gopher_catalogue.specs.Postings.{ArePostingsOf};
+    ghost use Rattle.gopher_catalogue.specs.Pages.{pages_indexed};
 
     ghost view = { λ a. a.history };
 
-    ghost invariant = { λ a. ArePostingsOf a.postings (Opened a.history.opening ∷ a.history.later) };
+    ghost invariant = { λ a. a.index ≡ pages_indexed a.history.events };
+}
+
+// Adds the page that an event found, where there is one and the index takes more.
+fn index_page(index: &mut Index, event: &Event) -> Result<(), NoMemory>
+    requires { length index.old ≤ 65536 }
+    ensures ok { OnOk result (index.new ≡ with_page_of index.old (event_data event.now)) }
+    ensures err { OnErr result (index.new ≡ index.old) }
+{
+    let Event::Found(_, page) = event else {
+        return Ok(());
+    };
+    if index.len() == MOST_PAGES {
+        return Ok(());
+    }
+    index.add(page.clone()?)?;
+    Ok(())
 }
 
 impl Archive {
-    /// The record of a crawl that begins. A refusal of memory hands the opening back.
-    pub fn begin(alloc: Global, opening: Opening) -> Result<Archive, Opening>
-        ensures { MatchResult result (λ archive. (archive.opening ≡ opening) × (archive.later ≡ [])) (λ refused. refused ≡ opening) }
+    /// No events. Takes no memory.
+    pub fn empty(alloc: Global) -> Archive
+        ensures { result.events ≡ [] }
     {
-        match History::begin(alloc, opening) {
-            Ok(history) => Ok(Archive {
-                history,
-                postings: Postings::new(alloc),
-            }),
-            Err(opening) => Err(opening),
+        Archive {
+            history: History::empty(alloc),
+            index: Index::new(alloc),
         }
     }
 
-    /// What the crawl began with.
-    pub fn opening(&self) -> &Opening
-        ensures { result.now ≡ self.now.opening }
+    /// The record of a crawl that begins. A refusal of memory hands the opening back.
+    pub fn begin(alloc: Global, opening: Opening) -> Result<Archive, Opening>
+        ensures begun { IfOk result (λ archive. archive.events ≡ Opened opening ∷ []) }
+        ensures opening_back { IfErr result (λ refused. refused ≡ opening) }
+    {
+        let mut archive = Archive::empty(alloc);
+        let Ok(()) = archive.reserve(1) else {
+            return Err(opening);
+        };
+        match Arc::new(alloc, opening) {
+            Ok(opening) => {
+                archive.push(Event::Opened(opening));
+                Ok(archive)
+            }
+            Err(refused) => Err(refused.value),
+        }
+    }
+
+    /// The same events, and an index of the same pages. Refused only where memory is (90).
+    pub fn again(&self, alloc: Global) -> Result<Archive, NoMemory>
+        ensures { IfOk result (λ archive. archive.events ≡ self.now.events) }
+    {
+        Ok(Archive {
+            history: self.history.again(alloc)?,
+            index: self.index.again(alloc)?,
+        })
+    }
+
+    /// How many events there are.
+    pub fn len(&self) -> usize
+        ensures { result ≡ length self.now.events }
+    {
+        self.history.len()
+    }
+
+    /// What the crawl began with, where the first event opened it.
+    pub fn opening(&self) -> &Arc<Opening>
+        requires { IsOpened self.now.events }
+        ensures { arc_value result.now ≡ opening_in self.now.events }
     {
         self.history.opening()
     }
 
     /// The events.
     pub fn as_slice(&self) -> &[Event]
-        ensures { map event_data result.now ≡ Opened self.now.opening ∷ self.now.later }
+        ensures { map event_data result.now ≡ self.now.events }
     {
         self.history.as_slice()
     }
 
+    /// The index of the pages found.
+    pub fn index(&self) -> &Index
+        ensures { result.now ≡ pages_indexed self.now.events }
+    {
+        &self.index
+    }
+
     /// Makes room for `additional` more events. A refusal (90) keeps the room that there was.
     pub fn reserve(&mut self, additional: usize) -> Result<(), NoMemory>
-        ensures opening { self.new.opening ≡ self.old.opening }
-        ensures later { self.new.later ≡ self.old.later }
+        ensures events { self.new.events ≡ self.old.events }
         ensures room { self.old.room ≤ self.new.room }
         ensures ok { OnOk result (additional ≤ self.new.room) }
     {
@@ -81,53 +136,42 @@ impl Archive {
     /// Adds an event at the end, for which there is room, and which found no page.
     pub fn push(&mut self, event: Event)
         requires room { 0 < self.old.room }
-        requires no_page { page_in (Some (event_data event)) ≡ None }
-        ensures opening { self.new.opening ≡ self.old.opening }
-        ensures later { self.new.later ≡ self.old.later ++ event_data event ∷ [] }
+        requires no_page { page_of_event (event_data event) ≡ [] }
+        ensures events { self.new.events ≡ self.old.events ++ event_data event ∷ [] }
         ensures room { self.new.room + 1 ≡ self.old.room }
     {
         self.history.push(event);
     }
 
-    /// Adds at the end that the page of a number was found, for which there is room, and the postings
-    /// of its words. A refusal of memory hands the page back, and leaves all as it was.
-    pub fn push_found(&mut self, alloc: Global, number: u32, page: Page) -> Result<(), Page>
-        requires room { 0 < self.old.room }
-        requires few { length self.old.later + 1 < 2 ^ 24 }
-        ensures opening { self.new.opening ≡ self.old.opening }
-        ensures later { OnOk result (self.new.later ≡ self.old.later ++ Found number page ∷ []) }
-        ensures room { OnOk result (self.new.room + 1 ≡ self.old.room) }
+    /// Adds an event at the end, for which there is room, and the page that it found to the index, which
+    /// takes 65,536. Refused only where memory is (90), and then all is as it was.
+    pub fn add(&mut self, event: Event) -> Result<(), NoMemory>
+        requires { 0 < self.old.room }
+        ensures ok { OnOk result (Grown self.old (event_data event) self.new) }
+        ensures err { OnErr result (self.new ≡ self.old) }
+    {
+        index_page(&mut self.index, &event)?;
+        self.history.push(event);
+        Ok(())
+    }
+
+    /// Adds at the end that the page of a number was found, for which there is room. A refusal of memory
+    /// hands the page back, and leaves all as it was.
+    pub fn add_found(&mut self, alloc: Global, number: u32, page: Page) -> Result<(), Page>
+        requires { 0 < self.old.room }
+        ensures ok { OnOk result (Grown self.old (Found number page) self.new) }
         ensures err { OnErr result (self.new ≡ self.old) }
         ensures page_back { IfErr result (λ back. back ≡ page) }
     {
-        let event = self.history.as_slice().len() as u32;
-        let Ok(()) = self.postings.add(alloc, event, page.counts()) else {
+        let Ok(back) = page.again() else {
             return Err(page);
         };
-        match Arc::new(alloc, page) {
-            Ok(page) => {
-                self.history.push(Event::Found(number, page));
-                Ok(())
-            }
-            Err(refused) => {
-                let page = refused.value;
-                self.postings.remove(event, page.counts());
-                Err(page)
-            }
-        }
-    }
-
-    /// The answer to a query. Refused only where memory is (90).
-    pub fn search(&self, alloc: Global, query: &Query) -> Result<Vec<Hit>, NoMemory>
-        ensures { IfOk result (λ hits. hits.items ≡ answer_of (pages_found (Opened self.now.opening ∷ self.now.later)) query.now) }
-    {
-        search::search(alloc, self.history.as_slice(), &self.postings, query)
-    }
-
-    /// The occurrences of a word. Refused only where memory is (90).
-    pub fn occurrences(&self, alloc: Global, word: &[u8]) -> Result<Vec<(Place, u32)>, NoMemory>
-        ensures { IfOk result (λ list. AreOccurrences (pages_found (Opened self.now.opening ∷ self.now.later)) word.now list.items) }
-    {
-        search::occurrences(alloc, self.history.as_slice(), &self.postings, word)
+        let Ok(page) = Arc::new(alloc, page) else {
+            return Err(back);
+        };
+        let Ok(()) = self.add(Event::Found(number, page)) else {
+            return Err(back);
+        };
+        Ok(())
     }
 }

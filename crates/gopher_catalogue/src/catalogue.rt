@@ -5,13 +5,12 @@ ghost use Rattle.std.specs.Arc.{arc_value};
 ghost use Rattle.gopher_scope.specs.Scope.{allows};
 ghost use Rattle.gopher_catalogue.specs.Event.{EventData, Opened, Claimed, Found, Failed};
 ghost use Rattle.gopher_catalogue.specs.EventOf.{event_data};
-ghost use Rattle.gopher_catalogue.specs.Fault.{IsOpenFault, IsFoundFault};
+ghost use Rattle.gopher_catalogue.specs.Fault.{HasOpenFault, HasFoundFault};
 ghost use Rattle.gopher_catalogue.specs.Legal.{IsLegal};
-ghost use Rattle.gopher_catalogue.specs.Step.{open_fault, opened_record, turn_of, after_turn, is_out_in, found_fault, added_by, status_of, is_finished, places_of};
-ghost use Rattle.gopher_catalogue.specs.Answer.{answer_of, occurrences_of};
+ghost use Rattle.gopher_catalogue.specs.Step.{open_fault, IsOpenedRecord, turn_of, after_turn, is_out_in, found_fault, added_by, status_of, is_finished, places_of};
 ghost use Rattle.gopher_catalogue.specs.Closure.{HoldsReachOnceComplete};
-ghost use Rattle.gopher_catalogue.specs.FinalAnswer.{IsFinalOnceComplete, AreFinalOnceComplete};
-ghost use Rattle.gopher_catalogue.specs.Pages.{pages_found};
+ghost use Rattle.gopher_catalogue.specs.FinalAnswer.{AreFinalHits, AreFinalOccurrences};
+ghost use Rattle.gopher_catalogue.specs.Pages.{pages_found, AreHitsIn, AreOccurrencesIn};
 ghost use Rattle.gopher_catalogue.specs.Turn.{turn_data, IsTake};
 
 use crate::answer::{Added, Claim, Status, Turn};
@@ -19,8 +18,8 @@ use crate::archive::Archive;
 use crate::event::{Event, Why};
 use crate::fault::{FailRefused, FoundFault, FoundRefused, OpenFault, OpenRefused};
 use crate::frontier::Frontier;
-use crate::hit::Hit;
 use crate::opening::Opening;
+use gopher_index::{Hit, Index};
 use gopher_item::{NoMemory, Place};
 use gopher_page::{Page, Query};
 use gopher_scope::Scope;
@@ -35,20 +34,20 @@ use std::sync::Arc;
 #[derive(Debug, Drop)]
 pub struct Catalogue {
     alloc: Global,
-    history: Archive,
+    archive: Archive,
     frontier: Frontier,
 }
 
 impl Model for Catalogue {
-    ghost use Rattle.std.specs.Prelude.{List, ◌∷◌};
-    ghost use Rattle.gopher_catalogue.specs.Event.{EventData, Opened};
+    ghost use Rattle.std.specs.Prelude.{List};
+    ghost use Rattle.gopher_catalogue.specs.Event.{EventData};
     ghost use Rattle.gopher_catalogue.specs.Indexed.{IsIndexed};
 
     ghost Value = { List EventData };
 
-    ghost view = { λ c. Opened c.history.opening ∷ c.history.later };
+    ghost view = { λ c. c.archive.events };
 
-    ghost invariant = { λ c. IsIndexed c.history c.frontier };
+    ghost invariant = { λ c. IsIndexed c.archive c.frontier };
 }
 
 const MAX_PLACES: u32 = 65_536;
@@ -103,9 +102,9 @@ impl Catalogue {
         tries: u32,
     ) -> Result<Catalogue, OpenRefused>
         ensures ok { OnOk result (open_fault scope seeds.items places tries ≡ None) }
-        ensures opened { IfOk result (λ catalogue. catalogue ≡ opened_record scope seeds.items places tries) }
+        ensures opened { IfOk result (IsOpenedRecord scope seeds.items places tries) }
         ensures legal { IfOk result (λ catalogue. IsLegal catalogue) }
-        ensures fault { IfErr result (λ refused. IsOpenFault (open_fault scope seeds.items places tries) refused.fault) }
+        ensures fault { IfErr result (HasOpenFault (open_fault scope seeds.items places tries)) }
         ensures scope_back { IfErr result (λ refused. refused.scope ≡ scope) }
         ensures seeds_back { IfErr result (λ refused. refused.seeds.items ≡ seeds.items) }
     {
@@ -116,9 +115,9 @@ impl Catalogue {
             return Err(refused(OpenFault::NoMemory, scope, seeds));
         };
         match Archive::begin(alloc, Opening::new(scope, seeds, places, tries)) {
-            Ok(history) => Ok(Catalogue {
+            Ok(archive) => Ok(Catalogue {
                 alloc,
-                history,
+                archive,
                 frontier,
             }),
             Err(opening) => {
@@ -149,10 +148,10 @@ impl Catalogue {
         };
         let standing = self.frontier.standing(number).unwrap();
         let place = self.frontier.place(number).clone()?;
-        self.history.reserve(out as usize + 2)?;
+        self.archive.reserve(out as usize + 2)?;
         self.frontier.reserve(out as usize + 1)?;
         self.frontier.claim(number, standing);
-        self.history.push(Event::Claimed(number));
+        self.archive.push(Event::Claimed(number));
         Ok(Turn::Take(Claim { number, place }))
     }
 
@@ -165,7 +164,7 @@ impl Catalogue {
         ensures ok { OnOk result (found_fault self.old number page.place ≡ None) }
         ensures added { IfOk result (λ added. added ≡ added_by self.old number page) }
         ensures after { OnOk result (self.new ≡ self.old ++ Found number page ∷ []) }
-        ensures fault { IfErr result (λ refused. IsFoundFault (found_fault self.old number page.place) refused.fault) }
+        ensures fault { IfErr result (HasFoundFault (found_fault self.old number page.place)) }
         ensures page_back { IfErr result (λ refused. refused.page ≡ page) }
         ensures err { OnErr result (self.new ≡ self.old) }
         ensures legal { IsLegal self.new }
@@ -180,14 +179,14 @@ impl Catalogue {
         }
         let fault = FoundFault::NoMemory;
         let before = self.frontier.len() as u32;
-        let opening = self.history.opening();
+        let opening = self.archive.opening();
         let Ok(added) = self
             .frontier
             .learn(opening.scope(), opening.places(), page.links())
         else {
             return Err(FoundRefused { fault, page });
         };
-        match self.history.push_found(self.alloc, number, page) {
+        match self.archive.add_found(self.alloc, number, page) {
             Ok(()) => {
                 self.frontier.found(number, standing, before, added.dropped);
                 Ok(added)
@@ -213,9 +212,9 @@ impl Catalogue {
         let Some(standing) = self.frontier.out_standing(number) else {
             return Err(FailRefused);
         };
-        let tries = self.history.opening().tries();
+        let tries = self.archive.opening().tries();
         self.frontier.fail(number, standing, tries);
-        self.history.push(Event::Failed(number, why));
+        self.archive.push(Event::Failed(number, why));
         Ok(())
     }
 
@@ -245,7 +244,7 @@ impl Catalogue {
         ensures events { map event_data result.now ≡ self.now }
         ensures legal { IsLegal self.now }
     {
-        self.history.as_slice()
+        self.archive.as_slice()
     }
 
     /// The known places, each at its number. Takes no memory.
@@ -262,11 +261,19 @@ impl Catalogue {
     }
 
     /// What the crawl began with: the opening of its first event. Takes no memory.
-    pub fn opening(&self) -> &Opening
-        ensures first { slice_get self.now 0 ≡ Some (Opened result.now) }
+    pub fn opening(&self) -> &Arc<Opening>
+        ensures first { slice_get self.now 0 ≡ Some (Opened (arc_value result.now)) }
         ensures legal { IsLegal self.now }
     {
-        self.history.opening()
+        self.archive.opening()
+    }
+
+    /// The index of the pages found, in the order in which they were. Takes no memory.
+    pub fn index(&self) -> &Index
+        ensures pages { result.now ≡ pages_found self.now }
+        ensures legal { IsLegal self.now }
+    {
+        self.archive.index()
     }
 
     /// What a search finds: the pages that match the query, by score descending, then in place order;
@@ -275,11 +282,11 @@ impl Catalogue {
     /// Once the crawl is finished and no mention was dropped, these are the hits of the pages of all
     /// places that can be reached, as `places` tells.
     pub fn search(&self, query: &Query) -> Result<Vec<Hit>, NoMemory>
-        ensures hits { IfOk result (λ hits. hits.items ≡ answer_of (pages_found self.now) query.now) }
-        ensures once_complete { IfOk result (λ hits. IsFinalOnceComplete self.now query.now hits.items) }
+        ensures hits { IfOk result (AreHitsIn self.now query.now) }
+        ensures once_complete { IfOk result (AreFinalHits self.now query.now) }
         ensures legal { IsLegal self.now }
     {
-        self.history.search(self.alloc, query)
+        self.index().search(self.alloc, query)
     }
 
     /// The places of the pages in which `word` stands, with how often, in place order. Refused only
@@ -288,10 +295,10 @@ impl Catalogue {
     /// Once the crawl is finished and no mention was dropped, these are the occurrences in the pages of
     /// all places that can be reached, as `places` tells.
     pub fn occurrences(&self, word: &[u8]) -> Result<Vec<(Place, u32)>, NoMemory>
-        ensures occurrences { IfOk result (λ list. list.items ≡ occurrences_of (pages_found self.now) word.now) }
-        ensures once_complete { IfOk result (λ list. AreFinalOnceComplete self.now word.now list.items) }
+        ensures occurrences { IfOk result (AreOccurrencesIn self.now word.now) }
+        ensures once_complete { IfOk result (AreFinalOccurrences self.now word.now) }
         ensures legal { IsLegal self.now }
     {
-        self.history.occurrences(self.alloc, word)
+        self.index().occurrences(self.alloc, word)
     }
 }

@@ -1,9 +1,9 @@
 //! The record of a crawl.
 
-ghost use Rattle.std.specs.Prelude.{◌≡◌, ◌+◌, ◌<◌, ◌≤◌, [], ◌∷◌, ◌++◌, map, MatchResult, OnOk};
-ghost use Rattle.gopher_catalogue.specs.Event.{EventData, Opened};
+ghost use Rattle.std.specs.Prelude.{◌≡◌, ◌+◌, ◌<◌, ◌≤◌, [], ◌∷◌, ◌++◌, length, map, IfOk, OnOk};
+ghost use Rattle.std.specs.Arc.{arc_value};
 ghost use Rattle.gopher_catalogue.specs.EventOf.{event_data};
-ghost use Rattle.gopher_catalogue.specs.Tables.{HistoryData};
+ghost use Rattle.gopher_catalogue.specs.Tables.{RecordData, opening_in, IsOpened};
 
 use crate::event::Event;
 use crate::opening::Opening;
@@ -12,45 +12,57 @@ use std::alloc::Global;
 use std::marker::Model;
 use std::sync::Arc;
 
-/// The events of a crawl, the oldest first. The first one opened it.
+/// Events, the oldest first, and room for more.
 #[derive(Debug, Drop)]
 pub(crate) struct History {
     events: Vec<Event>,
 }
 
 impl Model for History {
-    ghost use Rattle.std.specs.Prelude.{◌≡◌, ◌-◌, ◌∷◌, map, drop, vec_len, vec_capacity};
-    ghost use Rattle.gopher_catalogue.specs.Event.{Opened};
+    ghost use Rattle.std.specs.Prelude.{◌-◌, map, vec_len, vec_capacity};
     ghost use Rattle.gopher_catalogue.specs.EventOf.{event_data};
-    ghost use Rattle.gopher_catalogue.specs.Tables.{HistoryData, opening_in};
+    ghost use Rattle.gopher_catalogue.specs.Tables.{RecordData};
 
-    ghost Value = { HistoryData };
+    ghost Value = { RecordData };
 
-    ghost view = { λ h. record { opening = opening_in (map event_data h.events.items); later = drop 1 (map event_data h.events.items); room = vec_capacity h.events - vec_len h.events } };
-
-    ghost invariant = { λ h. map event_data h.events.items ≡ Opened (opening_in (map event_data h.events.items)) ∷ drop 1 (map event_data h.events.items) };
+    ghost view = { λ h. record {
+      events = map event_data h.events.items;
+      room = vec_capacity h.events - vec_len h.events;
+    } };
 }
 
 impl History {
-    /// The record of a crawl that begins. A refusal of memory hands the opening back.
-    pub fn begin(alloc: Global, opening: Opening) -> Result<History, Opening>
-        ensures { MatchResult result (λ history. (history.opening ≡ opening) × (history.later ≡ [])) (λ refused. refused ≡ opening) }
+    /// No events. Takes no memory.
+    pub fn empty(alloc: Global) -> History
+        ensures { result.events ≡ [] }
     {
-        let Ok(mut events) = Vec::with_capacity(alloc, 1) else {
-            return Err(opening);
-        };
-        match Arc::new(alloc, opening) {
-            Ok(opening) => {
-                events.push_reserved(Event::Opened(opening));
-                Ok(History { events })
-            }
-            Err(refused) => Err(refused.value),
+        History {
+            events: Vec::new(alloc),
         }
     }
 
-    /// What the crawl began with.
-    pub fn opening(&self) -> &Opening
-        ensures { result.now ≡ self.now.opening }
+    /// The same events. Refused only where memory is (90).
+    pub fn again(&self, alloc: Global) -> Result<History, NoMemory>
+        ensures { IfOk result (λ history. history.events ≡ self.now.events) }
+    {
+        let mut events = Vec::with_capacity(alloc, self.events.len())?;
+        for event in &self.events {
+            events.push(event.again()?)?;
+        }
+        Ok(History { events })
+    }
+
+    /// How many events there are.
+    pub fn len(&self) -> usize
+        ensures { result ≡ length self.now.events }
+    {
+        self.events.len()
+    }
+
+    /// What the crawl began with, where the first event opened it.
+    pub fn opening(&self) -> &Arc<Opening>
+        requires { IsOpened self.now.events }
+        ensures { arc_value result.now ≡ opening_in self.now.events }
     {
         match self.events.first() {
             Some(Event::Opened(opening)) => opening,
@@ -60,15 +72,14 @@ impl History {
 
     /// The events.
     pub fn as_slice(&self) -> &[Event]
-        ensures { map event_data result.now ≡ Opened self.now.opening ∷ self.now.later }
+        ensures { map event_data result.now ≡ self.now.events }
     {
         &self.events
     }
 
     /// Makes room for `additional` more events. A refusal (90) keeps the room that there was.
     pub fn reserve(&mut self, additional: usize) -> Result<(), NoMemory>
-        ensures opening { self.new.opening ≡ self.old.opening }
-        ensures later { self.new.later ≡ self.old.later }
+        ensures events { self.new.events ≡ self.old.events }
         ensures room { self.old.room ≤ self.new.room }
         ensures ok { OnOk result (additional ≤ self.new.room) }
     {
@@ -79,8 +90,7 @@ impl History {
     /// Adds an event at the end, for which there is room.
     pub fn push(&mut self, event: Event)
         requires { 0 < self.old.room }
-        ensures opening { self.new.opening ≡ self.old.opening }
-        ensures later { self.new.later ≡ self.old.later ++ event_data event ∷ [] }
+        ensures events { self.new.events ≡ self.old.events ++ event_data event ∷ [] }
         ensures room { self.new.room + 1 ≡ self.old.room }
     {
         self.events.push_reserved(event);

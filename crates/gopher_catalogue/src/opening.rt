@@ -1,7 +1,7 @@
 //! What a crawl begins with.
 
 ghost use Rattle.std.specs.Prelude.{◌≡◌};
-ghost use Rattle.gopher_catalogue.specs.Event.{OpeningData};
+ghost use Rattle.gopher_catalogue.specs.Opening.{opening_of};
 
 use gopher_item::Place;
 use gopher_scope::Scope;
@@ -17,16 +17,16 @@ pub struct Opening {
 }
 
 impl Model for Opening {
-    ghost use Rattle.gopher_catalogue.specs.Event.{OpeningData};
+    ghost use Rattle.gopher_catalogue.specs.Opening.{OpeningData, opening_of};
 
     ghost Value = { OpeningData };
 
-    ghost view = { λ o. record { scope = o.scope; seeds = o.seeds.items; limit = o.places; tries = o.tries } };
+    ghost view = { λ o. opening_of o.scope o.seeds.items o.places o.tries };
 }
 
 impl Opening {
     pub(crate) fn new(scope: Scope, seeds: Vec<Place>, places: u32, tries: u32) -> Opening
-        ensures { result ≡ record { scope = scope; seeds = seeds.items; limit = places; tries = tries } }
+        ensures { result ≡ opening_of scope seeds.items places tries }
     {
         Opening {
             scope,

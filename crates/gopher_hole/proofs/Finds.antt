@@ -7,7 +7,7 @@ use Rattle.gopher_item.specs.Place.{PlaceData}
 use Rattle.gopher_item.specs.declared.fault.ItemFault.{ItemFault}
 use Rattle.gopher_item.specs.declared.fault.ItemFault.TheVariants.{NoMemory}
 use Rattle.gopher_page.specs.Page.{page_of}
-use Rattle.gopher_catalogue.specs.Event.{EventData}
+use Rattle.gopher_catalogue.specs.declared.event.EventData.{EventData}
 use Rattle.gopher_hole.specs.Answer.{refused_line}
 use Rattle.gopher_hole.specs.Parts.{fault_of_place, made_place}
 use Rattle.gopher_hole.specs.Stage.{taken_line, with_seed, scope_in, page_line, after_page, page_in, found_line, after_found}

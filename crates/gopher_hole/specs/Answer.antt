@@ -7,7 +7,7 @@ use Rattle.gopher_item.specs.Place.{PlaceData}
 use Rattle.gopher_item.specs.declared.fault.ItemFault.{ItemFault}
 use Rattle.gopher_catalogue.specs.declared.answer.Added.{Added}
 use Rattle.gopher_catalogue.specs.declared.answer.Status.{Status}
-use Rattle.gopher_catalogue.specs.declared.hit.Hit.{Hit}
+use Rattle.gopher_index.specs.declared.hit.Hit.{Hit}
 
 abbrev pub ok_line : List ℕ
 ok_line = codes "ok\n"

@@ -8,9 +8,11 @@ use Rattle.gopher_scope.specs.Rule.{RuleData}
 use Rattle.gopher_scope.specs.Scope.{ScopeData}
 use Rattle.gopher_page.specs.Page.{PageData, page_of}
 use Rattle.gopher_page.specs.Query.{TermData, query_of}
-use Rattle.gopher_catalogue.specs.Answer.{answer_of as hits_found, occurrences_of}
+use Rattle.gopher_index.specs.Answer.{answer_of as hits_found, occurrences_of}
 use Rattle.gopher_catalogue.specs.Pages.{pages_found}
-use Rattle.gopher_catalogue.specs.Event.{OpeningData, EventData, Opened, Found as FoundEvent, Failed}
+use Rattle.gopher_catalogue.specs.Opening.{OpeningData}
+use Rattle.gopher_catalogue.specs.declared.event.EventData.{EventData}
+use Rattle.gopher_catalogue.specs.declared.event.EventData.TheVariants.{Opened, Found as FoundEvent, Failed}
 use Rattle.gopher_catalogue.specs.Fault.{open_fault_code, found_fault_code}
 use Rattle.gopher_catalogue.specs.Step.{TurnData, Take, Idle, Finished, open_fault, opened_record, turn_of, after_turn, is_out_in, found_fault, added_by, status_of}
 use Rattle.gopher_catalogue.specs.declared.event.Why.{Why}

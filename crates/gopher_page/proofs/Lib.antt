@@ -8,6 +8,11 @@ mod Joining
 pub mod Order
 mod Search
 mod Tallies
+mod Lengths
+mod Leading
 pub mod Terms
+pub mod OneMoreTerm
 mod Short
+mod Lowered
+mod Titles
 mod Pages

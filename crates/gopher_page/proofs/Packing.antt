@@ -9,34 +9,41 @@ length-unpack bytes start (end ∷ ends) [] same = absurd (omega arith)
 length-unpack bytes start (end ∷ ends) (count ∷ counts) same = ap suc (length-unpack bytes end ends counts (omega arith))
 
 -- a word after the first starts where the one before it ends
-pub start_at-suc : (start : ℕ) (ends : List ℕ) (index d : ℕ) → index < length ends → get_or ends index d ≡ start_at start ends (suc index)
-start_at-suc start [] index d within = absurd (omega arith)
-start_at-suc start (end ∷ ends) zero d within = refl
-start_at-suc start (end ∷ ends) (suc index) d within = start_at-suc end ends index d (omega arith)
+pub start_at-suc : (start : ℕ) (ends : List ℕ) (index end : ℕ) → slice_get ends index ≡ Some end → end ≡ start_at start ends (suc index)
+start_at-suc start [] index end is = absurd cc
+start_at-suc start (first ∷ ends) zero end is = cc
+start_at-suc start (first ∷ ends) (suc index) end is = start_at-suc first ends index end is
 
 -- the word at an index, and its count
-pub unpack-get : (bytes : List ℕ) (start : ℕ) (ends counts : List ℕ) (index d count : ℕ) → index < length ends → slice_get counts index ≡ Some count
-    → slice_get (unpack bytes start ends counts) index ≡ Some (take (get_or ends index d - start_at start ends index) (drop (start_at start ends index) bytes), count)
-unpack-get bytes start [] counts index d count within is = absurd (omega arith)
-unpack-get bytes start (end ∷ ends) [] index d count within is = absurd cc
-unpack-get bytes start (end ∷ ends) (first ∷ counts) zero d count within is = ap (λ n. Some (take (end - start) (drop start bytes), n)) cc
-unpack-get bytes start (end ∷ ends) (first ∷ counts) (suc index) d count within is = unpack-get bytes end ends counts index d count (omega arith) is
+pub unpack-get : (bytes : List ℕ) (start : ℕ) (ends counts : List ℕ) (index end count : ℕ) → slice_get ends index ≡ Some end → slice_get counts index ≡ Some count
+    → slice_get (unpack bytes start ends counts) index ≡ Some (take (end - start_at start ends index) (drop (start_at start ends index) bytes), count)
+unpack-get bytes start [] counts index end count ended is = absurd cc
+unpack-get bytes start (next ∷ ends) [] index end count ended is = absurd cc
+unpack-get bytes start (next ∷ ends) (first ∷ counts) zero end count ended is =
+    let last : next ≡ end = cc in
+    let times : first ≡ count = cc in
+    λ i. Some (take (last i - start) (drop start bytes), times i)
+unpack-get bytes start (next ∷ ends) (first ∷ counts) (suc index) end count ended is = unpack-get bytes next ends counts index end count ended is
 
 -- no word starts past where it ends
-pub chain-start : (start limit : ℕ) (ends : List ℕ) (index d : ℕ) → IsChain start ends limit → index < length ends → start_at start ends index ≤ get_or ends index d
-chain-start start limit [] index d chain within = absurd (omega arith)
-chain-start start limit (end ∷ ends) zero d chain within = chain.0
-chain-start start limit (end ∷ ends) (suc index) d chain within = chain-start end limit ends index d chain.1 (omega arith)
+pub chain-start : (start limit : ℕ) (ends : List ℕ) (index end : ℕ) → IsChain start ends limit → slice_get ends index ≡ Some end → start_at start ends index ≤ end
+chain-start start limit [] index end chain ended = absurd cc
+chain-start start limit (next ∷ ends) zero end chain ended =
+    let last : next ≡ end = cc in
+    omega (arith, chain.0, last)
+chain-start start limit (next ∷ ends) (suc index) end chain ended = chain-start next limit ends index end chain.1 ended
 
 chain-limit : (start limit : ℕ) (ends : List ℕ) → IsChain start ends limit → start ≤ limit
 chain-limit start limit [] chain = chain
 chain-limit start limit (end ∷ ends) chain = omega (arith, chain.0, chain-limit end limit ends chain.1)
 
 -- nor ends past the limit
-pub chain-end : (start limit : ℕ) (ends : List ℕ) (index d : ℕ) → IsChain start ends limit → index < length ends → get_or ends index d ≤ limit
-chain-end start limit [] index d chain within = absurd (omega arith)
-chain-end start limit (end ∷ ends) zero d chain within = chain-limit end limit ends chain.1
-chain-end start limit (end ∷ ends) (suc index) d chain within = chain-end end limit ends index d chain.1 (omega arith)
+pub chain-end : (start limit : ℕ) (ends : List ℕ) (index end : ℕ) → IsChain start ends limit → slice_get ends index ≡ Some end → end ≤ limit
+chain-end start limit [] index end chain ended = absurd cc
+chain-end start limit (next ∷ ends) zero end chain ended =
+    let last : next ≡ end = cc in
+    omega (arith, last, chain-limit next limit ends chain.1)
+chain-end start limit (next ∷ ends) (suc index) end chain ended = chain-end next limit ends index end chain.1 ended
 
 -- ---- one more word
 

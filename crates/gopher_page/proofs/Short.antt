@@ -15,7 +15,7 @@ use Rattle.gopher_page.specs.Page.{menu_page_lines, line_of_entry}
 
 -- ---- lines
 
-split_size : (test : ℕ → Bool) (bytes : List ℕ) → sum_by length (slice_split test bytes) ≤ length bytes
+pub split_size : (test : ℕ → Bool) (bytes : List ℕ) → sum_by length (slice_split test bytes) ≤ length bytes
 split_size test [] = omega arith
 split_size test (byte ∷ bytes) = by (test byte) (slice_split test bytes) (split_size test bytes)
   where
@@ -44,7 +44,7 @@ lines_size (part ∷ next ∷ parts) =
 lines_of_size : (bytes : List ℕ) → sum_by length (lines_of bytes) ≤ length bytes
 lines_of_size bytes = omega (arith, lines_size (slice_split (λ b. eqb b 10) bytes), split_size (λ b. eqb b 10) bytes)
 
-filter_size : (test : List ℕ → Bool) (lines : List (List ℕ)) → sum_by length (filter test lines) ≤ sum_by length lines
+pub filter_size : (test : List ℕ → Bool) (lines : List (List ℕ)) → sum_by length (filter test lines) ≤ sum_by length lines
 filter_size test [] = omega arith
 filter_size test (line ∷ lines) = by (test line) (filter_size test lines)
   where
@@ -52,7 +52,7 @@ filter_size test (line ∷ lines) = by (test line) (filter_size test lines)
     by true rest = omega (arith, rest, sum_by-cons (length {A = ℕ}) line (filter test lines), sum_by-cons (length {A = ℕ}) line lines)
     by false rest = omega (arith, rest, sum_by-cons (length {A = ℕ}) line lines)
 
-map_size : (f : List ℕ → List ℕ) → ((line : List ℕ) → length (f line) ≤ length line) → (lines : List (List ℕ)) → sum_by length (map f lines) ≤ sum_by length lines
+pub map_size : (f : List ℕ → List ℕ) → ((line : List ℕ) → length (f line) ≤ length line) → (lines : List (List ℕ)) → sum_by length (map f lines) ≤ sum_by length lines
 map_size f shorter [] = omega arith
 map_size f shorter (line ∷ lines) = omega (arith, shorter line, map_size f shorter lines, sum_by-cons (length {A = ℕ}) (f line) (map f lines), sum_by-cons (length {A = ℕ}) line lines)
 

@@ -15,25 +15,25 @@ use Rattle.std.specs.declared.cmp.Ordering.{Ordering}
 use Rattle.std.specs.declared.cmp.Ordering.TheVariants.{Less, Equal, Greater}
 use Rattle.std.specs.Cmp.Lexicographic.{slice_cmp, bytes_decides, texts_ties, nat_list_cmp_total, nat_list_eq_equiv}
 use Rattle.gopher_page.specs.Words.{same_word}
-use Rattle.gopher_page.specs.Counts.{add_word, counts_of, sorted_words}
+use Rattle.gopher_page.specs.Counts.{counts_of, sorted_words}
 
-abbrev compare : List ℕ → List ℕ → Ordering
+abbrev pub compare : List ℕ → List ℕ → Ordering
 compare = slice_cmp nat_cmp
 
 -- ---- the order
 
-equal_words : (a b : List ℕ) → compare a b ≡ Equal → a ≡ b
+pub equal_words : (a b : List ℕ) → compare a b ≡ Equal → a ≡ b
 equal_words a b e = (bytes_decides a b).0 (texts_ties a b ∙ ap is_eq e)
 
-flipped : (a b : List ℕ) → compare a b ≡ Greater → compare b a ≡ Less
+pub flipped : (a b : List ℕ) → compare a b ≡ Greater → compare b a ≡ Less
 flipped a b e = nat_list_cmp_total.antisymm b a ∙ ap ordering_reverse e
 
-not_same : (a b : List ℕ) (r : Ordering) → compare a b ≡ r → is_eq r ≡ false → same_word a b ≡ false
+pub not_same : (a b : List ℕ) (r : Ordering) → compare a b ≡ r → is_eq r ≡ false → same_word a b ≡ false
 not_same a b r e n = texts_ties a b ∙ ap is_eq e ∙ n
 
 -- ---- words in order stay so
 
-all_after : (a b : List ℕ) (words : List (List ℕ)) → compare a b ≡ Less → AllByRecursion (λ y. compare b y ≡ Less) words → AllByRecursion (λ y. compare a y ≡ Less) words
+pub all_after : (a b : List ℕ) (words : List (List ℕ)) → compare a b ≡ Less → AllByRecursion (λ y. compare b y ≡ Less) words → AllByRecursion (λ y. compare a y ≡ Less) words
 all_after a b [] less all = tt
 all_after a b (word ∷ words) less all = (nat_list_cmp_total.trans a b word less all.0, all_after a b words less all.1)
 
@@ -57,11 +57,11 @@ sorted_with (first ∷ words) word sorted = by (compare word first) refl (sorted
     by Equal e rest = sorted
     by Greater e rest = (all_with first word words (flipped word first e) sorted.0, rest)
 
-sorted_from : (held words : List (List ℕ)) → IsStrictlySortedBy compare held → IsStrictlySortedBy compare (fold (insert_key compare) held words)
+pub sorted_from : (held words : List (List ℕ)) → IsStrictlySortedBy compare held → IsStrictlySortedBy compare (fold (insert_key compare) held words)
 sorted_from held [] sorted = sorted
 sorted_from held (word ∷ words) sorted = sorted_from (insert_key compare held word) words (sorted_with held word sorted)
 
-sorted_nil : IsStrictlySortedBy compare []
+pub sorted_nil : IsStrictlySortedBy compare []
 unfolding IsStrictlySortedBy
 sorted_nil = tt
 
@@ -92,7 +92,7 @@ absent_from sought (first ∷ words) word h = by (compare word first) refl (abse
         let inner = rest parts.1 in
         (neither_of (same_word sought first) (list_any (same_word sought) words) parts.0 inner.0, inner.1)
 
-absent_along : (sought : List ℕ) (held words : List (List ℕ)) → list_any (same_word sought) (fold (insert_key compare) held words) ≡ false → (list_any (same_word sought) held ≡ false) × (count_by (same_word sought) words ≡ 0)
+pub absent_along : (sought : List ℕ) (held words : List (List ℕ)) → list_any (same_word sought) (fold (insert_key compare) held words) ≡ false → (list_any (same_word sought) held ≡ false) × (count_by (same_word sought) words ≡ 0)
 absent_along sought held [] h = (h, refl)
 absent_along sought held (word ∷ words) h =
     let rest = absent_along sought (insert_key compare held word) words h in
@@ -101,7 +101,7 @@ absent_along sought held (word ∷ words) h =
 
 -- ---- words with their values
 
-abbrev with_values : (List ℕ → ℕ) → List (List ℕ) → List (List ℕ × ℕ)
+abbrev pub with_values : (List ℕ → ℕ) → List (List ℕ) → List (List ℕ × ℕ)
 with_values value words = map (λ word. (word, value word)) words
 
 same_values : (old new : List ℕ → ℕ) (words : List (List ℕ)) → AllByRecursion (λ word. new word ≡ old word) words → with_values old words ≡ with_values new words
@@ -143,6 +143,10 @@ value_put old new (first ∷ words) word value sorted is same = by (compare word
 
 -- ---- counts
 
+-- one more of a word
+abbrev add_word : List (List ℕ × ℕ) → List ℕ → List (List ℕ × ℕ)
+add_word counts word = insert_entry compare counts word (unwrap_or (lookup (is_at (compare word)) counts) 0 + 1)
+
 one_more : (words : List (List ℕ)) (word : List ℕ) → add_word (counts_of words) word ≡ counts_of (words ++ word ∷ [])
 unfolding counts_of
 one_more words word =
@@ -165,7 +169,7 @@ tallied_after done (word ∷ words) =
     ap (λ counts. fold add_word counts words) (one_more done word) ∙ tallied_after (done ++ word ∷ []) words ∙ ap counts_of (append_assoc done (word ∷ []) words)
 
 -- words that are added one by one, from none, are counted
-pub tallied : (words : List (List ℕ)) → fold add_word [] words ≡ counts_of words
+tallied : (words : List (List ℕ)) → fold add_word [] words ≡ counts_of words
 unfolding counts_of
 tallied words = tallied_after [] words
 
@@ -187,42 +191,3 @@ positive_along counts (word ∷ words) all = positive_along (add_word counts wor
 
 pub positive_counts : (words : List (List ℕ)) → AllByRecursion (λ entry. 0 < entry.1) (counts_of words)
 positive_counts words = subst (AllByRecursion (λ entry. 0 < entry.1)) (tallied words) (positive_along [] words tt)
-
--- ---- sizes
-
-same_found : (found : Option ℕ) → unwrap_or (option_map (λ n. n) found) 0 ≡ unwrap_or found 0
-same_found None = refl
-same_found (Some n) = refl
-
--- one more word is one more in all
-pub few_more : (counts : List (List ℕ × ℕ)) (word : List ℕ) → IsStrictlySortedBy compare (keys_of counts) → sum_by (λ entry. entry.1) (add_word counts word) ≡ sum_by (λ entry. entry.1) counts + 1
-few_more counts word sorted =
-    let found = unwrap_or (lookup (is_at (compare word)) counts) 0 in
-    let put : sum_by (λ n. n) (values_of (add_word counts word)) + unwrap_or (option_map (λ n. n) (lookup (is_at (compare word)) counts)) 0 ≡ sum_by (λ n. n) (values_of counts) + (found + 1) = sum_by-insert_entry (λ n. n) nat_list_cmp_total counts word (found + 1) sorted in
-    let new : sum_by (λ n. n) (values_of (add_word counts word)) ≡ sum_by (λ entry. entry.1) (add_word counts word) = sum-map (λ entry. entry.1) (add_word counts word) in
-    let old : sum_by (λ n. n) (values_of counts) ≡ sum_by (λ entry. entry.1) counts = sum-map (λ entry. entry.1) counts in
-    let same : unwrap_or (option_map (λ n. n) (lookup (is_at (compare word)) counts)) 0 ≡ found = same_found (lookup (is_at (compare word)) counts) in
-    omega arith
-
-short_put : (counts : List (List ℕ × ℕ)) (word : List ℕ) (value : ℕ) → sum_by (λ entry. length entry.0) (insert_entry compare counts word value) ≤ sum_by (λ entry. length entry.0) counts + length word
-short_put [] word value = omega arith
-short_put (entry ∷ counts) word value = by (compare word entry.0) (short_put counts word value)
-  where
-    by : (r : Ordering) → sum_by (λ e. length e.0) (insert_entry compare counts word value) ≤ sum_by (λ e. length e.0) counts + length word
-        → sum_by (λ e. length e.0) (match_ordering r ((word, value) ∷ entry ∷ counts) ((entry.0, value) ∷ counts) (entry ∷ insert_entry compare counts word value)) ≤ sum_by (λ e. length e.0) (entry ∷ counts) + length word
-    by Less rest = omega (arith, sum_by-cons (λ e. length e.0) (word, value) (entry ∷ counts))
-    by Equal rest = omega (arith, sum_by-cons (λ e. length e.0) (entry.0, value) counts, sum_by-cons (λ e. length e.0) entry counts)
-    by Greater rest = omega (arith, rest, sum_by-cons (λ e. length e.0) entry (insert_entry compare counts word value), sum_by-cons (λ e. length e.0) entry counts)
-
--- and its bytes at most
-pub short_more : (counts : List (List ℕ × ℕ)) (word : List ℕ) → sum_by (λ entry. length entry.0) (add_word counts word) ≤ sum_by (λ entry. length entry.0) counts + length word
-short_more counts word = short_put counts word _
-
--- no word is counted more often than all are
-pub found_few : (counts : List (List ℕ × ℕ)) (test : List ℕ → Bool) → unwrap_or (lookup test counts) 0 ≤ sum_by (λ entry. entry.1) counts
-found_few [] test = omega arith
-found_few (entry ∷ counts) test = by (test entry.0) (found_few counts test)
-  where
-    by : (t : Bool) → unwrap_or (lookup test counts) 0 ≤ sum_by (λ e. e.1) counts → unwrap_or (cond t (Some entry.1) (lookup test counts)) 0 ≤ sum_by (λ e. e.1) (entry ∷ counts)
-    by true rest = omega (arith, sum_by-cons (λ e. e.1) entry counts)
-    by false rest = omega (arith, rest, sum_by-cons (λ e. e.1) entry counts)

@@ -7,7 +7,7 @@ use Rattle.std.proofs.lemmas.List.Sums.{length-filter}
 use Rattle.std.specs.Prelude.{nat_lt, MatchOption}
 use Rattle.std.specs.List.{slice_split, zip}
 use Rattle.gopher_item.specs.Place.{lower_case}
-use Rattle.gopher_page.specs.Words.{Token, is_gap, is_word, runs_of, token_of, tokens_of, words_of}
+use Rattle.gopher_page.specs.Words.{Token, is_gap, is_word, runs_of, token_of, tokens_of, bare_words, words_of}
 
 -- the tokens of runs
 tokens_in : List (List ℕ × Bool) → List Token
@@ -44,14 +44,51 @@ words_beside (part ∷ parts) (mark ∷ marks) enough = by (is_word part) (words
     by true rest = ap (λ l. map lower_case part ∷ l) rest
     by false rest = rest
 
+-- ---- words as they stand there
+
+parts_beside : (parts : List (List ℕ)) (marks : List Bool) → length parts ≤ length marks → map (λ run. run.0) (zip parts marks) ≡ parts
+parts_beside [] marks enough = refl
+parts_beside (part ∷ parts) [] enough = absurd (omega arith)
+parts_beside (part ∷ parts) (mark ∷ marks) enough = ap (λ l. part ∷ l) (parts_beside parts marks (omega arith))
+
+enough_marks : (bytes : List ℕ) → length (slice_split is_gap bytes) ≤ length (map (λ gap. eqb gap 42) (filter is_gap bytes) ++ false ∷ [])
+enough_marks bytes =
+    let gaps = filter is_gap bytes in
+    omega (arith, length-slice_split is_gap bytes, length-append (map (λ gap. eqb gap 42) gaps) (false ∷ []), length-map gaps (λ gap. eqb gap 42), length-filter is_gap bytes)
+
+parts_of-runs : (bytes : List ℕ) → slice_split is_gap bytes ≡ map (λ run. run.0) (runs_of bytes)
+parts_of-runs bytes = sym (parts_beside (slice_split is_gap bytes) (map (λ gap. eqb gap 42) (filter is_gap bytes) ++ false ∷ []) (enough_marks bytes))
+
+parts_of-cut : (text run after : List ℕ) (mark : Bool) → runs_of text ≡ (run, mark) ∷ runs_of after → slice_split is_gap text ≡ run ∷ slice_split is_gap after
+parts_of-cut text run after mark runs = parts_of-runs text ∙ ap (map (λ r. r.0)) runs ∙ ap (λ l. run ∷ l) (sym (parts_of-runs after))
+
+parts_of-whole : (text : List ℕ) → runs_of text ≡ (text, false) ∷ [] → slice_split is_gap text ≡ text ∷ []
+parts_of-whole text runs = parts_of-runs text ∙ ap (map (λ r. r.0)) runs
+
+pub bare_words-word : (text run after : List ℕ) (mark : Bool) → runs_of text ≡ (run, mark) ∷ runs_of after → is_word run ≡ true → bare_words text ≡ run ∷ bare_words after
+unfolding bare_words
+bare_words-word text run after mark runs word =
+    ap (filter is_word) (parts_of-cut text run after mark runs) ∙ ap (λ t. cond t (run ∷ filter is_word (slice_split is_gap after)) (filter is_word (slice_split is_gap after))) word
+
+pub bare_words-skip : (text run after : List ℕ) (mark : Bool) → runs_of text ≡ (run, mark) ∷ runs_of after → is_word run ≡ false → bare_words after ≡ bare_words text
+unfolding bare_words
+bare_words-skip text run after mark runs word =
+    sym (ap (filter is_word) (parts_of-cut text run after mark runs) ∙ ap (λ t. cond t (run ∷ filter is_word (slice_split is_gap after)) (filter is_word (slice_split is_gap after))) word)
+
+pub bare_words-last : (text : List ℕ) → runs_of text ≡ (text, false) ∷ [] → is_word text ≡ true → bare_words text ≡ text ∷ bare_words []
+unfolding bare_words
+bare_words-last text runs word = ap (filter is_word) (parts_of-whole text runs) ∙ ap (λ t. cond t (text ∷ []) []) word
+
+pub bare_words-none : (text : List ℕ) → runs_of text ≡ (text, false) ∷ [] → is_word text ≡ false → bare_words text ≡ []
+unfolding bare_words
+bare_words-none text runs word = ap (filter is_word) (parts_of-whole text runs) ∙ ap (λ t. cond t (text ∷ []) []) word
+
+-- ---- words
+
 -- the words are those of the tokens
 pub words_of-tokens : (bytes : List ℕ) → words_of bytes ≡ map (λ token. token.word) (tokens_of bytes)
 unfolding words_of tokens_of
-words_of-tokens bytes =
-    let gaps = filter is_gap bytes in
-    let enough : length (slice_split is_gap bytes) ≤ length (map (λ gap. eqb gap 42) gaps ++ false ∷ []) =
-    omega (arith, length-slice_split is_gap bytes, length-append (map (λ gap. eqb gap 42) gaps) (false ∷ []), length-map gaps (λ gap. eqb gap 42), length-filter is_gap bytes) in
-    sym (words_beside (slice_split is_gap bytes) (map (λ gap. eqb gap 42) gaps ++ false ∷ []) enough)
+words_of-tokens bytes = sym (words_beside (slice_split is_gap bytes) (map (λ gap. eqb gap 42) (filter is_gap bytes) ++ false ∷ []) (enough_marks bytes))
 
 pub words_of-next : (bytes after : List ℕ) (token : Token) → tokens_of bytes ≡ token ∷ tokens_of after → words_of bytes ≡ token.word ∷ words_of after
 words_of-next bytes after token e =

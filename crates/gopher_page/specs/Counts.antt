@@ -1,11 +1,8 @@
 -- How often words stand in a page.
-use Rattle.std.specs.Prelude.{ℕ, ◌+◌, Bool, List, [], map, nat_eq, slice_index_or, count_by, if◌then◌else◌}
+use Rattle.std.specs.Prelude.{◌≡◌, ℕ, ◌+◌, ◌-◌, Bool, List, [], ◌∷◌, map, drop, nat_eq, slice_index_or, count_by, if◌then◌else◌}
 use Rattle.std.specs.List.{fold, sum_by, starts_with}
 use Rattle.std.specs.Ordering.{nat_cmp, is_lt}
 use Rattle.std.specs.BTreeSet.{insert_key}
-use Rattle.std.specs.BTreeMap.{insert_entry, is_at}
-use Rattle.std.specs.Map.{lookup}
-use Rattle.std.specs.Option.{unwrap_or}
 use Rattle.std.specs.Cmp.Lexicographic.{slice_cmp}
 use Rattle.gopher_page.specs.Words.{same_word}
 
@@ -17,10 +14,19 @@ sorted_words words = fold (insert_key (slice_cmp nat_cmp)) [] words
 unfoldable pub counts_of : List (List ℕ) → List (List ℕ × ℕ)
 counts_of words = map (λ word. (word, count_by (same_word word) words)) (sorted_words words)
 
--- one more of a word
-abbrev pub add_word : List (List ℕ × ℕ) → List ℕ → List (List ℕ × ℕ)
-add_word counts word =
-    insert_entry (slice_cmp nat_cmp) counts word (unwrap_or (lookup (is_at (slice_cmp nat_cmp word)) counts) 0 + 1)
+-- so many of a word in front of words that are counted in a row
+abbrev pub joined_run : List ℕ → ℕ → List (List ℕ × ℕ) → List (List ℕ × ℕ)
+joined_run word count [] = (word, count) ∷ []
+joined_run word count (run ∷ runs) = if same_word word run.0 then (word, count + run.1) ∷ runs else (word, count) ∷ run ∷ runs
+
+-- the words, each with how often it stands in a row
+abbrev pub run_lengths : List (List ℕ) → List (List ℕ × ℕ)
+run_lengths [] = []
+run_lengths (word ∷ words) = joined_run word 1 (run_lengths words)
+
+-- the words from `start` up to `end` are one word, and the one at `end` is another
+abbrev pub IsRun : List (List ℕ) → ℕ → ℕ → Type 0
+IsRun words start end = run_lengths (drop start words) ≡ (slice_index_or words start [], end - start) ∷ run_lengths (drop end words)
 
 -- whether a word is the one that is sought, or begins with it where that is a prefix
 abbrev pub is_meant : Bool → List ℕ → List ℕ → Bool

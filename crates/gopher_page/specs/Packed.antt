@@ -6,11 +6,11 @@ use Rattle.std.specs.List.Sorted.{IsStrictlySortedBy}
 use Rattle.std.specs.Ordering.{nat_cmp}
 use Rattle.std.specs.Cmp.Lexicographic.{slice_cmp}
 
--- counts, from each modulo 256 and each divided by 256; of the second those at the end that are 0 may be left out
-abbrev pub joined : List ℕ → List ℕ → List ℕ
-joined lows [] = lows
-joined [] (high ∷ highs) = []
-joined (low ∷ lows) (high ∷ highs) = (low + 256 * high) ∷ joined lows highs
+-- numbers, from each modulo a base and each divided by it; of the second those at the end that are 0 may be left out
+abbrev pub joined : ℕ → List ℕ → List ℕ → List ℕ
+joined base lows [] = lows
+joined base [] (high ∷ highs) = []
+joined base (low ∷ lows) (high ∷ highs) = (low + base * high) ∷ joined base lows highs
 
 -- the words from `start` on, each with its count
 abbrev pub unpack : List ℕ → ℕ → List ℕ → List ℕ → List (List ℕ × ℕ)

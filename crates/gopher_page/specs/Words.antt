@@ -16,6 +16,10 @@ is_gap byte = not (is_word_byte byte)
 abbrev pub is_word : List ℕ → Bool
 is_word run = nat_lt 0 (length run) && nat_le (length run) 40
 
+-- the words of bytes as they stand there, in order
+unfoldable pub bare_words : List ℕ → List (List ℕ)
+bare_words bytes = filter is_word (slice_split is_gap bytes)
+
 -- the words of bytes, in order, their letters in lower case
 unfoldable pub words_of : List ℕ → List (List ℕ)
 words_of bytes = map (map lower_case) (filter is_word (slice_split is_gap bytes))

@@ -1,14 +1,18 @@
 //! The words of a page with their counts, packed.
 
-ghost use Rattle.std.specs.Prelude.{◌≡◌, true, false, ℕ, ◌<◌, ◌≤◌, List, Some, ◌-◌, length, take, drop, slice_get, IfOk};
-ghost use Rattle.std.specs.List.{sum_by, AllByRecursion};
-ghost use Rattle.gopher_page.specs.Counts.{is_meant, count_meant, is_before, word_at};
+ghost use Rattle.std.specs.Prelude.{◌≡◌, true, false, ℕ, ◌<◌, ◌≤◌, List, Some, ◌-◌, length, map, take, drop, slice_get, IfOk};
+ghost use Rattle.std.specs.List.{sum_by};
+ghost use Rattle.std.specs.List.Sorted.{IsSorted};
+ghost use Rattle.std.specs.Ordering.{nat_cmp};
+ghost use Rattle.std.specs.Cmp.Lexicographic.{slice_cmp};
+ghost use Rattle.gopher_page.specs.Words.{same_word};
+ghost use Rattle.gopher_page.specs.Counts.{is_meant, count_meant, counts_of, is_before, word_at, IsRun};
 ghost use Rattle.gopher_page.specs.Packed.{AreCounts, IsChain, start_at, unpack};
 
+use crate::ends::Ends;
 use crate::repeats::Repeats;
-use gopher_item::{ByteString, NoMemory};
+use gopher_item::NoMemory;
 use std::alloc::Global;
-use std::collections::BTreeMap;
 use std::marker::Model;
 
 fn is_meant(is_prefix: bool, sought: &[u8], word: &[u8]) -> bool
@@ -27,7 +31,7 @@ fn is_meant(is_prefix: bool, sought: &[u8], word: &[u8]) -> bool
 #[derive(Debug, Drop)]
 pub struct Counts {
     bytes: Vec<u8>,
-    ends: Vec<u32>,
+    ends: Ends,
     counts: Repeats,
 }
 
@@ -38,19 +42,19 @@ impl Model for Counts {
 
     ghost use Rattle.gopher_page.specs.Packed.{unpack, IsPacked};
 
-    ghost view = { λ c. unpack c.bytes.items 0 c.ends.items c.counts };
+    ghost view = { λ c. unpack c.bytes.items 0 c.ends c.counts };
 
-    ghost invariant = { λ c. IsPacked c.bytes.items c.ends.items c.counts };
+    ghost invariant = { λ c. IsPacked c.bytes.items c.ends c.counts };
 }
 
-fn start_of(ends: &[u32], index: usize) -> usize
+fn start_of(ends: &Ends, index: usize) -> usize
     requires { index < length ends.now }
     ensures { result ≡ start_at 0 ends.now index }
 {
     if index == 0 {
         0
     } else {
-        ends[index - 1] as usize
+        ends.get(index - 1) as usize
     }
 }
 
@@ -63,34 +67,85 @@ fn between(bytes: &[u8], start: usize, end: usize) -> &[u8]
 }
 
 // The word at an index, and its count.
-fn part_at<'a>(bytes: &'a [u8], ends: &[u32], counts: &Repeats, index: usize) -> (&'a [u8], u32)
+fn part_at<'a>(bytes: &'a [u8], ends: &Ends, counts: &Repeats, index: usize) -> (&'a [u8], u32)
     requires within { index < length ends.now }
     requires same { length counts.now ≡ length ends.now }
     requires chain { IsChain 0 ends.now (length bytes.now) }
     ensures { slice_get (unpack bytes.now 0 ends.now counts.now) index ≡ Some (result.0.now, result.1) }
 {
-    let word = between(bytes, start_of(ends, index), ends[index] as usize);
+    let word = between(bytes, start_of(ends, index), ends.get(index) as usize);
     (word, counts.get(index))
 }
 
+fn is_same(a: &[u8], b: &[u8]) -> bool
+    ensures { result ≡ same_word a.now b.now }
+{
+    a == b
+}
+
+// Where the words that are the same as the one at `start` end.
+fn end_of_run(words: &[&[u8]], start: usize) -> usize
+    requires { start < length words.now }
+    ensures after { start < result }
+    ensures within { result ≤ length words.now }
+    ensures run { IsRun (map (λ word. word.now) words.now) start result }
+{
+    let word = words[start];
+    let mut end = start + 1;
+    while end < words.len() {
+        if is_same(words[end], word) {
+            end += 1;
+        } else {
+            return end;
+        }
+    }
+    end
+}
+
+// How many words, and bytes of these, are packed.
+#[derive(Clone, Copy)]
+struct Room {
+    words: usize,
+    bytes: usize,
+}
+
+// What words in the order of their bytes take, of which the same are packed once. Memory that is taken
+// at once is of the right size; what is given back later is left in pieces that are too small for more.
+fn room_of(words: &[&[u8]]) -> Room {
+    let mut room = Room { words: 0, bytes: 0 };
+    let mut start = 0;
+    while start < words.len() {
+        room.words = room.words.saturating_add(1);
+        room.bytes = room.bytes.saturating_add(words[start].len());
+        start = end_of_run(words, start);
+    }
+    room
+}
+
 impl Counts {
-    /// The words that were tallied, each at least once. Their bytes together and their counts together
-    /// are at most 1,048,576. Refused only where memory is (90).
-    pub fn packed(alloc: Global, tally: &BTreeMap<ByteString, u32>) -> Result<Counts, NoMemory>
-        requires short { sum_by (λ entry. length entry.0) tally.now.entries ≤ 1048576 }
-        requires few { sum_by (λ entry. entry.1) tally.now.entries ≤ 1048576 }
-        requires positive { AllByRecursion (λ entry. 0 < entry.1) tally.now.entries }
-        ensures { IfOk result (λ counts. counts ≡ tally.now.entries) }
+    /// How often each of the words stands among them. They are in the order of their bytes, and both they
+    /// and their bytes together are at most 1,048,576. Refused only where memory is (90).
+    pub fn packed(alloc: Global, words: &[&[u8]]) -> Result<Counts, NoMemory>
+        requires sorted { IsSorted (λ a b. slice_cmp nat_cmp a.now b.now) words.now }
+        requires short { sum_by length (map (λ word. word.now) words.now) ≤ 1048576 }
+        requires few { length words.now ≤ 1048576 }
+        ensures { IfOk result (λ counts. counts ≡ counts_of (map (λ word. word.now) words.now)) }
     {
-        let mut bytes = Vec::new(alloc);
-        let mut ends = Vec::with_capacity(alloc, tally.len())?;
-        let mut counts = Repeats::with_capacity(alloc, tally.len())?;
-        for (word, count) in tally {
-            bytes.extend_from_slice(word.as_slice())?;
+        let room = room_of(words);
+        let mut bytes = Vec::with_capacity(alloc, room.bytes)?;
+        let mut ends = Ends::with_capacity(alloc, room.words)?;
+        let mut counts = Repeats::with_capacity(alloc, room.words)?;
+        let mut start = 0;
+        while start < words.len() {
+            let word = words[start];
+            let end = end_of_run(words, start);
+            bytes.extend_from_slice(word)?;
             ends.push(bytes.len() as u32)?;
-            counts.push(*count)?;
+            counts.push((end - start) as u32)?;
+            start = end;
         }
         bytes.shrink_to_fit();
+        ends.shrink_to_fit();
         counts.shrink_to_fit();
         Ok(Counts {
             bytes,

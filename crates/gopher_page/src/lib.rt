@@ -8,9 +8,11 @@
 #![tactic(auto)]
 
 mod counts;
+mod ends;
 mod fault;
 mod line;
 mod links;
+mod numbered;
 mod page;
 mod query;
 mod repeats;
@@ -20,6 +22,7 @@ mod word;
 
 pub use counts::Counts;
 pub use fault::QueryFault;
+pub use numbered::Numbered;
 pub use page::Page;
 pub use query::{Operator, Query, Term};
 pub use word::words;

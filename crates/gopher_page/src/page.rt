@@ -18,18 +18,16 @@ use std::alloc::Global;
 use std::marker::Model;
 use std::sync::Arc;
 
-/// What a catalogue keeps of the reply of a place.
-///
-/// Its links are shared, so that a frontier can hold them without a copy of their bytes.
+// The parts of a page.
 #[derive(Debug, Drop)]
-pub struct Page {
+struct Parts {
     place: Place,
     title: ByteString,
     links: Vec<Arc<Place>>,
     counts: Counts,
 }
 
-impl Model for Page {
+impl Model for Parts {
     ghost use Rattle.std.specs.Prelude.{◌≤◌, length, map};
     ghost use Rattle.std.specs.Arc.{arc_value};
     ghost use Rattle.gopher_page.specs.Page.{PageData};
@@ -39,6 +37,24 @@ impl Model for Page {
     ghost view = { λ p. record { place = p.place; title = p.title; links = map arc_value p.links.items; counts = p.counts } };
 
     ghost invariant = { λ p. length p.links.items ≤ 1048576 };
+}
+
+/// What a catalogue keeps of the reply of a place.
+///
+/// Its parts are shared, so that it can be held twice without a copy of them, and so are its links, so
+/// that a frontier can hold them without a copy of their bytes.
+#[derive(Debug, Drop)]
+pub struct Page {
+    parts: Arc<Parts>,
+}
+
+impl Model for Page {
+    ghost use Rattle.std.specs.Arc.{arc_value};
+    ghost use Rattle.gopher_page.specs.Page.{PageData};
+
+    ghost Value = { PageData };
+
+    ghost view = { λ p. arc_value p.parts };
 }
 
 // The page of a place that has these lines and links.
@@ -52,14 +68,17 @@ fn page_of_lines(
     requires few { length links.items ≤ 1048576 }
     ensures { IfOk result (λ page. page ≡ page_of_lines place.now (map (λ line. line.now) lines.now) (map arc_value links.items)) }
 {
-    let words = tally(alloc, lines)?;
-    let counts = Counts::packed(alloc, &words)?;
-    Ok(Page {
+    let counts = tally(alloc, lines)?;
+    let parts = Parts {
         place: place.clone()?,
         title: title_of(alloc, place, lines)?,
         links,
         counts,
-    })
+    };
+    let Ok(parts) = Arc::new(alloc, parts) else {
+        return Err(NoMemory);
+    };
+    Ok(Page { parts })
 }
 
 fn page_of_menu(alloc: Global, scope: &Scope, place: &Place, bytes: &[u8]) -> Result<Page, NoMemory>
@@ -98,11 +117,20 @@ impl Page {
         }
     }
 
+    /// The same page: both share their parts. Refused only where memory is (90).
+    pub fn again(&self) -> Result<Page, NoMemory>
+        ensures { IfOk result (λ page. page ≡ self.now) }
+    {
+        Ok(Page {
+            parts: self.parts.clone()?,
+        })
+    }
+
     /// The place whose reply this is.
     pub fn place(&self) -> &Place
         ensures { result.now ≡ self.now.place }
     {
-        &self.place
+        &self.parts.place
     }
 
     /// The title: the first line that has a word, or else the selector, each control byte turned into
@@ -111,7 +139,7 @@ impl Page {
     pub fn title(&self) -> &[u8]
         ensures { result.now ≡ self.now.title }
     {
-        self.title.as_slice()
+        self.parts.title.as_slice()
     }
 
     /// The links: the allowed places that the menu names, each once, in the order of first mention.
@@ -120,20 +148,20 @@ impl Page {
         ensures links { map arc_value result.now ≡ self.now.links }
         ensures few { length result.now ≤ 1048576 }
     {
-        &self.links
+        &self.parts.links
     }
 
     /// The words of the page, in the order of their bytes, each with how often it stands there.
     pub fn counts(&self) -> &Counts
         ensures { result.now ≡ self.now.counts }
     {
-        &self.counts
+        &self.parts.counts
     }
 
     /// How often a word stands in the page. Takes no memory.
     pub fn count(&self, word: &[u8]) -> u32
         ensures { result ≡ count_meant false word.now self.now.counts }
     {
-        self.counts.count_meant(false, word)
+        self.parts.counts.count_meant(false, word)
     }
 }

@@ -22,7 +22,7 @@ impl Model for Repeats {
 
     ghost use Rattle.gopher_page.specs.Packed.{joined};
 
-    ghost view = { λ r. joined r.low.items r.high.items };
+    ghost view = { λ r. joined 256 r.low.items r.high.items };
 
     ghost invariant = { λ r. length r.high.items ≤ length r.low.items };
 }

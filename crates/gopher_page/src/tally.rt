@@ -1,55 +1,51 @@
 //! Counting the words of lines.
 
-ghost use Rattle.std.specs.Prelude.{◌≡◌, ◌+◌, ◌<◌, ◌≤◌, [], length, map, IfOk, OnOk};
-ghost use Rattle.std.specs.List.{fold, flat_map, sum_by};
-ghost use Rattle.gopher_page.specs.Words.{words_of};
-ghost use Rattle.gopher_page.specs.Counts.{add_word, counts_of};
+ghost use Rattle.std.specs.Prelude.{◌≡◌, ◌≤◌, [], ◌∷◌, ◌++◌, length, map, IfOk};
+ghost use Rattle.std.specs.List.{flat_map, sum_by};
+ghost use Rattle.gopher_page.specs.Words.{bare_words, words_of};
+ghost use Rattle.gopher_page.specs.Counts.{counts_of};
 
+use crate::counts::Counts;
+use crate::numbered::{Numbered, slices};
 use crate::word::next_token;
 use gopher_item::{ByteString, NoMemory};
 use std::alloc::Global;
-use std::collections::BTreeMap;
 
-fn add_word(tally: &mut BTreeMap<ByteString, u32>, word: ByteString) -> Result<(), NoMemory>
-    requires { sum_by (λ entry. entry.1) tally.old.entries < 1048576 }
-    ensures added { OnOk result (tally.new.entries ≡ add_word tally.old.entries word) }
-    ensures few { OnOk result (sum_by (λ entry. entry.1) tally.new.entries ≡ sum_by (λ entry. entry.1) tally.old.entries + 1) }
-    ensures short { OnOk result (sum_by (λ entry. length entry.0) tally.new.entries ≤ sum_by (λ entry. length entry.0) tally.old.entries + length word) }
+// The lines, an LF behind each.
+fn joined(alloc: Global, lines: &[&[u8]]) -> Result<Vec<u8>, NoMemory>
+    ensures { IfOk result (λ text. text.items ≡ flat_map (λ line. line ++ 10 ∷ []) (map (λ line. line.now) lines.now)) }
 {
-    let count = tally.get(&word).copied().unwrap_or(0);
-    tally.insert(word, count + 1)?;
-    Ok(())
+    let mut text = Vec::new(alloc);
+    for line in lines {
+        text.extend_from_slice(line)?;
+        text.push(b'\n')?;
+    }
+    Ok(text)
 }
 
-fn add_line(
-    alloc: Global,
-    tally: &mut BTreeMap<ByteString, u32>,
-    line: &[u8],
-) -> Result<(), NoMemory>
-    requires { sum_by (λ entry. entry.1) tally.old.entries + length line.now ≤ 1048576 }
-    ensures added { OnOk result (tally.new.entries ≡ fold add_word tally.old.entries (words_of line.now)) }
-    ensures few { OnOk result (sum_by (λ entry. entry.1) tally.new.entries ≤ sum_by (λ entry. entry.1) tally.old.entries + length line.now) }
-    ensures short { OnOk result (sum_by (λ entry. length entry.0) tally.new.entries ≤ sum_by (λ entry. length entry.0) tally.old.entries + length line.now) }
+// The words of a text as they stand there.
+fn words_in(alloc: Global, text: &[u8]) -> Result<Vec<Numbered<'_>>, NoMemory>
+    ensures { IfOk result (λ words. words.items ≡ bare_words text.now) }
 {
-    let mut rest = line;
+    let mut words = Vec::new(alloc);
+    let mut rest = text;
     while let Some((word, _, after)) = next_token(rest) {
-        add_word(tally, ByteString::lower_cased(alloc, word)?)?;
+        words.push(Numbered::new(word))?;
         rest = after;
     }
-    Ok(())
+    Ok(words)
 }
 
 /// The words of the lines, in the order of their bytes, each with how often it stands in them. The
 /// lines have at most 1,048,576 bytes together. Refused only where memory is (90).
-pub fn tally(alloc: Global, lines: &[&[u8]]) -> Result<BTreeMap<ByteString, u32>, NoMemory>
+pub fn tally(alloc: Global, lines: &[&[u8]]) -> Result<Counts, NoMemory>
     requires { sum_by length (map (λ line. line.now) lines.now) ≤ 1048576 }
-    ensures words { IfOk result (λ words. words.entries ≡ counts_of (flat_map words_of (map (λ line. line.now) lines.now))) }
-    ensures few { IfOk result (λ words. sum_by (λ entry. entry.1) words.entries ≤ 1048576) }
-    ensures short { IfOk result (λ words. sum_by (λ entry. length entry.0) words.entries ≤ 1048576) }
+    ensures { IfOk result (λ counts. counts ≡ counts_of (flat_map words_of (map (λ line. line.now) lines.now))) }
 {
-    let mut words = BTreeMap::new(alloc);
-    for line in lines {
-        add_line(alloc, &mut words, line)?;
-    }
-    Ok(words)
+    let text = joined(alloc, lines)?;
+    let lowered = ByteString::lower_cased(alloc, &text)?;
+    let mut words = words_in(alloc, lowered.as_slice())?;
+    words.sort_unstable();
+    let sorted = slices(alloc, &words)?;
+    Counts::packed(alloc, &sorted)
 }

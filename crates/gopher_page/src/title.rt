@@ -1,12 +1,13 @@
 //! The title of a page.
 
-ghost use Rattle.std.specs.Prelude.{◌≡◌, map, take, IfOk};
+ghost use Rattle.std.specs.Prelude.{◌≡◌, ◌==◌, map, reverse, take, IfOk};
 ghost use Rattle.std.specs.List.{find};
 ghost use Rattle.std.specs.Option.{option_map};
+ghost use Rattle.gopher_item.specs.MenuLine.{trim_front};
 ghost use Rattle.gopher_page.specs.Page.{plain_byte, title_text, has_word, place_title, title_of};
 
 use crate::word::next_token;
-use gopher_item::{ByteString, NoMemory, Place, is_control, trim_spaces};
+use gopher_item::{ByteString, NoMemory, Place, is_control};
 use std::alloc::{AllocError, Global};
 
 // A title has at most so many bytes.
@@ -24,17 +25,53 @@ fn plain(alloc: Global, bytes: &[u8]) -> Result<Vec<u8>, AllocError>
     bytes.iter().map(|byte| plain_byte(*byte)).collect(alloc)
 }
 
+// Whether a title shows the byte as a space.
+fn is_blank(byte: u8) -> bool
+    ensures { result ≡ (plain_byte byte == 32) }
+{
+    plain_byte(byte) == b' '
+}
+
+#[tactic(auto, using(crate::proofs::Titles::fronts))]
+fn without_front(bytes: &[u8]) -> &[u8]
+    ensures { map plain_byte result.now ≡ trim_front (map plain_byte bytes.now) }
+{
+    let mut rest = bytes;
+    while let [first, after @ ..] = rest {
+        if !is_blank(*first) {
+            return rest;
+        }
+        rest = after;
+    }
+    rest
+}
+
+#[tactic(auto, using(crate::proofs::Titles::backs))]
+fn without_back(bytes: &[u8]) -> &[u8]
+    ensures { map plain_byte result.now ≡ reverse (trim_front (reverse (map plain_byte bytes.now))) }
+{
+    let mut rest = bytes;
+    while let [before @ .., last] = rest {
+        if !is_blank(*last) {
+            return rest;
+        }
+        rest = before;
+    }
+    rest
+}
+
 fn first_bytes(bytes: &[u8]) -> &[u8]
     ensures { result.now ≡ take 69 bytes.now }
 {
     &bytes[..bytes.len().min(LIMIT)]
 }
 
+#[tactic(auto, using(crate::proofs::Titles::shown))]
 fn title_text(alloc: Global, bytes: &[u8]) -> Result<ByteString, NoMemory>
     ensures { IfOk result (λ title. title ≡ title_text bytes.now) }
 {
-    let text = plain(alloc, bytes)?;
-    ByteString::from_slice(alloc, first_bytes(trim_spaces(&text)))
+    let shown = first_bytes(without_back(without_front(bytes)));
+    Ok(ByteString::from(plain(alloc, shown)?))
 }
 
 fn has_word(line: &[u8]) -> bool

@@ -2,7 +2,7 @@
 
 ghost use Rattle.std.specs.Prelude.{◌≡◌, ◌==◌, ◌+◌, ◌<◌, ◌≤◌, false, [], ◌∷◌, length, map, position, IfOk, IfSome, MatchOption};
 ghost use Rattle.gopher_item.specs.Place.{lower_case};
-ghost use Rattle.gopher_page.specs.Words.{is_gap, is_word_byte, is_word, words_of, runs_of, tokens_of};
+ghost use Rattle.gopher_page.specs.Words.{is_gap, is_word_byte, is_word, bare_words, words_of, runs_of, tokens_of};
 
 use gopher_item::{ByteString, NoMemory};
 use std::alloc::Global;
@@ -39,6 +39,7 @@ fn split_at_gap(bytes: &[u8]) -> Option<(&[u8], u8, &[u8])>
 pub fn next_token(text: &[u8]) -> Option<(&[u8], bool, &[u8])>
     ensures tokens { MatchOption result (tokens_of text.now ≡ [])
         (λ found. tokens_of text.now ≡ record { word = map lower_case found.0.now; is_prefix = found.1 } ∷ tokens_of found.2.now) }
+    ensures bare { MatchOption result (bare_words text.now ≡ []) (λ found. bare_words text.now ≡ found.0.now ∷ bare_words found.2.now) }
     ensures some { IfSome result (λ found. 0 < length found.0.now) }
     ensures shorter { IfSome result (λ found. length found.0.now + length found.2.now ≤ length text.now) }
 {

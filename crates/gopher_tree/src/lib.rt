@@ -20,6 +20,7 @@ mod reply;
 mod tree;
 
 pub use fault::TreeFault;
+pub use line::{push_last_line, push_line};
 pub use replies::{Replies, RepliesRefused, Reply};
 pub use reply::error_reply;
 pub use tree::{Node, Tree};

@@ -32,8 +32,11 @@ fn push_server(host: &[u8], port: u16, out: &mut Vec<u8>) -> Result<(), AllocErr
     Ok(())
 }
 
-// Appends the line of these parts.
-pub(crate) fn push_line(
+/// Appends the line of these parts to a menu. The caller sees to it that none of them holds a TAB, CR,
+/// LF or NUL.
+///
+/// Refused only where memory is; a beginning of the line may then have been appended.
+pub fn push_line(
     kind: u8,
     display: &[u8],
     selector: &[u8],
@@ -66,8 +69,10 @@ pub(crate) fn push_child_line(
     Ok(())
 }
 
-// Appends the period alone that ends a menu.
-pub(crate) fn push_last_line(out: &mut Vec<u8>) -> Result<(), AllocError>
+/// Appends the period alone that ends a menu.
+///
+/// Refused only where memory is, and then nothing is appended.
+pub fn push_last_line(out: &mut Vec<u8>) -> Result<(), AllocError>
     ensures { OnOk result (out.new.items ≡ out.old.items ++ 46 ∷ 13 ∷ 10 ∷ []) }
 {
     out.extend_from_slice(b".\r\n")

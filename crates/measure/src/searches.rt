@@ -1,6 +1,6 @@
 //! A catalogue of many pages: how long it takes to build, what it holds, and how fast it answers.
 
-use crate::timing::Best;
+use crate::timing::{Best, Total};
 use gopher_catalogue::{Catalogue, Hit, Turn};
 use gopher_item::Place;
 use gopher_page::{Page, Query};
@@ -49,19 +49,37 @@ fn opened(alloc: Global, count: usize) -> anyhow::Result<Catalogue> {
     }
 }
 
-fn crawl(alloc: Global, catalogue: &mut Catalogue, texts: &[&[u8]]) -> anyhow::Result<()> {
-    for text in texts {
-        let Turn::Take(claim) = catalogue.claim()? else {
-            return Ok(());
-        };
-        if text.len() > 1_048_576 {
-            return Ok(());
-        }
-        let page = Page::of(alloc, catalogue.opening().scope(), &claim.place, text)?;
-        if let Err(refused) = catalogue.found(claim.number, page) {
-            return Err(anyhow::anyhow!("{}", refused.fault));
-        }
+// What the pages took to make, and to claim and add.
+#[derive(Drop)]
+struct Build {
+    made: Total,
+    added: Total,
+}
+
+// Makes the page of the next place and adds it, unless nothing waits.
+fn step(
+    rt: &HostRuntime,
+    catalogue: &mut Catalogue,
+    text: &[u8],
+    build: &mut Build,
+) -> anyhow::Result<()> {
+    let start = Instant::now(rt)?;
+    let turn = catalogue.claim()?;
+    build.added.end(rt, start)?;
+    let Turn::Take(claim) = turn else {
+        return Ok(());
+    };
+    if text.len() > 1_048_576 {
+        return Ok(());
     }
+    let start = Instant::now(rt)?;
+    let page = Page::of(rt.alloc(), catalogue.opening().scope(), &claim.place, text)?;
+    build.made.end(rt, start)?;
+    let start = Instant::now(rt)?;
+    if let Err(refused) = catalogue.found(claim.number, page) {
+        return Err(anyhow::anyhow!("{}", refused.fault));
+    }
+    build.added.end(rt, start)?;
     Ok(())
 }
 
@@ -107,22 +125,38 @@ fn ask(rt: &HostRuntime, catalogue: &Catalogue, text: &[u8]) -> anyhow::Result<(
     Ok(())
 }
 
-/// Prints how long a catalogue of the file's pages takes to build, its memory for each page, and how
-/// long searches take.
+fn print_each(rt: &HostRuntime, name: &str, total: &Total, pages: usize) -> anyhow::Result<()> {
+    let tenths = total.tenths_each(pages);
+    println!(rt; "{name}: {}.{} us a page", tenths / 10, tenths % 10)?;
+    Ok(())
+}
+
+// The catalogue of a crawl that found the texts; prints what it took, and its memory for each page.
+fn built(rt: &HostRuntime, texts: &[&[u8]]) -> anyhow::Result<Catalogue> {
+    let mut catalogue = opened(rt.alloc(), texts.len())?;
+    let before = resident(rt)?;
+    let mut build = Build {
+        made: Total::new(),
+        added: Total::new(),
+    };
+    for text in texts {
+        step(rt, &mut catalogue, text, &mut build)?;
+    }
+    let held = resident(rt)?.saturating_sub(before).saturating_mul(1_024);
+    let each = held.checked_div(u64::try_from(texts.len())?).unwrap_or(0);
+    println!(rt; "{} pages", texts.len())?;
+    print_each(rt, "making", &build.made, texts.len())?;
+    print_each(rt, "claiming and adding", &build.added, texts.len())?;
+    println!(rt; "memory: {each} bytes a page, with its postings")?;
+    Ok(catalogue)
+}
+
+/// Prints how long the file's pages take to make and to add to a catalogue, its memory for each page,
+/// and how long searches take.
 pub fn measure(rt: &HostRuntime, path: &str) -> anyhow::Result<()> {
     let bytes = fs::read(rt, path)?;
     let texts = texts(rt.alloc(), &bytes)?;
-    let pages = texts.len();
-    let mut built = Best::new();
-    let start = Instant::now(rt)?;
-    let mut catalogue = opened(rt.alloc(), pages)?;
-    let before = resident(rt)?;
-    crawl(rt.alloc(), &mut catalogue, &texts)?;
-    built.end(rt, start)?;
-    let held = resident(rt)?.saturating_sub(before).saturating_mul(1_024);
-    println!(rt; "{pages} pages: {} us", built.microseconds())?;
-    let each = held.checked_div(u64::try_from(pages)?).unwrap_or(0);
-    println!(rt; "memory: {each} bytes a page, with its postings")?;
+    let catalogue = built(rt, &texts)?;
     for text in QUERIES {
         ask(rt, &catalogue, text)?;
     }

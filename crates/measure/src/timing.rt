@@ -1,4 +1,4 @@
-//! What a round took, and the best of several.
+//! What a round took, the best of several, and what several took together.
 
 ghost use Rattle.std.specs.Prelude.{◌<◌};
 
@@ -71,5 +71,32 @@ impl Best {
         u64::try_from(self.shortest.as_nanos())
             .unwrap_or(u64::MAX)
             .max(1)
+    }
+}
+
+/// What the spans so far took together.
+#[derive(Debug, Drop)]
+pub struct Total {
+    sum: Duration,
+}
+
+impl Total {
+    pub fn new() -> Total {
+        Total {
+            sum: Duration::ZERO,
+        }
+    }
+
+    /// Counts a span that began at `start` and ends now.
+    pub fn end(&mut self, rt: &impl Clock, start: Instant) -> io::Result<()> {
+        self.sum = self.sum.saturating_add(start.elapsed(rt)?);
+        Ok(())
+    }
+
+    /// Tenths of a microsecond, shared among `count`.
+    pub fn tenths_each(&self, count: usize) -> u64 {
+        let tenths = u64::try_from(self.sum.as_nanos() / 100).unwrap_or(u64::MAX);
+        let count = u64::try_from(count).unwrap_or(u64::MAX);
+        tenths.checked_div(count).unwrap_or(0)
     }
 }

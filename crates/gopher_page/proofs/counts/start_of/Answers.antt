@@ -6,4 +6,4 @@ use Rattle.gopher_page.proofs.counts.start_of.Goals as goal
 pub returns-else-index-eq0 : goal.returns-else-index-eq0
 returns-else-index-eq0 c =
     let next : suc (c.args.index - 1) ≡ c.args.index = omega (arith, c.if-index-eq0.false) in
-    start_at-suc 0 c.args.ends.now (c.args.index - 1) _ (omega (arith, c.requires, c.if-index-eq0.false)) ∙ ap (start_at 0 c.args.ends.now) next
+    start_at-suc 0 c.args.ends.now (c.args.index - 1) c.get.result c.get.ensures ∙ ap (start_at 0 c.args.ends.now) next

@@ -1,5 +1,8 @@
-use Rattle.gopher_catalogue.proofs.ArchiveLemmas.{after_other}
+use Rattle.std.proofs.Common.{◌∙◌, ap, sym}
+use Rattle.gopher_catalogue.specs.Pages.{pages_indexed}
+use Rattle.gopher_catalogue.proofs.ArchiveLemmas.{indexed-no_page}
 use Rattle.gopher_catalogue.proofs.archive.Archive.push.Goals as goal
 
 pub invariant_of-self : goal.invariant_of-self
-invariant_of-self c = after_other c.self.inside.postings _ _ _ _ _ c.self.invariant c.push.ensures.opening c.push.ensures.later c.requires.no_page
+invariant_of-self c =
+    c.self.invariant ∙ sym (ap pages_indexed c.push.ensures.events ∙ indexed-no_page _ _ c.requires.no_page)

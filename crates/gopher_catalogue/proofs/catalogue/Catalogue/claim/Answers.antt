@@ -1,6 +1,6 @@
 use Rattle.std.proofs.Common.{◌≡◌, ◌+◌, ◌≤◌, [], ◌∷◌, ◌++◌, Some, IsSome, arith, refl, ap, sym, subst, ◌∙◌}
 use Rattle.std.specs.Arc.{arc_value}
-use Rattle.gopher_catalogue.specs.Event.{Opened, Claimed}
+use Rattle.gopher_catalogue.specs.Event.{Claimed}
 use Rattle.gopher_catalogue.specs.Step.{turn_of, after_turn, Take}
 use Rattle.gopher_catalogue.specs.Turn.{IsTake}
 use Rattle.gopher_catalogue.specs.Indexed.{IsIndexed}
@@ -9,58 +9,58 @@ use Rattle.gopher_catalogue.proofs.catalogue.Catalogue.claim.Goals as goal
 
 pub returns-then-out-eq0-clause-turn : goal.returns-then-out-eq0-clause-turn
 returns-then-out-eq0-clause-turn c =
-    sym (none_waits_finished c.self.inside.history c.self.inside.frontier c.self.invariant (sym c.in_default.ensures) (sym c.out-out.ensures ∙ c.if-out-eq0.true)) ∙ ap turn_of c.self.view_is
+    sym (none_waits_finished c.self.inside.archive c.self.inside.frontier c.self.invariant (sym c.in_default.ensures) (sym c.out-out.ensures ∙ c.if-out-eq0.true)) ∙ ap turn_of c.self.view_is
 
 pub returns-then-out-eq0-clause-after : goal.returns-then-out-eq0-clause-after
 returns-then-out-eq0-clause-after c =
-    sym (ap (after_turn c.args.self.now) (ap turn_of (sym c.self.view_is) ∙ none_waits_finished c.self.inside.history c.self.inside.frontier c.self.invariant (sym c.in_default.ensures) (sym c.out-out.ensures ∙ c.if-out-eq0.true)))
+    sym (ap (after_turn c.args.self.now) (ap turn_of (sym c.self.view_is) ∙ none_waits_finished c.self.inside.archive c.self.inside.frontier c.self.invariant (sym c.in_default.ensures) (sym c.out-out.ensures ∙ c.if-out-eq0.true)))
 
 pub returns-in_default-clause-turn : goal.returns-in_default-clause-turn
 returns-in_default-clause-turn c =
-    sym (none_waits_idle c.self.inside.history c.self.inside.frontier c.self.invariant (sym c.in_default.ensures) (λ e. c.if-out-eq0.false (c.out-out.ensures ∙ e))) ∙ ap turn_of c.self.view_is
+    sym (none_waits_idle c.self.inside.archive c.self.inside.frontier c.self.invariant (sym c.in_default.ensures) (λ e. c.if-out-eq0.false (c.out-out.ensures ∙ e))) ∙ ap turn_of c.self.view_is
 
 pub returns-in_default-clause-after : goal.returns-in_default-clause-after
 returns-in_default-clause-after c =
-    sym (ap (after_turn c.args.self.now) (ap turn_of (sym c.self.view_is) ∙ none_waits_idle c.self.inside.history c.self.inside.frontier c.self.invariant (sym c.in_default.ensures) (λ e. c.if-out-eq0.false (c.out-out.ensures ∙ e))))
+    sym (ap (after_turn c.args.self.now) (ap turn_of (sym c.self.view_is) ∙ none_waits_idle c.self.inside.archive c.self.inside.frontier c.self.invariant (sym c.in_default.ensures) (λ e. c.if-out-eq0.false (c.out-out.ensures ∙ e))))
 
 pub unwrap-standing-requires : goal.unwrap-standing-requires
-unwrap-standing-requires c = subst IsSome (sym (c.standing.ensures ∙ first_stands c.self.inside.history c.self.inside.frontier c.self.invariant c.in-Some.number (sym c.in-Some.ensures))) refl
+unwrap-standing-requires c = subst IsSome (sym (c.standing.ensures ∙ first_stands c.self.inside.archive c.self.inside.frontier c.self.invariant c.in-Some.number (sym c.in-Some.ensures))) refl
 
 pub place-requires : goal.place-requires
-place-requires c = first_known c.self.inside.history c.self.inside.frontier c.self.invariant c.in-Some.number (sym c.in-Some.ensures)
+place-requires c = first_known c.self.inside.archive c.self.inside.frontier c.self.invariant c.in-Some.number (sym c.in-Some.ensures)
 
 pub returns-in_err-place-clause-due : goal.returns-in_err-place-clause-due
 returns-in_err-place-clause-due c =
-    on_err c.from_residual.result (IsTake (turn_of c.args.self.now)) (subst (λ events. IsTake (turn_of events)) c.self.view_is (first_due c.self.inside.history c.self.inside.frontier c.self.invariant c.in-Some.number (sym c.in-Some.ensures)))
+    on_err c.from_residual.result (IsTake (turn_of c.args.self.now)) (subst (λ events. IsTake (turn_of events)) c.self.view_is (first_due c.self.inside.archive c.self.inside.frontier c.self.invariant c.in-Some.number (sym c.in-Some.ensures)))
 
 pub returns-in_err-reserve-clause-due : goal.returns-in_err-reserve-clause-due
 returns-in_err-reserve-clause-due c =
     on_err c.from_residual-in_err-reserve.result (IsTake (turn_of c.args.self.now))
-    (subst (λ events. IsTake (turn_of events)) c.self.view_is (first_due c.self.inside.history c.self.inside.frontier c.self.invariant c.in-Some.number (sym c.in-Some.ensures)))
+    (subst (λ events. IsTake (turn_of events)) c.self.view_is (first_due c.self.inside.archive c.self.inside.frontier c.self.invariant c.in-Some.number (sym c.in-Some.ensures)))
 
 pub returns-in_err-reserve-2-clause-due : goal.returns-in_err-reserve-2-clause-due
 returns-in_err-reserve-2-clause-due c =
     on_err c.from_residual-in_err-reserve-2.result (IsTake (turn_of c.args.self.now))
-    (subst (λ events. IsTake (turn_of events)) c.self.view_is (first_due c.self.inside.history c.self.inside.frontier c.self.invariant c.in-Some.number (sym c.in-Some.ensures)))
+    (subst (λ events. IsTake (turn_of events)) c.self.view_is (first_due c.self.inside.archive c.self.inside.frontier c.self.invariant c.in-Some.number (sym c.in-Some.ensures)))
 
 pub claim-requires-clause-few_claims : goal.claim-requires-clause-few_claims
 claim-requires-clause-few_claims c =
-    first_tries c.self.inside.history c.self.inside.frontier c.self.invariant c.in-Some.number (sym c.in-Some.ensures) c.unwrap-standing.result (sym c.standing.ensures ∙ c.unwrap-standing.ensures)
+    first_tries c.self.inside.archive c.self.inside.frontier c.self.invariant c.in-Some.number (sym c.in-Some.ensures) c.unwrap-standing.result (sym c.standing.ensures ∙ c.unwrap-standing.ensures)
 
 pub claim-requires-clause-few_out : goal.claim-requires-clause-few_out
-claim-requires-clause-few_out c = omega (arith, out_fits c.self.inside.history c.self.inside.frontier c.self.invariant, c.in_ok-reserve-2.ensures.keeps.counts.out)
+claim-requires-clause-few_out c = omega (arith, out_fits c.self.inside.archive c.self.inside.frontier c.self.invariant, c.in_ok-reserve-2.ensures.keeps.counts.out)
 
 claimed : (c : goal.After-push) → IsIndexed c.push.new.self c.claim.new.self
 claimed c =
     let room : c.self.inside.frontier.out + 2 ≤ c.reserve.new.self.room = omega (arith, c.out-out.ensures, c.in_ok-reserve.ensures.ok) in
     let queue : c.self.inside.frontier.out + 1 ≤ c.reserve-2.new.self.room = omega (arith, c.out-out.ensures, c.in_ok-reserve-2.ensures.ok) in
-    after_claimed c.self.inside.history c.self.inside.frontier c.self.invariant c.reserve.new.self c.push.new.self c.reserve-2.new.self c.claim.new.self c.in-Some.number c.unwrap-standing.result (sym c.in-Some.ensures)
-    (sym c.standing.ensures ∙ c.unwrap-standing.ensures) c.in_ok-reserve.ensures.opening c.in_ok-reserve.ensures.later room c.in_ok-reserve-2.ensures.keeps queue c.claim.ensures c.push.ensures.opening c.push.ensures.later c.push.ensures.room
+    after_claimed c.self.inside.archive c.self.inside.frontier c.self.invariant c.reserve.new.self c.push.new.self c.reserve-2.new.self c.claim.new.self c.in-Some.number c.unwrap-standing.result (sym c.in-Some.ensures)
+    (sym c.standing.ensures ∙ c.unwrap-standing.ensures) c.in_ok-reserve.ensures.events room c.in_ok-reserve-2.ensures.keeps queue c.claim.ensures c.push.ensures.events c.push.ensures.room
 
 turn_taken : (c : goal.After-push) → turn_of c.args.self.now ≡ Take c.in-Some.number (arc_value c.in_ok-place.place)
 turn_taken c =
     ap turn_of (sym c.self.view_is)
-    ∙ first_turn c.self.inside.history c.self.inside.frontier c.self.invariant c.in-Some.number (sym c.in-Some.ensures) (arc_value c.in_ok-place.place) (c.place.ensures ∙ ap Some (sym c.in_ok-place.ensures.cases))
+    ∙ first_turn c.self.inside.archive c.self.inside.frontier c.self.invariant c.in-Some.number (sym c.in-Some.ensures) (arc_value c.in_ok-place.place) (c.place.ensures ∙ ap Some (sym c.in_ok-place.ensures.cases))
 
 pub invariant_of-self-2 : goal.invariant_of-self-2
 invariant_of-self-2 c = claimed c
@@ -70,10 +70,7 @@ returns-clause-turn c = sym (turn_taken c)
 
 pub returns-clause-after : goal.returns-clause-after
 returns-clause-after c =
-    let opening = c.push.ensures.opening ∙ c.in_ok-reserve.ensures.opening in
-    let later = c.push.ensures.later ∙ ap (λ events. events ++ Claimed c.in-Some.number ∷ []) c.in_ok-reserve.ensures.later in
-    let events : Opened c.push.new.self.opening ∷ c.push.new.self.later ≡ (Opened c.self.inside.history.opening ∷ c.self.inside.history.later) ++ Claimed c.in-Some.number ∷ [] = λ i. Opened (opening i) ∷ later i in
-    events ∙ ap (λ events. events ++ Claimed c.in-Some.number ∷ []) c.self.view_is ∙ sym (ap (after_turn c.args.self.now) (turn_taken c))
+    c.push.ensures.events ∙ ap (λ events. events ++ Claimed c.in-Some.number ∷ []) (c.in_ok-reserve.ensures.events ∙ c.self.view_is) ∙ sym (ap (after_turn c.args.self.now) (turn_taken c))
 
 pub returns-clause-legal : goal.returns-clause-legal
 returns-clause-legal c = (claimed c).legal

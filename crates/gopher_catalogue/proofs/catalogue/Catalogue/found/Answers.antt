@@ -5,9 +5,8 @@ use Rattle.gopher_scope.specs.Scope.{allows}
 use Rattle.gopher_catalogue.specs.Fault.{IsFoundFault}
 use Rattle.gopher_catalogue.specs.declared.fault.FoundFault.TheVariants.{NotOut, WrongPlace, NoMemory}
 use Rattle.gopher_catalogue.specs.Step.{found_fault, added_by}
-use Rattle.gopher_catalogue.specs.Tables.{Learned}
+use Rattle.gopher_catalogue.specs.Tables.{Learned, opening_in}
 use Rattle.gopher_catalogue.specs.Indexed.{IsIndexed}
-use Rattle.gopher_catalogue.proofs.CallSteps.{few_events}
 use Rattle.gopher_catalogue.proofs.KnownLemmas.{length-after_mentions}
 use Rattle.gopher_catalogue.proofs.IndexedCalls.{learned_of, limit_fits, places_fit, places_within, out_fits, done_fits, dropped_fits, some_out, fault_not_out, fault_wrong, fault_none, still_stands, added_shown, after_found}
 use Rattle.gopher_catalogue.proofs.catalogue.Catalogue.found.Goals as goal
@@ -16,7 +15,7 @@ use Rattle.gopher_catalogue.proofs.catalogue.Catalogue.found.Goals as goal
 
 pub returns-in_default-clause-fault : goal.returns-in_default-clause-fault
 returns-in_default-clause-fault c =
-    let fault = ap (λ events. found_fault events c.args.number c.args.page.place) (sym c.self.view_is) ∙ fault_not_out c.self.inside.history c.self.inside.frontier c.self.invariant c.args.number c.args.page.place c.in_default.ensures in
+    let fault = ap (λ events. found_fault events c.args.number c.args.page.place) (sym c.self.view_is) ∙ fault_not_out c.self.inside.archive c.self.inside.frontier c.self.invariant c.args.number c.args.page.place c.in_default.ensures in
     subst (λ fault. IsFoundFault fault NotOut) (sym fault) refl
 
 pub returns-then-not-has_place-clause-fault : goal.returns-then-not-has_place-clause-fault
@@ -24,7 +23,7 @@ returns-then-not-has_place-clause-fault c =
     let wrong = ap (λ place. option_map_or (λ other. same_place other place) (slice_get c.self.inside.frontier.places c.args.number) false) (sym c.place.ensures) ∙ sym c.if-not-has_place.ensures in
     let fault =
     ap (λ events. found_fault events c.args.number c.args.page.place) (sym c.self.view_is)
-    ∙ fault_wrong c.self.inside.history c.self.inside.frontier c.self.invariant c.args.number c.in-Some.standing c.in-Some.ensures.0 c.in-Some.ensures.1 c.args.page.place wrong in
+    ∙ fault_wrong c.self.inside.archive c.self.inside.frontier c.self.invariant c.args.number c.in-Some.standing c.in-Some.ensures.0 c.in-Some.ensures.1 c.args.page.place wrong in
     subst (λ fault. IsFoundFault fault WrongPlace) (sym fault) refl
 
 pub returns-in_default-learn-clause-fault : goal.returns-in_default-learn-clause-fault
@@ -32,7 +31,7 @@ returns-in_default-learn-clause-fault c =
     let right = ap (λ place. option_map_or (λ other. same_place other place) (slice_get c.self.inside.frontier.places c.args.number) false) (sym c.place.ensures) ∙ sym c.if-not-has_place.ensures in
     let fault =
     ap (λ events. found_fault events c.args.number c.args.page.place) (sym c.self.view_is)
-    ∙ fault_none c.self.inside.history c.self.inside.frontier c.self.invariant c.args.number c.in-Some.standing c.in-Some.ensures.0 c.in-Some.ensures.1 c.args.page.place right in
+    ∙ fault_none c.self.inside.archive c.self.inside.frontier c.self.invariant c.args.number c.in-Some.standing c.in-Some.ensures.0 c.in-Some.ensures.1 c.args.page.place right in
     subst (λ fault. IsFoundFault fault NoMemory) (sym fault) refl
 
 pub returns-in-Err-clause-fault : goal.returns-in-Err-clause-fault
@@ -40,71 +39,68 @@ returns-in-Err-clause-fault c =
     let right = ap (λ place. option_map_or (λ other. same_place other place) (slice_get c.self.inside.frontier.places c.args.number) false) (sym c.place.ensures) ∙ sym c.if-not-has_place.ensures in
     let fault =
     ap (λ events. found_fault events c.args.number c.args.page.place) (sym c.self.view_is)
-    ∙ fault_none c.self.inside.history c.self.inside.frontier c.self.invariant c.args.number c.in-Some.standing c.in-Some.ensures.0 c.in-Some.ensures.1 c.args.page.place right in
+    ∙ fault_none c.self.inside.archive c.self.inside.frontier c.self.invariant c.args.number c.in-Some.standing c.in-Some.ensures.0 c.in-Some.ensures.1 c.args.page.place right in
     subst (λ fault. IsFoundFault fault NoMemory) (sym fault) refl
 
 -- ---- the calls
 
 pub overflow_cast-before : goal.overflow_cast-before
-overflow_cast-before c = omega (arith, places_fit c.self.inside.history c.self.inside.frontier c.self.invariant, c.len-before.ensures.places)
+overflow_cast-before c = omega (arith, places_fit c.self.inside.archive c.self.inside.frontier c.self.invariant, c.len-before.ensures.places)
 
 pub learn-requires-clause-few_places : goal.learn-requires-clause-few_places
-learn-requires-clause-few_places c = omega (arith, places_within c.self.inside.history c.self.inside.frontier c.self.invariant, c.places.ensures, ap (λ o. o.limit) c.opening-opening.ensures)
+learn-requires-clause-few_places c = omega (arith, places_within c.self.inside.archive c.self.inside.frontier c.self.invariant, c.places.ensures, ap (λ o. o.limit) (c.deref-2.ensures ∙ c.opening-opening.ensures))
 
 pub learn-requires-clause-few_out : goal.learn-requires-clause-few_out
-learn-requires-clause-few_out c = out_fits c.self.inside.history c.self.inside.frontier c.self.invariant
+learn-requires-clause-few_out c = out_fits c.self.inside.archive c.self.inside.frontier c.self.invariant
 
 -- what the frontier learned of the page's links
-learned : (c : goal.After-found-arg-1) → Learned c.self.inside.history.opening.limit (filter (allows c.self.inside.history.opening.scope) c.args.page.links) c.self.inside.frontier c.learn.new.self c.in-Ok.added.dropped
-learned c = learned_of _ _ _ _ _ _ _ _ _ (c.places.ensures ∙ ap (λ o. o.limit) c.opening-opening.ensures) (c.scope.ensures ∙ ap (λ o. o.scope) c.opening-opening.ensures) c.links.ensures.links c.in-Ok.ensures.learned
+learned : (c : goal.After-found-arg-1) → Learned (opening_in c.self.inside.archive.events).limit (filter (allows (opening_in c.self.inside.archive.events).scope) c.args.page.links) c.self.inside.frontier c.learn.new.self c.in-Ok.added.dropped
+learned c = learned_of _ _ _ _ _ _ _ _ _ (c.places.ensures ∙ ap (λ o. o.limit) (c.deref-2.ensures ∙ c.opening-opening.ensures)) (c.scope.ensures ∙ ap (λ o. o.scope) (c.deref.ensures ∙ c.opening-opening.ensures)) c.links.ensures.links c.in-Ok.ensures.learned
 
 pub found-requires-clause-standing : goal.found-requires-clause-standing
 found-requires-clause-standing c =
-    still_stands c.self.inside.history c.self.inside.frontier c.self.invariant c.learn.new.self c.args.number c.in-Some.standing c.args.page c.in-Ok.added (learned c) c.in-Some.ensures.0
+    still_stands c.self.inside.archive c.self.inside.frontier c.self.invariant c.learn.new.self c.args.number c.in-Some.standing c.args.page c.in-Ok.added (learned c) c.in-Some.ensures.0
 
 pub found-requires-clause-few_places : goal.found-requires-clause-few_places
 found-requires-clause-few_places c =
-    let few = length-after_mentions c.self.inside.history.opening.limit c.self.inside.frontier.places (filter (allows c.self.inside.history.opening.scope) c.args.page.links) (places_within c.self.inside.history c.self.inside.frontier c.self.invariant) in
-    omega (arith, few, ap length (learned c).places, limit_fits c.self.inside.history c.self.inside.frontier c.self.invariant)
+    let few = length-after_mentions (opening_in c.self.inside.archive.events).limit c.self.inside.frontier.places (filter (allows (opening_in c.self.inside.archive.events).scope) c.args.page.links) (places_within c.self.inside.archive c.self.inside.frontier c.self.invariant) in
+    omega (arith, few, ap length (learned c).places, limit_fits c.self.inside.archive c.self.inside.frontier c.self.invariant)
 
 pub found-requires-clause-some_out : goal.found-requires-clause-some_out
 found-requires-clause-some_out c =
-    omega (arith, some_out c.self.inside.history c.self.inside.frontier c.self.invariant c.args.number c.in-Some.standing c.in-Some.ensures.0 c.in-Some.ensures.1, c.in-Ok.ensures.learned.keeps.out)
+    omega (arith, some_out c.self.inside.archive c.self.inside.frontier c.self.invariant c.args.number c.in-Some.standing c.in-Some.ensures.0 c.in-Some.ensures.1, c.in-Ok.ensures.learned.keeps.out)
 
 pub found-requires-clause-few_done : goal.found-requires-clause-few_done
-found-requires-clause-few_done c = omega (arith, done_fits c.self.inside.history c.self.inside.frontier c.self.invariant, c.in-Ok.ensures.learned.keeps.done)
+found-requires-clause-few_done c = omega (arith, done_fits c.self.inside.archive c.self.inside.frontier c.self.invariant, c.in-Ok.ensures.learned.keeps.done)
 
 pub found-requires-clause-few_dropped : goal.found-requires-clause-few_dropped
-found-requires-clause-few_dropped c = omega (arith, dropped_fits c.self.inside.history c.self.inside.frontier c.self.invariant, c.in-Ok.ensures.learned.keeps.dropped, c.in-Ok.ensures.few)
+found-requires-clause-few_dropped c = omega (arith, dropped_fits c.self.inside.archive c.self.inside.frontier c.self.invariant, c.in-Ok.ensures.learned.keeps.dropped, c.in-Ok.ensures.few)
 
-pub push_found-requires-clause-room : goal.push_found-requires-clause-room
-push_found-requires-clause-room c = omega (arith, some_out c.self.inside.history c.self.inside.frontier c.self.invariant c.args.number c.in-Some.standing c.in-Some.ensures.0 c.in-Some.ensures.1, c.self.invariant.record_room)
-
-pub push_found-requires-clause-few : goal.push_found-requires-clause-few
-push_found-requires-clause-few c = omega (arith, few_events c.self.inside.history.opening c.self.inside.history.later c.self.invariant.legal)
+pub add_found-requires : goal.add_found-requires
+add_found-requires c = omega (arith, some_out c.self.inside.archive c.self.inside.frontier c.self.invariant c.args.number c.in-Some.standing c.in-Some.ensures.0 c.in-Some.ensures.1, c.self.invariant.record_room)
 
 -- ---- found
 
-found : (c : goal.After-found) → IsIndexed c.push_found.new.self c.found.new.self
+found : (c : goal.After-found) → IsIndexed c.add_found.new.self c.found.new.self
 found c =
-    let learned : Learned c.self.inside.history.opening.limit (filter (allows c.self.inside.history.opening.scope) c.args.page.links) c.self.inside.frontier c.learn.new.self c.in-Ok.added.dropped = learned_of _ _ _ _ _ _ _ _ _ (c.places.ensures ∙ ap (λ o. o.limit) c.opening-opening.ensures) (c.scope.ensures ∙ ap (λ o. o.scope) c.opening-opening.ensures) c.links.ensures.links c.in-Ok.ensures.learned in
+    let learned : Learned (opening_in c.self.inside.archive.events).limit (filter (allows (opening_in c.self.inside.archive.events).scope) c.args.page.links) c.self.inside.frontier c.learn.new.self c.in-Ok.added.dropped = learned_of _ _ _ _ _ _ _ _ _ (c.places.ensures ∙ ap (λ o. o.limit) (c.deref-2.ensures ∙ c.opening-opening.ensures)) (c.scope.ensures ∙ ap (λ o. o.scope) (c.deref.ensures ∙ c.opening-opening.ensures)) c.links.ensures.links c.in-Ok.ensures.learned in
     let right = ap (λ place. option_map_or (λ other. same_place other place) (slice_get c.self.inside.frontier.places c.args.number) false) (sym c.place.ensures) ∙ sym c.if-not-has_place.ensures in
-    after_found c.self.inside.history c.self.inside.frontier c.self.invariant c.learn.new.self c.args.number c.in-Some.standing c.args.page c.in-Ok.added learned c.push_found.new.self c.found.new.self c.len-before.result c.in-Some.ensures.0 c.in-Some.ensures.1 right c.len-before.ensures.places
-    c.in-Ok.ensures.few c.in-Ok.ensures.fresh c.in-Ok.ensures.room c.found.ensures c.push_found.ensures.opening c.in-Ok-push_found.ensures.later c.in-Ok-push_found.ensures.room
+    after_found c.self.inside.archive c.self.inside.frontier c.self.invariant c.learn.new.self c.args.number c.in-Some.standing c.args.page c.in-Ok.added learned c.add_found.new.self c.found.new.self c.len-before.result c.in-Some.ensures.0 c.in-Some.ensures.1 right c.len-before.ensures.places
+    c.in-Ok.ensures.few c.in-Ok.ensures.fresh c.in-Ok.ensures.room c.found.ensures c.in-Ok-add_found.ensures.ok.events c.in-Ok-add_found.ensures.ok.room
 
-pub invariant_of-self-in-Ok-push_found : goal.invariant_of-self-in-Ok-push_found
-invariant_of-self-in-Ok-push_found c = found c
+pub invariant_of-self-in-Ok-add_found : goal.invariant_of-self-in-Ok-add_found
+invariant_of-self-in-Ok-add_found c = found c
 
-pub returns-in-Ok-push_found-clause-ok : goal.returns-in-Ok-push_found-clause-ok
-returns-in-Ok-push_found-clause-ok c =
+pub returns-in-Ok-add_found-clause-ok : goal.returns-in-Ok-add_found-clause-ok
+returns-in-Ok-add_found-clause-ok c =
     let right = ap (λ place. option_map_or (λ other. same_place other place) (slice_get c.self.inside.frontier.places c.args.number) false) (sym c.place.ensures) ∙ sym c.if-not-has_place.ensures in
     ap (λ events. found_fault events c.args.number c.args.page.place) (sym c.self.view_is)
-    ∙ fault_none c.self.inside.history c.self.inside.frontier c.self.invariant c.args.number c.in-Some.standing c.in-Some.ensures.0 c.in-Some.ensures.1 c.args.page.place right
+    ∙ fault_none c.self.inside.archive c.self.inside.frontier c.self.invariant c.args.number c.in-Some.standing c.in-Some.ensures.0 c.in-Some.ensures.1 c.args.page.place right
 
-pub returns-in-Ok-push_found-clause-added : goal.returns-in-Ok-push_found-clause-added
-returns-in-Ok-push_found-clause-added c =
-    let learned : Learned c.self.inside.history.opening.limit (filter (allows c.self.inside.history.opening.scope) c.args.page.links) c.self.inside.frontier c.learn.new.self c.in-Ok.added.dropped = learned_of _ _ _ _ _ _ _ _ _ (c.places.ensures ∙ ap (λ o. o.limit) c.opening-opening.ensures) (c.scope.ensures ∙ ap (λ o. o.scope) c.opening-opening.ensures) c.links.ensures.links c.in-Ok.ensures.learned in
-    added_shown c.self.inside.history c.self.inside.frontier c.self.invariant c.learn.new.self c.args.number c.in-Some.standing c.args.page c.in-Ok.added learned c.in-Ok.ensures.fresh ∙ ap (λ events. added_by events c.args.number c.args.page) c.self.view_is
+pub returns-in-Ok-add_found-clause-added : goal.returns-in-Ok-add_found-clause-added
+returns-in-Ok-add_found-clause-added c =
+    let learned : Learned (opening_in c.self.inside.archive.events).limit (filter (allows (opening_in c.self.inside.archive.events).scope) c.args.page.links) c.self.inside.frontier c.learn.new.self c.in-Ok.added.dropped = learned_of _ _ _ _ _ _ _ _ _ (c.places.ensures ∙ ap (λ o. o.limit) (c.deref-2.ensures ∙ c.opening-opening.ensures)) (c.scope.ensures ∙ ap (λ o. o.scope) (c.deref.ensures ∙ c.opening-opening.ensures)) c.links.ensures.links c.in-Ok.ensures.learned in
+    added_shown c.self.inside.archive c.self.inside.frontier c.self.invariant c.learn.new.self c.args.number c.in-Some.standing c.args.page c.in-Ok.added learned c.in-Ok.ensures.fresh ∙ ap (λ events. added_by events c.args.number c.args.page) c.self.view_is
 
-pub returns-in-Ok-push_found-clause-legal : goal.returns-in-Ok-push_found-clause-legal
-returns-in-Ok-push_found-clause-legal c = (found c).legal
+pub returns-in-Ok-add_found-clause-legal : goal.returns-in-Ok-add_found-clause-legal
+returns-in-Ok-add_found-clause-legal c = (found c).legal

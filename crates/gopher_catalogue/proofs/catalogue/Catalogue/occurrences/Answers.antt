@@ -1,15 +1,13 @@
 use Rattle.std.proofs.Common.{subst}
 use Rattle.std.specs.Prelude.{IfOk}
-use Rattle.gopher_catalogue.specs.Answer.{AreOccurrences}
-use Rattle.gopher_catalogue.specs.Legal.{IsLegal}
-use Rattle.gopher_catalogue.specs.Pages.{pages_found}
+use Rattle.gopher_index.specs.Answer.{AreOccurrences}
 use Rattle.gopher_catalogue.proofs.FinalAnswers.{occurrences_sorted, occurrences_final}
 use Rattle.gopher_catalogue.proofs.catalogue.Catalogue.occurrences.Goals as goal
 
 pub returns-clause-occurrences : goal.returns-clause-occurrences
 returns-clause-occurrences c =
-    occurrences_sorted (λ list. list.items) c.args.self.now c.args.word.now c.occurrences.result (subst IsLegal c.self.view_is c.self.invariant.legal)
-    (subst (λ events. IfOk c.occurrences.result (λ list. AreOccurrences (pages_found events) c.args.word.now list.items)) c.self.view_is c.occurrences.ensures)
+    occurrences_sorted (λ list. list.items) c.args.self.now c.args.word.now c.occurrences.result c.index.ensures.legal
+    (subst (λ pages. IfOk c.occurrences.result (λ list. AreOccurrences pages c.args.word.now list.items)) c.index.ensures.pages c.occurrences.ensures)
 
 pub returns-clause-once_complete : goal.returns-clause-once_complete
-returns-clause-once_complete c = occurrences_final (λ list. list.items) c.args.self.now c.args.word.now c.occurrences.result (subst IsLegal c.self.view_is c.self.invariant.legal) (returns-clause-occurrences c)
+returns-clause-once_complete c = occurrences_final (λ list. list.items) c.args.self.now c.args.word.now c.occurrences.result c.index.ensures.legal (returns-clause-occurrences c)

@@ -15,8 +15,8 @@ returns-in_ok-push-2 c =
     let full : length room ≡ length lows = omega (arith, c.in_ok-resize.ensures.len, c.resize.new.self.ok.0) in
     let whole : low + 256 * high ≡ c.args.count = omega arith in
     rw (c.in_ok-push.ensures.items, c.in_ok-push-2.ensures.items)
-    (joined-high lows highs room low high (c.len-index.result - vec_len c.self.inside.high) c.self.invariant full (rw (← size) c.in_ok-resize.ensures.items)
-    ∙ (λ i. joined lows highs ++ whole i ∷ [])
+    (joined-high 256 lows highs room low high (c.len-index.result - vec_len c.self.inside.high) c.self.invariant full (rw (← size) c.in_ok-resize.ensures.items)
+    ∙ (λ i. joined 256 lows highs ++ whole i ∷ [])
     ∙ ap (λ l. l ++ c.args.count ∷ []) c.self.view_is)
 
 pub returns-else-count-ge256 : goal.returns-else-count-ge256
@@ -25,6 +25,6 @@ returns-else-count-ge256 c =
     let highs = c.self.inside.high.items in
     let small : c.args.count % 256 ≡ c.args.count = omega (arith, c.if-count-ge256.false) in
     rw (c.in_ok-push.ensures.items)
-    (joined-low lows highs (c.args.count % 256) c.self.invariant
-    ∙ (λ i. joined lows highs ++ small i ∷ [])
+    (joined-low 256 lows highs (c.args.count % 256) c.self.invariant
+    ∙ (λ i. joined 256 lows highs ++ small i ∷ [])
     ∙ ap (λ l. l ++ c.args.count ∷ []) c.self.view_is)

@@ -1,6 +1,0 @@
-use Rattle.std.proofs.Common.{◌≡◌, map, take}
-use Rattle.gopher_catalogue.specs.Best.{ranked_hit}
-use Rattle.gopher_catalogue.proofs.best.hits_of.Given as goal
-
-abbrev pub invariant-loop-ranked : goal.invariant-loop-ranked
-invariant-loop-ranked l = l.hits.items ≡ map ranked_hit (take l.ranked-index l.best)

@@ -1,0 +1,14 @@
+-- What a crawl begins with, as data.
+use Rattle.std.specs.Prelude.{ℕ, List}
+use Rattle.gopher_item.specs.Place.{PlaceData}
+use Rattle.gopher_scope.specs.Scope.{ScopeData}
+
+-- its scope, its seeds, and how many places and tries it may have
+pub record OpeningData : Type 0 where
+  pub scope : ScopeData
+  pub seeds : List PlaceData
+  pub limit : ℕ
+  pub tries : ℕ
+
+abbrev pub opening_of : ScopeData → List PlaceData → ℕ → ℕ → OpeningData
+opening_of scope seeds limit tries = record { scope = scope; seeds = seeds; limit = limit; tries = tries }

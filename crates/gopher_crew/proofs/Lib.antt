@@ -1,0 +1,5 @@
+pub mod Beginnings
+pub mod Adding
+pub mod Publishing
+pub mod Records
+pub mod Keeping

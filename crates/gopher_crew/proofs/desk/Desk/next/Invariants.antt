@@ -1,0 +1,8 @@
+use Rattle.std.proofs.Common.{◌≡◌}
+use Rattle.gopher_crew.proofs.desk.Desk.next.Given as goal
+
+abbrev pub invariant-loop-round : goal.invariant-loop-round
+invariant-loop-round g l = record {
+  events : l.share.events ≡ l.initial.share.events;
+  parts : l.share.parts ≡ l.initial.share.parts;
+}

@@ -1,0 +1,69 @@
+-- Opening and closing a desk.
+use Rattle.std.specs.Prelude.{ℕ, ◌≡◌, ◌≢◌, ◌<◌, ◌-◌, Bool, ◌&&◌, nat_le, MatchBool, List, ◌∷◌, length, replicate}
+use Rattle.std.specs.List.{sum_by}
+use mathlib.Core.List.{IsPrefix}
+use Rattle.logbook.specs.Pages.{Book}
+use Rattle.gopher_catalogue.specs.declared.event.EventData.{EventData}
+use Rattle.gopher_crew.specs.declared.fault.DeskFault.{DeskFault}
+use Rattle.gopher_crew.specs.declared.fault.DeskFault.TheVariants.{BadCount}
+use Rattle.gopher_crew.specs.Crew.{PassData, ShareData}
+use Rattle.gopher_crew.specs.History.{BeginningData}
+
+-- what a desk is opened with: the name of a ledger and its parts, and a history with the events that were
+-- entered into it
+pub record BlankData : Type 0 where
+  pub name : ℕ
+  pub parts : ℕ
+  pub history : Book
+  pub begun : List EventData
+
+abbrev pub blank_data : ℕ → ℕ → BeginningData → BlankData
+blank_data name parts front = record { name = name; parts = parts; history = front.history; begun = front.events }
+
+-- whether a desk may have so many passes and shares
+abbrev pub are_counts : ℕ → ℕ → Bool
+are_counts passes shares = (nat_le 1 passes && nat_le passes 16) && (nat_le 1 shares && nat_le shares 16)
+
+-- which fault a refusal may have: the counts are bad, or another cause where they aren't
+abbrev pub IsDeskFault : ℕ → ℕ → DeskFault → Type 0
+IsDeskFault passes shares fault = MatchBool (are_counts passes shares) (fault ≢ BadCount) (fault ≡ BadCount)
+
+-- a pass that has seen the record, and was told of nothing else
+abbrev pub has_seen : List EventData → PassData
+has_seen record_ = record { seen = record_; told = record_ }
+
+-- the shares of a desk that opens: the first counts the events so far, the others none
+abbrev pub opening_shares : ℕ → ℕ → List ShareData
+opening_shares events shares = record { events = events; parts = 17 - shares } ∷ replicate (shares - 1) (record { events = 0; parts = 1 })
+
+-- so many passes that have seen the record
+abbrev pub AllHaveSeen : List EventData → ℕ → List PassData → Type 0
+AllHaveSeen record_ count passes = passes ≡ replicate count (has_seen record_)
+
+-- the shares of a desk that opens over a record
+abbrev pub shares_at : List EventData → ℕ → List ShareData
+shares_at record_ shares = opening_shares (length record_ - 1) shares
+
+-- how many events these shares count, and how many parts they have
+abbrev pub events_of : List ShareData → ℕ
+events_of shares = sum_by (λ share. share.events) shares
+
+abbrev pub parts_of : List ShareData → ℕ
+parts_of shares = sum_by (λ share. share.parts) shares
+
+-- the blank that comes back is the one that was handed in, but for events of the record that were entered
+pub record ComesBack (record_ : List EventData) (old new : BlankData) : Type 0 where
+  pub name : new.name ≡ old.name
+  pub parts : new.parts ≡ old.parts
+  pub history : new.history ≡ old.history
+  pub begun : IsPrefix new.begun record_
+
+-- some shares, with all parts of a ledger
+pub record HasAll (parts : ℕ) (shares : List ShareData) : Type 0 where
+  pub some : 0 < length shares
+  pub whole : parts_of shares ≡ parts
+
+-- other shares that count as many events, and have as many parts
+pub record AreJoined (old new : List ShareData) : Type 0 where
+  pub events : events_of new ≡ events_of old
+  pub parts : parts_of new ≡ parts_of old

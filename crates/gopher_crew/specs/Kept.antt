@@ -1,0 +1,69 @@
+-- What the calls of a desk answer, and what their notes say.
+use Rattle.std.specs.Prelude.{ℕ, ◌≡◌, ◌≢◌, ◌+◌, List, [], ◌∷◌, ◌++◌, Option, None, Some, slice_get}
+use Rattle.gopher_page.specs.Page.{PageData}
+use Rattle.gopher_catalogue.specs.declared.event.EventData.{EventData}
+use Rattle.gopher_catalogue.specs.declared.event.EventData.TheVariants.{Opened, Found, Failed}
+use Rattle.gopher_catalogue.specs.declared.event.Why.{Why}
+use Rattle.gopher_catalogue.specs.declared.answer.Added.{Added}
+use Rattle.gopher_catalogue.specs.declared.answer.Status.{Status}
+use Rattle.gopher_catalogue.specs.declared.fault.FoundFault.{FoundFault}
+use Rattle.gopher_catalogue.specs.Opening.{OpeningData}
+use Rattle.gopher_catalogue.specs.Fault.{IsFoundFault}
+use Rattle.gopher_catalogue.specs.Legal.{IsLegal}
+use Rattle.gopher_catalogue.specs.Step.{TurnData, Take, turn_of, after_turn, added_by, found_fault, status_of}
+use Rattle.gopher_crew.specs.Crew.{KeptData, ShareData}
+
+-- the note is there exactly where the published record is the whole record, and it is of that record
+abbrev pub IsNotedOn : Option (List EventData) → List EventData → List EventData → Type 0
+IsNotedOn (Some note) record_ published = (note ≡ record_) × (published ≡ record_)
+IsNotedOn None record_ published = published ≢ record_
+
+abbrev pub IsNoted : Option (List EventData) → KeptData → Type 0
+IsNoted note kept = IsNotedOn note kept.events kept.published
+
+-- the record after a claim
+abbrev pub IsTurned : KeptData → KeptData → Type 0
+IsTurned old new = new.events ≡ after_turn old.events (turn_of old.events)
+
+-- by how much a share rises at a turn
+abbrev pub rise_of : TurnData → ℕ
+rise_of (Take number place) = 1
+rise_of turn = 0
+
+-- the share rises by the event that a turn adds
+abbrev pub RisesAt : TurnData → ShareData → ShareData → Type 0
+RisesAt turn old new = new.events ≡ old.events + rise_of turn
+
+-- the fault of a page that is refused
+abbrev pub IsFindFault : KeptData → ℕ → PageData → FoundFault → Type 0
+IsFindFault kept number page fault = IsFoundFault (found_fault kept.events number page.place) fault
+
+-- the record begins with this opening
+abbrev pub IsOpeningOf : KeptData → OpeningData → Type 0
+IsOpeningOf kept opening = slice_get kept.events 0 ≡ Some (Opened opening)
+
+-- the note of a claim is of a legal record on which the claim answers this turn, and which ends with it
+pub record NotesTurn (turn : TurnData) (note : List EventData) : Type 0 where
+  pub before : List EventData
+  pub is_turn : turn_of before ≡ turn
+  pub is_after : note ≡ after_turn before turn
+  pub is_legal : IsLegal note
+
+-- the note of a page is of a legal record that ends with the page, which added so much
+pub record NotesFind (number : ℕ) (page : PageData) (added : Added) (note : List EventData) : Type 0 where
+  pub before : List EventData
+  pub is_added : added_by before number page ≡ added
+  pub is_after : note ≡ before ++ Found number page ∷ []
+  pub is_legal : IsLegal note
+
+-- the note of a failure is of a legal record that ends with the failure
+pub record NotesFailure (number : ℕ) (why : Why) (note : List EventData) : Type 0 where
+  pub before : List EventData
+  pub is_after : note ≡ before ++ Failed number why ∷ []
+  pub is_legal : IsLegal note
+
+-- the status of a legal record
+pub record IsStatus (status : Status) : Type 0 where
+  pub record_ : List EventData
+  pub is_legal : IsLegal record_
+  pub is_status : status ≡ status_of record_

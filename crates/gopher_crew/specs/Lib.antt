@@ -1,0 +1,7 @@
+pub mod History
+pub mod Version
+pub mod Crew
+pub mod Fault
+pub mod Kept
+pub mod Desk
+pub mod Work

@@ -1,0 +1,47 @@
+-- What a worker does.
+use Rattle.std.specs.Prelude.{ℕ, ◌≡◌, ◌+◌, ◌*◌, ◌≤◌, ◌⊎◌, min, List, Result, Ok, Err}
+use Rattle.gopher_item.specs.Place.{PlaceData}
+use Rattle.gopher_scope.specs.Scope.{ScopeData}
+use Rattle.gopher_page.specs.Page.{PageData, page_of}
+use Rattle.gopher_catalogue.specs.declared.event.Why.{Why}
+use Rattle.gopher_catalogue.specs.declared.event.Why.TheVariants.{NoMemory}
+use Rattle.gopher_crew.specs.Crew.{ShareData}
+use Rattle.gopher_crew.specs.declared.working.Outcome.{Outcome}
+use Rattle.gopher_crew.specs.declared.working.Outcome.TheVariants.{Found, Failed, Refused}
+
+-- the count of a fetcher's calls after one more
+abbrev pub one_more_call : ℕ → ℕ
+one_more_call calls = min (calls + 1) 18446744073709551615
+
+-- how many events an outcome adds
+abbrev pub outcome_rise : Outcome → ℕ
+outcome_rise Found = 1
+outcome_rise Failed = 1
+outcome_rise Refused = 0
+
+-- what a turn adds to a share is at most one event, and covers what it adds to the outcomes
+pub record Serves (share outcomes share' outcomes' : ℕ) : Type 0 where
+  pub at_least : share ≤ share'
+  pub at_most : share' ≤ share + 1
+  pub covered : outcomes' + share ≤ outcomes + share'
+
+-- a share rose by at most two for each call of the fetcher, unless the count of its calls is at its last
+-- value
+abbrev pub IsPaid : ShareData → ShareData → ℕ → ℕ → Type 0
+IsPaid old new calls calls' = (calls' ≡ 18446744073709551615) ⊎ (new.events + 2 * calls ≤ old.events + 2 * calls')
+
+-- a share rose from one count to another: by at least two for each outcome, and by at most two for each
+-- call of the fetcher, unless the count of its calls is at its last value
+pub record Earns (before calls after calls' outcomes : ℕ) : Type 0 where
+  pub at_least : before + 2 * outcomes ≤ after
+  pub at_most : (calls' ≡ 18446744073709551615) ⊎ (after + 2 * calls ≤ before + 2 * calls')
+
+-- the bytes that were fetched of a place become its page, unless memory is refused
+abbrev pub SettlesBytes : ScopeData → PlaceData → List ℕ → Result PageData Why → Type 0
+SettlesBytes scope place bytes (Ok page) = page ≡ page_of scope place bytes
+SettlesBytes scope place bytes (Err why) = why ≡ NoMemory
+
+-- why nothing was fetched stays
+abbrev pub SettlesWhy : Why → Result PageData Why → Type 0
+SettlesWhy why (Ok page) = ⊥
+SettlesWhy why (Err reason) = reason ≡ why

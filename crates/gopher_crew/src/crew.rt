@@ -1,0 +1,16 @@
+//! Which crew it is.
+
+use std::marker::Brand;
+use std::sync::ledger::Ledger;
+
+/// Which crew it is: the names of its ledger and of its history. A caller names it by `Brand`, and
+/// picks the names of the blank that the desk is opened with.
+pub trait Crew: Ledger {
+    ghost use Rattle.logbook.specs.Pages.{Book};
+
+    ghost history: { Book };
+}
+
+impl Crew for Brand {
+    ghost history = { record { number = 0; log_name = 0; cells_name = 0 } };
+}

@@ -1,0 +1,283 @@
+//! The desk at which a crew crawls.
+
+ghost use Rattle.std.specs.Prelude.{◌≡◌, ◌≢◌, ◌+◌, ◌≤◌, [], length, true, vec_capacity, IfOk, IfErr, IfSome, IsOk, OnOk, OnErr};
+ghost use mathlib.Core.List.{IsPrefix};
+ghost use Rattle.gopher_catalogue.specs.Legal.{IsLegal};
+ghost use Rattle.gopher_catalogue.specs.Turn.{turn_data};
+ghost use Rattle.gopher_crew.specs.Desk.{are_counts, shares_at, events_of, AllHaveSeen, AreJoined, ComesBack, IsDeskFault, HasAll};
+ghost use Rattle.gopher_crew.specs.Kept.{RisesAt, NotesTurn, NotesFind, NotesFailure, IsStatus};
+
+use crate::blank::Blank;
+use crate::crew::Crew;
+use crate::fault::DeskFault;
+use crate::journal::Journal;
+use crate::kept::Kept;
+use crate::note::Note;
+use crate::opening::{cut, show};
+use crate::pass::Pass;
+use crate::share::Share;
+use crate::shelf::Shelf;
+use gopher_catalogue::{Added, Catalogue, FailRefused, FoundRefused, Opening, Status, Turn, Why};
+use gopher_item::NoMemory;
+use gopher_page::Page;
+use std::alloc::Global;
+use std::sync::{Arc, Condvar, Mutex, Wait};
+
+/// A catalogue that a crew of workers crawls together, while passes search what is published of it.
+#[derive(Drop)]
+pub struct Desk<C: Crew, R: Wait + Drop> {
+    kept: Mutex<Kept<C, R>>,
+    outcomes: Condvar,
+}
+
+/// A desk that wasn't opened, with what was handed in.
+#[derive(Drop)]
+pub struct DeskRefused {
+    /// Why.
+    pub fault: DeskFault,
+    /// The catalogue that was handed in.
+    pub catalogue: Catalogue,
+    /// The blank that was handed in. A part of the catalogue's record may have been entered into its
+    /// history.
+    pub blank: Blank,
+}
+
+/// A desk that wasn't closed, since the shares don't count all its events (62), with what was handed in.
+#[derive(Drop)]
+pub struct CloseRefused<C: Crew, R: Wait + Drop> {
+    /// The desk.
+    pub desk: Desk<C, R>,
+    /// The shares, joined into one.
+    pub shares: Vec<Share<C>>,
+    /// How many events the record has after the first.
+    pub events: u64,
+}
+
+impl<C: Crew, R: Wait + Drop> CloseRefused<C, R> {
+    /// The number of this fault, 62.
+    pub fn code(&self) -> u8
+        ensures { result ≡ 62 }
+    {
+        62
+    }
+}
+
+fn are_counts(passes: u32, shares: u32) -> bool
+    ensures { result ≡ are_counts passes shares }
+{
+    1 <= passes && passes <= 16 && 1 <= shares && shares <= 16
+}
+
+fn refused(fault: DeskFault, catalogue: Catalogue, blank: Blank) -> DeskRefused
+    ensures fault { result.fault ≡ fault }
+    ensures catalogue { result.catalogue ≡ catalogue }
+    ensures blank { result.blank ≡ blank }
+{
+    DeskRefused {
+        fault,
+        catalogue,
+        blank,
+    }
+}
+
+// The desk over a catalogue of which all was entered and is shown, and its shares.
+fn start<C: Crew, R: Wait + Drop>(
+    alloc: Global,
+    catalogue: Catalogue,
+    blank: Blank,
+    shelf: Shelf<C, R>,
+    shares: u32,
+    list: &mut Vec<Share<C>>,
+) -> Desk<C, R>
+    requires name { blank.name ≡ C.name }
+    requires parts { blank.parts ≡ C.parts }
+    requires history { blank.history ≡ C.history }
+    requires begun { blank.begun ≡ catalogue }
+    requires shown { shelf ≡ catalogue }
+    requires counts { (1 ≤ shares) × (shares ≤ 16) }
+    requires empty { list.old.items ≡ [] }
+    requires room { shares ≤ vec_capacity list.old }
+    ensures shares { list.new.items ≡ shares_at catalogue shares }
+    ensures whole { HasAll C.parts list.new.items }
+{
+    let events = catalogue.record().len() as u64 - 1;
+    let Blank { count, head, front } = blank;
+    let (mut book, mut whole) = count.open::<C>();
+    book.add(&mut whole, events);
+    cut(whole, events, shares, list);
+    let journal = Journal::new(alloc, head, front, shelf);
+    Desk {
+        kept: Mutex::new(Kept::new(catalogue, book, journal)),
+        outcomes: Condvar::new(),
+    }
+}
+
+impl<C: Crew, R: Wait + Drop> Desk<C, R> {
+    /// Opens a desk over a catalogue, with so many passes, each of which has seen the whole record, and
+    /// so many shares, of which the first counts the events that the record has already. `rt` is what
+    /// publications wait by.
+    ///
+    /// The blank is a new one, or came back with this catalogue; the crew has its names.
+    ///
+    /// Refused, in this order: `BadCount` (60) where the number of passes or of shares is not 1 to 16;
+    /// `NoEntry` (61) where a pass can't enter what is published; `NoMemory` (90). The catalogue and the
+    /// blank come back.
+    pub fn open(
+        rt: R,
+        alloc: Global,
+        catalogue: Catalogue,
+        passes: u32,
+        shares: u32,
+        blank: Blank,
+    ) -> Result<(Desk<C, R>, Vec<Pass<C>>, Vec<Share<C>>), DeskRefused>
+        requires name { blank.name ≡ C.name }
+        requires parts { blank.parts ≡ C.parts }
+        requires history { blank.history ≡ C.history }
+        requires begun { IsPrefix blank.begun catalogue }
+        ensures ok { OnOk result (are_counts passes shares ≡ true) }
+        ensures passes { IfOk result (λ opened. AllHaveSeen catalogue passes opened.1.items) }
+        ensures shares { IfOk result (λ opened. opened.2.items ≡ shares_at catalogue shares) }
+        ensures whole { IfOk result (λ opened. HasAll C.parts opened.2.items) }
+        ensures fault { IfErr result (λ refused. IsDeskFault passes shares refused.fault) }
+        ensures catalogue_back { IfErr result (λ refused. refused.catalogue ≡ catalogue) }
+        ensures blank_back { IfErr result (λ refused. ComesBack catalogue blank refused.blank) }
+    {
+        if !are_counts(passes, shares) {
+            return Err(refused(DeskFault::BadCount, catalogue, blank));
+        }
+        let mut blank = blank;
+        if !blank.enter(&catalogue) {
+            return Err(refused(DeskFault::NoEntry, catalogue, blank));
+        }
+        let Ok(mut list) = Vec::with_capacity(alloc, shares as usize) else {
+            return Err(refused(DeskFault::NoMemory, catalogue, blank));
+        };
+        match show(alloc, rt, catalogue.index(), blank.front(), passes) {
+            Ok((shelf, passes)) => {
+                let desk = start(alloc, catalogue, blank, shelf, shares, &mut list);
+                Ok((desk, passes, list))
+            }
+            Err(fault) => Err(refused(fault, catalogue, blank)),
+        }
+    }
+}
+
+impl<C: Crew, R: Wait + Drop> Desk<C, R> {
+    /// Claims the first place that waits. The share rises by one where it takes a place. The note, where
+    /// there is one, is of a legal record on which the claim answers this turn.
+    ///
+    /// Refused only where memory is (90).
+    pub fn claim<W: Wait>(
+        &self,
+        rt: &W,
+        share: &mut Share<C>,
+    ) -> Result<(Turn, Option<Note<C>>), NoMemory>
+        ensures noted { IfOk result (λ reply. IfSome reply.1 (NotesTurn (turn_data reply.0))) }
+        ensures share { IfOk result (λ reply. RisesAt (turn_data reply.0) share.old share.new) }
+        ensures parts { share.new.parts ≡ share.old.parts }
+        ensures err { OnErr result (share.new ≡ share.old) }
+    {
+        self.kept.lock(rt).claim(share)
+    }
+
+    /// Takes in the page of a place that is out. The share rises by one. The note, where there is one,
+    /// is of a legal record that ends with the page.
+    ///
+    /// Refused, in this order: `NotOut` (52), `WrongPlace` (53), `NoMemory` (90). The page comes back.
+    pub fn found<W: Wait>(
+        &self,
+        rt: &W,
+        share: &mut Share<C>,
+        number: u32,
+        page: Page,
+    ) -> Result<(Added, Option<Note<C>>), FoundRefused>
+        ensures noted { IfOk result (λ reply. IfSome reply.1 (NotesFind number page reply.0)) }
+        ensures share { OnOk result (share.new.events ≡ share.old.events + 1) }
+        ensures parts { share.new.parts ≡ share.old.parts }
+        ensures page_back { IfErr result (λ refused. refused.page ≡ page) }
+        ensures err { OnErr result (share.new ≡ share.old) }
+    {
+        let reply = self.kept.lock(rt).found(share, number, page)?;
+        self.outcomes.notify_all();
+        Ok(reply)
+    }
+
+    /// Notes that a place that is out could not be fetched. The share rises by one. The note, where there
+    /// is one, is of a legal record that ends with the failure.
+    ///
+    /// Refused (52) where the number is not out.
+    pub fn fail<W: Wait>(
+        &self,
+        rt: &W,
+        share: &mut Share<C>,
+        number: u32,
+        why: Why,
+    ) -> Result<Option<Note<C>>, FailRefused>
+        ensures noted { IfOk result (λ note. IfSome note (NotesFailure number why)) }
+        ensures share { OnOk result (share.new.events ≡ share.old.events + 1) }
+        ensures parts { share.new.parts ≡ share.old.parts }
+        ensures err { OnErr result (share.new ≡ share.old) }
+    {
+        let note = self.kept.lock(rt).fail(share, number, why)?;
+        self.outcomes.notify_all();
+        Ok(note)
+    }
+
+    /// What the crawl began with.
+    pub(crate) fn opening<W: Wait>(&self, rt: &W) -> Result<Arc<Opening>, NoMemory> {
+        self.kept.lock(rt).opening()
+    }
+
+    /// Claims the first place that waits; where some are out, it waits for their outcomes first.
+    pub(crate) fn next<W: Wait>(&self, rt: &W, share: &mut Share<C>) -> Result<Turn, NoMemory>
+        ensures share { IfOk result (λ turn. RisesAt (turn_data turn) share.old share.new) }
+        ensures parts { share.new.parts ≡ share.old.parts }
+        ensures err { OnErr result (share.new ≡ share.old) }
+    {
+        let mut kept = self.kept.lock(rt);
+        for _round in rt.forever() {
+            let (turn, _note) = kept.claim(share)?;
+            let Turn::Idle = turn else {
+                return Ok(turn);
+            };
+            kept = self.outcomes.wait(rt, kept);
+        }
+        unreachable!()
+    }
+
+    /// The sizes of the frontier, which are those of a legal record. Takes no memory.
+    pub fn status<W: Wait>(&self, rt: &W) -> Status
+        ensures { IsStatus result }
+    {
+        self.kept.lock(rt).status()
+    }
+
+    /// Ends the desk, and gives its catalogue. With all shares that `open` gave it isn't refused. Takes
+    /// no memory.
+    ///
+    /// Refused (62) where the shares don't count all events of the record after the first; then the desk
+    /// comes back, and the shares joined into one.
+    pub fn close(self, shares: Vec<Share<C>>) -> Result<Catalogue, CloseRefused<C, R>>
+        ensures counted { IfOk result (λ catalogue. length catalogue ≡ events_of shares.items + 1) }
+        ensures legal { IfOk result (λ catalogue. IsLegal catalogue) }
+        ensures events { IfErr result (λ refused. refused.events ≢ events_of shares.items) }
+        ensures shares_back { IfErr result (λ refused. AreJoined shares.items refused.shares.items) }
+        ensures whole { HasAll C.parts shares.items → IsOk result }
+    {
+        let Desk { kept, outcomes } = self;
+        let mut kept = kept.into_inner();
+        let mut shares = shares;
+        let sum = kept.gather(&mut shares);
+        let events = kept.events();
+        if sum != events {
+            let kept = Mutex::new(kept);
+            let desk = Desk { kept, outcomes };
+            return Err(CloseRefused {
+                desk,
+                shares,
+                events,
+            });
+        }
+        Ok(kept.end())
+    }
+}

@@ -1,0 +1,24 @@
+//! What fetches the replies of places.
+
+ghost use Rattle.std.specs.Prelude.{◌≡◌, ℕ, ◌≤◌, vec_len, IfOk};
+ghost use Rattle.gopher_crew.specs.Work.{one_more_call};
+
+use gopher_catalogue::Why;
+use gopher_item::Place;
+use std::alloc::Global;
+
+/// Fetches the replies of places. `R` is the runtime that it needs: a fetch over a network waits for its
+/// peer, one in memory for nobody.
+pub trait Fetch<R> {
+    ghost called: { Self → ℕ };
+
+    /// How many fetches were made, failed or not, up to the last value of a `u64`. Takes no memory.
+    fn calls(&self) -> u64
+        ensures { result ≡ called self.now };
+
+    /// The reply of a place, of at most `limit` bytes, which is at most 1,048,576; or why there is none.
+    fn fetch(&mut self, rt: &R, alloc: Global, place: &Place, limit: usize) -> Result<Vec<u8>, Why>
+        requires { limit ≤ 1048576 }
+        ensures within { IfOk result (λ bytes. vec_len bytes ≤ limit) }
+        ensures calls { called self.new ≡ one_more_call (called self.old) };
+}

@@ -1,0 +1,5 @@
+//! For tests and wrong bodies: what stands behind a desk's lock, and the part of a worker's turn that needs
+//! no lock. No other crate uses it.
+
+pub use crate::kept::Kept;
+pub use crate::settling::settle;

@@ -1,0 +1,57 @@
+//! Notes: what a call of a desk tells of the published record.
+
+ghost use Rattle.std.specs.Prelude.{◌≡◌, length};
+ghost use Rattle.gopher_catalogue.specs.Legal.{IsLegal};
+
+use crate::crew::Crew;
+use crate::history::Beginning;
+use std::marker::{Model, PhantomData};
+
+/// Tells that a record was published. Contracts see it as that record.
+#[derive(Drop)]
+pub struct Note<C: Crew> {
+    front: Beginning,
+    of: PhantomData<C>,
+}
+
+impl<C: Crew> Model for Note<C> {
+    ghost use Rattle.std.specs.Prelude.{◌≡◌, List};
+    ghost use Rattle.gopher_catalogue.specs.declared.event.EventData.{EventData};
+    ghost use Rattle.gopher_catalogue.specs.Legal.{IsLegal};
+
+    ghost Value = { List EventData };
+
+    ghost view = { λ n. n.front.events };
+
+    ghost invariant = { λ n. (n.front.history ≡ C.history) × IsLegal n.front.events };
+}
+
+impl<C: Crew> Note<C> {
+    /// The note of a record.
+    pub(crate) fn of(front: &Beginning) -> Note<C>
+        requires history { front.now.history ≡ C.history }
+        requires legal { IsLegal front.now.events }
+        ensures { result ≡ front.now.events }
+    {
+        Note {
+            front: front.again(),
+            of: PhantomData,
+        }
+    }
+
+    /// The record, as a beginning of the crew's history.
+    pub(crate) fn front(&self) -> &Beginning
+        ensures history { result.now.history ≡ C.history }
+        ensures events { result.now.events ≡ self.now }
+    {
+        &self.front
+    }
+
+    /// The length of the record. Takes no memory.
+    pub fn at(&self) -> u32
+        ensures at { result ≡ length self.now }
+        ensures legal { IsLegal self.now }
+    {
+        self.front.len()
+    }
+}

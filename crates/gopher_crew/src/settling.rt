@@ -1,0 +1,31 @@
+//! The part of a worker's turn that needs no lock.
+
+ghost use Rattle.std.specs.Prelude.{◌≤◌, vec_len, IfOk, IfErr};
+ghost use Rattle.gopher_crew.specs.Work.{SettlesBytes, SettlesWhy};
+
+use gopher_catalogue::Why;
+use gopher_item::Place;
+use gopher_page::Page;
+use gopher_scope::Scope;
+use std::alloc::Global;
+
+/// The page of what was fetched of a place, of at most 1,048,576 bytes; or why there is none: the reason
+/// of the fetch, or `NoMemory` where memory was refused.
+pub fn settle(
+    alloc: Global,
+    scope: &Scope,
+    place: &Place,
+    fetched: Result<Vec<u8>, Why>,
+) -> Result<Page, Why>
+    requires { IfOk fetched (λ bytes. vec_len bytes ≤ 1048576) }
+    ensures fetched { IfOk fetched (λ bytes. SettlesBytes scope.now place.now bytes.items result) }
+    ensures unfetched { IfErr fetched (λ why. SettlesWhy why result) }
+{
+    match fetched {
+        Ok(bytes) => match Page::of(alloc, scope, place, &bytes) {
+            Ok(page) => Ok(page),
+            Err(_refused) => Err(Why::NoMemory),
+        },
+        Err(why) => Err(why),
+    }
+}

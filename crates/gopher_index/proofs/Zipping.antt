@@ -1,0 +1,40 @@
+-- Elements that a loop takes on by the counts at their places.
+use Rattle.std.proofs.Common.{◌≡◌, ℕ, zero, suc, ◌+◌, ◌<◌, List, [], ◌∷◌, length, map, take, get_or, set, refl, sym, ap, ◌∙◌, arith}
+use Rattle.gopher_index.specs.Cells.{zipped}
+
+module _ {X : Type 0} (step : X → ℕ → X) where
+  pub zipped_none : (xs : List X) → xs ≡ zipped step xs []
+  zipped_none [] = refl
+  zipped_none (x ∷ xs) = refl
+
+  pub length-zipped : (xs : List X) (counts : List ℕ) → length (zipped step xs counts) ≡ length xs
+  length-zipped [] counts = refl
+  length-zipped (x ∷ xs) [] = refl
+  length-zipped (x ∷ xs) (count ∷ counts) = let rest = length-zipped xs counts in omega arith
+
+  -- an element that the loop hasn't come to
+  pub zipped_at : (xs : List X) (counts : List ℕ) (i : ℕ) (d : X) → get_or (zipped step xs (take i counts)) i d ≡ get_or xs i d
+  zipped_at [] counts i d = refl
+  zipped_at (x ∷ xs) [] zero d = refl
+  zipped_at (x ∷ xs) [] (suc i) d = refl
+  zipped_at (x ∷ xs) (count ∷ counts) zero d = refl
+  zipped_at (x ∷ xs) (count ∷ counts) (suc i) d = zipped_at xs counts i d
+
+  next : (xs : List X) (counts : List ℕ) (i : ℕ) (x : X) → i < length xs → i < length counts → set (zipped step xs (take i counts)) i (step (get_or xs i x) (get_or counts i 0)) ≡ zipped step xs (take (suc i) counts)
+  next [] counts i x within some = absurd (omega (arith, within))
+  next (y ∷ xs) [] i x within some = absurd (omega (arith, some))
+  next (y ∷ xs) (count ∷ counts) zero x within some = ap (λ l. step y count ∷ l) (zipped_none xs)
+  next (y ∷ xs) (count ∷ counts) (suc i) x within some = ap (λ l. step y count ∷ l) (next xs counts i x (omega arith) (omega arith))
+
+  -- one more step of the loop
+  pub zipped_next : (initial now : List X) (counts : List ℕ) (i : ℕ) (d : X) → length initial ≡ length counts → i < length counts → now ≡ zipped step initial (take i counts)
+      → set now i (step (get_or now i d) (get_or counts i 0)) ≡ zipped step initial (take (i + 1) counts)
+  zipped_next initial now counts i d same within so_far =
+      let more : i + 1 ≡ suc i = omega arith in
+      let here : get_or now i d ≡ get_or initial i d = ap (λ l. get_or l i d) so_far ∙ zipped_at initial counts i d in
+      (λ j. set (so_far j) i (step (here j) (get_or counts i 0))) ∙ next initial counts i d (omega arith) within ∙ ap (λ n. zipped step initial (take n counts)) (sym more)
+
+-- where the elements and the counts are both made of the same
+pub zipped_map : {X Y : Type 0} (step : X → ℕ → X) (f : Y → X) (g : Y → ℕ) (ys : List Y) → zipped step (map f ys) (map g ys) ≡ map (λ y. step (f y) (g y)) ys
+zipped_map step f g [] = refl
+zipped_map step f g (y ∷ ys) = ap (λ l. step (f y) (g y) ∷ l) (zipped_map step f g ys)

@@ -1,0 +1,19 @@
+use Rattle.std.proofs.Common.{◌≡◌, map, sym, ap, subst, ◌∙◌}
+use Rattle.std.specs.Arc.{arc_value}
+use Rattle.gopher_index.specs.Best.{answer_from}
+use Rattle.gopher_index.specs.Segment.{pages_of}
+use Rattle.gopher_index.proofs.Segments.{pages-none}
+use Rattle.gopher_index.proofs.Taking.{answer_of_none}
+use Rattle.gopher_index.proofs.search.best_of_terms.Goals as goal
+
+pub returns-in_default-clause-best : goal.returns-in_default-clause-best
+returns-in_default-clause-best c =
+    c.new.ensures.hits ∙ answer_of_none c.new.result.least c.args.terms.now
+    ∙ ap (λ pages. answer_from c.new.result.least pages c.args.terms.now) (pages-none arc_value c.args.segments.now c.in_default.ensures.cases)
+
+pub returns-clause-best : goal.returns-clause-best
+returns-clause-best c =
+    let of_first : c.in_ok-best.best.hits ≡ answer_from c.in_ok-best.best.least (arc_value c.in-Some.first.now).pages c.args.terms.now =
+    subst (λ segment. c.in_ok-best.best.hits ≡ answer_from c.in_ok-best.best.least segment.pages c.args.terms.now) c.deref-2.ensures c.in_ok-best.ensures.best in
+    c.in_ok-take_segments_in.ensures.answers (arc_value c.in-Some.first.now).pages of_first
+    ∙ ap (λ segments. answer_from c.take_segments_in.new.best.least (pages_of (map arc_value segments)) c.args.terms.now) (sym c.in-Some.ensures.cases.0)

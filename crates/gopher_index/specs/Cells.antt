@@ -1,0 +1,38 @@
+-- What the terms of a query say of pages: an array with an element for each page.
+use Rattle.std.specs.Prelude.{◌≡◌, ℕ, Bool, false, ◌&&◌, ◌||◌, nat_le, List, [], ◌∷◌, map}
+use Rattle.gopher_page.specs.Counts.{count_meant}
+use Rattle.gopher_page.specs.Page.{PageData}
+use Rattle.gopher_page.specs.Query.{TermData, count_of_term, matches, score}
+
+-- each element as a step takes it on by the count at its place; those past the counts stay
+abbrev pub zipped : {X : Type 0} → (X → ℕ → X) → List X → List ℕ → List X
+zipped step [] counts = []
+zipped step (x ∷ xs) [] = x ∷ xs
+zipped step (x ∷ xs) (count ∷ counts) = step x count ∷ zipped step xs counts
+
+-- how often the words that are meant stand in each page
+abbrev pub meant_counts : Bool → List ℕ → List PageData → List ℕ
+meant_counts is_prefix sought pages = map (λ page. count_meant is_prefix sought page.counts) pages
+
+-- how often the words that a term speaks of stand in each page
+abbrev pub term_counts : TermData → List PageData → List ℕ
+term_counts term pages = map (λ page. count_of_term page.counts term) pages
+
+-- whether each page matches these terms
+abbrev pub truths_of : List TermData → List PageData → List Bool
+truths_of terms pages = map (λ page. matches terms page.counts) pages
+
+-- the score of each page for these terms
+abbrev pub scores_of : List TermData → List PageData → List ℕ
+scores_of terms pages = map (λ page. score terms page.counts) pages
+
+-- both, for the pages of a segment
+pub record AreCells (terms : List TermData) (pages : List PageData) (truths : List Bool) (scores : List ℕ) : Type 0 where
+  pub matching : truths ≡ truths_of terms pages
+  pub scoring : scores ≡ scores_of terms pages
+
+-- whether a page matches with a score that reaches the lowest
+abbrev pub any_reaches : ℕ → List Bool → List ℕ → Bool
+any_reaches lowest [] scores = false
+any_reaches lowest (truth ∷ truths) [] = false
+any_reaches lowest (truth ∷ truths) (score ∷ scores) = (truth && nat_le lowest score) || any_reaches lowest truths scores

@@ -1,0 +1,9 @@
+pub mod Parts
+pub mod Postings
+pub mod Rows
+pub mod Segment
+pub mod SegmentRows
+pub mod Answer
+pub mod Best
+pub mod Cells
+pub mod OneTerm

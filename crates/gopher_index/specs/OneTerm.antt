@@ -1,0 +1,25 @@
+-- The postings of one term.
+use Rattle.std.specs.Prelude.{◌≡◌, ◌⊎◌, ℕ, zero, suc, ◌+◌, ◌-◌, ◌<◌, Bool, false, ◌==◌, List, [], ◌∷◌, ◌++◌, length, drop, slice_index}
+use Rattle.std.specs.List.{AllByRecursion, zip}
+use Rattle.gopher_page.specs.Page.{PageData}
+use Rattle.gopher_page.specs.Query.{TermData}
+use Rattle.gopher_index.specs.Best.{BestData, TakesIn}
+use Rattle.gopher_index.specs.Cells.{term_counts}
+use Rattle.gopher_index.specs.Postings.{run_of}
+
+-- whether a posting is of the same page as the one before it
+abbrev pub is_again : List ℕ → ℕ → Bool
+is_again numbers zero = false
+is_again numbers (suc index) = slice_index numbers index == slice_index numbers (suc index)
+
+-- the postings of a term up to an index were gone through: pages were taken in, and what is left of the
+-- postings of the last of them stands before those of the pages ahead
+pub record Walk (term : TermData) (first : ℕ) (pages : List PageData) (numbers counts : List ℕ) (old now : BestData) (index : ℕ) : Type 0 where
+  pub passed : List PageData
+  pub ahead : List PageData
+  pub left : List (ℕ × ℕ)
+  pub whole : pages ≡ passed ++ ahead
+  pub rest : drop index (zip numbers counts) ≡ left ++ run_of (first + length passed) (term_counts term ahead)
+  pub same : AllByRecursion (λ posting. suc posting.0 ≡ first + length passed) left
+  pub behind : ((index ≡ 0) × (left ≡ [])) ⊎ ((0 < index) × (suc (slice_index numbers (index - 1)) ≡ first + length passed))
+  pub taken : TakesIn (term ∷ []) passed old now

@@ -1,0 +1,13 @@
+-- Pages in segments.
+use Rattle.std.specs.Prelude.{ℕ, List}
+use Rattle.std.specs.List.{flat_map}
+use Rattle.gopher_page.specs.Page.{PageData}
+
+-- consecutive pages, and the number of the first
+pub record SegmentData : Type 0 where
+  pub first : ℕ
+  pub pages : List PageData
+
+-- the pages of segments, one segment after another
+abbrev pub pages_of : List SegmentData → List PageData
+pages_of segments = flat_map (λ segment. segment.pages) segments

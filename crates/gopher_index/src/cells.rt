@@ -1,0 +1,170 @@
+//! What the terms of a query say of the pages of a segment, brought up to date term by term.
+
+ghost use Rattle.std.specs.Prelude.{◌≡◌, ℕ, ◌+◌, ◌*◌, ◌^◌, ◌≤◌, ◌∷◌, [], ◌++◌, List, length, nat_lt, replicate, true, false, OnOk};
+ghost use Rattle.std.specs.List.{All};
+ghost use Rattle.gopher_page.specs.Query.{TermData, is_not, joined};
+ghost use Rattle.gopher_index.specs.Cells.{AreCells, term_counts, zipped};
+
+use crate::likely::Highest;
+use crate::segment::Segment;
+use gopher_item::NoMemory;
+use gopher_page::{Operator, Term};
+use std::alloc::Global;
+
+/// What terms say of each page of a segment: whether they match it, and its score.
+///
+/// One is made for a search, and its memory serves segment after segment.
+#[derive(Drop)]
+pub(crate) struct Cells {
+    counts: Vec<u32>,
+    pub truths: Vec<bool>,
+    pub scores: Vec<u32>,
+}
+
+fn join_truths(operator: Operator, truths: &mut [bool], counts: &[u32])
+    requires { length truths.old ≡ length counts.now }
+    ensures { truths.new ≡ zipped (λ truth count. joined operator truth (nat_lt 0 count)) truths.old counts.now }
+{
+    for (index, count) in counts.iter().enumerate() {
+        truths[index] = operator.join(truths[index], *count > 0);
+    }
+}
+
+fn add_counts(scores: &mut [u32], counts: &[u32])
+    requires same { length scores.old ≡ length counts.now }
+    requires room { All (λ score. score ≤ 2 ^ 31) scores.old }
+    requires few { All (λ count. count ≤ 1048576) counts.now }
+    ensures { scores.new ≡ zipped (λ score count. score + count) scores.old counts.now }
+{
+    for (index, count) in counts.iter().enumerate() {
+        scores[index] += *count;
+    }
+}
+
+// Writes how often the words that a term speaks of stand in each page.
+fn spread_term(segment: &Segment, term: &Term, counts: &mut [u32])
+    requires { length counts.old ≡ length segment.now.pages }
+    ensures counts { counts.new ≡ term_counts term.now segment.now.pages }
+    ensures few { All (λ count. count ≤ 1048576) counts.new }
+{
+    counts.fill(0);
+    segment.spread(term.is_prefix(), term.word(), counts);
+}
+
+// What the terms before this one say, joined by what it says itself; the counts are overwritten.
+fn join_term(
+    segment: &Segment,
+    term: &Term,
+    counts: &mut [u32],
+    truths: &mut [bool],
+    scores: &mut [u32],
+)
+    requires counts { length counts.old ≡ length segment.now.pages }
+    requires truths { length truths.old ≡ length segment.now.pages }
+    requires scores { length scores.old ≡ length segment.now.pages }
+    requires room { All (λ score. score ≤ 2 ^ 31) scores.old }
+    ensures cells { (terms : List TermData) → AreCells terms segment.now.pages truths.old scores.old → AreCells (terms ++ term.now ∷ []) segment.now.pages truths.new scores.new }
+    ensures few { (bound : ℕ) → All (λ score. score ≤ bound) scores.old → All (λ score. score ≤ bound + 1048576) scores.new }
+{
+    spread_term(segment, term, counts);
+    join_truths(term.operator(), truths, counts);
+    if !term.operator().is_not() {
+        add_counts(scores, counts);
+    }
+}
+
+// What the first term says: its counts are the scores, so that they are written where these stand.
+fn first_term(segment: &Segment, term: &Term, truths: &mut [bool], scores: &mut [u32])
+    requires wanted { is_not term.now.operator ≡ false }
+    requires truths { truths.old ≡ replicate (length segment.now.pages) true }
+    requires scores { scores.old ≡ replicate (length segment.now.pages) 0 }
+    ensures cells { AreCells (term.now ∷ []) segment.now.pages truths.new scores.new }
+    ensures few { All (λ score. score ≤ 1048576) scores.new }
+{
+    segment.spread(term.is_prefix(), term.word(), scores);
+    join_truths(term.operator(), truths, scores);
+}
+
+// What the terms before these say, joined by what these say one after another.
+fn join_more(
+    segment: &Segment,
+    terms: &[Term],
+    counts: &mut [u32],
+    truths: &mut [bool],
+    scores: &mut [u32],
+)
+    requires few { length terms.now ≤ 1024 }
+    requires counts { length counts.old ≡ length segment.now.pages }
+    requires truths { length truths.old ≡ length segment.now.pages }
+    requires scores { length scores.old ≡ length segment.now.pages }
+    requires room { All (λ score. score ≤ 1048576) scores.old }
+    ensures { (before : List TermData) → AreCells before segment.now.pages truths.old scores.old → AreCells (before ++ terms.now) segment.now.pages truths.new scores.new }
+{
+    for term in terms {
+        join_term(segment, term, counts, truths, scores);
+    }
+}
+
+// What all terms say, from what none of them does.
+fn join_terms(
+    segment: &Segment,
+    terms: &[Term],
+    counts: &mut [u32],
+    truths: &mut [bool],
+    scores: &mut [u32],
+)
+    requires few { length terms.now ≤ 1024 }
+    requires counts { length counts.old ≡ length segment.now.pages }
+    requires truths { truths.old ≡ replicate (length segment.now.pages) true }
+    requires scores { scores.old ≡ replicate (length segment.now.pages) 0 }
+    ensures { AreCells terms.now segment.now.pages truths.new scores.new }
+{
+    match terms {
+        [first, rest @ ..] if !first.operator().is_not() => {
+            first_term(segment, first, truths, scores);
+            join_more(segment, rest, counts, truths, scores);
+        }
+        _ => join_more(segment, terms, counts, truths, scores),
+    }
+}
+
+impl Cells {
+    /// No cells.
+    pub fn new(alloc: Global) -> Cells {
+        Cells {
+            counts: Vec::new(alloc),
+            truths: Vec::new(alloc),
+            scores: Vec::new(alloc),
+        }
+    }
+
+    /// Makes them say what terms, at most 1,024, say of the pages of a segment. Refused only where
+    /// memory is (90).
+    pub fn fill(&mut self, segment: &Segment, terms: &[Term]) -> Result<(), NoMemory>
+        requires { length terms.now ≤ 1024 }
+        ensures { OnOk result (AreCells terms.now segment.now.pages self.new.truths.items self.new.scores.items) }
+    {
+        let size = segment.pages().len();
+        self.counts.resize(size, 0)?;
+        self.truths.clear();
+        self.truths.resize(size, true)?;
+        self.scores.clear();
+        self.scores.resize(size, 0)?;
+        let Cells {
+            counts,
+            truths,
+            scores,
+        } = self;
+        join_terms(segment, terms, counts, truths, scores);
+        Ok(())
+    }
+
+    /// The score that pages of the segment probably reach, so many of them.
+    pub fn likely_score(&self, wanted: usize) -> u64
+        requires { length self.now.scores.items ≡ length self.now.truths.items }
+    {
+        let mut highest = Highest::new();
+        highest.note_scores(&self.truths, &self.scores);
+        highest.reached(wanted)
+    }
+}

@@ -1,0 +1,95 @@
+//! In which pages a word stands.
+
+ghost use Rattle.std.specs.Prelude.{◌≡◌, ℕ, ◌≤◌, ◌++◌, ◌∷◌, [], false, List, length, map, nat_lt, IfOk, OnOk, if◌then◌else◌};
+ghost use Rattle.std.specs.Arc.{arc_value};
+ghost use Rattle.gopher_index.specs.Answer.{AreOccurrences, occurrences_among};
+ghost use Rattle.gopher_index.specs.Cells.{meant_counts};
+ghost use Rattle.gopher_index.specs.Segment.{pages_of};
+
+use crate::segment::Segment;
+use gopher_item::{NoMemory, Place};
+use gopher_page::Page;
+use std::alloc::Global;
+use std::sync::Arc;
+
+// Adds a page in which the word stands so often, unless it doesn't stand there.
+fn push_page(page: &Page, count: u32, found: &mut Vec<(Place, u32)>) -> Result<(), NoMemory>
+    ensures { OnOk result (found.new.items ≡ found.old.items ++ (if nat_lt 0 count then (page.now.place, count) ∷ [] else [])) }
+{
+    if count > 0 {
+        found.push((page.place().clone()?, count))?;
+    }
+    Ok(())
+}
+
+fn push_counted(
+    pages: &[Arc<Page>],
+    counts: &[u32],
+    found: &mut Vec<(Place, u32)>,
+) -> Result<(), NoMemory>
+    requires { length counts.now ≡ length pages.now }
+    ensures { (word : List ℕ) → counts.now ≡ meant_counts false word (map arc_value pages.now) → OnOk result (found.new.items ≡ found.old.items ++ occurrences_among word (map arc_value pages.now)) }
+{
+    for (index, page) in pages.iter().enumerate() {
+        push_page(page, counts[index], found)?;
+    }
+    Ok(())
+}
+
+fn push_segment(
+    alloc: Global,
+    segment: &Segment,
+    word: &[u8],
+    found: &mut Vec<(Place, u32)>,
+) -> Result<(), NoMemory>
+    ensures { OnOk result (found.new.items ≡ found.old.items ++ occurrences_among word.now segment.now.pages) }
+{
+    let pages = segment.pages();
+    let mut counts = vec![in alloc; 0; pages.len()]?;
+    segment.spread(false, word, &mut counts);
+    push_counted(pages, &counts, found)
+}
+
+fn push_segments(
+    alloc: Global,
+    segments: &[Arc<Segment>],
+    word: &[u8],
+    found: &mut Vec<(Place, u32)>,
+) -> Result<(), NoMemory>
+    ensures { OnOk result (found.new.items ≡ found.old.items ++ occurrences_among word.now (pages_of (map arc_value segments.now))) }
+{
+    for segment in segments {
+        push_segment(alloc, segment, word, found)?;
+    }
+    Ok(())
+}
+
+fn push_loose(
+    pages: &[Arc<Page>],
+    word: &[u8],
+    found: &mut Vec<(Place, u32)>,
+) -> Result<(), NoMemory>
+    ensures { OnOk result (found.new.items ≡ found.old.items ++ occurrences_among word.now (map arc_value pages.now)) }
+{
+    for page in pages {
+        push_page(page, page.count(word), found)?;
+    }
+    Ok(())
+}
+
+/// The occurrences of a word in the pages of segments and in loose pages behind them. Refused only
+/// where memory is (90).
+pub(crate) fn occurrences(
+    alloc: Global,
+    segments: &[Arc<Segment>],
+    loose: &[Arc<Page>],
+    word: &[u8],
+) -> Result<Vec<(Place, u32)>, NoMemory>
+    ensures { IfOk result (λ list. AreOccurrences (pages_of (map arc_value segments.now) ++ map arc_value loose.now) word.now list.items) }
+{
+    let mut found = Vec::new(alloc);
+    push_segments(alloc, segments, word, &mut found)?;
+    push_loose(loose, word, &mut found)?;
+    found.sort()?;
+    Ok(found)
+}

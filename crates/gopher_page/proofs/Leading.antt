@@ -1,0 +1,82 @@
+-- The first bytes of words as numbers are in the order of the words.
+use Rattle.std.proofs.Common.{◌≡◌, ◌⊎◌, ℕ, zero, suc, ◌+◌, ◌*◌, ◌^◌, ◌<◌, ◌≤◌, List, [], ◌∷◌, length, drop, get_or, refl, sym, ap, ◌∙◌, inl, inr, arith}
+use Rattle.std.proofs.lemmas.Bool.{lt-ltb, le-ltb, eq-eqb, ne_eqb, cases_order}
+use Rattle.std.proofs.lemmas.List.{at_drop_more, at_drop_all, get_or_past}
+use Rattle.std.proofs.Math.Nat.{pow-suc, one-le-pow, add-mul, mul_assoc, mul_comm, mul-le-mul_right}
+use Rattle.std.specs.Ordering.{nat_cmp, ordering_then, ordering_reverse}
+use Rattle.std.specs.Cmp.Lexicographic.{nat_list_cmp_total}
+use Rattle.std.specs.declared.cmp.Ordering.{Ordering}
+use Rattle.std.specs.declared.cmp.Ordering.TheVariants.{Less, Equal}
+use Rattle.gopher_page.specs.Numbered.{leading, AreBytes}
+use Rattle.gopher_page.proofs.Tallies.{compare}
+
+-- ---- the number, byte by byte
+
+none : (count : ℕ) → leading count [] ≡ 0
+unfolding leading
+none zero = refl
+none (suc count) = refl
+
+-- the number of what stands from a byte on
+first : (count i : ℕ) (word : List ℕ) → (i < length word) ⊎ (length word ≤ i) → leading (suc count) (drop i word) ≡ get_or word i 0 * 256 ^ count + leading count (drop (i + 1) word)
+unfolding leading
+first count i word (inl within) = at_drop_more (leading (suc count)) word i 0 within
+first count i word (inr past) =
+    let here : get_or word i 0 ≡ 0 = get_or_past word i 0 past in
+    let left : leading (suc count) (drop i word) ≡ 0 = at_drop_all (leading (suc count)) word i past in
+    let right : leading count (drop (i + 1) word) ≡ 0 = at_drop_all (leading count) word (i + 1) (omega arith) ∙ none count in
+    left ∙ sym ((λ k. here k * 256 ^ count + right k) ∙ zero_times (256 ^ count))
+  where
+    zero_times : (n : ℕ) → 0 * n + 0 ≡ 0
+    zero_times n = omega arith
+
+shifted : (number byte place : ℕ) → (number * 256 + byte) * place ≡ number * (place * 256) + byte * place
+shifted number byte place = add-mul (number * 256) byte place ∙ ap (λ n. n + byte * place) (mul_assoc number 256 place ∙ ap (λ n. number * n) (mul_comm 256 place))
+
+-- one more byte is read
+pub leading_more : (number byte i count : ℕ) (word : List ℕ) → (i < length word) ⊎ (length word ≤ i) → byte ≡ get_or word i 0
+    → (number * 256 + byte) * 256 ^ count + leading count (drop (i + 1) word) ≡ number * 256 ^ suc count + leading (suc count) (drop i word)
+leading_more number byte i count word where_it_is is =
+    let place : ℕ = 256 ^ count in
+    let rest : ℕ = leading count (drop (i + 1) word) in
+    let next : leading (suc count) (drop i word) ≡ byte * place + rest = first count i word where_it_is ∙ ap (λ b. b * place + rest) (sym is) in
+    let grown : number * 256 ^ suc count ≡ number * (place * 256) = ap (λ n. number * n) (pow-suc 256 count) in
+    omega (arith, shifted number byte place, next, grown)
+
+-- ---- the order
+
+leading_below : (count : ℕ) (word : List ℕ) → AreBytes word → leading count word < 256 ^ count
+unfolding leading
+leading_below zero word bytes = omega arith
+leading_below (suc count) [] bytes = omega (arith, one-le-pow (suc count) 256 (omega arith))
+leading_below (suc count) (byte ∷ word) bytes =
+    let high : byte ≤ 255 = omega (arith, bytes 0) in
+    omega (arith, mul-le-mul_right {m = byte} {n = 255} (256 ^ count) high, leading_below count word (λ i. bytes (suc i)), pow-suc 256 count)
+
+-- words come as their numbers do, where these differ
+pub leading_less : (count : ℕ) (a b : List ℕ) → AreBytes a → AreBytes b → leading count a < leading count b → compare a b ≡ Less
+unfolding leading
+leading_less zero a b p q less = absurd (omega arith)
+leading_less (suc count) [] [] p q less = absurd (omega arith)
+leading_less (suc count) [] (y ∷ b) p q less = refl
+leading_less (suc count) (x ∷ a) [] p q less = absurd (omega arith)
+leading_less (suc count) (x ∷ a) (y ∷ b) p q less = by (cases_order x y) (leading_less count a b (λ i. p (suc i)) (λ i. q (suc i)))
+  where
+    by : (x ≡ y) ⊎ ((x < y) ⊎ (y < x)) → (leading count a < leading count b → compare a b ≡ Less) → ordering_then (nat_cmp x y) (compare a b) ≡ Less
+    by (inl same) rest =
+        let products : x * 256 ^ count ≡ y * 256 ^ count = ap (λ z. z * 256 ^ count) same in
+        rw (le-ltb x y (omega arith), eq-eqb x y same) (rest (omega arith))
+    by (inr (inl below)) rest = rw (lt-ltb x y below)
+    by (inr (inr above)) rest =
+        let more : suc y ≤ x = omega arith in
+        absurd (omega (arith, mul-le-mul_right {m = suc y} {n = x} (256 ^ count) more, add-mul y 1 (256 ^ count), leading_below count b (λ i. q (suc i))))
+
+-- the order of two numbers that differ is that of their words
+pub ordered_by_number : (r : Ordering) (m n count : ℕ) (a b : List ℕ) → AreBytes a → AreBytes b → m ≡ leading count a → n ≡ leading count b → r ≡ nat_cmp m n → (r ≡ Equal → ⊥) → r ≡ compare a b
+ordered_by_number r m n count a b p q is_m is_n is apart = by (cases_order m n)
+  where
+    by : (m ≡ n) ⊎ ((m < n) ⊎ (n < m)) → r ≡ compare a b
+    by (inl same) = absurd (apart (is ∙ rw (le-ltb m n (omega arith), eq-eqb m n same)))
+    by (inr (inl below)) = (is ∙ rw (lt-ltb m n below)) ∙ sym (leading_less count a b p q (omega (arith, is_m, is_n)))
+    by (inr (inr above)) =
+        (is ∙ rw (le-ltb m n (omega arith), ne_eqb m n (λ same. omega arith))) ∙ sym (nat_list_cmp_total.antisymm a b ∙ ap ordering_reverse (leading_less count b a q p (omega (arith, is_m, is_n))))

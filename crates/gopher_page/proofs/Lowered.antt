@@ -1,0 +1,128 @@
+-- The words of lines are those that stand in the joined lines in lower case; how many there are, and their bytes.
+use Rattle.std.proofs.Common.{◌≡◌, ℕ, suc, ◌+◌, ◌<◌, ◌≤◌, Bool, true, false, cond, ◌&&◌, ◌||◌, leb, ltb, List, [], ◌∷◌, ◌++◌, length, map, filter, sum_by, refl, sym, ap, ◌∙◌, append_assoc, arith}
+use Rattle.std.proofs.lemmas.Bool.{le-leb, leb-true, ltb-true, both_ways}
+use Rattle.std.proofs.lemmas.Bool.Decides.{nat_tests}
+use Rattle.std.proofs.lemmas.List.{length-append, length-map, map-append}
+use Rattle.std.proofs.lemmas.List.Elements.{filter-append}
+use Rattle.std.proofs.lemmas.List.Sums.{sum_by-cons, sum_by-append}
+use Rattle.std.specs.List.{slice_split, onto_first, flat_map}
+use Rattle.gopher_item.proofs.Splits.{some_part}
+use Rattle.gopher_item.specs.Place.{lower_case}
+use Rattle.gopher_page.specs.Words.{is_gap, is_word, is_word_byte, bare_words, words_of}
+use Rattle.gopher_page.proofs.Short.{split_size, filter_size, map_size}
+
+-- ---- lower case
+
+lower_gap : (byte : ℕ) → is_gap (lower_case byte) ≡ is_gap byte
+lower_gap byte = by (leb 65 byte) (leb byte 90) refl refl
+  where
+    P : Bool → Type 0
+    P t = is_gap (cond t (byte + 32) byte) ≡ is_gap byte
+
+    by : (a b : Bool) → leb 65 byte ≡ a → leb byte 90 ≡ b → P (a && b)
+    by true true e f = grind (arith, nat_tests)
+    by true false e f = refl
+    by false b e f = refl
+
+lower_onto : (byte : ℕ) (parts : List (List ℕ)) → onto_first (lower_case byte) (map (map lower_case) parts) ≡ map (map lower_case) (onto_first byte parts)
+lower_onto byte [] = refl
+lower_onto byte (part ∷ parts) = refl
+
+split_lower : (bytes : List ℕ) → slice_split is_gap (map lower_case bytes) ≡ map (map lower_case) (slice_split is_gap bytes)
+split_lower [] = refl
+split_lower (byte ∷ bytes) =
+    (λ i. cond (lower_gap byte i) ([] ∷ split_lower bytes i) (onto_first (lower_case byte) (split_lower bytes i))) ∙ by (is_gap byte)
+  where
+    by : (t : Bool)
+        → cond t ([] ∷ map (map lower_case) (slice_split is_gap bytes)) (onto_first (lower_case byte) (map (map lower_case) (slice_split is_gap bytes)))
+        ≡ map (map lower_case) (cond t ([] ∷ slice_split is_gap bytes) (onto_first byte (slice_split is_gap bytes)))
+    by true = refl
+    by false = lower_onto byte (slice_split is_gap bytes)
+
+is_word-lower : (part : List ℕ) → is_word (map lower_case part) ≡ is_word part
+is_word-lower part = ap (λ n. ltb 0 n && leb n 40) (length-map part lower_case)
+
+filter_lower : (parts : List (List ℕ)) → filter is_word (map (map lower_case) parts) ≡ map (map lower_case) (filter is_word parts)
+filter_lower [] = refl
+filter_lower (part ∷ parts) =
+    (λ i. cond (is_word-lower part i) (map lower_case part ∷ filter_lower parts i) (filter_lower parts i)) ∙ by (is_word part)
+  where
+    by : (t : Bool) → cond t (map lower_case part ∷ map (map lower_case) (filter is_word parts)) (map (map lower_case) (filter is_word parts)) ≡ map (map lower_case) (cond t (part ∷ filter is_word parts) (filter is_word parts))
+    by true = refl
+    by false = refl
+
+pub bare_words-lower : (bytes : List ℕ) → bare_words (map lower_case bytes) ≡ words_of bytes
+unfolding bare_words words_of
+bare_words-lower bytes = ap (filter is_word) (split_lower bytes) ∙ filter_lower (slice_split is_gap bytes)
+
+-- ---- lines
+
+onto_append : (byte : ℕ) (parts more : List (List ℕ)) (first : List ℕ) (others : List (List ℕ)) → parts ≡ first ∷ others → onto_first byte (parts ++ more) ≡ onto_first byte parts ++ more
+onto_append byte parts more first others is = ap (λ l. onto_first byte (l ++ more)) is ∙ sym (ap (λ l. onto_first byte l ++ more) is)
+
+split_feed : (line rest : List ℕ) → slice_split is_gap (line ++ 10 ∷ rest) ≡ slice_split is_gap line ++ slice_split is_gap rest
+split_feed [] rest = refl
+split_feed (byte ∷ line) rest = ap (λ l. cond (is_gap byte) ([] ∷ l) (onto_first byte l)) (split_feed line rest) ∙ by (is_gap byte)
+  where
+    by : (t : Bool) → cond t ([] ∷ (slice_split is_gap line ++ slice_split is_gap rest)) (onto_first byte (slice_split is_gap line ++ slice_split is_gap rest))
+        ≡ cond t ([] ∷ slice_split is_gap line) (onto_first byte (slice_split is_gap line)) ++ slice_split is_gap rest
+    by true = refl
+    by false =
+        let part = some_part is_gap line in
+        onto_append byte (slice_split is_gap line) (slice_split is_gap rest) part.0 part.1 part.2
+
+words_of-feed : (line rest : List ℕ) → words_of (line ++ 10 ∷ rest) ≡ words_of line ++ words_of rest
+unfolding words_of
+words_of-feed line rest =
+    ap (λ parts. map (map lower_case) (filter is_word parts)) (split_feed line rest)
+    ∙ ap (map (map lower_case)) (filter-append is_word (slice_split is_gap line) (slice_split is_gap rest))
+    ∙ map-append (map lower_case) (filter is_word (slice_split is_gap line)) (filter is_word (slice_split is_gap rest))
+
+words_of-empty : words_of [] ≡ []
+unfolding words_of
+words_of-empty = refl
+
+words_of-lines : (lines : List (List ℕ)) → words_of (flat_map (λ line. line ++ 10 ∷ []) lines) ≡ flat_map words_of lines
+words_of-lines [] = words_of-empty
+words_of-lines (line ∷ lines) =
+    ap words_of (append_assoc line (10 ∷ []) (flat_map (λ l. l ++ 10 ∷ []) lines))
+    ∙ words_of-feed line (flat_map (λ l. l ++ 10 ∷ []) lines) ∙ ap (λ l. words_of line ++ l) (words_of-lines lines)
+
+-- the words that stand in the joined lines in lower case
+pub words_of_lines : (lines : List (List ℕ)) → bare_words (map lower_case (flat_map (λ line. line ++ 10 ∷ []) lines)) ≡ flat_map words_of lines
+words_of_lines lines = bare_words-lower (flat_map (λ line. line ++ 10 ∷ []) lines) ∙ words_of-lines lines
+
+-- ---- sizes
+
+words_size : (bytes : List ℕ) → sum_by length (words_of bytes) ≤ length bytes
+unfolding words_of
+words_size bytes =
+    omega (arith, map_size (map lower_case) (λ line. omega (arith, length-map line lower_case)) (filter is_word (slice_split is_gap bytes)), filter_size is_word (slice_split is_gap bytes), split_size is_gap bytes)
+
+pub lines_words_size : (lines : List (List ℕ)) → sum_by length (flat_map words_of lines) ≤ sum_by length lines
+lines_words_size [] = omega arith
+lines_words_size (line ∷ lines) =
+    omega (arith, words_size line, lines_words_size lines, sum_by-append (length {A = ℕ}) (words_of line) (flat_map words_of lines), sum_by-cons (length {A = ℕ}) line lines)
+
+both_first : (a b : Bool) → (a && b) ≡ true → a ≡ true
+both_first true b e = refl
+both_first false b e = e
+
+-- each word has a byte
+filter_count : (parts : List (List ℕ)) → length (filter is_word parts) ≤ sum_by length parts
+filter_count [] = omega arith
+filter_count (part ∷ parts) = by (is_word part) refl (filter_count parts)
+  where
+    by : (t : Bool) → is_word part ≡ t → length (filter is_word parts) ≤ sum_by length parts → length (cond t (part ∷ filter is_word parts) (filter is_word parts)) ≤ sum_by length (part ∷ parts)
+    by true e rest = omega (arith, rest, ltb-true 0 (length part) (both_first (ltb 0 (length part)) (leb (length part) 40) e), sum_by-cons (length {A = ℕ}) part parts)
+    by false e rest = omega (arith, rest, sum_by-cons (length {A = ℕ}) part parts)
+
+words_count : (bytes : List ℕ) → length (words_of bytes) ≤ length bytes
+unfolding words_of
+words_count bytes =
+    omega (arith, length-map (filter is_word (slice_split is_gap bytes)) (map lower_case), filter_count (slice_split is_gap bytes), split_size is_gap bytes)
+
+pub lines_words_count : (lines : List (List ℕ)) → length (flat_map words_of lines) ≤ sum_by length lines
+lines_words_count [] = omega arith
+lines_words_count (line ∷ lines) =
+    omega (arith, words_count line, lines_words_count lines, length-append (words_of line) (flat_map words_of lines), sum_by-cons (length {A = ℕ}) line lines)

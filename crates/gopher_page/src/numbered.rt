@@ -1,0 +1,126 @@
+//! Words with their first bytes as a number, which orders most of them.
+
+ghost use Rattle.std.specs.Prelude.{◌≡◌, Some, map, nat_eq, IfOk, refl};
+ghost use Rattle.std.specs.Ordering.{nat_cmp};
+ghost use Rattle.std.specs.Cmp;
+ghost use Rattle.std.specs.Cmp.Lexicographic.{pointwise, slice_cmp, nat_list_eq_equiv, nat_list_cmp_total, texts_ties, texts_po};
+ghost use Rattle.gopher_page.specs.Numbered.{leading};
+
+use gopher_item::NoMemory;
+use std::alloc::Global;
+use std::cmp::Ordering;
+use std::marker::Model;
+
+// The first eight bytes of a word as one number, the first the highest; one that is missing counts as 0.
+fn leading_number(word: &[u8]) -> u64
+    ensures { result ≡ leading 8 word.now }
+{
+    let mut number = 0;
+    for index in 0..8 {
+        let byte = if index < word.len() { word[index] } else { 0 };
+        number = number * 256 + u64::from(byte);
+    }
+    number
+}
+
+/// A word, and its first eight bytes as one number.
+///
+/// In the order of the bytes, two words whose numbers differ come as these do.
+#[derive(Debug, Drop)]
+pub struct Numbered<'a> {
+    number: u64,
+    word: &'a [u8],
+}
+
+impl<'a> Model for Numbered<'a> {
+    ghost use Rattle.std.specs.Prelude.{ℕ, List};
+
+    ghost Value = { List ℕ };
+
+    ghost use Rattle.gopher_page.specs.Numbered.{IsNumbered};
+
+    ghost view = { λ n. n.word.now };
+
+    ghost invariant = { λ n. IsNumbered n.number n.word.now };
+}
+
+impl<'a> Numbered<'a> {
+    /// The word with its number. Takes no memory.
+    pub fn new(word: &'a [u8]) -> Self
+        ensures { result ≡ word.now }
+    {
+        Numbered {
+            number: leading_number(word),
+            word,
+        }
+    }
+
+    /// The same word, with its number. Takes no memory.
+    pub fn again(&self) -> Numbered<'a>
+        ensures { result ≡ self.now }
+    {
+        Numbered {
+            number: self.number,
+            word: self.word,
+        }
+    }
+
+    /// The word. Takes no memory.
+    pub fn word(&self) -> &'a [u8]
+        ensures { result.now ≡ self.now }
+    {
+        self.word
+    }
+}
+
+impl<'a> PartialEq for Numbered<'a> {
+    ghost eq = { pointwise nat_eq };
+
+    ghost laws = { Cmp.partial_equiv_from_equiv nat_list_eq_equiv };
+
+    fn eq(&self, other: &Numbered<'a>) -> bool {
+        self.number == other.number && self.word == other.word
+    }
+}
+
+impl<'a> Eq for Numbered<'a> {
+    ghost laws = { nat_list_eq_equiv };
+}
+
+impl<'a> PartialOrd for Numbered<'a> {
+    ghost partial_cmp = { λ x y. Some (slice_cmp nat_cmp x y) };
+
+    ghost laws = { texts_po };
+
+    fn partial_cmp(&self, other: &Numbered<'a>) -> Option<Ordering> {
+        Some(self.cmp(other))
+    }
+}
+
+impl<'a> Ord for Numbered<'a> {
+    ghost cmp = { slice_cmp nat_cmp };
+
+    ghost total = { nat_list_cmp_total };
+
+    ghost matches_partial_cmp = { λ x y. refl };
+
+    ghost matches_eq = { texts_ties };
+
+    fn cmp(&self, other: &Numbered<'a>) -> Ordering {
+        match self.number.cmp(&other.number) {
+            Ordering::Equal => self.word.cmp(other.word),
+            order => order,
+        }
+    }
+}
+
+/// The words alone, in the same order. Refused only where memory is (90).
+pub fn slices<'a>(alloc: Global, words: &[Numbered<'a>]) -> Result<Vec<&'a [u8]>, NoMemory>
+    ensures { IfOk result (λ slices. map (λ word. word.now) slices.items ≡ words.now) }
+{
+    let mut slices = Vec::with_capacity(alloc, words.len())?;
+    for word in words {
+        slices.push(word.word())?;
+    }
+    Ok(slices)
+}

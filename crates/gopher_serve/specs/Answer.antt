@@ -1,0 +1,104 @@
+-- The reply to a request line: a function of the tree's files, the server's address, the line, and how its search ended.
+use Rattle.std.specs.Prelude.{◌≡◌, ℕ, Bool, nat_eq, List, [], ◌∷◌, map, Option, None, Some, if◌then◌else◌}
+use Rattle.std.specs.Cmp.Lexicographic.{pointwise}
+use mathlib.Core.List.{IsPrefix}
+use Rattle.gopher_item.specs.MenuLine.{MenuLineData, menu_bytes}
+use Rattle.gopher_item.specs.Place.{HomeData}
+use Rattle.gopher_item.specs.Request.{request_fault, request_of}
+use Rattle.gopher_item.specs.declared.fault.RequestFault.{RequestFault}
+use Rattle.gopher_item.specs.declared.request.Request.{Request}
+use Rattle.gopher_page.specs.Query.{TermData, query_of}
+use Rattle.gopher_index.specs.declared.hit.Hit.{Hit}
+use Rattle.gopher_tree.specs.Files.{File}
+use Rattle.gopher_tree.specs.Reply.{error_bytes, tree_reply}
+use Rattle.gopher_catalogue.specs.Legal.{IsLegal}
+use Rattle.gopher_crew.specs.Crew.{PassData, hits_of}
+
+-- `/search`
+abbrev pub is_search : List ℕ → Bool
+is_search selector = pointwise nat_eq selector (47 ∷ 115 ∷ 101 ∷ 97 ∷ 114 ∷ 99 ∷ 104 ∷ [])
+
+-- the error replies `Bad request`, `No words` and `No catalogue`
+abbrev pub bad_request_bytes : HomeData → List ℕ
+bad_request_bytes home = error_bytes (66 ∷ 97 ∷ 100 ∷ 32 ∷ 114 ∷ 101 ∷ 113 ∷ 117 ∷ 101 ∷ 115 ∷ 116 ∷ []) home
+
+abbrev pub no_words_bytes : HomeData → List ℕ
+no_words_bytes home = error_bytes (78 ∷ 111 ∷ 32 ∷ 119 ∷ 111 ∷ 114 ∷ 100 ∷ 115 ∷ []) home
+
+abbrev pub no_catalogue_bytes : HomeData → List ℕ
+no_catalogue_bytes home = error_bytes (78 ∷ 111 ∷ 32 ∷ 99 ∷ 97 ∷ 116 ∷ 97 ∷ 108 ∷ 111 ∷ 103 ∷ 117 ∷ 101 ∷ []) home
+
+-- a hit as a line of a menu: the type, title, selector, host and port of the page that was found
+abbrev pub hit_line : Hit → MenuLineData
+hit_line hit = record { kind = hit.place.kind; display = hit.title; selector = hit.place.selector; host = hit.place.host; port = hit.place.port }
+
+abbrev pub hits_bytes : List Hit → List ℕ
+hits_bytes hits = menu_bytes (map hit_line hits)
+
+-- the terms that a search string asks for; none where there is no string
+abbrev pub asked : Option (List ℕ) → List TermData
+asked None = []
+asked (Some text) = query_of text
+
+-- how a search ended: with these hits, or without, where no version could be entered
+abbrev pub search_reply : HomeData → List TermData → Option (List Hit) → List ℕ
+search_reply home [] outcome = no_words_bytes home
+search_reply home (term ∷ terms) None = no_catalogue_bytes home
+search_reply home (term ∷ terms) (Some hits) = hits_bytes hits
+
+abbrev pub request_reply : List File → HomeData → Request → Option (List Hit) → List ℕ
+request_reply files home request outcome =
+    if is_search request.selector then search_reply home (asked request.search) outcome else tree_reply files home request.selector
+
+abbrev pub reply_at : List File → HomeData → Option RequestFault → Request → Option (List Hit) → List ℕ
+reply_at files home (Some fault) request outcome = bad_request_bytes home
+reply_at files home None request outcome = request_reply files home request outcome
+
+-- the reply to a line, given without its end
+abbrev pub reply_of : List File → HomeData → List ℕ → Option (List Hit) → List ℕ
+reply_of files home line outcome = reply_at files home (request_fault line) (request_of line) outcome
+
+-- the terms that a line asks the catalogue for; none where it is refused, is no search, or has no words
+abbrev pub terms_at : Option RequestFault → Request → List TermData
+terms_at (Some fault) request = []
+terms_at None request = if is_search request.selector then asked request.search else []
+
+abbrev pub terms_of_line : List ℕ → List TermData
+terms_of_line line = terms_at (request_fault line) (request_of line)
+
+-- a pass may have seen more, and be told of more; nothing that it knew is gone
+pub record SeesOn (old new : PassData) : Type 0 where
+  pub seen : IsPrefix old.seen new.seen
+  pub told : IsPrefix old.told new.told
+
+-- the hits are the answer of one legal record, which begins with all that the pass had seen or was told of
+pub record Finds (old new : PassData) (terms : List TermData) (hits : List Hit) : Type 0 where
+  pub legal : IsLegal new.seen
+  pub hits_are : hits ≡ hits_of new.seen terms
+  pub after_seen : IsPrefix old.seen new.seen
+  pub after_told : IsPrefix old.told new.seen
+  pub none_told : new.told ≡ new.seen
+
+-- what a search leaves of its pass, by how it ended; a pass is asked nothing where there are no terms
+abbrev pub Searches : PassData → PassData → List TermData → Option (List Hit) → Type 0
+Searches old new [] outcome = new ≡ old
+Searches old new (term ∷ terms) None = SeesOn old new
+Searches old new (term ∷ terms) (Some hits) = Finds old new (term ∷ terms) hits
+
+-- the reply to a search for these terms
+pub record AnswersTerms (home : HomeData) (old new : PassData) (terms : List TermData) (reply : List ℕ) : Type 0 where
+  pub outcome : Option (List Hit)
+  pub searched : Searches old new terms outcome
+  pub reply_is : reply ≡ search_reply home terms outcome
+
+-- the reply to a request
+pub record AnswersRequest (files : List File) (home : HomeData) (old new : PassData) (request : Request) (reply : List ℕ) : Type 0 where
+  pub outcome : Option (List Hit)
+  pub searched : Searches old new (terms_at None request) outcome
+  pub reply_is : reply ≡ request_reply files home request outcome
+
+-- the reply to a line, and what it leaves of the pass
+pub record AnswersLine (files : List File) (home : HomeData) (old new : PassData) (line reply : List ℕ) : Type 0 where
+  pub outcome : Option (List Hit)
+  pub searched : Searches old new (terms_of_line line) outcome
+  pub reply_is : reply ≡ reply_of files home line outcome

@@ -1,0 +1,58 @@
+-- What a fetch sent and read, by how it ended.
+use Rattle.std.specs.Prelude.{◌≡◌, ℕ, ◌+◌, ◌<◌, ◌≤◌, ◌⊎◌, List, [], ◌∷◌, ◌++◌, length, take, Option}
+use Rattle.std.specs.Io.KnownBytes.{Appends, Consumes, IsAtEnd}
+use Rattle.gopher_item.specs.Place.{PlaceData}
+use Rattle.gopher_text.specs.Watched.{WatchedData, HasFailed}
+use Rattle.gopher_text.specs.declared.fault.ReplyFault.{ReplyFault}
+use Rattle.gopher_text.specs.declared.fault.ReplyFault.TheVariants as reply_fault
+use Rattle.gopher_catalogue.specs.declared.event.Why.{Why}
+use Rattle.gopher_catalogue.specs.declared.event.Why.TheVariants.{Connect, Read, Write, TooLong, NoMemory}
+
+-- what is sent for a place: its selector, and CR LF
+abbrev pub request_bytes : PlaceData → List ℕ
+request_bytes place = place.selector ++ 13 ∷ 10 ∷ []
+
+abbrev pub why_of : ReplyFault → Why
+why_of reply_fault.ReadFailed = Read
+why_of reply_fault.TooManyTurns = Read
+why_of reply_fault.ReplyTooLong = TooLong
+why_of reply_fault.NoMemory = NoMemory
+
+-- the request was sent whole, and then these bytes were read. What a stream gives may depend on what was sent to it, so
+-- the reading begins with the stream as the sending left it.
+pub record SendsThenReads {S : Type 0} (contents remaining : S → Option (List ℕ)) (request : List ℕ) (old middle new : WatchedData S) (bytes : List ℕ) : Type 0 where
+  pub sent : Appends (contents old.device) (contents middle.device) request
+  pub read : Consumes (remaining middle.device) (remaining new.device) bytes
+  pub counted : old.failures ≤ middle.failures
+
+-- the bytes are all that the stream gave once the request was sent
+pub record Fetches {S : Type 0} (contents remaining : S → Option (List ℕ)) (limit : ℕ) (request : List ℕ) (old new : WatchedData S) (bytes : List ℕ) : Type 0 where
+  pub middle : WatchedData S
+  pub talked : SendsThenReads contents remaining request old middle new bytes
+  pub whole : IsAtEnd (remaining new.device)
+  pub few : length bytes ≤ limit
+
+-- a beginning of the request was sent, and then writes failed
+pub record SendsPart {S : Type 0} (contents : S → Option (List ℕ)) (request : List ℕ) (old new : WatchedData S) : Type 0 where
+  pub count : ℕ
+  pub part : count < length request
+  pub sent : Appends (contents old.device) (contents new.device) (take count request)
+  pub failed : HasFailed old.failures new.failures
+
+-- the request was sent, and these bytes of the reply were read, which is given up for the reason that `P` says
+pub record GivesUp {S : Type 0} (contents remaining : S → Option (List ℕ)) (request : List ℕ) (old new : WatchedData S) (P : WatchedData S → List ℕ → Type 0) : Type 0 where
+  pub middle : WatchedData S
+  pub bytes : List ℕ
+  pub talked : SendsThenReads contents remaining request old middle new bytes
+  pub reason : P middle bytes
+
+-- why there is no reply, and what was sent and read then
+abbrev pub FailsToFetch : {S : Type 0} → (S → Option (List ℕ)) → (S → Option (List ℕ)) → ℕ → List ℕ → WatchedData S → WatchedData S → Why → Type 0
+FailsToFetch contents remaining limit request old new Connect = ⊥
+FailsToFetch contents remaining limit request old new Write = SendsPart contents request old new
+FailsToFetch contents remaining limit request old new Read =
+    GivesUp contents remaining request old new (λ middle bytes. (length bytes ≤ limit) × HasFailed middle.failures new.failures)
+FailsToFetch contents remaining limit request old new TooLong =
+    GivesUp contents remaining request old new (λ middle bytes. length bytes ≡ limit + 1)
+FailsToFetch contents remaining limit request old new NoMemory =
+    (new ≡ old) ⊎ GivesUp contents remaining request old new (λ middle bytes. length bytes ≤ limit)

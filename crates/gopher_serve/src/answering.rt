@@ -1,0 +1,72 @@
+//! The reply to a request line.
+
+ghost use Rattle.std.specs.Prelude.{◌≡◌, ◌≤◌, IfOk, IfSome, OnErr, length};
+ghost use Rattle.gopher_tree.specs.Kept.{reply_bytes};
+ghost use Rattle.gopher_serve.specs.Answer.{AnswersLine, AnswersRequest, SeesOn, bad_request_bytes, is_search};
+
+use crate::searching::search;
+use gopher_crew::{Crew, Pass};
+use gopher_item::{ByteString, Home, NoMemory, Request, RequestFault, read_request};
+use gopher_tree::{Replies, Reply, error_reply};
+use std::alloc::Global;
+
+/// The reply of a server to a request line, given without its end.
+///
+/// The error reply `Bad request` where the line is over 1,024 bytes, or its selector is over 255 bytes
+/// or holds a CR, LF or NUL. Else, at the selector `/search`: the error reply `No words` where the line
+/// has no search string or one without words; the error reply `No catalogue` where the published
+/// catalogue can't be entered (61); and else the hits as a menu. At any other selector what
+/// `Replies::reply` gives.
+///
+/// What the pass was told of and has seen is a beginning of the record that it answers from. It is asked
+/// only where there are words to search for.
+///
+/// Refused only where memory is (90). The pass may have seen more then.
+pub fn answer<'a, C: Crew>(
+    alloc: Global,
+    replies: &'a Replies,
+    pass: &mut Pass<C>,
+    line: &[u8],
+) -> Result<Reply<'a>, NoMemory>
+    ensures answered { IfOk result (λ reply.
+        AnswersLine replies.now.files replies.now.home pass.old pass.new line.now (reply_bytes reply)) }
+    ensures refused { OnErr result (SeesOn pass.old pass.new) }
+{
+    match read_request(alloc, line) {
+        Ok(request) => answer_request(alloc, replies, pass, &request),
+        Err(RequestFault::NoMemory) => Err(NoMemory),
+        Err(_bad) => bad_request(alloc, replies.home()),
+    }
+}
+
+// The reply to a request of a line that isn't too long.
+fn answer_request<'a, C: Crew>(
+    alloc: Global,
+    replies: &'a Replies,
+    pass: &mut Pass<C>,
+    request: &Request,
+) -> Result<Reply<'a>, NoMemory>
+    requires { IfSome request.now.search (λ text. length text ≤ 1024) }
+    ensures answered { IfOk result (λ reply.
+        AnswersRequest replies.now.files replies.now.home pass.old pass.new request.now (reply_bytes reply)) }
+    ensures refused { OnErr result (SeesOn pass.old pass.new) }
+{
+    if is_search(request.selector.as_slice()) {
+        return search(alloc, replies.home(), pass, &request.search);
+    }
+    replies.reply(alloc, request.selector.as_slice())
+}
+
+// Whether the selector is that of the search line.
+fn is_search(selector: &[u8]) -> bool
+    ensures { result ≡ is_search selector.now }
+{
+    selector == b"/search".as_slice()
+}
+
+// The reply to a line that is refused.
+fn bad_request<'a>(alloc: Global, home: &Home) -> Result<Reply<'a>, NoMemory>
+    ensures { IfOk result (λ reply. reply_bytes reply ≡ bad_request_bytes home.now) }
+{
+    Ok(Reply::Made(error_reply(alloc, b"Bad request", home)?))
+}
