@@ -1,34 +1,78 @@
-# The two commands of the README, the wrong bodies of one crate, and the timings of bench/.
+# The commands of the README, the wrong bodies of one crate, and the timings of bench/.
 
-# Builds the program and replays the example's crawl and searches.
+# Serves the example's site on localhost, built without its proofs, and tells how to ask it. Ctrl-C ends it.
 .PHONY: run
 run:
-	cd crates/hole && rt run -- replay < ../../examples/whole_search.script
+	tools/run_example.py
+
+# Proves everything that the program stands on, and leaves it in crates/hole/out/hole.
+.PHONY: build
+build:
+	cd crates/hole && rt run -- --version
 
 # Every proof and test from nothing, the wrong bodies, and the program as a user runs it.
 .PHONY: test
 test:
 	rt ci
 	tools/test_wrong_bodies.py
+	tools/test_gophermap_to_menu.py
 	tools/wrong_bodies.py
 	bench/program.sh
 	tests/replays.py
+	tests/requests.py --lines 500
+	tests/attack.py
 	bench/refusals.sh
 
-# The program beside the plain model of tests/model.py, on scripts that are drawn anew each time.
+# The program beside the plain models of tests/, on scripts, folders and request lines that are drawn anew each time.
 .PHONY: fuzz
 fuzz: crates/hole/out/hole
 	tests/replays.py --scripts 10000 --seed "$$(date)"
+	tests/requests.py --lines 10000 --seed "$$(date)"
 
 # The wrong bodies of one crate, for work on it: make wrong-bodies CRATE=gopher_item
 .PHONY: wrong-bodies
 wrong-bodies:
 	tools/wrong_bodies.py --reasons $(CRATE)
 
+# Gopher clients that are installed, each asking a server of the example's site for a menu, a text, a search and an image.
+.PHONY: clients
+clients: crates/hole/out/hole
+	tests/clients.py
+
 # Seconds and megabytes a second, on scripts and files that bench/ makes.
 .PHONY: bench
 bench:
 	bench/run.sh
+
+# Installs the program that `make build` left, its pages of the manual, its documents and examples, and its unit for systemd,
+# under PREFIX, below DESTDIR where it is given. Nothing is built.
+PREFIX = /usr/local
+DESTDIR =
+PROGRAM = crates/hole/out/hole
+SHARED = $(DESTDIR)$(PREFIX)/share
+INSTALLED_DOCUMENTS = README.md docs/OPERATING.md docs/SPECIFICATION.md
+INSTALLED_EXAMPLES = $(shell find examples -type f)
+
+.PHONY: install
+install:
+	@test -x $(PROGRAM) || { echo "There is no $(PROGRAM): 'make build' proves and builds it." >&2; exit 1; }
+	install -D -m 755 $(PROGRAM) $(DESTDIR)$(PREFIX)/bin/hole
+	install -D -m 755 tools/gophermap_to_menu.py $(DESTDIR)$(PREFIX)/bin/gophermap_to_menu
+	install -D -m 644 man/hole.1 $(SHARED)/man/man1/hole.1
+	install -D -m 644 man/hole.toml.5 $(SHARED)/man/man5/hole.toml.5
+	install -D -m 644 -t $(SHARED)/doc/hole $(INSTALLED_DOCUMENTS)
+	for file in $(INSTALLED_EXAMPLES); do install -D -m 644 $$file $(SHARED)/doc/hole/$$file || exit 1; done
+	install -d $(DESTDIR)$(PREFIX)/lib/systemd/system
+	sed 's|^ExecStart=/usr/local/|ExecStart=$(PREFIX)/|' packaging/hole.service > $(DESTDIR)$(PREFIX)/lib/systemd/system/hole.service
+	chmod 644 $(DESTDIR)$(PREFIX)/lib/systemd/system/hole.service
+
+# Takes away what `make install` with the same PREFIX and DESTDIR put there, and nothing else: no settings, no site.
+.PHONY: uninstall
+uninstall:
+	rm -f $(DESTDIR)$(PREFIX)/bin/hole $(DESTDIR)$(PREFIX)/bin/gophermap_to_menu
+	rm -f $(SHARED)/man/man1/hole.1 $(SHARED)/man/man5/hole.toml.5
+	rm -rf $(SHARED)/doc/hole
+	rm -f $(DESTDIR)$(PREFIX)/lib/systemd/system/hole.service
 
 crates/hole/out/hole:
 	cd crates/hole && rt run -- replay < stdin > /dev/null

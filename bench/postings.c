@@ -1,6 +1,7 @@
 /* A plain index of pages, to time a catalogue beside: postings FILE
    FILE is what pages.py writes. Prints microseconds for making a page, for adding it to the postings and for packing
-   them once; then for each query microseconds, hits, and the sum of their scores. */
+   them once; then for each query microseconds, hits, and the sum of their scores. An answer has copies of the hosts,
+   selectors and titles of its hits, as a catalogue's has. */
 #include <time.h>
 
 #include "page.h"
@@ -108,6 +109,9 @@ static void pack(void) {
 
 struct term { const char *word; int prefix; char operator; };
 struct hit { uint32_t score, page; };
+
+/* what is told of a page that was found */
+struct answer { char *host, *selector, *title; uint32_t score; };
 
 /* the best so far, and the lowest score that can come among them */
 struct hits { struct hit best[BEST]; size_t held; uint32_t lowest; };
@@ -223,7 +227,7 @@ static void take_best(struct hits *hits) {
   }
 }
 
-static void search(const struct term *terms, size_t count, struct hits *hits) {
+static void find_best(const struct term *terms, size_t count, struct hits *hits) {
   hits->held = hits->lowest = 0;
   if (count == 1 && !terms[0].prefix) {
     search_word(meant(terms[0]), hits);
@@ -242,6 +246,35 @@ static void search(const struct term *terms, size_t count, struct hits *hits) {
   take_best(hits);
 }
 
+/* an answer owns its strings */
+static void *copied(const void *bytes, size_t length) {
+  char *copy = malloc(length + 1);
+  memcpy(copy, bytes, length);
+  copy[length] = 0;
+  return copy;
+}
+
+static size_t search(const struct term *terms, size_t count, struct answer *answers) {
+  struct hits hits;
+  find_best(terms, count, &hits);
+  for (size_t i = 0; i < hits.held; i++) {
+    struct hit hit = hits.best[i];
+    const struct page *page = &pages[hit.page];
+    char *selector = selectors[hit.page];
+    answers[i] = (struct answer){copied("h", 1), copied(selector, strlen(selector)),
+                                 copied(page->title, page->title_length), hit.score};
+  }
+  return hits.held;
+}
+
+static void free_answers(struct answer *answers, size_t held) {
+  for (size_t i = 0; i < held; i++) {
+    free(answers[i].host);
+    free(answers[i].selector);
+    free(answers[i].title);
+  }
+}
+
 /* ---- the program */
 
 static double microseconds(void) {
@@ -252,16 +285,19 @@ static double microseconds(void) {
 
 static void ask(const char *name, const struct term *terms, size_t count) {
   double shortest = 1e9;
-  struct hits hits;
+  struct answer answers[BEST];
+  size_t held = 0;
+  unsigned long long sum = 0;
   for (int round = 0; round < 20; round++) {
     double start = microseconds();
-    search(terms, count, &hits);
+    held = search(terms, count, answers);
     double took = microseconds() - start;
     if (took < shortest) shortest = took;
+    sum = 0;
+    for (size_t i = 0; i < held; i++) sum += answers[i].score;
+    free_answers(answers, held);
   }
-  unsigned long long sum = 0;
-  for (size_t i = 0; i < hits.held; i++) sum += hits.best[i].score;
-  printf("%s: %.0f us, %zu hits, scores %llu\n", name, shortest, hits.held, sum);
+  printf("%s: %.0f us, %zu hits, scores %llu\n", name, shortest, held, sum);
 }
 
 static size_t longest(const uint8_t *text, size_t size) {

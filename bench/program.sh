@@ -35,6 +35,20 @@ ends_well() {
   "$measure" "$@" > "$folder/written" && [ -s "$folder/written" ]
 }
 
+# Words that aren't the program's: status 2, and a text on the error stream.
+refused() {
+  local code=0
+  printf 'start\t1\n' | "$program" "$@" > "$folder/written" 2> "$folder/told" || code=$?
+  if [ "$code" = 2 ] && [ ! -s "$folder/written" ] && [ -s "$folder/told" ]; then return 0; fi
+  echo "program: '$*' ended with $code, not as wanted"
+  return 1
+}
+
+# Help and the version: status 0, and a text on the output stream.
+shown() {
+  "$program" "$@" > "$folder/written" 2> "$folder/told" < /dev/null && [ -s "$folder/written" ] && [ ! -s "$folder/told" ]
+}
+
 too_long() {
   local code=0
   head -c 1048577 /dev/zero | tr '\0' '#' | "$program" replay > "$folder/written" 2> "$folder/told" || code=$?
@@ -51,9 +65,13 @@ count as_wanted 'allow\ta b\t70\t\n' 0 'refused 3\n' '' replay
 count as_wanted 'claim\n' 1 '' 'hole: 70 line 1\n' replay
 count as_wanted 'start\t1\n\nstart\t1\n' 1 'ok\n' 'hole: 70 line 3\n' replay
 count as_wanted 'start\t1\nsearch\t--\noccurs\tmoon\n' 0 'ok\nrefused 40\nplaces 0\n' '' replay
-count as_wanted '' 2 '' 'usage: hole replay\n'
-count as_wanted '' 2 '' 'usage: hole replay\n' replay extra
-count as_wanted '' 2 '' 'usage: hole replay\n' serve
+count refused
+count refused replay extra
+count refused serve
+count refused serve s.toml --requests 1000001
+count shown --help
+count shown --version
+count shown serve --help
 count as_wanted 'start\t2\t0\nstart\t2\t6\nstart\t0\t0\n' 0 'refused 54\nrefused 54\nrefused 51\n' '' replay
 count as_wanted 'seed\t1\th\t70\t\nstart\t2\nallow\th\t70\t\nstart\t0\nstart\t2\nclaim\nfail\t0\t6\n' \
   1 'refused 50\nrefused 51\nok\ntake\t0\t1\th\t70\t\n' 'hole: 70 line 7\n' replay
@@ -71,5 +89,6 @@ count ends_well settings examples/hole.toml
 count ends_well site examples/site
 count too_long
 count full_device
+count bench/serving.py "$program"
 echo "program: $passed passed, $failed failed"
 [ "$failed" = 0 ]

@@ -4,6 +4,8 @@
 #[cfg(test)]
 mod devices;
 #[cfg(test)]
+mod network;
+#[cfg(test)]
 mod replays;
 #[cfg(test)]
 mod scripts;

@@ -1,8 +1,9 @@
 // The program and its streams: flushes, an error stream that fails, and scripts that can't be read.
 use crate::devices::{Interrupted, ShortReader, ShortWriter};
-use crate::scripts::words;
+use crate::scripts::{Host, system, words};
 use crate::worked::{FIRST_CRAWL, REFUSED_START, Worked};
-use gopher_hole::{ReplayFault, replay, run};
+use gopher_hole::{ReplayFault, replay};
+use gopher_program::run;
 use gopher_text::Watched;
 use std::io::{Read, Write};
 use std::test::Fail;
@@ -46,7 +47,7 @@ const RUNS: [Run<'static>; 4] = [
 
 // The status of a run over this error stream, and the output that it leaves.
 fn outcome<E: Write>(
-    rt: &impl AllocGlobal,
+    rt: &impl Host,
     wanted: &Run,
     error: &mut Watched<E>,
 ) -> Result<(u8, ShortWriter), Fail> {
@@ -59,9 +60,10 @@ fn outcome<E: Write>(
 
 #[test]
 fn flushes_all_that_it_wrote(rt: HostRuntime) -> Result<(), Fail> {
+    let (rt, _sockets) = system(&rt);
     for wanted in &RUNS {
         let mut error = Watched::new(Vec::new(rt.alloc()));
-        let (status, output) = outcome(&rt, wanted, &mut error)?;
+        let (status, output) = outcome(rt, wanted, &mut error)?;
         assert!(rt; status == wanted.status);
         assert!(rt; error.into_inner().as_slice() == wanted.error);
         assert!(rt; output.flushes > 0);
@@ -72,9 +74,10 @@ fn flushes_all_that_it_wrote(rt: HostRuntime) -> Result<(), Fail> {
 
 #[test]
 fn runs_alike_where_the_error_stream_fails(rt: HostRuntime) -> Result<(), Fail> {
+    let (rt, _sockets) = system(&rt);
     for wanted in &RUNS {
         let mut error = Watched::new(ShortWriter::new(rt.alloc(), 0, true));
-        let (status, output) = outcome(&rt, wanted, &mut error)?;
+        let (status, output) = outcome(rt, wanted, &mut error)?;
         assert!(rt; status == wanted.status);
         assert!(rt; output.flushes > 0);
         assert!(rt; output.flushed == wanted.worked.output.len());
@@ -94,7 +97,7 @@ fn gives_up_on_a_script_that_is_always_interrupted(rt: HostRuntime) {
 
 // The status of the program where its script is what this reader gives, how many bytes it wrote, and its
 // error line.
-fn ended<R: Read + Drop>(rt: &HostRuntime, reader: R) -> Result<(u8, usize, Vec<u8>), Fail> {
+fn ended<R: Read + Drop>(rt: &impl Host, reader: R) -> Result<(u8, usize, Vec<u8>), Fail> {
     let words = words(rt.alloc(), &["replay"])?;
     let mut input = Watched::new(reader);
     let mut output = Watched::new(Vec::new(rt.alloc()));
@@ -105,10 +108,11 @@ fn ended<R: Read + Drop>(rt: &HostRuntime, reader: R) -> Result<(u8, usize, Vec<
 
 #[test]
 fn tells_why_its_script_was_not_read(rt: HostRuntime) -> Result<(), Fail> {
-    let (status, written, line) = ended(&rt, ShortReader { bytes: b"" })?;
+    let (rt, _sockets) = system(&rt);
+    let (status, written, line) = ended(rt, ShortReader { bytes: b"" })?;
     assert!(rt; (status, written) == (1, 0));
     assert!(rt; line.as_slice() == b"hole: 10\n".as_slice());
-    let (status, written, line) = ended(&rt, Interrupted)?;
+    let (status, written, line) = ended(rt, Interrupted)?;
     assert!(rt; (status, written) == (1, 0));
     assert!(rt; line.as_slice() == b"hole: 11\n".as_slice());
     Ok(())

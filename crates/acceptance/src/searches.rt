@@ -1,5 +1,5 @@
 // A script that asks for pages, and what it is answered.
-use crate::scripts::check;
+use crate::scripts::{check, system};
 use crate::worked::Worked;
 use std::alloc::{AllocError, Global};
 use std::test::Fail;
@@ -113,15 +113,17 @@ fn joined(alloc: Global, first: &[u8], second: &[u8]) -> Result<Vec<u8>, AllocEr
 
 #[test]
 fn a_whole_search_gives_its_bytes(rt: HostRuntime) -> Result<(), Fail> {
-    check(&rt, &WHOLE_SEARCH)
+    let (rt, _sockets) = system(&rt);
+    check(rt, &WHOLE_SEARCH)
 }
 
 #[test]
 fn prefixes_stand_for_the_words_that_begin_with_them(rt: HostRuntime) -> Result<(), Fail> {
+    let (rt, _sockets) = system(&rt);
     let script = joined(rt.alloc(), WHOLE_SEARCH.script, PREFIXES.script)?;
     let output = joined(rt.alloc(), WHOLE_SEARCH.output, PREFIXES.output)?;
     check(
-        &rt,
+        rt,
         &Worked {
             script: &script,
             output: &output,
@@ -132,6 +134,7 @@ fn prefixes_stand_for_the_words_that_begin_with_them(rt: HostRuntime) -> Result<
 
 #[test]
 fn a_query_has_at_most_1024_bytes(rt: HostRuntime) -> Result<(), Fail> {
+    let (rt, _sockets) = system(&rt);
     for (command, length, is_good) in LIMITS {
         let mut script = joined(rt.alloc(), b"start\t2\n", command)?;
         for _ in 0..length {
@@ -147,7 +150,7 @@ fn a_query_has_at_most_1024_bytes(rt: HostRuntime) -> Result<(), Fail> {
         let output = joined(rt.alloc(), b"ok\n", answer)?;
         let bad_line = if is_good { None } else { Some(2) };
         check(
-            &rt,
+            rt,
             &Worked {
                 script: &script,
                 output: &output,

@@ -8,4 +8,3 @@ pub mod Replay
 pub mod Script
 pub mod Stage
 pub mod Statement
-pub mod Program

@@ -73,6 +73,9 @@ pub fn added_line(alloc: Global, added: Added) -> Result<Vec<u8>, NoMemory>
     Ok(format!(in alloc; "added {fresh} {dropped}\n")?.into_bytes())
 }
 
+/// The line of a crawl's sizes: how many places are known, waiting, out, done and dropped.
+///
+/// Refused only where memory is (90).
 pub fn status_line(alloc: Global, status: Status) -> Result<Vec<u8>, NoMemory>
     ensures { IfOk result (λ line. line.items ≡ status_line status) }
 {

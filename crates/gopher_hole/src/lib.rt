@@ -1,8 +1,8 @@
-//! A crawl replayed from a script, and the program.
+//! A crawl replayed from a script.
 //!
-//! RFC 1436 names no program: the script, its answers and the words of the program are this profile's.
+//! RFC 1436 names no script: its commands and its answers are this profile's.
 //!
-//! The program rests on one promise: what `replay` writes is the output of the script.
+//! The crate above rests on one promise: what `replay` writes is the output of the script.
 #![tactic(auto)]
 
 mod answer;
@@ -12,11 +12,10 @@ mod draft;
 mod fault;
 mod fields;
 mod listing;
-mod program;
 mod replaying;
 mod script;
 mod stage;
 
+pub use answer::status_line;
 pub use fault::ReplayFault;
-pub use program::run;
-pub use replaying::replay;
+pub use replaying::{replay, send_all};

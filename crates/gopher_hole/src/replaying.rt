@@ -16,7 +16,8 @@ use std::io::{Read, Write};
 // How many bytes a script may have.
 const SCRIPT_LIMIT: usize = 1_048_576;
 
-/// Sends all bytes.
+/// Sends all bytes, as `gopher_text::send` does. Refused (13) where a write fails, takes nothing, or is
+/// interrupted 4,096 times; a beginning of the bytes was sent then.
 pub fn send_all<W: Write>(output: &mut Watched<W>, answer: &[u8]) -> Result<(), ReplayFault>
     ensures { AnswerEnds answer.now (W.contents output.old.device) (W.contents output.new.device)
         output.old.failures output.new.failures result }

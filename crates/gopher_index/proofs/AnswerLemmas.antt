@@ -160,6 +160,15 @@ module _ {K : Type 0} (cmp : K → K → Ordering) (total : IsTotalOrder cmp) wh
       by Greater e h = greater_from_less x k (total.trans x y k all.0 (less_from_greater k y e))
   first_below x (y ∷ ys) (suc n) k all beyond = first_below x ys n k all.1 beyond
 
+  -- a key behind the one of an index is behind each up to it
+  pub behind_up_to : (xs : List K) (n : ℕ) (i : ℕ) (k : K) → IsStrictlySortedBy cmp xs → option_map_or (λ y. is_gt (cmp k y)) (slice_get xs n) false ≡ true → i ≤ n → option_map_or (λ y. is_gt (cmp k y)) (slice_get xs i) true ≡ true
+  unfolding IsStrictlySortedBy
+  behind_up_to [] n i k sorted beyond within = absurd (both_ways false refl beyond)
+  behind_up_to (x ∷ xs) zero zero k sorted beyond within = beyond
+  behind_up_to (x ∷ xs) zero (suc i) k sorted beyond within = absurd (omega (arith, within))
+  behind_up_to (x ∷ xs) (suc n) zero k sorted beyond within = ap is_gt (first_below x xs n k sorted.0 beyond)
+  behind_up_to (x ∷ xs) (suc n) (suc i) k sorted beyond within = behind_up_to xs n i k sorted.1 beyond (omega (arith, within))
+
   -- a key behind the one of an index isn't among those up to it
   insert_beyond : (xs : List K) (n : ℕ) (k : K) → IsStrictlySortedBy cmp xs → option_map_or (λ y. is_gt (cmp k y)) (slice_get xs n) false ≡ true → take (suc n) (insert_key cmp xs k) ≡ take (suc n) xs
   unfolding IsStrictlySortedBy
@@ -194,6 +203,21 @@ ranked_push hits hit = fold-append (insert_key rank_cmp) [] hits (hit ∷ [])
 ranked_sorted : (hits : List Hit) → IsStrictlySortedBy rank_cmp (ranked hits)
 unfolding ranked IsStrictlySortedBy
 ranked_sorted hits = sorted_fold rank_cmp rank_cmp_total hits [] tt
+
+sorted_take : (n : ℕ) (xs : List Hit) → IsStrictlySortedBy rank_cmp xs → IsStrictlySortedBy rank_cmp (take n xs)
+unfolding IsStrictlySortedBy
+sorted_take zero xs sorted = tt
+sorted_take (suc n) [] sorted = tt
+sorted_take (suc n) (x ∷ xs) sorted = (all_take (λ y. rank_cmp x y ≡ Less) n xs sorted.0, sorted_take n xs sorted.1)
+  where
+    all_take : (P : Hit → Type 0) (n : ℕ) (xs : List Hit) → AllByRecursion P xs → AllByRecursion P (take n xs)
+    all_take P zero xs all = tt
+    all_take P (suc n) [] all = tt
+    all_take P (suc n) (x ∷ xs) all = (all.0, all_take P n xs all.1)
+
+-- the best stand in their order
+pub best_sorted : (hits best : List Hit) → best ≡ take 50 (ranked hits) → IsStrictlySortedBy rank_cmp best
+best_sorted hits best e = subst (IsStrictlySortedBy rank_cmp) (sym e) (sorted_take 50 (ranked hits) (ranked_sorted hits))
 
 -- one more hit among the best
 pub best_push : (hits best : List Hit) (hit : Hit) → best ≡ take 50 (ranked hits) → take 50 (insert_key rank_cmp best hit) ≡ take 50 (ranked (hits ++ hit ∷ []))

@@ -9,7 +9,8 @@ use Rattle.gopher_page.specs.Packed.{AreCounts}
 use Rattle.gopher_page.specs.Page.{PageData}
 use Rattle.gopher_page.specs.Query.{TermData, count_of_term, joined, is_not, matches, score}
 use Rattle.gopher_page.proofs.OneMoreTerm.{matches_one_more, score_one_more, score_of_none, all_match}
-use Rattle.gopher_index.specs.Cells.{AreCells, meant_counts, term_counts, truths_of, scores_of, zipped}
+use Rattle.gopher_index.specs.Cells.{AreCells, term_counts, truths_of, scores_of, zipped}
+use Rattle.gopher_segment.specs.Segment.{meant_counts}
 use Rattle.gopher_index.proofs.Lists.{map-constant}
 use Rattle.gopher_index.proofs.Zipping.{zipped_map}
 

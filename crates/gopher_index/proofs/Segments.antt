@@ -2,7 +2,7 @@
 use Rattle.std.proofs.Common.{◌≡◌, ℕ, ◌+◌, ◌<◌, List, [], ◌∷◌, ◌++◌, length, map, take, get_or, refl, ap, ◌∙◌, arith}
 use Rattle.std.proofs.lemmas.List.{append-nil}
 use Rattle.std.proofs.lemmas.List.Concat.{flat_map-append}
-use Rattle.gopher_index.specs.Segment.{SegmentData, pages_of}
+use Rattle.gopher_segment.specs.Segment.{SegmentData, pages_of}
 use Rattle.gopher_index.proofs.Lists.{map-next}
 
 pub pages-next : {X : Type 0} (f : X → SegmentData) (xs : List X) (i : ℕ) (x : X) → i < length xs → x ≡ get_or xs i x → pages_of (map f (take (i + 1) xs)) ≡ pages_of (map f (take i xs)) ++ (f x).pages

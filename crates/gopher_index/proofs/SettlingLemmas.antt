@@ -1,8 +1,8 @@
 -- Segments one after another, and one made of the last of them.
 use Rattle.std.proofs.Common.{◌≡◌, ℕ, ◌+◌, ◌-◌, ◌<◌, ◌≤◌, List, [], ◌∷◌, ◌++◌, length, map, take, drop, get_or, refl, sym, ap, subst, ◌∙◌, append_assoc, arith}
 use Rattle.std.proofs.lemmas.List.{length-append, append-nil, map-append, take-append-drop, drop_more}
-use Rattle.gopher_index.specs.Segment.{SegmentData, pages_of}
-use Rattle.gopher_index.specs.SegmentRows.{AreConsecutive}
+use Rattle.gopher_segment.specs.Segment.{SegmentData, pages_of}
+use Rattle.gopher_segment.specs.SegmentRows.{AreConsecutive}
 
 pub pages_of-append : (a b : List SegmentData) → pages_of (a ++ b) ≡ pages_of a ++ pages_of b
 pages_of-append [] b = refl

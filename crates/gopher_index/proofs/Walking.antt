@@ -12,10 +12,11 @@ use Rattle.gopher_page.specs.declared.query.Operator.TheVariants.{And}
 use Rattle.gopher_index.specs.Best.{BestData, lowest_score, TakesIn}
 use Rattle.gopher_index.specs.Cells.{term_counts}
 use Rattle.gopher_index.specs.OneTerm.{is_again, Walk}
-use Rattle.gopher_index.specs.Postings.{run_of}
+use Rattle.gopher_segment.specs.Postings.{run_of}
 use Rattle.gopher_index.proofs.Blocks.{neither_left, neither_right}
 use Rattle.gopher_index.proofs.OneTermLemmas.{one_matches, one_scores}
-use Rattle.gopher_index.proofs.Pieces.{HaveNone, NextPage, next_page_of, none_left, run_within}
+use Rattle.gopher_segment.proofs.Pieces.{run_within}
+use Rattle.gopher_index.proofs.NextPages.{HaveNone, NextPage, next_page_of, none_left}
 use Rattle.gopher_index.proofs.Taking.{takes_none, takes_both, takes_below, takes_unmatched}
 
 pub is_again-at : (numbers : List ℕ) (index : ℕ) → 0 < index → get_or numbers (index - 1) 0 ≡ get_or numbers index 0 → is_again numbers index ≡ true

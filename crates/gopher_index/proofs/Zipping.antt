@@ -34,6 +34,16 @@ module _ {X : Type 0} (step : X → ℕ → X) where
       let here : get_or now i d ≡ get_or initial i d = ap (λ l. get_or l i d) so_far ∙ zipped_at initial counts i d in
       (λ j. set (so_far j) i (step (here j) (get_or counts i 0))) ∙ next initial counts i d (omega arith) within ∙ ap (λ n. zipped step initial (take n counts)) (sym more)
 
+  -- where each element is what the step makes of the one at its place
+  pub zipped_each : (xs ys : List X) (counts : List ℕ) (d : X) → length counts ≡ length xs → length ys ≡ length xs → ((k : ℕ) → k < length xs → get_or ys k d ≡ step (get_or xs k d) (get_or counts k 0)) → ys ≡ zipped step xs counts
+  zipped_each [] [] counts d same long each = refl
+  zipped_each [] (y ∷ ys) counts d same long each = absurd (omega (arith, long))
+  zipped_each (x ∷ xs) [] counts d same long each = absurd (omega (arith, long))
+  zipped_each (x ∷ xs) (y ∷ ys) [] d same long each = absurd (omega (arith, same))
+  zipped_each (x ∷ xs) (y ∷ ys) (count ∷ counts) d same long each =
+      let rest = zipped_each xs ys counts d (omega (arith, same)) (omega (arith, long)) (λ k within. each (suc k) (omega arith)) in
+      (λ i. each 0 (omega arith) i ∷ rest i)
+
 -- where the elements and the counts are both made of the same
 pub zipped_map : {X Y : Type 0} (step : X → ℕ → X) (f : Y → X) (g : Y → ℕ) (ys : List Y) → zipped step (map f ys) (map g ys) ≡ map (λ y. step (f y) (g y)) ys
 zipped_map step f g [] = refl

@@ -1,9 +1,13 @@
 -- The best of the candidates of a search.
-use Rattle.std.specs.Prelude.{◌≡◌, ℕ, Bool, ◌||◌, ◌==◌, nat_le, max, List, ◌++◌, length, take, filter, slice_get}
+use Rattle.std.specs.Prelude.{◌≡◌, ℕ, Bool, false, ◌||◌, ◌==◌, nat_le, max, List, ◌++◌, length, map, take, filter, slice_get}
+use Rattle.std.specs.BTreeSet.{insert_key}
+use Rattle.std.specs.List.Sorted.{IsStrictlySortedBy}
 use Rattle.std.specs.Option.{option_map_or}
+use Rattle.std.specs.Ordering.{is_eq, is_gt}
+use Rattle.std.specs.declared.cmp.Ordering.{Ordering}
 use Rattle.gopher_page.specs.Page.{PageData}
 use Rattle.gopher_page.specs.Query.{TermData}
-use Rattle.gopher_index.specs.Answer.{hits_among, ranked}
+use Rattle.gopher_index.specs.Answer.{hits_among, rank_cmp, ranked}
 use Rattle.gopher_index.specs.declared.best.Ranked.{Ranked}
 use Rattle.gopher_index.specs.declared.hit.Hit.{Hit}
 
@@ -20,12 +24,36 @@ hit_with score page = record { place = page.place; title = page.title; score = s
 abbrev pub ranked_hit : Ranked → Hit
 ranked_hit ranked = hit_with ranked.score ranked.page.now
 
+-- the order of a candidate beside another
+abbrev pub rank_of : Ranked → Ranked → Ordering
+rank_of candidate other = rank_cmp (ranked_hit candidate) (ranked_hit other)
+
+-- whether the candidate comes behind the one of an index; where there is none, what is said for that case
+abbrev pub is_behind_at : Ranked → List Ranked → ℕ → Bool → Bool
+is_behind_at candidate best index otherwise = option_map_or (λ other. is_gt (rank_of candidate other)) (slice_get best index) otherwise
+
+-- whether the one of an index has the rank of the candidate
+abbrev pub is_equal_at : Ranked → List Ranked → ℕ → Bool
+is_equal_at candidate best index = option_map_or (λ other. is_eq (rank_of candidate other)) (slice_get best index) false
+
+-- they stand in the order of hits
+abbrev pub AreRanked : List Ranked → Type 0
+AreRanked best = IsStrictlySortedBy rank_cmp (map ranked_hit best)
+
+-- among those that stand in their order, the candidate was put at its place
+abbrev pub Inserts : Ranked → List Ranked → List Ranked → Type 0
+Inserts candidate old new = AreRanked old → map ranked_hit new ≡ insert_key rank_cmp (map ranked_hit old) (ranked_hit candidate)
+
 abbrev pub reaches : ℕ → Hit → Bool
 reaches least hit = nat_le least hit.score
 
 -- the first 50 of those hits of pages that have at least such a score
 unfoldable pub answer_from : ℕ → List PageData → List TermData → List Hit
 answer_from least pages terms = take 50 (ranked (filter (reaches least) (hits_among terms pages)))
+
+-- the hits are the answer over some pages, of those that reach the least score
+abbrev pub IsBestOf : List TermData → List PageData → BestData → Type 0
+IsBestOf terms pages best = best.hits ≡ answer_from best.least pages terms
 
 -- whether the best of those are the best of all hits: each score is asked for, or there are 50 of them
 abbrev pub is_whole : BestData → Bool

@@ -1,6 +1,5 @@
 -- What the terms of a query say of pages: an array with an element for each page.
-use Rattle.std.specs.Prelude.{◌≡◌, ℕ, Bool, false, ◌&&◌, ◌||◌, nat_le, List, [], ◌∷◌, map}
-use Rattle.gopher_page.specs.Counts.{count_meant}
+use Rattle.std.specs.Prelude.{◌≡◌, ℕ, Bool, List, [], ◌∷◌, map}
 use Rattle.gopher_page.specs.Page.{PageData}
 use Rattle.gopher_page.specs.Query.{TermData, count_of_term, matches, score}
 
@@ -9,10 +8,6 @@ abbrev pub zipped : {X : Type 0} → (X → ℕ → X) → List X → List ℕ �
 zipped step [] counts = []
 zipped step (x ∷ xs) [] = x ∷ xs
 zipped step (x ∷ xs) (count ∷ counts) = step x count ∷ zipped step xs counts
-
--- how often the words that are meant stand in each page
-abbrev pub meant_counts : Bool → List ℕ → List PageData → List ℕ
-meant_counts is_prefix sought pages = map (λ page. count_meant is_prefix sought page.counts) pages
 
 -- how often the words that a term speaks of stand in each page
 abbrev pub term_counts : TermData → List PageData → List ℕ
@@ -30,9 +25,3 @@ scores_of terms pages = map (λ page. score terms page.counts) pages
 pub record AreCells (terms : List TermData) (pages : List PageData) (truths : List Bool) (scores : List ℕ) : Type 0 where
   pub matching : truths ≡ truths_of terms pages
   pub scoring : scores ≡ scores_of terms pages
-
--- whether a page matches with a score that reaches the lowest
-abbrev pub any_reaches : ℕ → List Bool → List ℕ → Bool
-any_reaches lowest [] scores = false
-any_reaches lowest (truth ∷ truths) [] = false
-any_reaches lowest (truth ∷ truths) (score ∷ scores) = (truth && nat_le lowest score) || any_reaches lowest truths scores

@@ -1,8 +1,4 @@
-pub mod Parts
-pub mod Postings
-pub mod Rows
-pub mod Segment
-pub mod SegmentRows
+pub mod Index
 pub mod Answer
 pub mod Best
 pub mod Cells

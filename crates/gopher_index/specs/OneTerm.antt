@@ -5,7 +5,9 @@ use Rattle.gopher_page.specs.Page.{PageData}
 use Rattle.gopher_page.specs.Query.{TermData}
 use Rattle.gopher_index.specs.Best.{BestData, TakesIn}
 use Rattle.gopher_index.specs.Cells.{term_counts}
-use Rattle.gopher_index.specs.Postings.{run_of}
+use Rattle.gopher_segment.specs.Postings.{run_of}
+use Rattle.gopher_segment.specs.Segment.{SegmentData, meant_counts}
+use Rattle.gopher_segment.specs.declared.postings.Postings.{Postings}
 
 -- whether a posting is of the same page as the one before it
 abbrev pub is_again : List ℕ → ℕ → Bool
@@ -23,3 +25,19 @@ pub record Walk (term : TermData) (first : ℕ) (pages : List PageData) (numbers
   pub same : AllByRecursion (λ posting. suc posting.0 ≡ first + length passed) left
   pub behind : ((index ≡ 0) × (left ≡ [])) ⊎ ((0 < index) × (suc (slice_index numbers (index - 1)) ≡ first + length passed))
   pub taken : TakesIn (term ∷ []) passed old now
+
+-- the postings of a term in pages
+abbrev pub ArePostingsOf : TermData → List PageData → Postings → Type 0
+ArePostingsOf term pages postings = zip postings.numbers.now postings.counts.now ≡ run_of postings.first (term_counts term pages)
+
+-- the postings of a word in a segment
+pub record ArePostingsIn (word : List ℕ) (segment : SegmentData) (postings : Postings) : Type 0 where
+  pub run : zip postings.numbers.now postings.counts.now ≡ run_of postings.first (meant_counts false word segment.pages)
+  pub beside : length postings.counts.now ≡ length postings.numbers.now
+
+-- the same for each of several segments
+abbrev pub ArePostings : List ℕ → List SegmentData → List Postings → Type 0
+ArePostings word [] [] = Unit {0}
+ArePostings word [] (postings ∷ found) = ⊥
+ArePostings word (segment ∷ segments) [] = ⊥
+ArePostings word (segment ∷ segments) (postings ∷ found) = ArePostingsIn word segment postings × ArePostings word segments found

@@ -1,12 +1,9 @@
 //! The best of many hits, without a sort of them all.
 
-ghost use Rattle.std.specs.Prelude.{◌≡◌, ℕ, ◌<◌, ◌≤◌, true, false, List, [], ◌∷◌, ◌++◌, length, map, take, filter, slice_get, IfOk, OnOk};
-ghost use Rattle.std.specs.Option.{option_map_or};
-ghost use Rattle.std.specs.Ordering.{is_eq, is_gt};
-ghost use Rattle.std.specs.BTreeSet.{insert_key};
-ghost use Rattle.gopher_index.specs.Answer.{rank_cmp, ranked};
+ghost use Rattle.std.specs.Prelude.{◌≡◌, ℕ, ◌<◌, ◌≤◌, true, false, List, [], ◌∷◌, ◌++◌, length, map, take, filter, IfOk, OnOk};
+ghost use Rattle.gopher_index.specs.Answer.{ranked};
 ghost use Rattle.gopher_index.specs.declared.hit.Hit.{Hit};
-ghost use Rattle.gopher_index.specs.Best.{ranked_hit, hit_with, is_whole, lowest_score, reaches};
+ghost use Rattle.gopher_index.specs.Best.{ranked_hit, hit_with, rank_of, is_behind_at, is_equal_at, AreRanked, Inserts, is_whole, lowest_score, reaches};
 
 use crate::hit::Hit;
 use gopher_item::{ByteString, NoMemory};
@@ -27,7 +24,7 @@ pub(crate) struct Ranked<'a> {
 
 // The score decides first, so that a page is only looked at where scores tie.
 fn rank(a: &Ranked, b: &Ranked) -> Ordering
-    ensures { result ≡ rank_cmp (ranked_hit a.now) (ranked_hit b.now) }
+    ensures { result ≡ rank_of a.now b.now }
 {
     match b.score.cmp(&a.score) {
         Ordering::Equal => a.page.place().cmp(b.page.place()),
@@ -35,33 +32,38 @@ fn rank(a: &Ranked, b: &Ranked) -> Ordering
     }
 }
 
-// Whether there are as many as are answered, and the candidate comes behind the last of them.
-fn is_beyond(best: &[Ranked], candidate: &Ranked) -> bool
-    ensures { result ≡ option_map_or (λ last. is_gt (rank_cmp (ranked_hit candidate.now) (ranked_hit last))) (slice_get best.now 49) false }
+// Whether the candidate comes behind the one of this index.
+fn is_behind(best: &[Ranked], index: usize, candidate: &Ranked) -> bool
+    ensures { result ≡ is_behind_at candidate.now best.now index false }
 {
-    match best.get(MOST_HITS - 1) {
-        Some(last) => rank(candidate, last).is_gt(),
+    match best.get(index) {
+        Some(other) => rank(candidate, other).is_gt(),
         None => false,
     }
 }
 
-// How many of the best come before the candidate: these are the first.
+// How many of the best, which stand in their order, come before the candidate: these are the first.
 fn count_before(best: &[Ranked], candidate: &Ranked) -> usize
     ensures within { result ≤ length best.now }
-    ensures before { (k : ℕ) → k < result → option_map_or (λ other. is_gt (rank_cmp (ranked_hit candidate.now) (ranked_hit other))) (slice_get best.now k) true ≡ true }
-    ensures here { option_map_or (λ other. is_gt (rank_cmp (ranked_hit candidate.now) (ranked_hit other))) (slice_get best.now result) false ≡ false }
+    ensures before { AreRanked best.now → (k : ℕ) → k < result → is_behind_at candidate.now best.now k true ≡ true }
+    ensures here { is_behind_at candidate.now best.now result false ≡ false }
 {
-    for (index, other) in best.iter().enumerate() {
-        if !rank(candidate, other).is_gt() {
-            return index;
+    let mut low = 0;
+    let mut high = best.len();
+    while low < high {
+        let middle = low + (high - low) / 2;
+        if is_behind(best, middle, candidate) {
+            low = middle + 1;
+        } else {
+            high = middle;
         }
     }
-    best.len()
+    low
 }
 
 // Whether the one of this index has the rank of the candidate.
 fn is_equal_at(best: &[Ranked], index: usize, candidate: &Ranked) -> bool
-    ensures { result ≡ option_map_or (λ other. is_eq (rank_cmp (ranked_hit candidate.now) (ranked_hit other))) (slice_get best.now index) false }
+    ensures { result ≡ is_equal_at candidate.now best.now index }
 {
     match best.get(index) {
         Some(other) => rank(candidate, other).is_eq(),
@@ -69,9 +71,9 @@ fn is_equal_at(best: &[Ranked], index: usize, candidate: &Ranked) -> bool
     }
 }
 
-// Puts a candidate at its place among the best, unless one of its rank is there.
+// Puts a candidate at its place among the best, which stand in their order, unless one of its rank is there.
 fn put<'a>(best: &mut Vec<Ranked<'a>>, candidate: Ranked<'a>) -> Result<(), NoMemory>
-    ensures { OnOk result (map ranked_hit best.new.items ≡ insert_key rank_cmp (map ranked_hit best.old.items) (ranked_hit candidate.entry)) }
+    ensures { OnOk result (Inserts candidate.entry best.old.items best.new.items) }
 {
     let index = count_before(best, &candidate);
     if is_equal_at(best, index, &candidate) {
@@ -88,7 +90,7 @@ fn put<'a>(best: &mut Vec<Ranked<'a>>, candidate: Ranked<'a>) -> Result<(), NoMe
 fn take_ranked_in<'a>(best: &mut Vec<Ranked<'a>>, candidate: Ranked<'a>) -> Result<(), NoMemory>
     ensures { (hits : List Hit) → map ranked_hit best.old.items ≡ take 50 (ranked hits) → OnOk result (map ranked_hit best.new.items ≡ take 50 (ranked (hits ++ ranked_hit candidate.entry ∷ []))) }
 {
-    if is_beyond(best, &candidate) {
+    if is_behind(best, MOST_HITS - 1, &candidate) {
         return Ok(());
     }
     put(best, candidate)?;
@@ -128,14 +130,14 @@ impl<'a> Model for Best<'a> {
 
 impl<'a> Best<'a> {
     /// No hits yet, of which each is to have a score of at least `least`.
-    pub fn new(alloc: Global, least: u64) -> Best<'a>
-        ensures least { result.least ≡ least }
-        ensures hits { result.hits ≡ [] }
+    pub fn new(alloc: Global, least: u64) -> Result<Best<'a>, NoMemory>
+        ensures least { IfOk result (λ best. best.least ≡ least) }
+        ensures hits { IfOk result (λ best. best.hits ≡ []) }
     {
-        Best {
+        Ok(Best {
             least,
-            ranked: Vec::new(alloc),
-        }
+            ranked: Vec::with_capacity(alloc, MOST_HITS + 1)?,
+        })
     }
 
     /// Whether they are the best of all hits: each score was asked for, or there are as many as a search

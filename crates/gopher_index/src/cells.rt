@@ -1,14 +1,17 @@
 //! What the terms of a query say of the pages of a segment, brought up to date term by term.
 
-ghost use Rattle.std.specs.Prelude.{◌≡◌, ℕ, ◌+◌, ◌*◌, ◌^◌, ◌≤◌, ◌∷◌, [], ◌++◌, List, length, nat_lt, replicate, true, false, OnOk};
-ghost use Rattle.std.specs.List.{All};
+ghost use Rattle.std.specs.Prelude.{◌≡◌, ℕ, ◌+◌, ◌*◌, ◌^◌, ◌≤◌, ◌<◌, ◌==◌, ◌∷◌, [], ◌++◌, List, length, nat_lt, replicate, slice_index_or, true, false, if◌then◌else◌, OnOk};
+ghost use Rattle.std.specs.List.{All, zip};
 ghost use Rattle.gopher_page.specs.Query.{TermData, is_not, joined};
+ghost use Rattle.gopher_page.specs.declared.query.Operator.TheVariants.{Not};
 ghost use Rattle.gopher_index.specs.Cells.{AreCells, term_counts, zipped};
+ghost use Rattle.gopher_segment.specs.Postings.{AreWithin, count_in};
+ghost use Rattle.gopher_segment.specs.Segment.{meant_counts};
 
 use crate::likely::Highest;
-use crate::segment::Segment;
 use gopher_item::NoMemory;
 use gopher_page::{Operator, Term};
+use gopher_segment::{Postings, Segment};
 use std::alloc::Global;
 
 /// What terms say of each page of a segment: whether they match it, and its score.
@@ -51,8 +54,48 @@ fn spread_term(segment: &Segment, term: &Term, counts: &mut [u32])
     segment.spread(term.is_prefix(), term.word(), counts);
 }
 
+// Leaves out a page for one of its postings: the first of the truths is that of page `first`.
+fn leave_out(truths: &mut [bool], first: usize, page: usize, count: u8)
+    requires from { first ≤ page }
+    requires within { page < first + length truths.old }
+    ensures { (k : ℕ) → k < length truths.old → slice_index_or truths.new k false
+        ≡ joined Not (slice_index_or truths.old k false)
+        (nat_lt 0 (if page == first + k then count else 0)) }
+{
+    truths[page - first] &= count == 0;
+}
+
+// Leaves out the pages of postings, of which the first truth is that of the first page.
+fn leave_all_out(postings: &Postings, truths: &mut [bool])
+    requires beside { length postings.now.counts.now ≡ length postings.now.numbers.now }
+    requires within { AreWithin postings.now.first (length truths.old)
+        (zip postings.now.numbers.now postings.now.counts.now) }
+    ensures { (k : ℕ) → k < length truths.old → slice_index_or truths.new k false
+        ≡ joined Not (slice_index_or truths.old k false) (nat_lt 0 (count_in
+        (postings.now.first + k) (zip postings.now.numbers.now postings.now.counts.now))) }
+{
+    for (index, number) in postings.numbers.iter().enumerate() {
+        leave_out(
+            truths,
+            postings.first,
+            usize::from(*number),
+            postings.counts[index],
+        );
+    }
+}
+
+// Leaves out the pages in which a word stands, straight from its postings.
+fn leave_word_out(segment: &Segment, word: &[u8], truths: &mut [bool])
+    requires { length truths.old ≡ length segment.now.pages }
+    ensures { truths.new ≡ zipped (λ truth count. joined Not truth (nat_lt 0 count)) truths.old
+        (meant_counts false word.now segment.now.pages) }
+{
+    let postings = segment.postings(word);
+    leave_all_out(&postings, truths);
+}
+
 // What the terms before this one say, joined by what it says itself; the counts are overwritten.
-fn join_term(
+fn join_counted(
     segment: &Segment,
     term: &Term,
     counts: &mut [u32],
@@ -70,6 +113,28 @@ fn join_term(
     join_truths(term.operator(), truths, counts);
     if !term.operator().is_not() {
         add_counts(scores, counts);
+    }
+}
+
+// The same, without counts where the pages of a word are left out.
+fn join_term(
+    segment: &Segment,
+    term: &Term,
+    counts: &mut [u32],
+    truths: &mut [bool],
+    scores: &mut [u32],
+)
+    requires counts { length counts.old ≡ length segment.now.pages }
+    requires truths { length truths.old ≡ length segment.now.pages }
+    requires scores { length scores.old ≡ length segment.now.pages }
+    requires room { All (λ score. score ≤ 2 ^ 31) scores.old }
+    ensures cells { (terms : List TermData) → AreCells terms segment.now.pages truths.old scores.old → AreCells (terms ++ term.now ∷ []) segment.now.pages truths.new scores.new }
+    ensures few { (bound : ℕ) → All (λ score. score ≤ bound) scores.old → All (λ score. score ≤ bound + 1048576) scores.new }
+{
+    if term.operator().is_not() && !term.is_prefix() {
+        leave_word_out(segment, term.word(), truths);
+    } else {
+        join_counted(segment, term, counts, truths, scores);
     }
 }
 

@@ -7,10 +7,10 @@ ghost use Rattle.gopher_index.specs.Answer.{answer_of, AreOccurrences};
 use crate::hit::Hit;
 use crate::occurrences::occurrences;
 use crate::search::search;
-use crate::segment::Segment;
 use crate::settling::{settle, shared};
 use gopher_item::{NoMemory, Place};
 use gopher_page::{Page, Query};
+use gopher_segment::Segment;
 use std::alloc::Global;
 use std::marker::Model;
 use std::sync::Arc;
@@ -30,8 +30,8 @@ impl Model for Index {
     ghost use Rattle.std.specs.Prelude.{List, ◌++◌, map};
     ghost use Rattle.std.specs.Arc.{arc_value};
     ghost use Rattle.gopher_page.specs.Page.{PageData};
-    ghost use Rattle.gopher_index.specs.Segment.{pages_of};
-    ghost use Rattle.gopher_index.specs.SegmentRows.{IsIndex};
+    ghost use Rattle.gopher_segment.specs.Segment.{pages_of};
+    ghost use Rattle.gopher_index.specs.Index.{IsIndex};
 
     ghost Value = { List PageData };
 

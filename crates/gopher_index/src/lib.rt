@@ -11,16 +11,10 @@ mod cells;
 mod hit;
 mod index;
 mod likely;
-mod merging;
 mod occurrences;
 mod one_term;
-mod parts;
-mod runs;
 mod search;
-mod segment;
 mod settling;
-mod table;
-mod words;
 
 pub use hit::Hit;
 pub use index::Index;

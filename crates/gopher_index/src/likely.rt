@@ -5,8 +5,7 @@
 ghost use Rattle.std.specs.Prelude.{◌≡◌, length};
 
 use crate::best::MOST_HITS;
-use crate::segment::Segment;
-use std::sync::Arc;
+use gopher_segment::Postings;
 
 // How many postings or pages make a block.
 const BLOCK: usize = 64;
@@ -30,7 +29,8 @@ fn highest_score(truths: &[bool], scores: &[u32]) -> u32
 {
     let mut highest = 0;
     for (index, truth) in truths.iter().enumerate() {
-        highest = scores[index].wrapping_mul(u32::from(*truth)).max(highest);
+        let score = scores[index];
+        highest = highest.max(if *truth { score } else { 0 });
     }
     highest
 }
@@ -80,17 +80,17 @@ impl Highest {
     }
 }
 
-/// How many of the hits of a search are probably among some of all pages: at most twice their share.
+/// How many of the hits of a search are probably among some of all pages: half as many again as their share.
 pub(crate) fn likely_hits(some: usize, all: usize) -> usize {
-    let share = some.saturating_mul(2 * MOST_HITS) / all.max(1);
+    let share = some.saturating_mul(MOST_HITS + MOST_HITS / 2) / all.max(1);
     share.clamp(1, MOST_HITS)
 }
 
-/// The score that pages probably reach for one word.
-pub(crate) fn likely_score(segments: &[Arc<Segment>], word: &[u8]) -> u64 {
+/// The score that pages probably reach for a word, by its postings in each segment.
+pub(crate) fn likely_score(found: &[Postings]) -> u64 {
     let mut highest = Highest::new();
-    for segment in segments {
-        highest.note_counts(segment.postings(word).counts);
+    for postings in found {
+        highest.note_counts(postings.counts);
     }
     highest.reached(MOST_HITS)
 }

@@ -3,12 +3,11 @@
 ghost use Rattle.std.specs.Prelude.{◌≡◌, ℕ, ◌≤◌, ◌++◌, ◌∷◌, [], false, List, length, map, nat_lt, IfOk, OnOk, if◌then◌else◌};
 ghost use Rattle.std.specs.Arc.{arc_value};
 ghost use Rattle.gopher_index.specs.Answer.{AreOccurrences, occurrences_among};
-ghost use Rattle.gopher_index.specs.Cells.{meant_counts};
-ghost use Rattle.gopher_index.specs.Segment.{pages_of};
+ghost use Rattle.gopher_segment.specs.Segment.{pages_of, meant_counts};
 
-use crate::segment::Segment;
 use gopher_item::{NoMemory, Place};
 use gopher_page::Page;
+use gopher_segment::Segment;
 use std::alloc::Global;
 use std::sync::Arc;
 

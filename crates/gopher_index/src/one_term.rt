@@ -2,17 +2,16 @@
 
 ghost use Rattle.std.specs.Prelude.{◌≡◌, ◌+◌, ◌-◌, ◌<◌, ◌≤◌, ◌∷◌, [], List, Some, length, map, min, nat_le, slice_get, OnOk};
 ghost use Rattle.std.specs.Arc.{arc_value};
-ghost use Rattle.std.specs.List.{list_any, zip};
+ghost use Rattle.std.specs.List.{list_any};
 ghost use Rattle.gopher_page.specs.Query.{count_of_term};
 ghost use Rattle.gopher_page.specs.declared.query.Operator.TheVariants.{And};
 ghost use Rattle.gopher_index.specs.Best.{BestData, TakesIn};
-ghost use Rattle.gopher_index.specs.Cells.{term_counts};
-ghost use Rattle.gopher_index.specs.OneTerm.{is_again, Walk};
-ghost use Rattle.gopher_index.specs.Postings.{run_of};
+ghost use Rattle.gopher_index.specs.OneTerm.{is_again, ArePostingsOf, Walk};
 
 use crate::best::Best;
 use gopher_item::NoMemory;
 use gopher_page::{Page, Term};
+use gopher_segment::Postings;
 use std::sync::Arc;
 
 // How many postings are passed over at once where none of them can come among the best.
@@ -26,16 +25,6 @@ fn any_from(counts: &[u8], lowest: u8) -> bool
         is_reached |= *count >= lowest;
     }
     is_reached
-}
-
-/// The postings of a term in consecutive pages, of which the first has the number `first`.
-///
-/// A posting counts at most 255. A page in which the word stands more often has several.
-#[derive(Drop)]
-pub(crate) struct Postings<'a> {
-    pub first: usize,
-    pub numbers: &'a [u16],
-    pub counts: &'a [u8],
 }
 
 // Whether a posting is of the same page as the one before it.
@@ -92,7 +81,7 @@ fn take_postings_in<'a>(
 ) -> Result<(), NoMemory>
     requires and { term.now.operator ≡ And }
     requires beside { length postings.now.counts.now ≡ length postings.now.numbers.now }
-    requires run { zip postings.now.numbers.now postings.now.counts.now ≡ run_of postings.now.first (term_counts term.now (map arc_value pages.now)) }
+    requires run { ArePostingsOf term.now (map arc_value pages.now) postings.now }
     requires forward { start ≤ end }
     requires within { end ≤ length postings.now.numbers.now }
     ensures { (old : BestData) → Walk term.now postings.now.first (map arc_value pages.now) postings.now.numbers.now postings.now.counts.now old best.old start → OnOk result (Walk term.now postings.now.first (map arc_value pages.now) postings.now.numbers.now postings.now.counts.now old best.new end) }
@@ -115,7 +104,7 @@ pub(crate) fn take_term_in<'a>(
 ) -> Result<(), NoMemory>
     requires and { term.now.operator ≡ And }
     requires beside { length postings.now.counts.now ≡ length postings.now.numbers.now }
-    requires run { zip postings.now.numbers.now postings.now.counts.now ≡ run_of postings.now.first (term_counts term.now (map arc_value pages.now)) }
+    requires run { ArePostingsOf term.now (map arc_value pages.now) postings.now }
     ensures { OnOk result (TakesIn (term.now ∷ []) (map arc_value pages.now) best.old best.new) }
 {
     let mut start = 0;

@@ -1,36 +1,37 @@
 //! Searches of pages in segments.
 
-ghost use Rattle.std.specs.Prelude.{None, ◌≡◌, ◌≤◌, ◌++◌, ◌∷◌, [], false, List, length, map, IfOk, OnOk};
+ghost use Rattle.std.specs.Prelude.{None, ◌≡◌, ◌≤◌, ◌++◌, ◌∷◌, [], false, List, length, map, nat_le, IfOk, OnOk};
 ghost use Rattle.std.specs.Arc.{arc_value};
+ghost use Rattle.std.specs.List.{list_any};
 ghost use Rattle.gopher_page.specs.Query.{TermData, IsQuery};
 ghost use Rattle.gopher_page.specs.declared.query.Operator.TheVariants.{And};
 ghost use Rattle.gopher_index.specs.Answer.{answer_of};
-ghost use Rattle.gopher_index.specs.Best.{answer_from, TakesIn};
-ghost use Rattle.gopher_index.specs.Cells.{AreCells, any_reaches};
-ghost use Rattle.gopher_index.specs.Segment.{pages_of};
+ghost use Rattle.gopher_index.specs.Best.{IsBestOf, TakesIn};
+ghost use Rattle.gopher_index.specs.Cells.{AreCells};
+ghost use Rattle.gopher_index.specs.OneTerm.{ArePostings, ArePostingsIn};
+ghost use Rattle.gopher_segment.specs.Segment.{pages_of};
 
 use crate::best::Best;
 use crate::cells::Cells;
 use crate::hit::Hit;
 use crate::likely::{likely_hits, likely_score};
 use crate::one_term::take_term_in;
-use crate::segment::{Segment, pages_len};
 use gopher_item::NoMemory;
 use gopher_page::{Page, Query, Term};
+use gopher_segment::{Postings, Segment, pages_len};
 use std::alloc::Global;
 use std::sync::Arc;
 
 // How many pages are passed over at once where none of them can come among the best.
 const BLOCK: usize = 64;
 
-// Whether a page matches with a score that reaches the lowest.
-fn any_reaches(truths: &[bool], scores: &[u32], lowest: u32) -> bool
-    requires { length scores.now ≡ length truths.now }
-    ensures { result ≡ any_reaches lowest truths.now scores.now }
+// Whether a score reaches the lowest.
+fn any_reaches(scores: &[u32], lowest: u32) -> bool
+    ensures { result ≡ list_any (λ score. nat_le lowest score) scores.now }
 {
     let mut is_reached = false;
-    for (index, truth) in truths.iter().enumerate() {
-        is_reached |= *truth & (scores[index] >= lowest);
+    for score in scores {
+        is_reached |= *score >= lowest;
     }
     is_reached
 }
@@ -73,7 +74,7 @@ fn take_cells_in<'a>(
     while start < pages.len() {
         let end = pages.len().min(start + BLOCK);
         let lowest = best.lowest_score().min(u64::from(u32::MAX)) as u32;
-        if any_reaches(&truths[start..end], &scores[start..end], lowest) {
+        if any_reaches(&scores[start..end], lowest) {
             take_block_in(
                 &pages[start..end],
                 &truths[start..end],
@@ -124,7 +125,7 @@ fn best_of_first<'a>(
     wanted: Option<usize>,
 ) -> Result<Best<'a>, NoMemory>
     requires { length terms.now ≤ 1024 }
-    ensures best { IfOk result (λ best. best.hits ≡ answer_from best.least segment.now.pages terms.now) }
+    ensures best { IfOk result (λ best. IsBestOf terms.now segment.now.pages best) }
     ensures plain { wanted ≡ None → IfOk result (λ best. best.least ≡ 0) }
 {
     cells.fill(segment, terms)?;
@@ -132,7 +133,7 @@ fn best_of_first<'a>(
         Some(wanted) => cells.likely_score(wanted),
         None => 0,
     };
-    let mut best = Best::new(alloc, least);
+    let mut best = Best::new(alloc, least)?;
     take_cells_in(segment.pages(), &cells.truths, &cells.scores, &mut best)?;
     Ok(best)
 }
@@ -145,11 +146,11 @@ fn best_of_terms<'a>(
     is_guessed: bool,
 ) -> Result<Best<'a>, NoMemory>
     requires { length terms.now ≤ 1024 }
-    ensures best { IfOk result (λ best. best.hits ≡ answer_from best.least (pages_of (map arc_value segments.now)) terms.now) }
+    ensures best { IfOk result (λ best. IsBestOf terms.now (pages_of (map arc_value segments.now)) best) }
     ensures plain { is_guessed ≡ false → IfOk result (λ best. best.least ≡ 0) }
 {
     let Some((first, rest)) = segments.split_first() else {
-        return Ok(Best::new(alloc, 0));
+        return Best::new(alloc, 0);
     };
     let mut cells = Cells::new(alloc);
     let wanted = if is_guessed {
@@ -162,28 +163,50 @@ fn best_of_terms<'a>(
     Ok(best)
 }
 
+// The postings of a word in each segment.
+fn postings_of<'a>(
+    alloc: Global,
+    segments: &'a [Arc<Segment>],
+    word: &[u8],
+) -> Result<Vec<Postings<'a>>, NoMemory>
+    ensures { IfOk result (λ found. ArePostings word.now (map arc_value segments.now) found.items) }
+{
+    let mut found = Vec::with_capacity(alloc, segments.len())?;
+    for segment in segments {
+        found.push(segment.postings(word))?;
+    }
+    Ok(found)
+}
+
 // Takes in the pages of a segment in which a query's only term, a word, stands.
-fn take_word_in<'a>(segment: &'a Segment, term: &Term, best: &mut Best<'a>) -> Result<(), NoMemory>
+fn take_word_in<'a>(
+    segment: &'a Segment,
+    term: &Term,
+    postings: &Postings,
+    best: &mut Best<'a>,
+) -> Result<(), NoMemory>
     requires and { term.now.operator ≡ And }
     requires word { term.now.is_prefix ≡ false }
+    requires postings { ArePostingsIn term.now.word segment.now postings.now }
     ensures { OnOk result (TakesIn (term.now ∷ []) segment.now.pages best.old best.new) }
 {
-    let postings = segment.postings(term.word());
-    take_term_in(segment.pages(), term, &postings, best)
+    take_term_in(segment.pages(), term, postings, best)
 }
 
 // The same segment by segment.
 fn take_words_in<'a>(
     segments: &'a [Arc<Segment>],
     term: &Term,
+    found: &[Postings],
     best: &mut Best<'a>,
 ) -> Result<(), NoMemory>
     requires and { term.now.operator ≡ And }
     requires word { term.now.is_prefix ≡ false }
+    requires found { ArePostings term.now.word (map arc_value segments.now) found.now }
     ensures { OnOk result (TakesIn (term.now ∷ []) (pages_of (map arc_value segments.now)) best.old best.new) }
 {
-    for segment in segments {
-        take_word_in(segment, term, best)?;
+    for (index, segment) in segments.iter().enumerate() {
+        take_word_in(segment, term, &found[index], best)?;
     }
     Ok(())
 }
@@ -197,16 +220,13 @@ fn best_of_word<'a>(
 ) -> Result<Best<'a>, NoMemory>
     requires and { term.now.operator ≡ And }
     requires word { term.now.is_prefix ≡ false }
-    ensures best { IfOk result (λ best. best.hits ≡ answer_from best.least (pages_of (map arc_value segments.now)) (term.now ∷ [])) }
+    ensures best { IfOk result (λ best. IsBestOf (term.now ∷ []) (pages_of (map arc_value segments.now)) best) }
     ensures plain { is_guessed ≡ false → IfOk result (λ best. best.least ≡ 0) }
 {
-    let least = if is_guessed {
-        likely_score(segments, term.word())
-    } else {
-        0
-    };
-    let mut best = Best::new(alloc, least);
-    take_words_in(segments, term, &mut best)?;
+    let found = postings_of(alloc, segments, term.word())?;
+    let least = if is_guessed { likely_score(&found) } else { 0 };
+    let mut best = Best::new(alloc, least)?;
+    take_words_in(segments, term, &found, &mut best)?;
     Ok(best)
 }
 
@@ -218,7 +238,7 @@ fn best_of_segments<'a>(
     is_guessed: bool,
 ) -> Result<Best<'a>, NoMemory>
     requires { IsQuery terms.now }
-    ensures best { IfOk result (λ best. best.hits ≡ answer_from best.least (pages_of (map arc_value segments.now)) terms.now) }
+    ensures best { IfOk result (λ best. IsBestOf terms.now (pages_of (map arc_value segments.now)) best) }
     ensures plain { is_guessed ≡ false → IfOk result (λ best. best.least ≡ 0) }
 {
     match terms {
@@ -257,7 +277,7 @@ fn best_of_all<'a>(
     query: &Query,
     is_guessed: bool,
 ) -> Result<Best<'a>, NoMemory>
-    ensures best { IfOk result (λ best. best.hits ≡ answer_from best.least (pages_of (map arc_value segments.now) ++ map arc_value loose.now) query.now) }
+    ensures best { IfOk result (λ best. IsBestOf query.now (pages_of (map arc_value segments.now) ++ map arc_value loose.now) best) }
     ensures plain { is_guessed ≡ false → IfOk result (λ best. best.least ≡ 0) }
 {
     let mut best = best_of_segments(alloc, segments, query.terms(), is_guessed)?;

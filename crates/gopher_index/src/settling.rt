@@ -2,50 +2,14 @@
 
 ghost use Rattle.std.specs.Prelude.{◌≡◌, ◌+◌, ◌≤◌, [], ◌∷◌, ◌++◌, length, map, drop, IfOk, OnOk, OnErr};
 ghost use Rattle.std.specs.Arc.{arc_value};
-ghost use Rattle.gopher_index.specs.Segment.{pages_of};
-ghost use Rattle.gopher_index.specs.SegmentRows.{AreConsecutive};
+ghost use Rattle.gopher_segment.specs.Segment.{pages_of};
+ghost use Rattle.gopher_segment.specs.SegmentRows.{AreConsecutive};
 
-use crate::segment::Segment;
-use crate::words::MOST_ITEMS;
 use gopher_item::NoMemory;
 use gopher_page::Page;
+use gopher_segment::{Segment, Size};
 use std::alloc::Global;
 use std::sync::Arc;
-
-// How many pages a segment has at most.
-const MOST_PAGES: usize = 16_384;
-
-// What a segment of so many pages takes.
-#[derive(Clone, Copy)]
-struct Size {
-    pages: usize,
-    bytes: usize,
-    postings: usize,
-}
-
-impl Size {
-    fn of(segment: &Segment) -> Size {
-        Size {
-            pages: segment.pages().len(),
-            bytes: segment.bytes_len(),
-            postings: segment.postings_len(),
-        }
-    }
-
-    // What a segment takes that is merged with another.
-    fn with(self, other: Size) -> Size {
-        Size {
-            pages: self.pages.saturating_add(other.pages),
-            bytes: self.bytes.saturating_add(other.bytes),
-            postings: self.postings.saturating_add(other.postings),
-        }
-    }
-
-    // Whether a segment can take so much.
-    fn fits(self) -> bool {
-        self.pages <= MOST_PAGES && self.bytes <= MOST_ITEMS && self.postings <= MOST_ITEMS
-    }
-}
 
 // The same handles.
 pub(crate) fn shared<T: Drop>(alloc: Global, items: &[Arc<T>]) -> Result<Vec<Arc<T>>, NoMemory>

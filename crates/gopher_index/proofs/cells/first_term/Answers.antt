@@ -1,7 +1,8 @@
 use Rattle.std.proofs.Common.{◌≡◌, subst, ◌∙◌}
 use Rattle.std.specs.Prelude.{nat_lt}
 use Rattle.gopher_page.specs.Query.{joined}
-use Rattle.gopher_index.specs.Cells.{meant_counts, zipped}
+use Rattle.gopher_index.specs.Cells.{zipped}
+use Rattle.gopher_segment.specs.Segment.{meant_counts}
 use Rattle.gopher_index.proofs.CellLemmas.{first_cells, meant_is_term}
 use Rattle.gopher_index.proofs.cells.first_term.Goals as goal
 

@@ -1,5 +1,5 @@
 use Rattle.std.proofs.Common.{◌∙◌}
-use Rattle.gopher_index.specs.Cells.{meant_counts}
+use Rattle.gopher_segment.specs.Segment.{meant_counts}
 use Rattle.gopher_index.proofs.CellLemmas.{meant_is_term}
 use Rattle.gopher_index.proofs.cells.spread_term.Goals as goal
 

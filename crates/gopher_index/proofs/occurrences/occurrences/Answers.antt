@@ -2,7 +2,7 @@ use Rattle.std.proofs.Common.{◌++◌, map, sym, ap, subst, ◌∙◌}
 use Rattle.std.specs.Arc.{arc_value}
 use Rattle.std.specs.List.Sorted.{IsPermutation}
 use Rattle.gopher_index.specs.Answer.{occurrences_among}
-use Rattle.gopher_index.specs.Segment.{pages_of}
+use Rattle.gopher_segment.specs.Segment.{pages_of}
 use Rattle.gopher_index.proofs.Found.{found_both}
 use Rattle.gopher_index.proofs.occurrences.occurrences.Goals as goal
 

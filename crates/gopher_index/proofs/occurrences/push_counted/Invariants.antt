@@ -1,7 +1,7 @@
 use Rattle.std.proofs.Common.{◌≡◌, ℕ, false, List, ◌++◌, map, take}
 use Rattle.std.specs.Arc.{arc_value}
 use Rattle.gopher_index.specs.Answer.{occurrences_among}
-use Rattle.gopher_index.specs.Cells.{meant_counts}
+use Rattle.gopher_segment.specs.Segment.{meant_counts}
 use Rattle.gopher_index.proofs.occurrences.push_counted.Given as goal
 
 abbrev pub invariant-loop-index : goal.invariant-loop-index

@@ -1,7 +1,7 @@
 use Rattle.std.proofs.Common.{◌++◌, map, take, sym, ap, ◌∙◌, arith}
 use Rattle.std.specs.Arc.{arc_value}
 use Rattle.gopher_index.specs.Answer.{occurrences_among}
-use Rattle.gopher_index.specs.Segment.{SegmentData, pages_of}
+use Rattle.gopher_segment.specs.Segment.{SegmentData, pages_of}
 use Rattle.gopher_index.proofs.Found.{found_so_far, found_more}
 use Rattle.gopher_index.proofs.Segments.{pages-next}
 use Rattle.gopher_index.proofs.occurrences.push_segments.Goals as goal

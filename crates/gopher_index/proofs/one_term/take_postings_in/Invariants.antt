@@ -1,4 +1,4 @@
-use Rattle.std.proofs.Common.{List, map}
+use Rattle.std.proofs.Common.{map}
 use Rattle.std.specs.Arc.{arc_value}
 use Rattle.gopher_index.specs.Best.{BestData}
 use Rattle.gopher_index.specs.OneTerm.{Walk}

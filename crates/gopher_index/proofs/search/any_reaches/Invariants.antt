@@ -1,6 +1,6 @@
-use Rattle.std.proofs.Common.{◌≡◌, take}
-use Rattle.gopher_index.specs.Cells.{any_reaches}
+use Rattle.std.proofs.Common.{◌≡◌, nat_le, take}
+use Rattle.std.specs.List.{list_any}
 use Rattle.gopher_index.proofs.search.any_reaches.Given as goal
 
-abbrev pub invariant-loop-index : goal.invariant-loop-index
-invariant-loop-index l = l.is_reached ≡ any_reaches l.lowest (take l.index l.truths) l.scores
+abbrev pub invariant-loop-score : goal.invariant-loop-score
+invariant-loop-score l = l.is_reached ≡ list_any (λ score. nat_le l.lowest score) (take l.score-index l.scores)

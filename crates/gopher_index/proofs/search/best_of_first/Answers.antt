@@ -10,5 +10,5 @@ returns-clause-best c =
     (record {
       matching = c.deref.ensures.value ∙ c.in_ok-fill.ensures.matching ∙ ap (truths_of c.args.terms.now) (sym c.pages.ensures.pages);
       scoring = c.deref-2.ensures.value ∙ c.in_ok-fill.ensures.scoring ∙ ap (scores_of c.args.terms.now) (sym c.pages.ensures.pages);
-    })).answers [] (c.new-best.ensures.hits ∙ answer_of_none c.new-best.result.least c.args.terms.now))
+    })).answers [] (c.in_ok-best.ensures.hits ∙ answer_of_none c.in_ok-best.best.least c.args.terms.now))
     ∙ ap (λ pages. answer_from c.take_cells_in.new.best.least pages c.args.terms.now) c.pages.ensures.pages

@@ -1,15 +1,17 @@
-use Rattle.std.proofs.Common.{◌≡◌, map, sym, ap, subst, ◌∙◌}
+use Rattle.std.proofs.Common.{◌≡◌, [], map, sym, ap, subst, ◌∙◌}
 use Rattle.std.specs.Arc.{arc_value}
 use Rattle.gopher_index.specs.Best.{answer_from}
-use Rattle.gopher_index.specs.Segment.{pages_of}
+use Rattle.gopher_segment.specs.Segment.{pages_of}
 use Rattle.gopher_index.proofs.Segments.{pages-none}
-use Rattle.gopher_index.proofs.Taking.{answer_of_none}
+use Rattle.gopher_index.proofs.Taking.{answer_of_none, ok_from}
 use Rattle.gopher_index.proofs.search.best_of_terms.Goals as goal
 
 pub returns-in_default-clause-best : goal.returns-in_default-clause-best
 returns-in_default-clause-best c =
-    c.new.ensures.hits ∙ answer_of_none c.new.result.least c.args.terms.now
-    ∙ ap (λ pages. answer_from c.new.result.least pages c.args.terms.now) (pages-none arc_value c.args.segments.now c.in_default.ensures.cases)
+    ok_from c.new.result (λ best. best.hits ≡ []) (λ best. best.hits ≡ answer_from best.least (pages_of (map arc_value c.args.segments.now)) c.args.terms.now)
+    (λ best none.
+    none ∙ answer_of_none best.least c.args.terms.now
+    ∙ ap (λ pages. answer_from best.least pages c.args.terms.now) (pages-none arc_value c.args.segments.now c.in_default.ensures.cases)) c.new.ensures.hits
 
 pub returns-clause-best : goal.returns-clause-best
 returns-clause-best c =

@@ -3,7 +3,7 @@ use Rattle.std.specs.Arc.{arc_value}
 use Rattle.gopher_page.specs.Page.{PageData}
 use Rattle.gopher_index.specs.Answer.{answer_of}
 use Rattle.gopher_index.specs.Best.{answer_from}
-use Rattle.gopher_index.specs.Segment.{pages_of}
+use Rattle.gopher_segment.specs.Segment.{pages_of}
 use Rattle.gopher_index.proofs.LeastLemmas.{answer_of_whole, answer_from_0}
 use Rattle.gopher_index.proofs.Taking.{ok_from}
 use Rattle.gopher_index.proofs.search.search.Goals as goal

@@ -1,7 +1,7 @@
 use Rattle.std.proofs.Common.{map, take, sym, subst, arith}
 use Rattle.std.specs.Arc.{arc_value}
 use Rattle.gopher_index.specs.Best.{TakesIn}
-use Rattle.gopher_index.specs.Segment.{pages_of}
+use Rattle.gopher_segment.specs.Segment.{pages_of}
 use Rattle.gopher_index.proofs.Segments.{pages-next}
 use Rattle.gopher_index.proofs.Taking.{takes_none, takes_both}
 use Rattle.gopher_index.proofs.search.take_segments_in.Goals as goal

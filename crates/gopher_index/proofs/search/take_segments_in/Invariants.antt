@@ -1,7 +1,7 @@
 use Rattle.std.proofs.Common.{map, take}
 use Rattle.std.specs.Arc.{arc_value}
 use Rattle.gopher_index.specs.Best.{TakesIn}
-use Rattle.gopher_index.specs.Segment.{pages_of}
+use Rattle.gopher_segment.specs.Segment.{pages_of}
 use Rattle.gopher_index.proofs.search.take_segments_in.Given as goal
 
 abbrev pub invariant-loop-segment : goal.invariant-loop-segment

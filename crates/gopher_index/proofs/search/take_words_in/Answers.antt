@@ -1,16 +1,30 @@
 use Rattle.std.proofs.Common.{[], ◌∷◌, map, take, sym, subst, arith}
 use Rattle.std.specs.Arc.{arc_value}
+use Rattle.std.proofs.lemmas.List.{length-map}
 use Rattle.gopher_index.specs.Best.{TakesIn}
-use Rattle.gopher_index.specs.Segment.{pages_of}
+use Rattle.gopher_segment.specs.Segment.{SegmentData, pages_of}
 use Rattle.gopher_index.proofs.Segments.{pages-next}
 use Rattle.gopher_index.proofs.Taking.{takes_none, takes_both}
+use Rattle.gopher_index.proofs.WordSegments.{postings_length, postings_next}
 use Rattle.gopher_index.proofs.search.take_words_in.Goals as goal
 
-pub loop-segment-init : goal.loop-segment-init
-loop-segment-init c = takes_none (c.args.term.now ∷ []) c.args.best.now
+pub offset_bounds-found-index : goal.offset_bounds-found-index
+offset_bounds-found-index c =
+    omega (arith, postings_length c.args.term.now.word (map arc_value c.args.segments.now) c.args.found.now c.requires.found, length-map c.args.segments.now (arc_value {X = SegmentData}))
 
-pub loop-segment-preserved : goal.loop-segment-preserved
-loop-segment-preserved c =
-    subst (λ pages. TakesIn (c.args.term.now ∷ []) pages c.args.best.now c.take_word_in.new.best) (sym (pages-next arc_value c.args.segments.now c.loop-segment.segment-index c.segment-item.result (omega arith) c.segment-item.is))
-    (takes_both (c.args.term.now ∷ []) (pages_of (map arc_value (take c.loop-segment.segment-index c.args.segments.now))) (arc_value c.segment-item.result).pages c.args.best.now c.loop-segment.best c.take_word_in.new.best c.loop-segment.invariant
-    (subst (λ segment. TakesIn (c.args.term.now ∷ []) segment.pages c.loop-segment.best c.take_word_in.new.best) c.deref.ensures c.in_ok-take_word_in.ensures))
+pub bounds-found-index : goal.bounds-found-index
+bounds-found-index c =
+    omega (arith, postings_length c.args.term.now.word (map arc_value c.args.segments.now) c.args.found.now c.requires.found, length-map c.args.segments.now (arc_value {X = SegmentData}))
+
+pub take_word_in-requires-clause-postings : goal.take_word_in-requires-clause-postings
+take_word_in-requires-clause-postings c =
+    postings_next c.args.term.now.word arc_value c.args.segments.now c.args.found.now c.loop-index.index c.index-segments-index.result c.deref.result.now _ c.requires.found (omega arith) c.index-segments-index.is (sym c.deref.ensures)
+
+pub loop-index-init : goal.loop-index-init
+loop-index-init c = takes_none (c.args.term.now ∷ []) c.args.best.now
+
+pub loop-index-preserved : goal.loop-index-preserved
+loop-index-preserved c =
+    subst (λ pages. TakesIn (c.args.term.now ∷ []) pages c.args.best.now c.take_word_in.new.best) (sym (pages-next arc_value c.args.segments.now c.loop-index.index c.index-segments-index.result (omega arith) c.index-segments-index.is))
+    (takes_both (c.args.term.now ∷ []) (pages_of (map arc_value (take c.loop-index.index c.args.segments.now))) (arc_value c.index-segments-index.result).pages c.args.best.now c.loop-index.best c.take_word_in.new.best c.loop-index.invariant
+    (subst (λ segment. TakesIn (c.args.term.now ∷ []) segment.pages c.loop-index.best c.take_word_in.new.best) c.deref.ensures c.in_ok-take_word_in.ensures))

@@ -1,8 +1,8 @@
 use Rattle.std.proofs.Common.{◌≡◌, List, ◌+◌, ◌<◌, ◌++◌, ◌∷◌, [], length, map, take, sym, ap, subst, ◌∙◌, arith}
 use Rattle.std.proofs.lemmas.List.{length-map, length-take-le, map_push, map_more}
 use Rattle.std.specs.Arc.{arc_value}
-use Rattle.gopher_index.specs.Segment.{SegmentData, pages_of}
-use Rattle.gopher_index.specs.SegmentRows.{AreConsecutive}
+use Rattle.gopher_segment.specs.Segment.{SegmentData, pages_of}
+use Rattle.gopher_segment.specs.SegmentRows.{AreConsecutive}
 use Rattle.gopher_index.proofs.SettlingLemmas.{pages_of-append, consecutive_append}
 use Rattle.gopher_index.proofs.settling.segment_of.Goals as goal
 

@@ -1,8 +1,8 @@
 use Rattle.std.proofs.Common.{◌≡◌, ℕ, List, ◌+◌, ◌++◌, ◌∷◌, [], length, map, take, drop, sym, ap, subst, ◌∙◌}
 use Rattle.std.proofs.lemmas.List.{take_rest, map_push}
 use Rattle.std.specs.Arc.{arc_value}
-use Rattle.gopher_index.specs.Segment.{SegmentData, pages_of}
-use Rattle.gopher_index.specs.SegmentRows.{AreConsecutive}
+use Rattle.gopher_segment.specs.Segment.{SegmentData, pages_of}
+use Rattle.gopher_segment.specs.SegmentRows.{AreConsecutive}
 use Rattle.gopher_index.proofs.SettlingLemmas.{due_consecutive, stay_consecutive, stay_pages}
 use Rattle.gopher_index.proofs.settling.settle.Goals as goal
 

@@ -1,7 +1,7 @@
 use Rattle.std.proofs.Common.{length, sym, ap, ◌∙◌, arith}
 use Rattle.std.proofs.lemmas.List.{length-map}
 use Rattle.std.specs.Arc.{arc_value}
-use Rattle.gopher_index.specs.Segment.{SegmentData}
+use Rattle.gopher_segment.specs.Segment.{SegmentData}
 use Rattle.gopher_index.proofs.SettlingLemmas.{due_step}
 use Rattle.gopher_index.proofs.settling.staying.Goals as goal
 

@@ -1,6 +1,6 @@
 use Rattle.std.proofs.Common.{◌≡◌, ◌≤◌, ◌+◌, length, map, drop}
 use Rattle.std.specs.Arc.{arc_value}
-use Rattle.gopher_index.specs.Segment.{pages_of}
+use Rattle.gopher_segment.specs.Segment.{pages_of}
 use Rattle.gopher_index.proofs.settling.staying.Given as goal
 
 abbrev pub invariant-loop-start : goal.invariant-loop-start

@@ -1,6 +1,0 @@
-use Rattle.std.proofs.Common.{ap, ◌∙◌}
-use Rattle.gopher_index.specs.Rows.{first_word}
-use Rattle.gopher_index.proofs.merging.Cursor.word.Goals as goal
-
-pub returns : goal.returns
-returns c = c.as_ref.ensures.value ∙ c.self.invariant.1 ∙ ap first_word c.self.view_is

@@ -1,0 +1,59 @@
+//! Fetches over connections.
+
+ghost use Rattle.std.specs.Prelude.{◌≡◌};
+
+use gopher_catalogue::Why;
+use gopher_crew::Fetch;
+use gopher_item::Place;
+use gopher_serve::fetch_over;
+use gopher_text::Watched;
+use std::alloc::Global;
+use std::net::{Net, TcpListener, TcpStream};
+use std::str;
+
+/// Fetches the replies of places, each over a connection of its own to the place's host and port.
+#[derive(Drop)]
+pub struct TcpFetch {
+    calls: u64,
+}
+
+impl TcpFetch {
+    /// A fetcher that has fetched nothing yet. Takes no memory.
+    pub fn new() -> TcpFetch
+        ensures { result.calls ≡ 0 }
+    {
+        TcpFetch { calls: 0 }
+    }
+}
+
+// A connection to the server of a place. None where the host's name isn't UTF-8, has no address, or
+// nobody answers.
+fn connect<R: Net<Listener = TcpListener, Stream = TcpStream>>(
+    rt: &R,
+    place: &Place,
+) -> Option<TcpStream> {
+    let host = str::from_utf8(place.host()).ok()?;
+    TcpStream::connect(rt, (host, place.port())).ok()
+}
+
+impl<R: Net<Listener = TcpListener, Stream = TcpStream>> Fetch<R> for TcpFetch {
+    ghost called = { λ fetcher. fetcher.calls };
+
+    fn calls(&self) -> u64 {
+        self.calls
+    }
+
+    fn fetch(
+        &mut self,
+        rt: &R,
+        alloc: Global,
+        place: &Place,
+        limit: usize,
+    ) -> Result<Vec<u8>, Why> {
+        self.calls = self.calls.saturating_add(1);
+        match connect(rt, place) {
+            Some(stream) => fetch_over(alloc, &mut Watched::new(stream), place, limit),
+            None => Err(Why::Connect),
+        }
+    }
+}

@@ -1,0 +1,132 @@
+//! What a server is made of, from its settings on.
+
+ghost use Rattle.std.specs.Prelude.{◌≡◌, []};
+
+use crate::fault::ProgramFault;
+use gopher_catalogue::Catalogue;
+use gopher_crew::{Blank, Crew, Desk, Pass, Share};
+use gopher_item::{Home, Place};
+use gopher_scope::{Scope, Settings};
+use gopher_text::{ReplyFault, Watched, read_reply};
+use gopher_tree::{Replies, Tree};
+use std::alloc::Global;
+use std::fs::{self, Files};
+use std::str;
+use std::sync::Wait;
+
+// How many bytes a file of settings may have.
+const MOST_SETTINGS: usize = 1_048_576;
+
+/// A server with its desk, before it listens.
+#[derive(Drop)]
+pub struct Opened<C: Crew, R: Wait + Drop> {
+    /// What it sends.
+    pub replies: Replies,
+    /// Where its crew crawls.
+    pub desk: Desk<C, R>,
+    /// A pass for each server thread.
+    pub passes: Vec<Pass<C>>,
+    /// A share for each worker.
+    pub shares: Vec<Share<C>>,
+}
+
+// The bytes of the file of the settings.
+fn settings_bytes<R: Files>(rt: &R, alloc: Global, path: &str) -> Result<Vec<u8>, ProgramFault> {
+    let Ok(file) = fs::open(rt, path) else {
+        return Err(ProgramFault::SettingsUnreadable);
+    };
+    match read_reply(alloc, &mut Watched::new(file), MOST_SETTINGS) {
+        Ok(bytes) => Ok(bytes),
+        Err(ReplyFault::NoMemory) => Err(ProgramFault::NoMemory),
+        Err(_) => Err(ProgramFault::SettingsUnreadable),
+    }
+}
+
+/// The settings that a file states.
+///
+/// Refused with 80 where the file can't be read, has over 1,048,576 bytes or isn't UTF-8; as
+/// `Settings::read` has it (30 to 34); 90.
+pub fn read_settings<R: Files>(
+    rt: &R,
+    alloc: Global,
+    path: &str,
+) -> Result<Settings, ProgramFault> {
+    let bytes = settings_bytes(rt, alloc, path)?;
+    let Ok(text) = str::from_utf8(&bytes) else {
+        return Err(ProgramFault::SettingsUnreadable);
+    };
+    match Settings::read(alloc, text) {
+        Ok(settings) => Ok(settings),
+        Err(fault) => Err(ProgramFault::Settings(fault)),
+    }
+}
+
+// The replies of the folder that is served.
+fn open_replies<R: Files>(
+    rt: &R,
+    alloc: Global,
+    root: &str,
+    home: Home,
+) -> Result<Replies, ProgramFault> {
+    let tree = match Tree::load(rt, alloc, root) {
+        Ok(tree) => tree,
+        Err(fault) => return Err(ProgramFault::Tree(fault)),
+    };
+    match Replies::new(alloc, tree, home) {
+        Ok(replies) => Ok(replies),
+        Err(_refused) => Err(ProgramFault::NoMemory),
+    }
+}
+
+// The catalogue of the crawl.
+fn open_catalogue(
+    alloc: Global,
+    scope: Scope,
+    seeds: Vec<Place>,
+    places: u32,
+    tries: u32,
+) -> Result<Catalogue, ProgramFault> {
+    match Catalogue::open(alloc, scope, seeds, places, tries) {
+        Ok(catalogue) => Ok(catalogue),
+        Err(refused) => Err(ProgramFault::Open(refused.fault)),
+    }
+}
+
+/// Loads the folder and opens the desk of settings: one pass for each server thread, one share for each
+/// worker.
+///
+/// Refused, in this order: as `Tree::load` has it (20 to 26), `Catalogue::open` (50, 51, 54) and
+/// `Desk::open` (60, 61); 90 at each of them.
+pub fn open<'r, C: Crew, R: Files + Wait>(
+    rt: &'r R,
+    alloc: Global,
+    settings: Settings,
+    blank: Blank,
+) -> Result<Opened<C, &'r R>, ProgramFault>
+    requires name { blank.name ≡ C.name }
+    requires parts { blank.parts ≡ C.parts }
+    requires history { blank.history ≡ C.history }
+    requires begun { blank.begun ≡ [] }
+{
+    let Settings {
+        home,
+        root,
+        seeds,
+        scope,
+        places,
+        workers,
+        threads,
+        tries,
+    } = settings;
+    let replies = open_replies(rt, alloc, root.as_str(), home)?;
+    let catalogue = open_catalogue(alloc, scope, seeds, places, tries)?;
+    match Desk::<C, &'r R>::open(rt, alloc, catalogue, threads, workers, blank) {
+        Ok((desk, passes, shares)) => Ok(Opened {
+            replies,
+            desk,
+            passes,
+            shares,
+        }),
+        Err(refused) => Err(ProgramFault::Desk(refused.fault)),
+    }
+}

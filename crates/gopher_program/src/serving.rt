@@ -1,0 +1,240 @@
+//! A server thread.
+
+use crate::connection::{Connection, Stand};
+use crate::seats::Seats;
+use crate::turns::Turns;
+use gopher_serve::Answers;
+use mio::net::TcpListener;
+use mio::{Events, Interest, Poll, Token};
+use std::alloc::Global;
+use std::io::ErrorKind;
+use std::os::fd::AsRawFd;
+use std::sync::{Arc, Wait};
+use std::time::Clock;
+
+// How many connections are accepted in one go.
+const MOST_ACCEPTS: u32 = 16;
+
+// What the events of the listener are named.
+const LISTENER: usize = usize::MAX;
+
+// One event for each connection, and one thread for each event: that of the listener comes for as long
+// as a connection waits there (`EPOLLIN` and `EPOLLEXCLUSIVE` of Linux).
+const LISTENER_EVENTS: u32 = 1 | 1 << 28;
+
+/// What a server thread needs of the system, made before it starts.
+#[derive(Drop)]
+pub struct Post {
+    /// What it waits by.
+    pub poll: Poll,
+    /// What it waited for.
+    pub events: Events,
+    /// What it reads into.
+    pub buffer: [u8; 4096],
+    /// Where it accepts.
+    pub listener: Arc<TcpListener>,
+    /// How many connections it may hold.
+    pub seats: usize,
+}
+
+impl Post {
+    /// Has the listener's connections reported. False where the system refuses that.
+    pub fn watch_listener(&self) -> bool {
+        os::epoll_ctl(
+            self.poll.as_raw_fd(),
+            libc::net::EPOLL_CTL_ADD,
+            self.listener.as_raw_fd(),
+            LISTENER_EVENTS,
+            LISTENER as u64,
+        ) == 0
+    }
+}
+
+// A server thread at work.
+#[derive(Drop)]
+struct Server<'a, 't, A: Answers<'a> + Drop> {
+    alloc: Global,
+    poll: Poll,
+    buffer: [u8; 4096],
+    listener: Option<Arc<TcpListener>>,
+    seats: Seats<'a>,
+    answers: A,
+    turns: &'t Turns,
+    accept_failed: bool,
+}
+
+impl<'a, 't, A: Answers<'a> + Drop> Server<'a, 't, A> {
+    // Accepts no more: the last thread that does closes the listener.
+    fn leave_listener(&mut self) {
+        if let Some(listener) = self.listener.take() {
+            let _refused = os::epoll_ctl(
+                self.poll.as_raw_fd(),
+                libc::net::EPOLL_CTL_DEL,
+                listener.as_raw_fd(),
+                0,
+                0,
+            );
+        }
+    }
+
+    // Takes the next turn, or accepts no more.
+    fn take_turn(&mut self) {
+        if !self.turns.take() {
+            self.leave_listener();
+        }
+    }
+
+    // Accepts the connections that wait.
+    fn accept(&mut self, clock: &impl Clock) {
+        for _accepted in 0..MOST_ACCEPTS {
+            let Some(listener) = &self.listener else {
+                return;
+            };
+            match listener.accept() {
+                Ok((stream, _address)) => {
+                    self.welcome(clock, Connection::new(self.alloc, stream));
+                    self.take_turn();
+                }
+                Err(error) => match error.kind() {
+                    ErrorKind::WouldBlock => return,
+                    ErrorKind::Interrupted | ErrorKind::ConnectionAborted => {}
+                    _ => {
+                        self.accept_failed = true;
+                        self.leave_listener();
+                    }
+                },
+            }
+        }
+    }
+
+    // Goes on with a new connection at once, and seats it where it has to wait.
+    fn welcome(&mut self, clock: &impl Clock, connection: Connection<'a>) {
+        let mut connection = connection;
+        let stand = connection.go_on(clock, self.alloc, &mut self.answers, &mut self.buffer);
+        if stand == Stand::Ends {
+            return;
+        }
+        let Some(key) = self.seats.seat(connection) else {
+            return;
+        };
+        if !self.watch(key) {
+            self.seats.remove(key);
+        }
+        if stand == Stand::Lingers {
+            self.seats.linger(key);
+        }
+    }
+
+    // Has the connection at a key reported when its client is ready. False where the system refuses.
+    fn watch(&mut self, key: usize) -> bool {
+        let Some(connection) = self.seats.get_mut(key) else {
+            return false;
+        };
+        let both = Interest::READABLE | Interest::WRITABLE;
+        let registry = self.poll.registry();
+        registry
+            .register(connection.stream_mut(), Token(key), both)
+            .is_ok()
+    }
+
+    // Has the connection at a key reported again if its client is ready already.
+    fn watch_again(&mut self, key: usize) -> bool {
+        let Some(connection) = self.seats.get_mut(key) else {
+            return false;
+        };
+        let both = Interest::READABLE | Interest::WRITABLE;
+        let registry = self.poll.registry();
+        registry
+            .reregister(connection.stream_mut(), Token(key), both)
+            .is_ok()
+    }
+
+    // Goes on with the connection at a key.
+    fn go_on(&mut self, clock: &impl Clock, key: usize) {
+        let Some(connection) = self.seats.get_mut(key) else {
+            return;
+        };
+        match connection.go_on(clock, self.alloc, &mut self.answers, &mut self.buffer) {
+            Stand::Waits => self.seats.stir(key),
+            Stand::Ready => {
+                self.seats.stir(key);
+                if !self.watch_again(key) {
+                    self.seats.remove(key);
+                }
+            }
+            Stand::Lingers => {
+                self.seats.linger(key);
+                if !self.watch_again(key) {
+                    self.seats.remove(key);
+                }
+            }
+            Stand::Ends => self.seats.remove(key),
+        }
+    }
+
+    // Goes on with what an event names.
+    fn meet(&mut self, clock: &impl Clock, token: Token) {
+        if token.0 == LISTENER {
+            self.accept(clock);
+        } else {
+            self.go_on(clock, token.0);
+        }
+    }
+
+    // Whether nothing is left to do.
+    fn is_done(&self) -> bool {
+        self.listener.is_none() && self.seats.is_empty()
+    }
+
+    // Waits for events, and meets them. False where the system refuses to wait.
+    fn work(&mut self, clock: &impl Clock, events: &mut Events) -> bool {
+        let patience = self.seats.patience(clock);
+        if self.poll.poll(events, patience).is_err() {
+            return false;
+        }
+        for event in events.iter() {
+            self.meet(clock, event.token());
+        }
+        self.seats.end_lingering(clock);
+        true
+    }
+}
+
+/// Serves at a post: accepts a connection for each turn, answers each, and ends once no turn is left and
+/// no connection waits. True where an accept failed, or the system refused to wait.
+pub fn serve_at<'a, A: Answers<'a> + Drop, R: Wait + Clock>(
+    rt: &R,
+    alloc: Global,
+    post: Post,
+    answers: A,
+    turns: &Turns,
+) -> bool {
+    let Post {
+        poll,
+        events,
+        buffer,
+        listener,
+        seats,
+    } = post;
+    let mut events = events;
+    let mut server = Server {
+        alloc,
+        poll,
+        buffer,
+        listener: Some(listener),
+        seats: Seats::new(alloc, seats),
+        answers,
+        turns,
+        accept_failed: false,
+    };
+    server.take_turn();
+    for _round in rt.forever() {
+        if server.is_done() {
+            return server.accept_failed;
+        }
+        if !server.work(rt, &mut events) {
+            return true;
+        }
+    }
+    unreachable!()
+}

@@ -1,0 +1,91 @@
+//! The words of the program.
+
+use clap::{Arg, ArgAction, Command, Error, value_parser};
+use gopher_item::NoMemory;
+use std::alloc::{AllocError, Global};
+
+// How many connections may be asked for at most.
+const MOST_REQUESTS: u64 = 1_000_000;
+
+/// What the words ask for.
+#[derive(Drop)]
+pub enum Asked<'a> {
+    /// `replay`: a script is replayed.
+    Replay,
+    /// `serve`: a folder is served.
+    Serve(Serving<'a>),
+    /// `--help` or `--version`: this text is shown.
+    Shown(String),
+    /// Words that are refused, with a text that says why.
+    Refused(String),
+}
+
+/// What a server is started with.
+#[derive(Drop)]
+pub struct Serving<'a> {
+    /// The path of the settings.
+    pub settings: &'a str,
+    /// After how many connections the server ends; never without a number.
+    pub requests: Option<u64>,
+}
+
+fn serve_words<'a>(alloc: Global) -> Result<Command<'a>, AllocError> {
+    let settings = Arg::new(alloc, "SETTINGS")
+        .required(true)
+        .action(ArgAction::Set)
+        .help("The settings of the server and its crawl, a TOML file");
+    let requests = Arg::new(alloc, "requests")
+        .long("requests")
+        .value_name("N")
+        .action(ArgAction::Set)
+        .value_parser(value_parser!(u64).range(0..=MOST_REQUESTS as i64))
+        .help("End after N connections, at most 1000000");
+    Command::new(alloc, "serve")
+        .about("Serve a folder, crawl the allowed hosts and answer searches")
+        .arg(settings)?
+        .arg(requests)
+}
+
+fn program_words<'a>(alloc: Global) -> Result<Command<'a>, AllocError> {
+    let replay = Command::new(alloc, "replay").about(
+        "Replay the crawl of a script from standard input",
+    );
+    Command::new(alloc, "hole")
+        .about("A Gopher server with search over a crawl")
+        .version("0.1.0")
+        .no_binary_name(true)
+        .subcommand_required(true)
+        .subcommand(replay)?
+        .subcommand(serve_words(alloc)?)
+}
+
+// What clap shows in place of matches.
+fn shown<'a>(alloc: Global, error: &Error) -> Result<Asked<'a>, NoMemory> {
+    let text = format!(in alloc; "{error}")?;
+    if error.use_stderr() {
+        Ok(Asked::Refused(text))
+    } else {
+        Ok(Asked::Shown(text))
+    }
+}
+
+/// What the words of the program, without its own name, ask for.
+pub fn read_words<'a>(alloc: Global, words: &'a [String]) -> Result<Asked<'a>, NoMemory> {
+    let Ok(command) = program_words(alloc) else {
+        return Err(NoMemory);
+    };
+    let matches = match command.try_get_matches_from(words) {
+        Ok(matches) => matches,
+        Err(error) => return shown(alloc, &error),
+    };
+    let Some(serve) = matches.subcommand_matches("serve") else {
+        return Ok(Asked::Replay);
+    };
+    let Some(settings) = serve.get_str("SETTINGS") else {
+        return Err(NoMemory);
+    };
+    Ok(Asked::Serve(Serving {
+        settings,
+        requests: serve.get_one::<u64>("requests"),
+    }))
+}

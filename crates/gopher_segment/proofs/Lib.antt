@@ -1,0 +1,11 @@
+mod PartLemmas
+pub mod PostingLemmas
+pub mod RunLemmas
+mod RowLemmas
+mod RowSearch
+mod WordOrder
+mod MergeLemmas
+mod SegmentLemmas
+pub mod Pieces
+mod WordPostings
+mod Between

@@ -1,0 +1,7 @@
+use Rattle.std.proofs.Common.{◌≡◌, None, drop}
+use Rattle.std.specs.Option.{option_copied}
+use Rattle.gopher_segment.specs.Rows.{lowest_from}
+use Rattle.gopher_segment.proofs.merging.lowest_word.Given as goal
+
+abbrev pub invariant-loop-cursor : goal.invariant-loop-cursor
+invariant-loop-cursor l = lowest_from (option_copied l.lowest) (drop l.cursor-index l.cursors) ≡ lowest_from None l.cursors

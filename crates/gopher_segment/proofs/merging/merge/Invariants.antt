@@ -1,0 +1,21 @@
+use Rattle.std.proofs.Common.{◌≡◌, ℕ, Bool, ◌+◌, ◌++◌, List, [], length}
+use Rattle.std.specs.List.{flat_map, zip}
+use Rattle.std.specs.List.Sorted.{IsStrictlySortedBy}
+use Rattle.std.specs.Ordering.{nat_cmp}
+use Rattle.std.specs.Cmp.Lexicographic.{slice_cmp}
+use Rattle.gopher_segment.specs.Rows.{rows_count, postings_of, tables_count, rows_left, AreAllInOrder, ComeBefore}
+use Rattle.gopher_segment.proofs.merging.merge.Given as goal
+
+abbrev pub invariant-loop-word : goal.invariant-loop-word
+invariant-loop-word l = record {
+  same : length l.runs.whole ≡ length l.words;
+  ended : l.runs.begun ≡ [];
+  order : IsStrictlySortedBy (slice_cmp nat_cmp) l.words;
+  before : ComeBefore l.words l.cursors;
+  orders : AreAllInOrder l.cursors;
+  counts : (test : List ℕ → Bool) (page : ℕ) → rows_count test page (zip l.words l.runs.whole) + tables_count test page l.cursors ≡ tables_count test page l.initial.cursors;
+  postings : (word : List ℕ) → postings_of word (zip l.words l.runs.whole) ++ flat_map (postings_of word) l.cursors ≡ flat_map (postings_of word) l.initial.cursors;
+}
+
+abbrev pub decreases-loop-word : goal.decreases-loop-word
+decreases-loop-word l = rows_left l.cursors

@@ -1,0 +1,23 @@
+use Rattle.std.proofs.Common.{◌≡◌, ℕ, ◌<◌, List, ◌++◌, length, get_or, ◌∙◌, arith}
+use Rattle.gopher_segment.specs.Rows.{passed, taken}
+use Rattle.gopher_segment.proofs.MergeLemmas.{map_step, now_at, flat_step}
+use Rattle.gopher_segment.proofs.merging.take_runs.Goals as goal
+
+pub loop-index-preserved : goal.loop-index-preserved
+loop-index-preserved c =
+    let word : List ℕ = c.args.word.now in
+    let tables : List (List (List ℕ × List (ℕ × ℕ))) = c.args.cursors.now in
+    let rows : List (List ℕ × List (ℕ × ℕ)) = c.index-cursors-index.result in
+    let within : c.loop-index.index < length tables = omega arith in
+    let same : get_or c.loop-index.cursors c.loop-index.index rows ≡ get_or tables c.loop-index.index rows =
+    now_at (passed word) tables c.loop-index.cursors c.loop-index.index rows within c.loop-index.invariant.cursors_so_far in
+    record {
+      cursors_so_far =
+          map_step (passed word) tables c.loop-index.cursors c.loop-index.index c.take_run.new.cursor rows within c.loop-index.invariant.cursors_so_far
+          c.in_ok-take_run.ensures.cursor;
+      whole = c.in_ok-take_run.ensures.whole ∙ c.loop-index.invariant.whole;
+      begun =
+          c.in_ok-take_run.ensures.begun
+          ∙ (λ i. c.loop-index.invariant.begun i ++ taken word (same i))
+          ∙ flat_step (taken word) c.args.runs.now.begun tables c.loop-index.index rows within;
+    }

@@ -1,0 +1,5 @@
+pub mod Parts
+pub mod Postings
+pub mod Rows
+pub mod Segment
+pub mod SegmentRows

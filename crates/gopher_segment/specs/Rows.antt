@@ -1,0 +1,112 @@
+-- Rows: words, each with its postings.
+use Rattle.std.specs.Prelude.{ℕ, ◌+◌, ◌≡◌, ◌<◌, ◌≤◌, Bool, true, false, List, [], ◌∷◌, ◌++◌, map, Option, Some, None, length, slice_index_or, if◌then◌else◌}
+use Rattle.std.specs.List.{AllByRecursion}
+use Rattle.std.specs.List.Sorted.{IsStrictlySortedBy}
+use Rattle.std.specs.Ordering.{nat_cmp}
+use Rattle.std.specs.Cmp.Lexicographic.{slice_cmp}
+use Rattle.std.specs.declared.cmp.Ordering.TheVariants.{Less}
+use Rattle.gopher_page.specs.Words.{same_word}
+use Rattle.gopher_page.specs.Counts.{is_before, is_meant}
+use Rattle.gopher_segment.specs.Postings.{count_in, pieces}
+
+abbrev pub words_of_rows : List (List ℕ × List (ℕ × ℕ)) → List (List ℕ)
+words_of_rows rows = map (λ row. row.0) rows
+
+abbrev pub runs_of_rows : List (List ℕ × List (ℕ × ℕ)) → List (List (ℕ × ℕ))
+runs_of_rows rows = map (λ row. row.1) rows
+
+-- the words are in the order of their bytes, each once
+abbrev pub AreInOrder : List (List ℕ × List (ℕ × ℕ)) → Type 0
+AreInOrder rows = IsStrictlySortedBy (slice_cmp nat_cmp) (words_of_rows rows)
+
+-- how often the words that pass a test stand in a page
+abbrev pub rows_count : (List ℕ → Bool) → ℕ → List (List ℕ × List (ℕ × ℕ)) → ℕ
+rows_count test page [] = 0
+rows_count test page (row ∷ rows) = (if test row.0 then count_in page row.1 else 0) + rows_count test page rows
+
+-- the postings of a word, none where it isn't there
+abbrev pub postings_of : List ℕ → List (List ℕ × List (ℕ × ℕ)) → List (ℕ × ℕ)
+postings_of word [] = []
+postings_of word (row ∷ rows) = (if same_word word row.0 then row.1 else []) ++ postings_of word rows
+
+-- whether the word of the row at an index comes before what is sought
+abbrev pub is_before_at : List (List ℕ × List (ℕ × ℕ)) → List ℕ → ℕ → Bool
+is_before_at rows sought index = is_before (slice_index_or (words_of_rows rows) index []) sought
+
+-- whether it is meant by what is sought
+abbrev pub is_meant_at : List (List ℕ × List (ℕ × ℕ)) → Bool → List ℕ → ℕ → Bool
+is_meant_at rows is_prefix sought index = is_meant is_prefix sought (slice_index_or (words_of_rows rows) index [])
+
+-- from a start on, the words up to an end are those that are meant
+pub record AreMeant (rows : List (List ℕ × List (ℕ × ℕ))) (is_prefix : Bool) (sought : List ℕ) (start end : ℕ) : Type 0 where
+  pub forward : start ≤ end
+  pub within : end ≤ length rows
+  pub meant : (k : ℕ) → start ≤ k → k < end → is_meant_at rows is_prefix sought k ≡ true
+  pub others : (k : ℕ) → end ≤ k → k < length rows → is_meant_at rows is_prefix sought k ≡ false
+
+-- the rows of one page
+abbrev pub page_rows : ℕ → List (List ℕ × ℕ) → List (List ℕ × List (ℕ × ℕ))
+page_rows number counts = map (λ entry. (entry.0, pieces number entry.1)) counts
+
+-- ---- rows of several tables, which are merged
+
+-- the word of the first row, where there is a row
+abbrev pub first_word : List (List ℕ × List (ℕ × ℕ)) → Option (List ℕ)
+first_word [] = None
+first_word (row ∷ rows) = Some row.0
+
+abbrev pub first_run : List (List ℕ × List (ℕ × ℕ)) → List (ℕ × ℕ)
+first_run [] = []
+first_run (row ∷ rows) = row.1
+
+-- whether a word is that of the first row
+abbrev pub is_at : List ℕ → List (List ℕ × List (ℕ × ℕ)) → Bool
+is_at word [] = false
+is_at word (row ∷ rows) = same_word row.0 word
+
+-- the rows after a word that none of them comes before
+abbrev pub passed : List ℕ → List (List ℕ × List (ℕ × ℕ)) → List (List ℕ × List (ℕ × ℕ))
+passed word [] = []
+passed word (row ∷ rows) = if same_word row.0 word then rows else row ∷ rows
+
+-- and the postings of the word
+abbrev pub taken : List ℕ → List (List ℕ × List (ℕ × ℕ)) → List (ℕ × ℕ)
+taken word [] = []
+taken word (row ∷ rows) = if same_word row.0 word then row.1 else []
+
+abbrev pub lower : Option (List ℕ) → Option (List ℕ) → Option (List ℕ)
+lower None word = word
+lower (Some low) None = Some low
+lower (Some low) (Some word) = if is_before word low then Some word else Some low
+
+-- the lowest of a word and the first words of tables
+abbrev pub lowest_from : Option (List ℕ) → List (List (List ℕ × List (ℕ × ℕ))) → Option (List ℕ)
+lowest_from low [] = low
+lowest_from low (rows ∷ tables) = lowest_from (lower low (first_word rows)) tables
+
+abbrev pub AreAllInOrder : List (List (List ℕ × List (ℕ × ℕ))) → Type 0
+AreAllInOrder [] = Unit {0}
+AreAllInOrder (rows ∷ tables) = AreInOrder rows × AreAllInOrder tables
+
+abbrev pub tables_count : (List ℕ → Bool) → ℕ → List (List (List ℕ × List (ℕ × ℕ))) → ℕ
+tables_count test page [] = 0
+tables_count test page (rows ∷ tables) = rows_count test page rows + tables_count test page tables
+
+-- how many rows there are
+abbrev pub rows_left : List (List (List ℕ × List (ℕ × ℕ))) → ℕ
+rows_left [] = 0
+rows_left (rows ∷ tables) = length rows + rows_left tables
+
+-- each of the words comes before another
+abbrev pub AllBefore : List (List ℕ) → List ℕ → Type 0
+AllBefore words word = AllByRecursion (λ earlier. slice_cmp nat_cmp earlier word ≡ Less) words
+
+-- each of the words comes before a word, where there is one
+abbrev pub AreBefore : List (List ℕ) → Option (List ℕ) → Type 0
+AreBefore words None = Unit {0}
+AreBefore words (Some word) = AllBefore words word
+
+-- each of the words comes before all words of the tables, whose words are in order
+abbrev pub ComeBefore : List (List ℕ) → List (List (List ℕ × List (ℕ × ℕ))) → Type 0
+ComeBefore words [] = Unit {0}
+ComeBefore words (rows ∷ tables) = AreBefore words (first_word rows) × ComeBefore words tables

@@ -1,0 +1,18 @@
+-- Pages in segments.
+use Rattle.std.specs.Prelude.{ℕ, Bool, List, map}
+use Rattle.std.specs.List.{flat_map}
+use Rattle.gopher_page.specs.Counts.{count_meant}
+use Rattle.gopher_page.specs.Page.{PageData}
+
+-- consecutive pages, and the number of the first
+pub record SegmentData : Type 0 where
+  pub first : ℕ
+  pub pages : List PageData
+
+-- the pages of segments, one segment after another
+abbrev pub pages_of : List SegmentData → List PageData
+pages_of segments = flat_map (λ segment. segment.pages) segments
+
+-- how often the words that are meant stand in each page
+abbrev pub meant_counts : Bool → List ℕ → List PageData → List ℕ
+meant_counts is_prefix sought pages = map (λ page. count_meant is_prefix sought page.counts) pages

@@ -1,0 +1,177 @@
+//! Merging tables.
+
+ghost use Rattle.std.specs.Prelude.{◌≡◌, ℕ, Bool, ◌<◌, List, None, ◌++◌, length, map, drop, IfOk, OnOk};
+ghost use Rattle.std.specs.List.{flat_map};
+ghost use Rattle.std.specs.Option.{option_copied};
+ghost use Rattle.gopher_segment.specs.Rows.{AreInOrder, rows_count, postings_of, first_word, first_run, is_at, passed, taken, lower, lowest_from, AreAllInOrder, tables_count};
+
+use crate::runs::{Run, Runs};
+use crate::table::Table;
+use crate::words::Words;
+use gopher_item::NoMemory;
+use gopher_page::Numbered;
+use std::alloc::Global;
+use std::marker::Model;
+
+// The word of the row at an index, where there is a row.
+fn word_at<'a>(table: &'a Table, at: usize) -> Option<Numbered<'a>>
+    ensures { result ≡ first_word (drop at table.now) }
+{
+    if at < table.len() {
+        Some(Numbered::new(table.word(at)))
+    } else {
+        None
+    }
+}
+
+/// The rows of a table that are left to merge.
+///
+/// The word of the first of them is kept, since it is compared many times.
+#[derive(Debug, Drop)]
+pub(crate) struct Cursor<'a> {
+    table: &'a Table,
+    at: usize,
+    word: Option<Numbered<'a>>,
+}
+
+impl<'a> Model for Cursor<'a> {
+    ghost use Rattle.std.specs.Prelude.{ℕ, ◌≡◌, ◌≤◌, List, length, drop};
+    ghost use Rattle.gopher_segment.specs.Rows.{first_word};
+
+    ghost Value = { List (List ℕ × List (ℕ × ℕ)) };
+
+    ghost view = { λ c. drop c.at c.table.now };
+
+    ghost invariant = { λ c. (c.at ≤ length c.table.now) × (c.word ≡ first_word (drop c.at c.table.now)) };
+}
+
+impl<'a> Cursor<'a> {
+    /// All rows of a table.
+    pub fn new(table: &'a Table) -> Cursor<'a>
+        ensures { result ≡ table.now }
+    {
+        Cursor {
+            table,
+            at: 0,
+            word: word_at(table, 0),
+        }
+    }
+
+    // The word of the first row, where there is a row.
+    fn word(&self) -> Option<&Numbered<'a>>
+        ensures { option_copied result ≡ first_word self.now }
+    {
+        self.word.as_ref()
+    }
+
+    // Whether a word is that of the first row.
+    fn is_at(&self, word: &Numbered<'_>) -> bool
+        ensures { result ≡ is_at word.now self.now }
+    {
+        match self.word() {
+            Some(own) => own == word,
+            None => false,
+        }
+    }
+
+    // The postings of the first row.
+    fn run(&self) -> Run<'a>
+        requires { 0 < length self.now }
+        ensures { result ≡ first_run self.now }
+    {
+        let table = self.table;
+        table.run(self.at)
+    }
+
+    fn advance(&mut self)
+        ensures { self.new ≡ drop 1 self.old }
+    {
+        if self.at < self.table.len() {
+            self.at += 1;
+            self.word = word_at(self.table, self.at);
+        }
+    }
+}
+
+fn lower<'a, 'b>(
+    lowest: Option<&'b Numbered<'a>>,
+    word: Option<&'b Numbered<'a>>,
+) -> Option<&'b Numbered<'a>>
+    ensures { option_copied result ≡ lower (option_copied lowest.entry) (option_copied word.entry) }
+{
+    match (lowest, word) {
+        (Some(low), Some(word)) => Some(if word.cmp(low).is_lt() { word } else { low }),
+        (Some(low), None) => Some(low),
+        (None, word) => word,
+    }
+}
+
+// The lowest of the first words.
+fn lowest_word<'a>(cursors: &[Cursor<'a>]) -> Option<Numbered<'a>>
+    ensures { result ≡ lowest_from None cursors.now }
+{
+    let mut lowest: Option<&Numbered<'a>> = None;
+    for cursor in cursors {
+        lowest = lower(lowest, cursor.word());
+    }
+    match lowest {
+        Some(word) => Some(word.again()),
+        None => None,
+    }
+}
+
+// Takes the postings of a word, which the first word doesn't come before.
+fn take_run(word: &Numbered<'_>, cursor: &mut Cursor<'_>, runs: &mut Runs) -> Result<(), NoMemory>
+    ensures cursor { OnOk result (cursor.new ≡ passed word.now cursor.old) }
+    ensures whole { runs.new.whole ≡ runs.old.whole }
+    ensures begun { OnOk result (runs.new.begun ≡ runs.old.begun ++ taken word.now cursor.old) }
+{
+    if !cursor.is_at(word) {
+        return Ok(());
+    }
+    runs.extend(&cursor.run())?;
+    cursor.advance();
+    Ok(())
+}
+
+// The same table by table.
+fn take_runs(
+    word: &Numbered<'_>,
+    cursors: &mut [Cursor<'_>],
+    runs: &mut Runs,
+) -> Result<(), NoMemory>
+    ensures cursors { OnOk result (cursors.new ≡ map (passed word.now) cursors.old) }
+    ensures whole { runs.new.whole ≡ runs.old.whole }
+    ensures begun { OnOk result (runs.new.begun ≡ runs.old.begun ++ flat_map (taken word.now) cursors.old) }
+{
+    for index in 0..cursors.len() {
+        take_run(word, &mut cursors[index], runs)?;
+    }
+    Ok(())
+}
+
+// How many postings the tables have.
+fn postings_len(cursors: &[Cursor<'_>]) -> usize {
+    let mut postings = 0_usize;
+    for cursor in cursors {
+        postings = postings.saturating_add(cursor.table.postings_len());
+    }
+    postings
+}
+
+/// One table of the rows of several, whose words are in order. Refused only where memory is (90).
+pub(crate) fn merge(alloc: Global, cursors: &mut [Cursor<'_>]) -> Result<Table, NoMemory>
+    requires { AreAllInOrder cursors.old }
+    ensures order { IfOk result (λ table. AreInOrder table) }
+    ensures counts { IfOk result (λ table. (test : List ℕ → Bool) (page : ℕ) → rows_count test page table ≡ tables_count test page cursors.old) }
+    ensures runs { IfOk result (λ table. (word : List ℕ) → postings_of word table ≡ flat_map (postings_of word) cursors.old) }
+{
+    let mut words = Words::with_capacity(alloc, 0, 0)?;
+    let mut runs = Runs::with_capacity(alloc, 0, postings_len(cursors))?;
+    while let Some(word) = lowest_word(cursors) {
+        words.push(word.word())?;
+        take_runs(&word, cursors, &mut runs)?;
+        runs.end_run()?;
+    }
+    Ok(Table::packed(words, runs))
+}

@@ -1,0 +1,202 @@
+//! Runs of postings.
+
+ghost use Rattle.std.specs.Prelude.{◌≡◌, ℕ, ◌+◌, ◌^◌, ◌<◌, ◌≤◌, Some, [], ◌∷◌, ◌++◌, ◌-◌, length, take, drop, slice_get, slice_index, ◌==◌, if◌then◌else◌, IfOk, OnOk};
+ghost use Rattle.std.specs.List.{zip};
+ghost use Rattle.gopher_segment.specs.Postings.{AreWithin, count_in, one_run, pieces};
+
+use crate::parts::{range_at, span_at};
+use crate::words::MOST_ITEMS;
+use gopher_item::NoMemory;
+use std::alloc::Global;
+use std::marker::Model;
+
+/// The postings of a word: the numbers of the pages in which it stands, and how often it does.
+///
+/// A posting counts at most 255. A page in which the word stands more often has several.
+#[derive(Debug, Drop)]
+pub(crate) struct Run<'a> {
+    pages: &'a [u16],
+    counts: &'a [u8],
+}
+
+impl<'a> Model for Run<'a> {
+    ghost use Rattle.std.specs.Prelude.{ℕ, ◌≡◌, List, length};
+    ghost use Rattle.std.specs.List.{zip};
+
+    ghost Value = { List (ℕ × ℕ) };
+
+    ghost view = { λ r. zip r.pages.now r.counts.now };
+
+    ghost invariant = { λ r. length r.counts.now ≡ length r.pages.now };
+}
+
+// Adds a count to the cell of a page: the first cell is that of page `first`.
+fn add_count(cells: &mut [u32], first: usize, page: usize, count: u32)
+    requires from { first ≤ page }
+    requires within { page < first + length cells.old }
+    requires room { (k : ℕ) → k < length cells.old → slice_index cells.old k + (if page == first + k then count else 0) < 2 ^ 32 }
+    ensures { (k : ℕ) → k < length cells.old → slice_index cells.new k ≡ slice_index cells.old k + (if page == first + k then count else 0) }
+{
+    cells[page - first] += count;
+}
+
+impl<'a> Run<'a> {
+    /// No postings.
+    pub fn none() -> Run<'a>
+        ensures { result ≡ [] }
+    {
+        Run {
+            pages: &[],
+            counts: &[],
+        }
+    }
+
+    /// The numbers of the pages, and beside them the counts.
+    pub fn parts(&self) -> (&'a [u16], &'a [u8])
+        ensures whole { zip result.0.now result.1.now ≡ self.now }
+        ensures beside { length result.1.now ≡ length result.0.now }
+    {
+        (self.pages, self.counts)
+    }
+
+    /// Adds the counts to the cells of their pages, of which the first is that of page `first`.
+    pub fn add_to(&self, first: usize, cells: &mut [u32])
+        requires within { AreWithin first (length cells.old) self.now }
+        requires room { (k : ℕ) → k < length cells.old → slice_index cells.old k + count_in (first + k) self.now < 2 ^ 32 }
+        ensures { (k : ℕ) → k < length cells.old → slice_index cells.new k ≡ slice_index cells.old k + count_in (first + k) self.now }
+    {
+        for (index, page) in self.pages.iter().enumerate() {
+            add_count(
+                cells,
+                first,
+                usize::from(*page),
+                u32::from(self.counts[index]),
+            );
+        }
+    }
+}
+
+/// Runs of postings one after another. The last may not be ended yet.
+#[derive(Debug, Drop)]
+pub(crate) struct Runs {
+    pages: Vec<u16>,
+    counts: Vec<u8>,
+    ends: Vec<u32>,
+}
+
+impl Model for Runs {
+    ghost use Rattle.std.specs.Prelude.{ℕ, List, drop};
+    ghost use Rattle.std.specs.List.{zip};
+    ghost use Rattle.gopher_segment.specs.Postings.{RunsData};
+
+    ghost Value = { RunsData };
+
+    ghost use Rattle.gopher_segment.specs.Parts.{parts, last_end, ArePackedRuns};
+
+    ghost view = { λ r. record { whole = parts (zip r.pages.items r.counts.items) 0 r.ends.items; begun = drop (last_end 0 r.ends.items) (zip r.pages.items r.counts.items) } };
+
+    ghost invariant = { λ r. ArePackedRuns r.pages.items r.counts.items r.ends.items };
+}
+
+impl Runs {
+    /// No runs, with room for so many of so many postings. Refused only where memory is (90).
+    pub fn with_capacity(alloc: Global, runs: usize, postings: usize) -> Result<Runs, NoMemory>
+        ensures whole { IfOk result (λ runs. runs.whole ≡ []) }
+        ensures begun { IfOk result (λ runs. runs.begun ≡ []) }
+    {
+        Ok(Runs {
+            pages: Vec::with_capacity(alloc, postings)?,
+            counts: Vec::with_capacity(alloc, postings)?,
+            ends: Vec::with_capacity(alloc, runs)?,
+        })
+    }
+
+    /// Gives back the memory that no posting takes.
+    pub fn shrink_to_fit(&mut self)
+        ensures { self.new ≡ self.old }
+    {
+        self.pages.shrink_to_fit();
+        self.counts.shrink_to_fit();
+        self.ends.shrink_to_fit();
+    }
+
+    /// How many postings there are.
+    pub fn postings_len(&self) -> usize {
+        self.pages.len()
+    }
+
+    /// The run at an index.
+    pub fn get(&self, index: usize) -> Run<'_>
+        requires { index < length self.now.whole }
+        ensures { slice_get self.now.whole index ≡ Some result }
+    {
+        let (start, end) = range_at(&self.ends, index);
+        Run {
+            pages: &self.pages[start..end],
+            counts: &self.counts[start..end],
+        }
+    }
+
+    /// The postings of the runs from an index up to another, one run after another.
+    pub fn between(&self, start: usize, end: usize) -> Run<'_>
+        requires forward { start ≤ end }
+        requires within { end ≤ length self.now.whole }
+        ensures { result ≡ one_run (take (end - start) (drop start self.now.whole)) }
+    {
+        let (first, last) = span_at(&self.ends, start, end);
+        Run {
+            pages: &self.pages[first..last],
+            counts: &self.counts[first..last],
+        }
+    }
+
+    // Adds a posting to the last run.
+    fn push(&mut self, page: u16, count: u8) -> Result<(), NoMemory>
+        ensures whole { self.new.whole ≡ self.old.whole }
+        ensures begun { OnOk result (self.new.begun ≡ self.old.begun ++ (page, count) ∷ []) }
+    {
+        self.pages.reserve(1)?;
+        self.counts.reserve(1)?;
+        self.pages.push_reserved(page);
+        self.counts.push_reserved(count);
+        Ok(())
+    }
+
+    /// Adds to the last run that the word stands so often in a page. Refused only where memory is (90).
+    pub fn push_count(&mut self, page: u16, count: u32) -> Result<(), NoMemory>
+        ensures whole { self.new.whole ≡ self.old.whole }
+        ensures begun { OnOk result (self.new.begun ≡ self.old.begun ++ pieces page count) }
+    {
+        let mut left = count;
+        while left > 255 {
+            self.push(page, 255)?;
+            left -= 255;
+        }
+        self.push(page, left as u8)?;
+        Ok(())
+    }
+
+    /// Adds the postings of a run to the last run. Refused only where memory is (90).
+    pub fn extend(&mut self, run: &Run<'_>) -> Result<(), NoMemory>
+        ensures whole { self.new.whole ≡ self.old.whole }
+        ensures begun { OnOk result (self.new.begun ≡ self.old.begun ++ run.now) }
+    {
+        self.pages.reserve(run.pages.len())?;
+        self.counts.reserve(run.counts.len())?;
+        self.pages.extend_from_slice(run.pages)?;
+        self.counts.extend_from_slice(run.counts)?;
+        Ok(())
+    }
+
+    /// Ends the last run, and begins another. Refused (90) where memory is, or past 4,294,967,295 postings.
+    pub fn end_run(&mut self) -> Result<(), NoMemory>
+        ensures whole { OnOk result (self.new.whole ≡ self.old.whole ++ self.old.begun ∷ []) }
+        ensures begun { OnOk result (self.new.begun ≡ []) }
+    {
+        if self.pages.len() > MOST_ITEMS {
+            return Err(NoMemory);
+        }
+        self.ends.push(self.pages.len() as u32)?;
+        Ok(())
+    }
+}

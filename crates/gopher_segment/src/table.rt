@@ -1,0 +1,189 @@
+//! Words with their postings.
+
+ghost use Rattle.std.specs.Prelude.{◌≡◌, true, false, ℕ, ◌+◌, ◌^◌, ◌<◌, ◌≤◌, List, Some, length, slice_get, slice_index, IfOk};
+ghost use Rattle.std.specs.List.{zip};
+ghost use Rattle.gopher_page.specs.Counts.{is_meant};
+ghost use Rattle.gopher_segment.specs.Postings.{AreWithin};
+ghost use Rattle.gopher_segment.specs.Rows.{words_of_rows, runs_of_rows, is_before_at, is_meant_at, AreInOrder, AreMeant, rows_count, postings_of, page_rows};
+
+use crate::runs::{Run, Runs};
+use crate::words::Words;
+use gopher_item::NoMemory;
+use gopher_page::Counts;
+use std::alloc::Global;
+use std::marker::Model;
+
+fn is_meant(is_prefix: bool, sought: &[u8], word: &[u8]) -> bool
+    ensures { result ≡ is_meant is_prefix sought.now word.now }
+{
+    if is_prefix {
+        word.starts_with(sought)
+    } else {
+        sought == word
+    }
+}
+
+/// Rows, each a word with its postings.
+#[derive(Debug, Drop)]
+pub(crate) struct Table {
+    words: Words,
+    runs: Runs,
+}
+
+impl Model for Table {
+    ghost use Rattle.std.specs.Prelude.{ℕ, ◌≡◌, List, length};
+    ghost use Rattle.std.specs.List.{zip};
+
+    ghost Value = { List (List ℕ × List (ℕ × ℕ)) };
+
+    ghost view = { λ t. zip t.words t.runs.whole };
+
+    ghost invariant = { λ t. length t.runs.whole ≡ length t.words };
+}
+
+impl Table {
+    /// The table of words and as many runs.
+    pub fn of(words: Words, runs: Runs) -> Table
+        requires { length runs.whole ≡ length words }
+        ensures { result ≡ zip words runs.whole }
+    {
+        Table { words, runs }
+    }
+
+    /// The same, without memory that nothing takes.
+    pub fn packed(mut words: Words, mut runs: Runs) -> Table
+        requires { length runs.whole ≡ length words }
+        ensures { result ≡ zip words runs.whole }
+    {
+        words.shrink_to_fit();
+        runs.shrink_to_fit();
+        Table { words, runs }
+    }
+
+    /// The rows of a page. Refused only where memory is (90).
+    pub fn of_page(alloc: Global, number: u16, counts: &Counts) -> Result<Table, NoMemory>
+        ensures { IfOk result (λ table. table ≡ page_rows number counts.now) }
+    {
+        let mut words = Words::with_capacity(alloc, counts.len(), 0)?;
+        let mut runs = Runs::with_capacity(alloc, counts.len(), counts.len())?;
+        for index in 0..counts.len() {
+            let (word, count) = counts.get(index);
+            words.push(word)?;
+            runs.push_count(number, count)?;
+            runs.end_run()?;
+        }
+        Ok(Table::of(words, runs))
+    }
+
+    /// How many rows there are.
+    pub fn len(&self) -> usize
+        ensures { result ≡ length self.now }
+    {
+        self.words.len()
+    }
+
+    /// How many bytes the words have.
+    pub fn bytes_len(&self) -> usize {
+        self.words.bytes_len()
+    }
+
+    /// How many postings there are.
+    pub fn postings_len(&self) -> usize {
+        self.runs.postings_len()
+    }
+
+    /// The word of the row at an index.
+    pub fn word(&self, index: usize) -> &[u8]
+        requires { index < length self.now }
+        ensures { slice_get (words_of_rows self.now) index ≡ Some result.now }
+    {
+        self.words.get(index)
+    }
+
+    /// The postings of the row at an index.
+    pub fn run(&self, index: usize) -> Run<'_>
+        requires { index < length self.now }
+        ensures { slice_get (runs_of_rows self.now) index ≡ Some result }
+    {
+        self.runs.get(index)
+    }
+
+    fn is_before(&self, index: usize, sought: &[u8]) -> bool
+        requires { index < length self.now }
+        ensures { result ≡ is_before_at self.now sought.now index }
+    {
+        self.word(index).cmp(sought).is_lt()
+    }
+
+    // How many words come before `sought`: these are the first.
+    fn words_before(&self, sought: &[u8]) -> usize
+        requires { AreInOrder self.now }
+        ensures within { result ≤ length self.now }
+        ensures before { (k : ℕ) → k < result → is_before_at self.now sought.now k ≡ true }
+        ensures after { (k : ℕ) → result ≤ k → k < length self.now → is_before_at self.now sought.now k ≡ false }
+    {
+        let mut low = 0;
+        let mut high = self.len();
+        while low < high {
+            let middle = low + (high - low) / 2;
+            if self.is_before(middle, sought) {
+                low = middle + 1;
+            } else {
+                high = middle;
+            }
+        }
+        low
+    }
+
+    /// The postings of a word, none where it isn't there.
+    pub fn find(&self, sought: &[u8]) -> Run<'_>
+        requires { AreInOrder self.now }
+        ensures { result ≡ postings_of sought.now self.now }
+    {
+        let at = self.words_before(sought);
+        if at < self.len() && is_meant(false, sought, self.word(at)) {
+            return self.run(at);
+        }
+        Run::none()
+    }
+
+    fn is_meant(&self, is_prefix: bool, sought: &[u8], index: usize) -> bool
+        requires { index < length self.now }
+        ensures { result ≡ is_meant_at self.now is_prefix sought.now index }
+    {
+        is_meant(is_prefix, sought, self.word(index))
+    }
+
+    // Where the words that are meant end, which begin at `start`.
+    fn words_meant(&self, is_prefix: bool, sought: &[u8], start: usize) -> usize
+        requires order { AreInOrder self.now }
+        requires start { start ≤ length self.now }
+        requires from { (k : ℕ) → start ≤ k → k < length self.now → is_before_at self.now sought.now k ≡ false }
+        ensures { AreMeant self.now is_prefix sought.now start result }
+    {
+        let mut low = start;
+        let mut high = self.len();
+        while low < high {
+            let middle = low + (high - low) / 2;
+            if self.is_meant(is_prefix, sought, middle) {
+                low = middle + 1;
+            } else {
+                high = middle;
+            }
+        }
+        low
+    }
+
+    /// Adds to the cells of pages, of which the first is that of page `first`, how often the word
+    /// `sought` stands in each, or all words that begin with it where it is a prefix.
+    pub fn spread(&self, is_prefix: bool, sought: &[u8], first: usize, cells: &mut [u32])
+        requires order { AreInOrder self.now }
+        requires within { (word : List ℕ) → AreWithin first (length cells.old) (postings_of word self.now) }
+        requires fits { (k : ℕ) → k < length cells.old → slice_index cells.old k + rows_count (λ word. true) (first + k) self.now < 2 ^ 32 }
+        ensures { (k : ℕ) → k < length cells.old → slice_index cells.new k ≡ slice_index cells.old k + rows_count (is_meant is_prefix sought.now) (first + k) self.now }
+    {
+        let start = self.words_before(sought);
+        let end = self.words_meant(is_prefix, sought, start);
+        self.runs.between(start, end).add_to(first, cells);
+    }
+}

@@ -1,0 +1,311 @@
+#!/usr/bin/env python3
+"""Attacks the built program over loopback, as clients do that mean no good, while ordinary clients ask it too.
+
+    tests/attack.py [--seconds N] [--memory KIB] [PROGRAM]
+
+A crowd of clients that say nothing, send a byte a second, read nothing of 8 MiB, or reset in mid-reply stays for N seconds
+(7 without N). Then come lines at and over the limit, lines that ask for what lies outside of the folder or is hidden, lines
+without an end, clients that send on, and more silent clients than there are seats. Every ordinary client has to be
+answered whole within SOON seconds, the program's memory has to stay below KIB (24,576 without it; a build with an address
+sanitizer, as `rt try` makes, takes some 64,000), and the program has to end well. The last line is
+'attack: N passed, M failed'. It takes about N + 2 seconds, and at most some minutes where the program fails, since a server
+that goes on for too long is killed.
+"""
+import argparse
+import contextlib
+import pathlib
+import resource
+import socket
+import struct
+import sys
+import tempfile
+import threading
+import time
+from concurrent.futures import ThreadPoolExecutor
+
+from server import HOST, PROGRAM, WAIT, Server, Tally, connect, read_all
+from site_model import Site
+
+SILENT, SLOW, DEAF, ORDINARY = 1_000, 200, 50, 4
+RESETS_A_SECOND = 15
+SOON = 5.0
+MOST_MEMORY = 24_576  # KiB, of a server whose files have 9 MiB
+SEATED = 100
+LARGE = bytes(range(256)) * 32_768
+MIDDLE = bytes(range(256)) * 256
+WIDE = b"moon and sun\n" * 20_000
+SECRET = b"nobody may read this\n"
+GIVEN = b"given by the owner\n"
+ASKED = (b"/a.txt\r\n", b"\r\n", b"/wide.txt\r\n", b"/gone\r\n", b"/search\tmoon\r\n", b"/docs\r\n")
+NOT_GIVEN = (
+    b"..", b"/..", b"/../", b"/../secret.txt", b"../secret.txt", b"/docs/../../secret.txt", b"/docs/../a.txt", b"/.", b"/./a.txt",
+    b"/.hidden", b"/.secrets", b"/.secrets/a", b"/docs/.menu", b"/.menu", b"/a//b", b"//a.txt", b"/docs//b.txt", b"/docs/",
+    b"/given/..", b"/given/../secret.txt", b"/shared/.two", b"/shared/../secret.txt", b"/%2e%2e/secret.txt", b"\\..\\secret.txt",
+    b"/etc/passwd", b"../../../../../../etc/passwd", b"/proc/self/environ", b"a.txt", b"/a.txt\0", b"/\0", b"\0", b"/.\0hidden",
+    b"/a\0.txt", b"/a.txt\r", b"\r", b"/..\\", b"/...", b"/../root/a.txt",
+)
+
+
+def lay_out(folder):
+    """A folder to serve, with what lies beside it, and what has to be answered."""
+    files = {b"a.txt": b"hello\n", b"docs/b.txt": b"..\n", b"large.png": LARGE, b"middle.png": MIDDLE, b"wide.txt": WIDE}
+    beside = {"outside/secret.txt": SECRET, "outside/shared/.two": SECRET, "outside/shared/one.txt": GIVEN, "secret.txt": SECRET}
+    hidden = {"root/.hidden": SECRET, "root/.secrets/a": SECRET, "outside/given.txt": GIVEN}
+    inside = {f"root/{path.decode()}": content for path, content in files.items()}
+    for path, content in (inside | beside | hidden).items():
+        place = folder / path
+        place.parent.mkdir(parents=True, exist_ok=True)
+        place.write_bytes(content)
+    (folder / "root/given").symlink_to(folder / "outside/given.txt")
+    (folder / "root/shared").symlink_to("../outside/shared")
+    return folder / "root", files | {b"given": GIVEN, b"shared/one.txt": GIVEN}
+
+
+class Ordinary(threading.Thread):
+    """A client who asks one line after another; every second one waits a little before its line."""
+
+    def __init__(self, site, rounds, pause):
+        super().__init__(daemon=True)
+        self.site, self.rounds, self.pause, self.answered, self.slowest = site, rounds, pause, 0, 0.0
+        self.start()
+
+    def run(self):
+        for number in range(self.rounds):
+            line, began = ASKED[number % len(ASKED)], time.monotonic()
+            try:
+                with connect(self.site.port, wait=SOON) as client:
+                    time.sleep(0.02 * (number % 2))
+                    client.sendall(line)
+                    whole = read_all(client) == self.site.reply(line)
+            except OSError:
+                whole = False
+            took = time.monotonic() - began
+            self.slowest = max(self.slowest, took)
+            if not whole or took > SOON:
+                return
+            self.answered += 1
+            time.sleep(max(0.0, self.pause - took))
+
+
+def reset(client):
+    """Closes a client's side without an end: its server is told of a reset."""
+    client.setsockopt(socket.SOL_SOCKET, socket.SO_LINGER, struct.pack("ii", 1, 0))
+    client.close()
+
+
+def reset_in_reply(port):
+    client = connect(port)
+    client.sendall(b"/large.png\r\n")
+    client.recv(4_096)
+    reset(client)
+
+
+def send_slowly(clients, line, port, resets):
+    """Has each client send a byte of the line a second; meanwhile others reset. How many slow clients are still there."""
+    there = set(clients)
+    for byte in line:
+        began = time.monotonic()
+        for client in list(there):
+            try:
+                client.sendall(bytes([byte]))
+            except OSError:
+                there.discard(client)
+        for _ in range(resets):
+            with contextlib.suppress(OSError):
+                reset_in_reply(port)
+        time.sleep(max(0.0, 1.0 - (time.monotonic() - began)))
+    return len(there)
+
+
+def number_whole(clients, wanted):
+    """How many clients get exactly the reply, in turn, up to the first that doesn't."""
+    for number, client in enumerate(clients):
+        try:
+            with client:
+                if read_all(client) != wanted:
+                    return number
+        except OSError:
+            return number
+    return len(clients)
+
+
+def slow_line(seconds):
+    """A line that asks for the root by as many bytes as seconds."""
+    return b"\t".ljust(seconds - 2, b"x") + b"\r\n"
+
+
+def attack_by_crowd(tally, folder, root, files, given):
+    """Silent, slow, deaf and resetting clients together."""
+    seconds, rounds = given.seconds, 5 * given.seconds
+    accepted = SILENT + SLOW + DEAF + RESETS_A_SECOND * seconds + ORDINARY * rounds
+    words = ("--requests", str(accepted))
+    with contextlib.ExitStack() as ends:
+        server = ends.enter_context(Server(given.program, folder, root, words=words, seconds=3 * seconds + 60))
+        site = Site(HOST.encode(), server.port, files)
+        tally.expect("the crowd's server starts", server.started(), f"listening {HOST} {server.port}\n".encode())
+        silent, slow, deaf = ([ends.enter_context(connect(server.port)) for _ in range(count)] for count in (SILENT, SLOW, DEAF))
+        for client in deaf:
+            client.sendall(b"/large.png\r\n")
+        ordinary = [Ordinary(site, rounds, seconds / rounds) for _ in range(ORDINARY)]
+        there = send_slowly(slow, slow_line(seconds), server.port, RESETS_A_SECOND)
+        tally.expect("slow clients that could send", there, SLOW)
+        for client in ordinary:
+            client.join(2 * SOON)
+        answered = sum(client.answered for client in ordinary)
+        tally.expect("ordinary clients answered beside the crowd", answered, ORDINARY * rounds)
+        tally.expect("slow clients answered", number_whole(slow, site.reply(slow_line(seconds))), SLOW)
+        tally.expect("deaf clients that read at last", number_whole(deaf, LARGE), DEAF)
+        print(f"attack: the slowest ordinary reply took {max(client.slowest for client in ordinary):.3f} s", flush=True)
+        check_memory(tally, server, given.memory)
+        for client in silent:
+            client.close()
+        tally.expect("the crowd's server ends", server.end(), (b"known 0 waiting 0 out 0 done 0 dropped 0\n", b"", 0))
+
+
+def check_memory(tally, server, most):
+    memory = server.most_memory()
+    tally.expect(f"{memory} KiB are below {most} KiB", bool(memory) and memory < most, True)
+    print(f"attack: {memory} KiB at most", flush=True)
+
+
+def lines_at_limits():
+    """What clients send before they end their side."""
+    for length in (1_023, 1_024, 1_025, 1_026, 4_096):
+        for start in (b"y", b"/a.txt\t"):
+            line = start.ljust(length, b"y")
+            yield from (line + b"\r\n", line + b"\n", line, line + b"\r", line + b"\r\r\n")
+    for selector in NOT_GIVEN:
+        yield from (selector + b"\r\n", selector + b"\n", selector + b"\t+\r\n", selector)
+    yield from (b"/given\r\n", b"/shared/one.txt\r\n", b"/shared\r\n", b"/search\tmo\0on\r\n", b"/search\tnobody\r\n", b"")
+
+
+def ask_whole(port, sent):
+    """What a client is sent that sends these bytes and ends its side."""
+    try:
+        with connect(port) as client:
+            with contextlib.suppress(OSError):
+                client.sendall(sent)
+                client.shutdown(socket.SHUT_WR)
+            return read_all(client)
+    except OSError as error:
+        return type(error).__name__.encode()
+
+
+def attack_by_lines(tally, folder, root, files, given):
+    """Lines at the limits, and lines that ask for what isn't given."""
+    lines = list(lines_at_limits())
+    with Server(given.program, folder, root, words=("--requests", str(len(lines)))) as server:
+        server.started()
+        site = Site(HOST.encode(), server.port, files)
+        with ThreadPoolExecutor(8) as clients:
+            replies = list(clients.map(ask_whole, [server.port] * len(lines), lines))
+        for sent, reply in zip(lines, replies):
+            tally.expect(f"the reply to {sent[:60]!r} of {len(sent)} bytes", reply, site.reply(sent))
+        tally.expect("replies with what nobody may read", sum(SECRET.strip() in reply for reply in replies), 0)
+        tally.expect("the lines' server ends", server.end()[1:], (b"", 0))
+
+
+def flood(port):
+    """Whether a client that sends on without an end of its line is closed before it has sent 16 MiB."""
+    try:
+        with connect(port, wait=SOON) as client:
+            for _ in range(256):
+                client.sendall(b"f" * 65_536)
+        return False
+    except (BrokenPipeError, ConnectionResetError):
+        return True
+    except OSError:
+        return False
+
+
+def eager_reply(port, line, replies):
+    """Asks, sends on, and reads late."""
+    try:
+        with connect(port) as client:
+            with contextlib.suppress(OSError):
+                client.sendall(line + b"more\r\n" * 3_000)
+            time.sleep(0.2)
+            replies.append(read_all(client))
+    except OSError:
+        replies.append(b"")
+
+
+def attack_by_senders(tally, folder, root, files, given):
+    """Clients that send on without an end, and clients that send on after their line."""
+    asked = [(b"/large.png\r\n", LARGE)] * 12 + [(b"/middle.png\r\n", MIDDLE)] * 12
+    with Server(given.program, folder, root, words=("--requests", str(len(asked) + 12))) as server:
+        server.started()
+        tally.expect("endless lines that were closed", sum(flood(server.port) for _ in range(10)), 10)
+        replies = {LARGE: [], MIDDLE: []}
+        clients = [threading.Thread(target=eager_reply, args=(server.port, line, replies[reply])) for line, reply in asked]
+        for client in clients:
+            client.start()
+        for client in clients:
+            client.join(2 * WAIT)
+        tally.expect("whole replies of 8 MiB to clients that send on", replies[LARGE].count(LARGE), 12)
+        tally.expect("whole replies of 64 KiB to clients that send on", replies[MIDDLE].count(MIDDLE), 12)
+        check_memory(tally, server, given.memory)
+        site = Site(HOST.encode(), server.port, files)
+        tally.expect("ordinary clients after them", sum(ask_whole(server.port, line) == site.reply(line) for line in ASKED[:2]), 2)
+        tally.expect("the senders' server ends", server.end()[1:], (b"", 0))
+
+
+def is_closed(client):
+    """Whether the server has closed the connection of a client that was sent nothing."""
+    client.setblocking(False)
+    try:
+        return not client.recv(1)
+    except BlockingIOError:
+        return False
+    except OSError:
+        return True
+
+
+def attack_by_seats(tally, folder, root, files, given):
+    """More silent clients than there are seats; the quietest go. The server is then ended by a signal."""
+    few_files = ("sh", "-c", f'ulimit -n {SEATED + 64}; exec "$@"', "sh")
+    with contextlib.ExitStack() as ends:
+        server = ends.enter_context(Server(given.program, folder, root, before=few_files))
+        server.started()
+        site = Site(HOST.encode(), server.port, files)
+        silent = [ends.enter_context(connect(server.port)) for _ in range(4 * SEATED)]
+        ordinary = [Ordinary(site, 20, 0.0) for _ in range(ORDINARY)]
+        for client in ordinary:
+            client.join(2 * SOON)
+        tally.expect("ordinary clients answered where seats are short", sum(client.answered for client in ordinary), 20 * ORDINARY)
+        closed = sum(map(is_closed, silent))
+        tally.expect(f"{closed} silent clients were closed, at least {3 * SEATED}", closed >= 3 * SEATED, True)
+        server.process.terminate()
+        tally.expect("a server that is ended by SIGTERM", server.end(), (b"", b"", -15))
+
+
+def raise_limit():
+    """Lets this process and its servers hold as many files as the system allows."""
+    _, most = resource.getrlimit(resource.RLIMIT_NOFILE)
+    resource.setrlimit(resource.RLIMIT_NOFILE, (most, most))
+    return most == resource.RLIM_INFINITY or most >= 4 * (SILENT + SLOW + DEAF) // 3
+
+
+def main():
+    words = argparse.ArgumentParser()
+    words.add_argument("--seconds", type=int, default=7)
+    words.add_argument("--memory", type=int, default=MOST_MEMORY)
+    words.add_argument("program", nargs="?", default=PROGRAM)
+    given = words.parse_args()
+    if not 4 <= given.seconds <= 900:
+        words.error("--seconds is 4 to 900")
+    tally = Tally("attack")
+    tally.expect("files may be open for so many clients", raise_limit(), True)
+    with tempfile.TemporaryDirectory() as place:
+        folder = pathlib.Path(place)
+        root, files = lay_out(folder)
+        for attack in (attack_by_crowd, attack_by_lines, attack_by_senders, attack_by_seats):
+            try:
+                attack(tally, folder, root, files, given)
+            except OSError as error:
+                tally.expect(f"{attack.__name__} comes to its end", repr(error), None)
+    return tally.status()
+
+
+if __name__ == "__main__":
+    sys.exit(main())

@@ -1,0 +1,247 @@
+#!/usr/bin/env python3
+"""Makes the `.menu` file of a folder (docs/SPECIFICATION.md, section 9) of its gophermap, as gophernicus 3.1 has it.
+
+    tools/gophermap_to_menu.py [--root FOLDER] GOPHERMAP > .menu
+
+FOLDER is the folder that is served (without --root, the gophermap's own), from which selectors count. The `.menu` goes to
+standard output. What is left out or changed, and what a client won't find, is told on standard error, a line each:
+`GOPHERMAP:LINE: what`. The status is 0, or 1 where the gophermap can't be read, is a script, or doesn't lie in FOLDER.
+
+- A line without TAB is a line of text, and stays. (Text that holds a CR or a NUL is left out.)
+- `#..` is a comment, and goes without a word.
+- `!title` becomes a line of type i with the selector TITLE, as gophernicus sends it.
+- A line with a TAB is type and name, selector, host, port. Where the selector is empty and nothing follows it, the name is
+  the selector. Where a host is given and no port, the port is 70. Fields behind the port are left out. A line whose type,
+  selector, host or port this server would refuse (24) is left out.
+- On this server (no host, or an empty one, which is told) a selector that doesn't begin with `/` counts from the gophermap's folder, and
+  `.`, `..` and slashes at the end or twice are resolved, since this server knows each selector in one spelling. Lines of
+  type i and 3, and selectors that begin with `URL:`, stay as they are. Where the selector names nothing in FOLDER, or what
+  isn't served, the line stays and that is told.
+- `=file` is replaced by the lines of that file, which counts from the gophermap's folder; its selectors do too. One that is
+  absent or a script is left out, and so is one that is included eight files deep.
+- `*` becomes the listing that the folder has now, by names, without those that `-name` lines before it hide; that is told,
+  since it changes no more with the folder. It ends the gophermap. In an included file it ends that file and lists nothing.
+- A line that begins with `.` ends the file that it stands in.
+- `:ext=type`, `~` and `%` have no counterpart, and are left out.
+"""
+import argparse
+import functools
+import os
+import sys
+
+MOST_DEEP = 8
+LONGEST = 255
+MENU, MAP, INLINE = b".menu", b"gophermap", b".gophermap"
+RAW = ((b".gif", b"g"), (b".png", b"I"), (b".jpg", b"I"), (b".jpeg", b"I"))
+NO_COUNTERPART = {b":": "a file's type can't be set", b"~": "there are no users' folders", b"%": "there is one host"}
+
+
+class Refused(Exception):
+    """A gophermap of which no menu can be made."""
+
+
+def has_control(text):
+    return any(byte < 32 or byte == 127 for byte in text)
+
+
+def is_script(path):
+    return bool(os.stat(path).st_mode & 0o111)
+
+
+def lines_of(content):
+    """Lines end in LF, and a CR before it belongs to the end; a CR at the very end goes too, since a `.menu` refuses it."""
+    lines = content.split(b"\n")
+    return [line.removesuffix(b"\r") for line in (lines[:-1] if not lines[-1] else lines)]
+
+
+def one_spelling(selector):
+    """The selector as this server spells it: names, each behind one slash."""
+    names = []
+    for name in selector.split(b"/"):
+        if name == b"..":
+            names = names[:-1]
+        elif name not in (b"", b"."):
+            names.append(name)
+    return b"/" + b"/".join(names)
+
+
+def is_served_name(name):
+    return not name.startswith(b".") and not any(byte in name for byte in b"\t\r\n")
+
+
+def is_utf8(name):
+    try:
+        return bool(name.decode())
+    except UnicodeDecodeError:
+        return False
+
+
+def has_files(folder):
+    """Whether a folder has a file that is served, or will be a `.menu`: one without any has no place on the server."""
+    for _, folders, files in os.walk(folder, followlinks=True):
+        folders[:] = [name for name in folders if is_served_name(name)]
+        if any(name == MENU or is_served_name(name) for name in files):
+            return True
+    return False
+
+
+def kind_of_file(path):
+    """The type that this server gives a file."""
+    for end, kind in RAW:
+        if path.lower().endswith(end):
+            return kind
+    with open(path, "rb") as file:
+        return b"9" if b"\0" in file.read() else b"0"
+
+
+def kind_of(path):
+    """The type that this server gives a file or a folder; none where it is neither."""
+    if os.path.isdir(path):
+        return b"1" if has_files(path) else None
+    return kind_of_file(path) if os.path.isfile(path) else None
+
+
+class Menu:
+    """The lines of a menu that is made of a gophermap, and what is told of it."""
+
+    def __init__(self, path, root):
+        self.root = os.path.realpath(root)
+        self.folder = os.path.realpath(os.path.dirname(path))
+        if os.path.commonpath((self.root, self.folder)) != self.root:
+            raise Refused("it doesn't lie in the folder of --root")
+        if is_script(path):
+            raise Refused("it is a script (chmod -x it if it isn't)")
+        inside = os.path.relpath(self.folder, self.root)
+        self.selector = one_spelling(b"" if inside == b"." else inside)
+        self.lines, self.told, self.hidden = [], [], set()
+        self.add_file(path, 1)
+
+    def tell(self, path, number, text):
+        self.told.append(b"%s:%d: %s" % (path, number, text.encode()))
+
+    def add_file(self, path, depth):
+        """Adds the lines of a gophermap; `depth` is 1 for the folder's own."""
+        with open(path, "rb") as file:
+            content = file.read()
+        for number, line in enumerate(lines_of(content), 1):
+            tell = functools.partial(self.tell, path, number)
+            first = line[:1]
+            if first == b"*" and depth == 1:
+                self.add_listing(tell)
+            if first in (b"*", b"."):
+                return
+            if first == b"=":
+                self.add_included(line[1:], depth, tell)
+            elif first != b"#":
+                self.add_line(first, line, tell)
+
+    def add_line(self, first, line, tell):
+        """Adds a line that is no end, no comment and no included file."""
+        if first == b"-":
+            self.hidden.add(line[1:])
+        elif first in NO_COUNTERPART:
+            tell(f"left out: {NO_COUNTERPART[first]}")
+        elif b"\0" in line or b"\r" in line:
+            tell("left out: it holds a CR or a NUL")
+        elif first == b"!":
+            title = line[1:].replace(b"\t", b" ")
+            self.lines.append(b"i%s\tTITLE" % title)
+        elif b"\t" in line:
+            self.add_item(line.split(b"\t"), tell)
+        else:
+            self.lines.append(line)
+
+    def add_included(self, file, depth, tell):
+        path = os.path.join(self.folder, file)
+        if depth >= MOST_DEEP:
+            tell("left out: it is included too deep")
+        elif b"\0" in file or not os.path.isfile(path) or not os.access(path, os.R_OK):
+            tell("left out: no file to include")
+        elif is_script(path):
+            tell("left out: a script")
+        else:
+            self.add_file(path, depth + 1)
+
+    def add_item(self, fields, tell):
+        """Adds a line of type and name, selector, and perhaps host and port."""
+        first, selector, *server = fields
+        kind, name = first[:1], first[1:]
+        if not kind or has_control(kind) or kind == b" ":
+            return tell("left out: it has no type")
+        if not server:
+            selector = selector or name
+        host, port = [part.strip(b" ") for part in (server + [b"", b""])[:2]]
+        if len(server) > 2:
+            tell("changed: fields behind the port are left out")
+        if host:
+            return self.add_foreign(first, selector, host, port or b"70", tell)
+        if server:
+            tell("changed: it has no host, and leads to this server")
+        if kind not in b"i3" and not selector.startswith(b"URL:"):
+            selector = self.own_selector(kind, selector, tell)
+        if len(selector) > LONGEST:
+            return tell(f"left out: its selector has more than {LONGEST} bytes")
+        self.lines.append(b"%s\t%s" % (first, selector))
+
+    def add_foreign(self, first, selector, host, port, tell):
+        if len(selector) > LONGEST:
+            return tell(f"left out: its selector has more than {LONGEST} bytes")
+        if len(host) > LONGEST or has_control(host) or b" " in host:
+            return tell("left out: its host isn't one")
+        if not port.isdigit() or len(port.lstrip(b"0")) > 5 or int(port[-5:]) > 65535:
+            return tell("left out: its port isn't one")
+        self.lines.append(b"\t".join((first, selector, host, port)))
+
+    def own_selector(self, kind, selector, tell):
+        """A selector of this server, in its one spelling."""
+        start = b"" if selector.startswith(b"/") else self.selector + b"/"
+        own = one_spelling(start + selector)
+        shown = own.decode(errors="backslashreplace")
+        if kind == b"7" and own != b"/search":
+            tell(f"{shown} is no search: this server's is /search")
+        elif own != b"/search" and not self.is_served(own):
+            tell(f"{shown} names nothing that is served")
+        return own
+
+    def is_served(self, selector):
+        path = os.path.join(self.root, selector[1:])
+        is_shown = all(is_served_name(name) for name in selector.split(b"/"))
+        return is_shown and (os.path.isfile(path) or os.path.isdir(path) and has_files(path))
+
+    def add_listing(self, tell):
+        tell("changed: this is the folder's listing of now, which doesn't change with the folder")
+        for name in sorted(os.listdir(self.folder)):
+            shown = name.decode(errors="backslashreplace")
+            if name == MAP or name.startswith(b".") or name in self.hidden:
+                continue
+            try:
+                kind = kind_of(os.path.join(self.folder, name))
+            except OSError:
+                tell(f"left out: {shown}, which can't be read")
+                continue
+            if not is_served_name(name) or not is_utf8(name):
+                tell(f"left out: {shown}, a name that this server refuses")
+            elif name.endswith(INLINE):
+                tell(f"left out: {shown}, whose lines gophernicus would show here")
+            elif kind:
+                self.lines.append(b"%s%s\t%s" % (kind, name, one_spelling(self.selector + b"/" + name)))
+
+
+def main():
+    words = argparse.ArgumentParser(description="Makes the .menu file of a folder of its gophermap.")
+    words.add_argument("--root", metavar="FOLDER", help="the folder that is served; without it, the gophermap's own")
+    words.add_argument("gophermap", metavar="GOPHERMAP")
+    given = words.parse_args()
+    root = given.root if given.root is not None else os.path.dirname(given.gophermap) or "."
+    try:
+        menu = Menu(os.fsencode(given.gophermap), os.fsencode(root))
+    except (OSError, Refused) as fault:
+        sys.stderr.write(f"{given.gophermap}: {fault.strerror if isinstance(fault, OSError) else fault}\n")
+        return 1
+    sys.stderr.buffer.write(b"".join(line + b"\n" for line in menu.told))
+    sys.stdout.buffer.write(b"".join(line + b"\n" for line in menu.lines))
+    return 0
+
+
+if __name__ == "__main__":
+    sys.exit(main())
