@@ -9,16 +9,17 @@ folder=$(mktemp -d)
 trap 'rm -rf "$folder"' EXIT
 cc -O2 -shared -fPIC -o "$folder/refusals.so" bench/refusals.c
 failed=0
-for refused in $(seq 1 2000); do
+for refused in $(seq 1 10000); do
   code=0
-  REFUSED=$refused COUNTED=$folder/counted LD_PRELOAD=$folder/refusals.so \
-    timeout 10 "$program" > "$folder/written" || code=$?
+  echo 0 > "$folder/counted"
+  timeout 10 env REFUSED="$refused" COUNTED="$folder/counted" LD_PRELOAD="$folder/refusals.so" \
+    "$program" > "$folder/written" || code=$?
   if [ "$code" != 0 ] || ! cmp -s "$folder/written" "$wanted"; then
     failed=$((failed + 1))
     echo "refusals: where allocation $refused is refused, it ends with $code and writes:"
     cat "$folder/written"
   fi
-  if [ ! -s "$folder/counted" ] || [ "$(cat "$folder/counted")" -lt "$refused" ]; then
+  if [ "$(cat "$folder/counted")" -lt "$refused" ]; then
     break
   fi
 done

@@ -29,8 +29,7 @@ fn highest_score(truths: &[bool], scores: &[u32]) -> u32
 {
     let mut highest = 0;
     for (index, truth) in truths.iter().enumerate() {
-        let score = scores[index];
-        highest = highest.max(if *truth { score } else { 0 });
+        highest = highest.max(scores[index] & u32::from(*truth).wrapping_neg());
     }
     highest
 }
