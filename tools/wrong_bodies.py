@@ -1,9 +1,10 @@
 #!/usr/bin/env python3
 """Tries the wrong bodies: edits that turn the meaning of a function, each of which the prover has to refuse.
 
-    tools/wrong_bodies.py [--reasons] [CRATE|CRATE/NAME ..]
+    tools/wrong_bodies.py [--reasons] [--after-ci] [CRATE|CRATE/NAME ..]
 
-tries those of these crates, or these, or all; with --reasons it prints for each what its function lacks.
+tries those of these crates, or these, or all; with --reasons it prints for each what its function lacks. The libraries
+that checks stand on are built, but with --after-ci: then they are those that `rt ci` has left, of the same sources.
 
 An edit is a file crates/CRATE/wrong-bodies/NAME.edit: a line 'function: PATH', the function whose meaning it turns, as a
 check names it below its crate; a line 'file: src/NAME.rt'; then pairs of lines 'old: TEXT' and 'new: TEXT'. An old text
@@ -159,8 +160,10 @@ def try_group(edits, built):
     return {edit: (edit.function in lacks, lacks.get(edit.function, "NOT REFUSED")) for edit in edits}
 
 
-def build(crate):
-    """Builds a library that checks of other crates stand on."""
+def build(crate, is_left):
+    """Builds a library that checks of other crates stand on, where none is left."""
+    if is_left:
+        return crate
     ran = run(["rt", "lib"], ROOT / "crates" / crate)
     if ran.returncode:
         raise RuntimeError(f"{crate} is not proved:\n{ran.stdout[-2000:]}")
@@ -186,7 +189,7 @@ def lanes():
     return max(1, min(len(os.sched_getaffinity(0)), int(free[1]) // MEMORY_OF_A_CHECK))
 
 
-def try_all(edits, below):
+def try_all(edits, below, is_left):
     """Tries edits in groups, and alone those that weren't refused in company.
 
     The libraries are built meanwhile, one after another. A group waits for those that it stands on, and for its own
@@ -195,7 +198,7 @@ def try_all(edits, below):
     awaited = {crate: [low for low in order if low == crate or low in below[crate]] for crate in below}
     groups, tried = groups_of(sorted(edits, key=lambda edit: max(map(order.index, awaited[edit.crate]), default=-1))), {}
     with ThreadPoolExecutor(1) as builder, ThreadPoolExecutor(lanes()) as pool:
-        libraries = {crate: builder.submit(build, crate) for crate in order}
+        libraries = {crate: builder.submit(build, crate, is_left) for crate in order}
         attempt = lambda group: try_group(group, [libraries[low] for low in awaited[group[0].crate]])
         for result in pool.map(attempt, groups):
             tried.update(result)
@@ -207,8 +210,8 @@ def try_all(edits, below):
 
 def main(words):
     below = libraries_below()
-    edits, failed = read_edits([word for word in words if word != "--reasons"])
-    tried = try_all(edits, below)
+    edits, failed = read_edits([word for word in words if not word.startswith("--")])
+    tried = try_all(edits, below, "--after-ci" in words)
     refused = [f"{edit}: {why}" for edit, (is_refused, why) in tried.items() if is_refused]
     failed += [f"{edit}: {why}" for edit, (is_refused, why) in tried.items() if not is_refused]
     for line in [*(refused if "--reasons" in words else []), *failed]:
