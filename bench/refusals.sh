@@ -2,12 +2,13 @@
 # Refuses each allocation of refused_growths in turn, until a run meets none, and compares what it writes.
 set -euo pipefail
 cd "$(dirname "$0")/.."
-program=crates/refused_growths/out/refused_growths
-wanted=crates/refused_growths/stdout
+program=$PWD/crates/refused_growths/out/refused_growths
+wanted=$PWD/crates/refused_growths/stdout
 [ -x "$program" ] || (cd crates/refused_growths && rt run > /dev/null)
 folder=$(mktemp -d)
 trap 'rm -rf "$folder"' EXIT
 cc -O2 -shared -fPIC -o "$folder/refusals.so" bench/refusals.c
+cd crates/refused_growths/data
 failed=0
 for refused in $(seq 1 10000); do
   code=0
