@@ -160,10 +160,19 @@ def try_group(edits, built):
     return {edit: (edit.function in lacks, lacks.get(edit.function, "NOT REFUSED")) for edit in edits}
 
 
-def build(crate, is_left):
-    """Builds a library that checks of other crates stand on, where none is left."""
-    if is_left:
-        return crate
+def mark_left():
+    """Marks the libraries that `rt ci` has left as built of these sources. It leaves them without a mark, since they hold
+    statements alone, and a check would build each anew."""
+    sys.path.insert(0, str(pathlib.Path(shutil.which("rt")).resolve().parent))
+    import rtlib
+
+    for library in rtlib.crates_below(str(ROOT)):
+        if os.path.isdir(library.rlib):
+            pathlib.Path(library.rlib).with_name("stamp").write_text(library.stamp())
+
+
+def build(crate):
+    """Builds a library that checks of other crates stand on, unless it is there."""
     ran = run(["rt", "lib"], ROOT / "crates" / crate)
     if ran.returncode:
         raise RuntimeError(f"{crate} is not proved:\n{ran.stdout[-2000:]}")
@@ -189,7 +198,7 @@ def lanes():
     return max(1, min(len(os.sched_getaffinity(0)), int(free[1]) // MEMORY_OF_A_CHECK))
 
 
-def try_all(edits, below, is_left):
+def try_all(edits, below):
     """Tries edits in groups, and alone those that weren't refused in company.
 
     The libraries are built meanwhile, one after another. A group waits for those that it stands on, and for its own
@@ -198,7 +207,7 @@ def try_all(edits, below, is_left):
     awaited = {crate: [low for low in order if low == crate or low in below[crate]] for crate in below}
     groups, tried = groups_of(sorted(edits, key=lambda edit: max(map(order.index, awaited[edit.crate]), default=-1))), {}
     with ThreadPoolExecutor(1) as builder, ThreadPoolExecutor(lanes()) as pool:
-        libraries = {crate: builder.submit(build, crate, is_left) for crate in order}
+        libraries = {crate: builder.submit(build, crate) for crate in order}
         attempt = lambda group: try_group(group, [libraries[low] for low in awaited[group[0].crate]])
         for result in pool.map(attempt, groups):
             tried.update(result)
@@ -211,7 +220,9 @@ def try_all(edits, below, is_left):
 def main(words):
     below = libraries_below()
     edits, failed = read_edits([word for word in words if not word.startswith("--")])
-    tried = try_all(edits, below, "--after-ci" in words)
+    if "--after-ci" in words:
+        mark_left()
+    tried = try_all(edits, below)
     refused = [f"{edit}: {why}" for edit, (is_refused, why) in tried.items() if is_refused]
     failed += [f"{edit}: {why}" for edit, (is_refused, why) in tried.items() if not is_refused]
     for line in [*(refused if "--reasons" in words else []), *failed]:
