@@ -93,6 +93,9 @@ fn claims(catalogue: &mut Catalogue, query: &Query) -> Checked<Turn> {
     let before = look_at(catalogue, query)?;
     let mut turn = catalogue.claim();
     if turn.is_err() {
+        if before.status.waiting == 0 {
+            return Err("a claim takes memory where no place waits");
+        }
         if look_at(catalogue, query)? != before {
             return Err("a refused claim changed a catalogue");
         }
