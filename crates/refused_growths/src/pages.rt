@@ -70,7 +70,8 @@ pub fn query(alloc: Global, text: &[u8]) -> Checked<Query> {
 pub fn check_titles(alloc: Global) -> Checked<()> {
     let scope = scope(alloc).or_else(|| scope(alloc)).ok_or("no scope")?;
     for (selector, reply, title) in TITLED {
-        if page(alloc, &scope, b'0', *selector, *reply)?.title() != *title {
+        let page = page(alloc, &scope, b'0', *selector, *reply)?;
+        if page.title() != *title {
             return Err("a page has another title");
         }
     }
