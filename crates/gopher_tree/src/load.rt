@@ -2,9 +2,9 @@
 
 ghost use Rattle.std.specs.Prelude.{◌≡◌, ◌<◌, ◌≤◌, ◌+◌, ◌++◌, [], ◌∷◌, length, None, Some, IfOk, IfErr, MatchResult};
 ghost use Rattle.gopher_tree.specs.Fault.{file_fault, files_fault};
-ghost use Rattle.gopher_tree.specs.Load.{folder_fault, RefusesFile, Walks, Loads};
+ghost use Rattle.gopher_tree.specs.Load.{folder_fault, RefusesFile, WalksTo, Loads, LoadsTo, LoadsAt};
 
-use crate::fault::TreeFault;
+use crate::fault::{LoadRefused, TreeFault};
 use crate::folder::{Target, names_in, read_file, target_of, without_links};
 use crate::path::{LONGEST_PATH, path_fault, path_in};
 use crate::tree::{MOST_NODES, Tree};
@@ -75,13 +75,14 @@ impl Walk {
         file: Path<'_>,
         path: Vec<u8>,
     ) -> Result<Walk, TreeFault>
-        ensures { Walks (λ walk. walk.tree) self.tree result }
+        ensures { WalksTo (λ walk. walk.tree) self.tree path.items result }
     {
         let bytes = read_file(rt, alloc, file, self.tree.number_of_files())?;
         self.with_file(alloc, path, bytes)
     }
 
-    // Lists what a folder has, and what its folders have, name by name.
+    // Lists what a folder has, and what its folders have, name by name. Where that fails, `at` is the
+    // path of what it failed at, where that is another than the folder itself.
     #[cycle(walk)]
     fn through_folder<R: Files>(
         self,
@@ -89,19 +90,20 @@ impl Walk {
         alloc: Global,
         folder: Path<'_>,
         path: &[u8],
+        at: &mut Vec<u8>,
     ) -> Result<Walk, TreeFault>
         requires { length path.now ≤ 254 }
-        ensures { Walks (λ walk. walk.tree) self.tree result }
+        ensures { WalksTo (λ walk. walk.tree) self.tree at.new.items result }
     {
         let names = names_in(rt, alloc, folder, self.tree.number_of_files())?;
         let mut walk = self;
         for name in names {
-            walk = walk.through_name(rt, alloc, folder, path, name.as_str())?;
+            walk = walk.through_name(rt, alloc, folder, path, name.as_str(), at)?;
         }
         Ok(walk)
     }
 
-    // Lists what a name in a folder leads to.
+    // Lists what a name in a folder leads to. Where that fails, `at` is the path of what it failed at.
     #[cycle(walk)]
     fn through_name<R: Files>(
         self,
@@ -110,10 +112,11 @@ impl Walk {
         folder: Path<'_>,
         path: &[u8],
         name: &str,
+        at: &mut Vec<u8>,
     ) -> Result<Walk, TreeFault>
         requires short { length path.now ≤ 254 }
         requires named { 0 < length name.now }
-        ensures { Walks (λ walk. walk.tree) self.tree result }
+        ensures { WalksTo (λ walk. walk.tree) self.tree at.new.items result }
     {
         let Ok(place) = folder.join(alloc, name) else {
             return Err(TreeFault::NoMemory);
@@ -121,12 +124,16 @@ impl Walk {
         let Ok(path) = path_in(alloc, path, name.as_bytes()) else {
             return Err(TreeFault::NoMemory);
         };
+        at.clear();
+        let Ok(()) = at.extend_from_slice(&path) else {
+            return Err(TreeFault::NoMemory);
+        };
         match target_of(rt, place.as_path(), self.tree.number_of_files())? {
             Target::File => self.through_file(rt, alloc, place.as_path(), path),
             Target::Folder => {
                 let walk = self.with_folder(&path)?;
                 let place = without_links(rt, alloc, place)?;
-                walk.through_folder(rt, alloc, place.as_path(), &path)
+                walk.through_folder(rt, alloc, place.as_path(), &path, at)
             }
             Target::Neither => Ok(self),
         }
@@ -155,8 +162,36 @@ impl Tree {
     pub fn load<R: Files>(rt: &R, alloc: Global, root: &str) -> Result<Tree, TreeFault>
         ensures { Loads result }
     {
-        let walk = Walk::new(alloc)?;
-        let walk = walk.through_folder(rt, alloc, Path::new(root), b"")?;
-        Ok(walk.tree)
+        match Tree::load_at(rt, alloc, root) {
+            Ok(tree) => Ok(tree),
+            Err(refused) => Err(refused.fault),
+        }
     }
+
+    /// The tree of a folder, as `load` makes it; where it is refused, the path of what was refused too,
+    /// from the root: of the file or the folder that has the fault, of the one that can't be read, or of
+    /// the folder with a name that is not UTF-8. The root's own path is empty. Where memory was refused,
+    /// the path says nothing.
+    ///
+    /// # Errors
+    ///
+    /// Those of `load`.
+    pub fn load_at<R: Files>(rt: &R, alloc: Global, root: &str) -> Result<Tree, LoadRefused>
+        ensures { LoadsAt result }
+    {
+        let mut path = Vec::new(alloc);
+        match load_to(rt, alloc, root, &mut path) {
+            Ok(tree) => Ok(tree),
+            Err(fault) => Err(LoadRefused { fault, path }),
+        }
+    }
+}
+
+// The tree of a folder; where it is refused, `at` is the path of what was refused.
+fn load_to<R: Files>(rt: &R, alloc: Global, root: &str, at: &mut Vec<u8>) -> Result<Tree, TreeFault>
+    ensures { LoadsTo at.new.items result }
+{
+    let walk = Walk::new(alloc)?;
+    let walk = walk.through_folder(rt, alloc, Path::new(root), b"", at)?;
+    Ok(walk.tree)
 }
