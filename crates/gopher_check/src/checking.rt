@@ -1,15 +1,14 @@
 //! A site that is checked: its settings, its folder, and the seeds of its crawl.
 
-ghost use Rattle.std.specs.Prelude.{◌≡◌, None, Some, Err, IfOk};
+ghost use Rattle.std.specs.Prelude.{◌≡◌, None, Some, IfOk};
 ghost use Rattle.gopher_scope.specs.Settings.{settings_data};
 ghost use Rattle.gopher_tree.specs.Fault.{files_fault};
-ghost use Rattle.gopher_tree.specs.Load.{LoadsTo};
 ghost use Rattle.gopher_check.specs.Report.{fault_report, menu_line_of, path_below, seed_outside, TellsSite, TellsText};
 
 use crate::fault::SiteFault;
-use crate::fault_report::fault_report;
+use crate::fault_words::fault_report;
 use crate::obstacle::obstacle_at;
-use crate::site_report::site_report;
+use crate::site_words::site_report;
 use gopher_item::{NoMemory, Place};
 use gopher_scope::{Scope, Settings, SettingsFault};
 use gopher_tree::{Tree, TreeFault};
@@ -82,27 +81,6 @@ fn broken_line(alloc: Global, text: &str) -> Option<usize> {
     Some(feeds.saturating_add(1))
 }
 
-// The report of a folder that makes no tree, for a fault of what lies at a path in it.
-fn folder_report<R: Files>(
-    rt: &R,
-    alloc: Global,
-    path: &str,
-    settings: &Settings,
-    fault: TreeFault,
-    below: &[u8],
-) -> Result<Report, NoMemory>
-    requires { LoadsTo below.now (Err fault) }
-    ensures { IfOk result (λ report. TellsSite path.now (settings_data settings.now) report.words.items report.fault) }
-{
-    let place = path_below(alloc, settings.root.as_str(), below)?;
-    let site_fault = SiteFault::Tree(fault, obstacle_at(rt, alloc, &place));
-    let words = fault_report(alloc, site_fault, &place, menu_line_of(fault))?;
-    Ok(Report {
-        words,
-        fault: Some(site_fault),
-    })
-}
-
 // The report of settings with the tree of their folder.
 fn tree_report(
     alloc: Global,
@@ -126,6 +104,7 @@ fn tree_report(
 }
 
 // The report of settings.
+#[tactic(auto, using(crate::proofs::Tells::tells_folder))]
 fn settings_report<R: Files>(
     rt: &R,
     alloc: Global,
@@ -136,7 +115,15 @@ fn settings_report<R: Files>(
 {
     match Tree::load_at(rt, alloc, settings.root.as_str()) {
         Ok(tree) => tree_report(alloc, path, settings, &tree),
-        Err(refused) => folder_report(rt, alloc, path, &settings, refused.fault, &refused.path),
+        Err(refused) => {
+            let place = path_below(alloc, settings.root.as_str(), &refused.path)?;
+            let fault = SiteFault::Tree(refused.fault, obstacle_at(rt, alloc, &place));
+            let words = fault_report(alloc, fault, &place, menu_line_of(refused.fault))?;
+            Ok(Report {
+                words,
+                fault: Some(fault),
+            })
+        }
     }
 }
 
@@ -156,13 +143,8 @@ fn settings_line(alloc: Global, text: &str, fault: SettingsFault) -> Option<usiz
 /// once more.
 ///
 /// Refused only where memory is (90).
-#[tactic(auto, using(crate::proofs::Tells::tells_text))]
-pub fn check<R: Files>(
-    rt: &R,
-    alloc: Global,
-    path: &str,
-    text: &str,
-) -> Result<Report, NoMemory>
+#[tactic(auto, using(crate::proofs::Tells::tells_text, crate::proofs::Tells::tells_refused))]
+pub fn check<R: Files>(rt: &R, alloc: Global, path: &str, text: &str) -> Result<Report, NoMemory>
     ensures { IfOk result (λ report. TellsText path.now text.now report.words.items report.fault) }
 {
     match Settings::read(alloc, text) {

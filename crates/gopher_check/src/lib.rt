@@ -6,10 +6,10 @@
 
 mod checking;
 mod fault;
-mod fault_report;
+mod fault_words;
 mod lines;
 mod obstacle;
-mod site_report;
+mod site_words;
 
 pub use checking::{Report, check, report_of};
 pub use fault::SiteFault;

@@ -48,11 +48,7 @@ pub(crate) fn push_words(front: &[u8], words: &[u8], out: &mut Vec<u8>) -> Resul
 }
 
 /// Appends a line: what the number is, and the number.
-pub(crate) fn push_number(
-    front: &[u8],
-    number: usize,
-    out: &mut Vec<u8>,
-) -> Result<(), AllocError>
+pub(crate) fn push_number(front: &[u8], number: usize, out: &mut Vec<u8>) -> Result<(), AllocError>
     ensures { OnOk result (out.new.items ≡ out.old.items ++ number_line front.now number) }
 {
     let mut digits = Buffer::new();
