@@ -24,6 +24,10 @@ words_line front words = front ++ shown words ++ 10 ∷ []
 abbrev pub number_line : List ℕ → ℕ → List ℕ
 number_line front number = front ++ decimal number ++ 10 ∷ []
 
+-- a host and a port
+abbrev pub server_words : List ℕ → ℕ → List ℕ
+server_words host port = shown host ++ 32 ∷ decimal port
+
 -- the rest of a line: a host, a port, and a selector or the beginning of one
 abbrev pub address_rest : List ℕ → ℕ → List ℕ → List ℕ
-address_rest host port selector = shown host ++ 32 ∷ decimal port ++ 32 ∷ shown selector ++ 10 ∷ []
+address_rest host port selector = server_words host port ++ 32 ∷ shown selector ++ 10 ∷ []

@@ -16,7 +16,7 @@ use Rattle.gopher_tree.specs.Load.{LoadsTo}
 use Rattle.gopher_tree.specs.declared.fault.TreeFault.{TreeFault}
 use Rattle.gopher_tree.specs.declared.fault.TreeFault.TheVariants as tree_fault
 use Rattle.gopher_check.specs.Fault.{site_fault_code, cause, remedy}
-use Rattle.gopher_check.specs.Lines.{words_line, number_line, address_rest}
+use Rattle.gopher_check.specs.Lines.{words_line, number_line, server_words, address_rest}
 use Rattle.gopher_check.specs.declared.fault.SiteFault.{SiteFault}
 use Rattle.gopher_check.specs.declared.fault.SiteFault.TheVariants as fault
 
@@ -52,7 +52,7 @@ abbrev pub path_below : List ℕ → List ℕ → List ℕ
 path_below root path = root ++ 47 ∷ path
 
 abbrev pub address_lines : HomeData → List ℕ → List ℕ
-address_lines home root = codes "address: " ++ address_rest home.host home.port [] ++ words_line (codes "root: ") root
+address_lines home root = codes "address: " ++ server_words home.host home.port ++ 10 ∷ words_line (codes "root: ") root
 
 -- how many files, menu files and bytes there are
 abbrev pub size_lines : List File → List ℕ

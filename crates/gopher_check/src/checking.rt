@@ -89,7 +89,8 @@ fn tree_report(
     tree: &Tree,
 ) -> Result<Report, NoMemory>
     requires { files_fault tree.now ≡ None }
-    ensures { IfOk result (λ report. TellsSite path.now (settings_data settings) report.words.items report.fault) }
+    ensures { IfOk result (λ report. TellsSite path.now (settings_data settings)
+        report.words.items report.fault) }
 {
     if let Some(seed) = seed_outside(&settings.scope, &settings.seeds) {
         let fault = SiteFault::SeedOutOfScope(seed);
@@ -111,7 +112,8 @@ fn settings_report<R: Files>(
     path: &str,
     settings: Settings,
 ) -> Result<Report, NoMemory>
-    ensures { IfOk result (λ report. TellsSite path.now (settings_data settings) report.words.items report.fault) }
+    ensures { IfOk result (λ report. TellsSite path.now (settings_data settings)
+        report.words.items report.fault) }
 {
     match Tree::load_at(rt, alloc, settings.root.as_str()) {
         Ok(tree) => tree_report(alloc, path, settings, &tree),
@@ -145,7 +147,8 @@ fn settings_line(alloc: Global, text: &str, fault: SettingsFault) -> Option<usiz
 /// Refused only where memory is (90).
 #[tactic(auto, using(crate::proofs::Tells::tells_text, crate::proofs::Tells::tells_refused))]
 pub fn check<R: Files>(rt: &R, alloc: Global, path: &str, text: &str) -> Result<Report, NoMemory>
-    ensures { IfOk result (λ report. TellsText path.now text.now report.words.items report.fault) }
+    ensures { IfOk result (λ report. TellsText path.now text.now
+        report.words.items report.fault) }
 {
     match Settings::read(alloc, text) {
         Ok(settings) => {

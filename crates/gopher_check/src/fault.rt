@@ -1,7 +1,8 @@
 //! What is wrong with a site: the numbers of its faults, and the cause and the remedy of each.
 
 ghost use Rattle.std.specs.Prelude.{◌≡◌};
-ghost use Rattle.gopher_check.specs.Fault.{site_fault_code, tree_cause, tree_remedy, settings_cause, settings_remedy, cause, remedy};
+ghost use Rattle.gopher_check.specs.Fault.{site_fault_code, cause, remedy};
+ghost use Rattle.gopher_check.specs.Fault.{tree_cause, tree_remedy, settings_cause, settings_remedy};
 
 use crate::obstacle::Obstacle;
 use gopher_scope::SettingsFault;

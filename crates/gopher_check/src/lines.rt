@@ -1,8 +1,7 @@
 //! The lines of a report.
 
-ghost use Rattle.std.specs.Prelude.{◌≡◌, ◌++◌, ◌∷◌, [], OnOk};
-ghost use Rattle.std.specs.Fmt.{decimal};
-ghost use Rattle.gopher_check.specs.Lines.{shown_byte, shown, words_line, number_line, address_rest};
+ghost use Rattle.std.specs.Prelude.{◌≡◌, ◌++◌, OnOk};
+ghost use Rattle.gopher_check.specs.Lines.{shown_byte, shown, words_line, number_line, server_words, address_rest};
 
 use gopher_item::is_control;
 use itoa::Buffer;
@@ -57,6 +56,16 @@ pub(crate) fn push_number(front: &[u8], number: usize, out: &mut Vec<u8>) -> Res
     out.extend_from_slice(b"\n")
 }
 
+/// Appends a host and a port.
+pub(crate) fn push_server(host: &[u8], port: u16, out: &mut Vec<u8>) -> Result<(), AllocError>
+    ensures { OnOk result (out.new.items ≡ out.old.items ++ server_words host.now port) }
+{
+    let mut digits = Buffer::new();
+    push_shown(host, out)?;
+    out.extend_from_slice(b" ")?;
+    out.extend_from_slice(digits.format(port).as_bytes())
+}
+
 /// Appends the rest of a line: a host, a port, and a selector or the beginning of one.
 pub(crate) fn push_address(
     host: &[u8],
@@ -64,12 +73,10 @@ pub(crate) fn push_address(
     selector: &[u8],
     out: &mut Vec<u8>,
 ) -> Result<(), AllocError>
-    ensures { OnOk result (out.new.items ≡ out.old.items ++ address_rest host.now port selector.now) }
+    ensures { OnOk result (out.new.items ≡ out.old.items
+        ++ address_rest host.now port selector.now) }
 {
-    let mut digits = Buffer::new();
-    push_shown(host, out)?;
-    out.extend_from_slice(b" ")?;
-    out.extend_from_slice(digits.format(port).as_bytes())?;
+    push_server(host, port, out)?;
     out.extend_from_slice(b" ")?;
     push_shown(selector, out)?;
     out.extend_from_slice(b"\n")

@@ -5,7 +5,7 @@ ghost use Rattle.std.specs.List.{flat_map};
 ghost use Rattle.gopher_scope.specs.Settings.{settings_data};
 ghost use Rattle.gopher_check.specs.Report.{address_lines, size_lines, seed_line, rule_line, site_report};
 
-use crate::lines::{push_address, push_number, push_words};
+use crate::lines::{push_address, push_number, push_server, push_words};
 use gopher_item::{Home, NoMemory, Place};
 use gopher_scope::{Rule, Settings};
 use gopher_tree::Tree;
@@ -16,7 +16,8 @@ fn push_home(home: &Home, root: &str, out: &mut Vec<u8>) -> Result<(), AllocErro
     ensures { OnOk result (out.new.items ≡ out.old.items ++ address_lines home.now root.now) }
 {
     out.extend_from_slice(b"address: ")?;
-    push_address(home.host(), home.port(), b"", out)?;
+    push_server(home.host(), home.port(), out)?;
+    out.extend_from_slice(b"\n")?;
     push_words(b"root: ", root.as_bytes(), out)
 }
 
@@ -58,7 +59,8 @@ fn push_rule(front: &[u8], rule: &Rule, out: &mut Vec<u8>) -> Result<(), AllocEr
 
 // Appends the lines of rules.
 fn push_rules(front: &[u8], rules: &[Rule], out: &mut Vec<u8>) -> Result<(), AllocError>
-    ensures { OnOk result (out.new.items ≡ out.old.items ++ flat_map (rule_line front.now) rules.now) }
+    ensures { OnOk result (out.new.items ≡ out.old.items
+        ++ flat_map (rule_line front.now) rules.now) }
 {
     for rule in rules {
         push_rule(front, rule, out)?;
@@ -77,7 +79,8 @@ pub(crate) fn site_report(
     settings: Settings,
     tree: &Tree,
 ) -> Result<Vec<u8>, NoMemory>
-    ensures { IfOk result (λ report. report.items ≡ site_report path.now (settings_data settings) tree.now) }
+    ensures { IfOk result (λ report. report.items
+        ≡ site_report path.now (settings_data settings) tree.now) }
 {
     let Settings {
         home,
