@@ -75,9 +75,9 @@ fn broken_line(alloc: Global, text: &str) -> Option<usize> {
     let Err(fault) = toml::table_from_str(alloc, text) else {
         return None;
     };
-    let start = fault.span()?.start.min(text.len());
-    let before = &text.as_bytes()[..start];
-    let feeds = before.iter().filter(|byte| **byte == b'\n').count();
+    let bytes = text.as_bytes();
+    let start = fault.span()?.start.min(bytes.len());
+    let feeds = bytes[..start].iter().filter(|byte| **byte == b'\n').count();
     Some(feeds.saturating_add(1))
 }
 

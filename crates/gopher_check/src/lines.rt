@@ -22,7 +22,8 @@ fn push_byte(byte: u8, out: &mut Vec<u8>) -> Result<(), AllocError>
     } else if is_control(byte) {
         out.extend_from_slice(b"\\?")
     } else {
-        out.extend_from_slice(&[byte])
+        out.push(byte)?;
+        Ok(())
     }
 }
 

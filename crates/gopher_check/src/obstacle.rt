@@ -70,7 +70,8 @@ fn obstacle_of(kind: ErrorKind) -> Obstacle {
 
 // Reads the names of a folder, or opens a file.
 fn read_at<R: Files>(rt: &R, alloc: Global, path: Path<'_>) -> io::Result<()> {
-    if fs::metadata(rt, path)?.is_dir() {
+    let found = fs::metadata(rt, path)?;
+    if found.is_dir() {
         for entry in fs::read_dir(&(rt, alloc), path)? {
             let _ = entry?;
         }

@@ -35,7 +35,8 @@ fn push_seed(seed: &Place, out: &mut Vec<u8>) -> Result<(), AllocError>
     ensures { OnOk result (out.new.items ≡ out.old.items ++ seed_line seed.now) }
 {
     out.extend_from_slice(b"seed: ")?;
-    out.extend_from_slice(&[seed.kind(), b' '])?;
+    out.push(seed.kind())?;
+    out.push(b' ')?;
     push_address(seed.host(), seed.port(), seed.selector(), out)
 }
 
