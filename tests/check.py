@@ -44,7 +44,7 @@ WRONG_KIND = (
     "texts stand in quotation marks, numbers in none, and tables begin with [[seeds]], [[allow]] or [[deny]]",
 )
 OUT_OF_RANGE = ("the value is out of range, or one in its tables", "hole.toml(5) tells the ranges")
-UNKNOWN = ("a key is not known", "correct its spelling; the server's own keys stand before the first [[")
+UNKNOWN = ("the key is not known, or one in its tables", "correct its spelling; the server's own keys stand before the first [[")
 OUTSIDE = (
     "no rule of allow covers this seed, or a rule of deny does",
     "add a rule with its host, its port and a beginning of its selector, or take the seed away",
@@ -202,8 +202,12 @@ FAULTS = {
     "seeds that are a table": (more('[seeds]\nhost = "a"\n'), "32 seeds", told(32, "FILE", WRONG_KIND, "key: seeds")),
     "a port out of range": (say(HEAD + 'port = 65536\nroot = "ROOT"\n'), "33 port", told(33, "FILE", OUT_OF_RANGE, "key: port")),
     "no workers": (more("workers = 0\n"), "33 workers", told(33, "FILE", OUT_OF_RANGE, "key: workers")),
-    "a key that isn't known": (more("prot = 70\n"), "34", told(34, "FILE", UNKNOWN)),
-    "a key behind a seed": (more('[[seeds]]\nhost = "a"\nthreads = 1\n'), "34", told(34, "FILE", UNKNOWN)),
+    "a key that isn't known": (more("prot = 70\n"), "34", told(34, "FILE", UNKNOWN, "key: prot")),
+    "two keys that aren't known, one with a TAB": (
+        more('zebra = 1\n"a\\tb" = 2\n[[deny]]\nhosts = 1\n'), "34", told(34, "FILE", UNKNOWN, "key: a\\tb")
+    ),
+    "a key behind a seed": (more('[[seeds]]\nhost = "a"\nthreads = 1\n'), "34", told(34, "FILE", UNKNOWN, "key: seeds")),
+    "a key of a rule": (more('[[deny]]\nhost = "a"\nselector = "/"\n'), "34", told(34, "FILE", UNKNOWN, "key: deny")),
     "a seed that isn't allowed": (more('[[seeds]]\nhost = "a"\n'), "50 seed 0", told(50, "FILE", OUTSIDE, "seed: 0")),
     "a second seed that is denied": (
         more(RULES + 'port = 7070\n[[deny]]\nhost = "localhost"\nport = 7070\nprefix = "/a"\n'),

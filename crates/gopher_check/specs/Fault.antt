@@ -59,7 +59,7 @@ settings_cause settings_fault.NotToml = codes "the settings are not TOML"
 settings_cause (settings_fault.Missing key) = codes "the key is missing, or one that its tables need"
 settings_cause (settings_fault.WrongKind key) = codes "the value is of another kind, or one in its tables"
 settings_cause (settings_fault.OutOfRange key) = codes "the value is out of range, or one in its tables"
-settings_cause settings_fault.UnknownKey = codes "a key is not known"
+settings_cause settings_fault.UnknownKey = codes "the key is not known, or one in its tables"
 settings_cause settings_fault.NoMemory = codes "memory was refused"
 
 abbrev pub settings_remedy : SettingsFault → List ℕ

@@ -20,26 +20,32 @@ use Rattle.gopher_check.specs.Lines.{words_line, number_line, server_words, addr
 use Rattle.gopher_check.specs.declared.fault.SiteFault.{SiteFault}
 use Rattle.gopher_check.specs.declared.fault.SiteFault.TheVariants as fault
 
-abbrev pub settings_detail : SettingsFault → List ℕ
-settings_detail (settings_fault.Missing key) = words_line (codes "key: ") (key_name key)
-settings_detail (settings_fault.WrongKind key) = words_line (codes "key: ") (key_name key)
-settings_detail (settings_fault.OutOfRange key) = words_line (codes "key: ") (key_name key)
-settings_detail why = []
+-- the line of a key that isn't known, where its name isn't empty
+abbrev pub unknown_detail : List ℕ → List ℕ
+unknown_detail [] = []
+unknown_detail (byte ∷ key) = words_line (codes "key: ") (byte ∷ key)
 
--- the key, or the number of the seed
-abbrev pub detail : SiteFault → List ℕ
-detail (fault.Settings why) = settings_detail why
-detail (fault.SeedOutOfScope seed) = number_line (codes "seed: ") seed
-detail why = []
+abbrev pub settings_detail : SettingsFault → List ℕ → List ℕ
+settings_detail (settings_fault.Missing key) unknown = words_line (codes "key: ") (key_name key)
+settings_detail (settings_fault.WrongKind key) unknown = words_line (codes "key: ") (key_name key)
+settings_detail (settings_fault.OutOfRange key) unknown = words_line (codes "key: ") (key_name key)
+settings_detail settings_fault.UnknownKey unknown = unknown_detail unknown
+settings_detail why unknown = []
+
+-- the key, or the number of the seed; `unknown` is a key that isn't known
+abbrev pub detail : SiteFault → List ℕ → List ℕ
+detail (fault.Settings why) unknown = settings_detail why unknown
+detail (fault.SeedOutOfScope seed) unknown = number_line (codes "seed: ") seed
+detail why unknown = []
 
 abbrev pub line_detail : Option ℕ → List ℕ
 line_detail None = []
 line_detail (Some line) = number_line (codes "line: ") line
 
--- what is told of a fault of a file or a folder, or of a line in it
-abbrev pub fault_report : SiteFault → List ℕ → Option ℕ → List ℕ
-fault_report why path line =
-    number_line (codes "fault: ") (site_fault_code why) ++ words_line (codes "path: ") path ++ line_detail line ++ detail why
+-- what is told of a fault of what lies at a path, or of a line in it; `unknown` is a key that isn't known
+abbrev pub fault_report : SiteFault → List ℕ → Option ℕ → List ℕ → List ℕ
+fault_report why path line unknown =
+    number_line (codes "fault: ") (site_fault_code why) ++ words_line (codes "path: ") path ++ line_detail line ++ detail why unknown
     ++ words_line (codes "cause: ") (cause why) ++ words_line (codes "remedy: ") (remedy why)
 
 -- the line of a menu file that a fault names
@@ -82,14 +88,14 @@ abbrev pub TellsSite : List ℕ → SettingsData → List ℕ → Option SiteFau
 TellsSite path settings words None =
     (files : List File) × (files_fault files ≡ None) × (seed_outside settings.scope settings.seeds ≡ None) × (words ≡ site_report path settings files)
 TellsSite path settings words (Some (fault.Tree why how)) =
-    (below : List ℕ) × LoadsTo below (Err why) × (words ≡ fault_report (fault.Tree why how) (path_below settings.root below) (menu_line_of why))
+    (below : List ℕ) × LoadsTo below (Err why) × (words ≡ fault_report (fault.Tree why how) (path_below settings.root below) (menu_line_of why) [])
 TellsSite path settings words (Some (fault.SeedOutOfScope seed)) =
-    (seed_outside settings.scope settings.seeds ≡ Some seed) × (words ≡ fault_report (fault.SeedOutOfScope seed) path None)
+    (seed_outside settings.scope settings.seeds ≡ Some seed) × (words ≡ fault_report (fault.SeedOutOfScope seed) path None [])
 TellsSite path settings words (Some other) = ⊥
 
 -- what is told of a text of settings: that they are refused, or what is told of the site that they state
 abbrev pub TellsText : List ℕ → List ℕ → List ℕ → Option SiteFault → Type 0
 TellsText path text words (Some (fault.Settings why)) =
     (why ≢ settings_fault.NoMemory → settings_of (parse_document text) ≡ Err why)
-    × ((line : Option ℕ) × (words ≡ fault_report (fault.Settings why) path line))
+    × ((line : Option ℕ) × (unknown : List ℕ) × (words ≡ fault_report (fault.Settings why) path line unknown))
 TellsText path text words found = (settings : SettingsData) × (settings_of (parse_document text) ≡ Ok settings) × TellsSite path settings words found

@@ -1,14 +1,16 @@
 //! A site that is checked: its settings, its folder, and the seeds of its crawl.
 
-ghost use Rattle.std.specs.Prelude.{◌≡◌, None, Some, IfOk};
+ghost use Rattle.std.specs.Prelude.{◌≡◌, [], None, Some, IfOk};
 ghost use Rattle.gopher_scope.specs.Settings.{settings_data};
 ghost use Rattle.gopher_tree.specs.Fault.{files_fault};
+ghost use Rattle.gopher_check.specs.declared.fault.SiteFault.TheVariants.{SettingsUnreadable};
 ghost use Rattle.gopher_check.specs.Report.{fault_report, menu_line_of, path_below, seed_outside, TellsSite, TellsText};
 
 use crate::fault::SiteFault;
 use crate::fault_words::fault_report;
 use crate::obstacle::obstacle_at;
 use crate::site_words::site_report;
+use crate::unknown::unknown_key;
 use gopher_item::{NoMemory, Place};
 use gopher_scope::{Scope, Settings, SettingsFault};
 use gopher_tree::{Tree, TreeFault};
@@ -24,19 +26,16 @@ pub struct Report {
     pub fault: Option<SiteFault>,
 }
 
-/// The report of a fault of what lies at a path, or of a line in it.
+/// The report of settings whose file can't be read. `path` is where it should be.
 ///
 /// Refused only where memory is (90).
-pub fn report_of(
-    alloc: Global,
-    fault: SiteFault,
-    path: &[u8],
-    line: Option<usize>,
-) -> Result<Report, NoMemory>
-    ensures fault { IfOk result (λ report. report.fault ≡ Some fault) }
-    ensures words { IfOk result (λ report. report.words.items ≡ fault_report fault path.now line) }
+pub fn unreadable(alloc: Global, path: &str) -> Result<Report, NoMemory>
+    ensures fault { IfOk result (λ report. report.fault ≡ Some SettingsUnreadable) }
+    ensures words { IfOk result (λ report. report.words.items
+        ≡ fault_report SettingsUnreadable path.now None []) }
 {
-    let words = fault_report(alloc, fault, path, line)?;
+    let fault = SiteFault::SettingsUnreadable;
+    let words = fault_report(alloc, fault, path.as_bytes(), None, b"")?;
     Ok(Report {
         words,
         fault: Some(fault),
@@ -94,7 +93,7 @@ fn tree_report(
 {
     if let Some(seed) = seed_outside(&settings.scope, &settings.seeds) {
         let fault = SiteFault::SeedOutOfScope(seed);
-        let words = fault_report(alloc, fault, path.as_bytes(), None)?;
+        let words = fault_report(alloc, fault, path.as_bytes(), None, b"")?;
         return Ok(Report {
             words,
             fault: Some(fault),
@@ -120,7 +119,7 @@ fn settings_report<R: Files>(
         Err(refused) => {
             let place = path_below(alloc, settings.root.as_str(), &refused.path)?;
             let fault = SiteFault::Tree(refused.fault, obstacle_at(rt, alloc, &place));
-            let words = fault_report(alloc, fault, &place, menu_line_of(refused.fault))?;
+            let words = fault_report(alloc, fault, &place, menu_line_of(refused.fault), b"")?;
             Ok(Report {
                 words,
                 fault: Some(fault),
@@ -137,11 +136,19 @@ fn settings_line(alloc: Global, text: &str, fault: SettingsFault) -> Option<usiz
     }
 }
 
+// The key of settings that isn't known, where that is their fault.
+fn settings_key(alloc: Global, text: &str, fault: SettingsFault) -> Result<Vec<u8>, NoMemory> {
+    match fault {
+        SettingsFault::UnknownKey => unknown_key(alloc, text),
+        _ => Ok(Vec::new(alloc)),
+    }
+}
+
 /// The report of the settings that a text states, of the folder that they name, and of their seeds. `path`
 /// is where the text was found.
 ///
 /// The first fault is told, in this order: of the settings (30 to 34), of the folder (20 to 26), of the
-/// seeds (50). For 30 the line is told, too; for 26 what the system says when what can't be read is tried
+/// seeds (50). For 30 the line is told, too, for 34 the key; for 26 what the system says when what can't be read is tried
 /// once more.
 ///
 /// Refused only where memory is (90).
@@ -158,7 +165,8 @@ pub fn check<R: Files>(rt: &R, alloc: Global, path: &str, text: &str) -> Result<
         Err(refused) => {
             let fault = SiteFault::Settings(refused);
             let line = settings_line(alloc, text, refused);
-            let words = fault_report(alloc, fault, path.as_bytes(), line)?;
+            let key = settings_key(alloc, text, refused)?;
+            let words = fault_report(alloc, fault, path.as_bytes(), line, &key)?;
             Ok(Report {
                 words,
                 fault: Some(fault),

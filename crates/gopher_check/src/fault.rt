@@ -67,7 +67,7 @@ fn settings_cause(fault: SettingsFault) -> &'static str
         SettingsFault::Missing(_) => "the key is missing, or one that its tables need",
         SettingsFault::WrongKind(_) => "the value is of another kind, or one in its tables",
         SettingsFault::OutOfRange(_) => "the value is out of range, or one in its tables",
-        SettingsFault::UnknownKey => "a key is not known",
+        SettingsFault::UnknownKey => "the key is not known, or one in its tables",
         SettingsFault::NoMemory => "memory was refused",
     }
 }

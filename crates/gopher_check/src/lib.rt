@@ -10,7 +10,8 @@ mod fault_words;
 mod lines;
 mod obstacle;
 mod site_words;
+mod unknown;
 
-pub use checking::{Report, check, report_of};
+pub use checking::{Report, check, unreadable};
 pub use fault::SiteFault;
 pub use obstacle::Obstacle;

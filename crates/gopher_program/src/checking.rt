@@ -8,7 +8,7 @@ use crate::announcing::send_text;
 use crate::fault::ProgramFault;
 use crate::opening::settings_bytes;
 use gopher_catalogue::OpenFault;
-use gopher_check::{Report, SiteFault, check, report_of};
+use gopher_check::{Report, SiteFault, check, unreadable};
 use gopher_item::NoMemory;
 use gopher_text::Watched;
 use std::alloc::Global;
@@ -28,21 +28,16 @@ fn program_fault(fault: SiteFault) -> ProgramFault
     }
 }
 
-// The report of settings whose file can't be read.
-fn unreadable_report(alloc: Global, path: &str) -> Result<Report, NoMemory> {
-    report_of(alloc, SiteFault::SettingsUnreadable, path.as_bytes(), None)
-}
-
 // The report of the settings in a file.
 fn file_report<R: Files>(rt: &R, alloc: Global, path: &str) -> Result<Report, NoMemory> {
     let bytes = match settings_bytes(rt, alloc, path) {
         Ok(bytes) => bytes,
         Err(ProgramFault::NoMemory) => return Err(NoMemory),
-        Err(_) => return unreadable_report(alloc, path),
+        Err(_) => return unreadable(alloc, path),
     };
     match str::from_utf8(&bytes) {
         Ok(text) => check(rt, alloc, path, text),
-        Err(_) => unreadable_report(alloc, path),
+        Err(_) => unreadable(alloc, path),
     }
 }
 
