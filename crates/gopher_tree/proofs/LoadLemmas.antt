@@ -7,9 +7,8 @@ use Rattle.std.specs.declared.io.traits.Take.{Take}
 use Rattle.std.specs.Io.Take.{take_limit, take_inner, take_remaining}
 use Rattle.gopher_tree.specs.Files.{File}
 use Rattle.gopher_tree.specs.Fault.{path_fault, or_fault, file_fault, fault_after, files_fault}
-use Rattle.gopher_tree.specs.Load.{folder_fault, StopsAt, Lists, WalksTo, Loads, LoadsTo, LoadsAt, IsUnreadable, RefusesFile}
+use Rattle.gopher_tree.specs.Load.{folder_fault, StopsAt, Lists, WalksTo, Loads, LoadsTo, IsUnreadable, RefusesFile}
 use Rattle.gopher_tree.specs.declared.fault.TreeFault.{TreeFault}
-use Rattle.gopher_tree.specs.declared.fault.LoadRefused.{LoadRefused}
 use Rattle.gopher_tree.specs.declared.fault.TreeFault.TheVariants.{LongSelector, TooBig, NoMemory}
 use Rattle.gopher_tree.proofs.FaultLemmas.{or_fault-none}
 
@@ -93,6 +92,10 @@ loads_memory path result fault is memory = subst (LoadsTo path) (sym is) ([], re
 pub loads_refused : {T : Type 0} (listed : T → List File) (first : List File) (path : List ℕ) (result : Result (List File) TreeFault) (fault : TreeFault) → result ≡ Err fault → first ≡ [] → WalksTo listed first path (Err fault) → LoadsTo path result
 loads_refused listed first path result fault is none (files, lists, stops) =
     subst (LoadsTo path) (sym is) (files, faultless files (subst (λ l. Lists l files) none lists), stops)
+
+-- a folder is refused at some path
+pub loads_some : (path : List ℕ) (fault : TreeFault) → LoadsTo path (Err fault) → Loads (Err fault)
+loads_some path fault loads = (path, loads)
 
 -- the known bytes that a reader with a limit gives
 pub taken : {R : Type 0} (remaining : R → Option (List ℕ)) (reader : R) (limited : Take R) (bytes : List ℕ) → take_limit limited ≡ 16777217 → take_inner limited ≡ reader

@@ -1,6 +1,6 @@
 //! Trees of folders of the file system.
 
-ghost use Rattle.std.specs.Prelude.{◌≡◌, ◌<◌, ◌≤◌, ◌+◌, ◌++◌, [], ◌∷◌, length, None, Some, IfOk, IfErr, MatchResult};
+ghost use Rattle.std.specs.Prelude.{◌≡◌, ◌<◌, ◌≤◌, ◌+◌, ◌++◌, [], ◌∷◌, length, None, Some, IfOk, IfErr, OnOk, MatchResult};
 ghost use Rattle.gopher_tree.specs.Fault.{file_fault, files_fault};
 ghost use Rattle.gopher_tree.specs.Load.{folder_fault, RefusesFile, WalksTo, Loads, LoadsTo, LoadsAt};
 
@@ -8,6 +8,7 @@ use crate::fault::{LoadRefused, TreeFault};
 use crate::folder::{Target, names_in, read_file, target_of, without_links};
 use crate::path::{LONGEST_PATH, path_fault, path_in};
 use crate::tree::{MOST_NODES, Tree};
+use gopher_item::NoMemory;
 use std::alloc::Global;
 use std::fs::Files;
 use std::path::{Path, PathBuf};
@@ -18,6 +19,15 @@ use std::path::{Path, PathBuf};
 struct Walk {
     tree: Tree,
     nodes: usize,
+}
+
+// Notes the path at which a walk is.
+fn note_path(at: &mut Vec<u8>, path: &[u8]) -> Result<(), NoMemory>
+    ensures { OnOk result (at.new.items ≡ path.now) }
+{
+    at.clear();
+    at.extend_from_slice(path)?;
+    Ok(())
 }
 
 impl Walk {
@@ -124,8 +134,7 @@ impl Walk {
         let Ok(path) = path_in(alloc, path, name.as_bytes()) else {
             return Err(TreeFault::NoMemory);
         };
-        at.clear();
-        let Ok(()) = at.extend_from_slice(&path) else {
+        let Ok(()) = note_path(at, &path) else {
             return Err(TreeFault::NoMemory);
         };
         match target_of(rt, place.as_path(), self.tree.number_of_files())? {
@@ -159,6 +168,7 @@ impl Tree {
     ///   counts among the nodes.
     /// - `LongSelector` (22) and `TooBig` (23) for a folder too, whether it has files or not.
     /// - `NoMemory` (90).
+    #[tactic(auto, using(crate::proofs::LoadLemmas::loads_some))]
     pub fn load<R: Files>(rt: &R, alloc: Global, root: &str) -> Result<Tree, TreeFault>
         ensures { Loads result }
     {
