@@ -29,4 +29,4 @@ tells_folder path settings words below why how loads is = (below, loads, is)
 pub tells_refused : (path text words : List ℕ) (why : SettingsFault) (line : Option ℕ) (unknown : List ℕ)
     → (why ≢ settings_fault.NoMemory → settings_of (parse_document text) ≡ Err why) → words ≡ fault_report (fault.Settings why) path line unknown
     → TellsText path text words (Some (fault.Settings why))
-tells_refused path text words why line unknown refused is = (refused, (line, (unknown, is)))
+tells_refused path text words why line unknown refused is = (refused, (line, unknown, is))
