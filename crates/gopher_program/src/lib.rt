@@ -6,6 +6,7 @@
 #![tactic(auto)]
 
 mod announcing;
+mod checking;
 mod connection;
 mod crewing;
 mod fault;

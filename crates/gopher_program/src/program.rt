@@ -9,6 +9,7 @@ ghost use Rattle.gopher_program.specs.Fault.{fault_line};
 ghost use Rattle.gopher_program.specs.Program.{asks_replay, status_of, said_of, Says, SaysFault};
 
 use crate::announcing::{send_text, write_fault};
+use crate::checking::check_site;
 use crate::crewing::serve;
 use crate::fault::ProgramFault;
 use crate::words::{Asked, read_words};
@@ -112,6 +113,9 @@ fn tell_end<E: Write>(error: &mut Watched<E>, end: Result<(), ProgramFault>) -> 
 ///   and answers searches. `output` gets the line `listening HOST PORT` once the server listens, and
 ///   the sizes of the crawl at the end: status 0. Where that fails, `error` gets the line of the fault,
 ///   as `hole: 33 port`, and the status is 1.
+/// - `check SETTINGS` writes to `output` what is wrong with the settings or their folder, in words, and
+///   where, or what a sound site has: status 0. Where there is a fault, `error` gets the line that `serve`
+///   would write, and the status is 1.
 /// - `--help` and `--version` write their text to `output`: status 0.
 /// - Any other words read and write nothing, but for a text on `error` that says what is wrong with
 ///   them: status 2.
@@ -161,6 +165,10 @@ pub fn run<
         Ok(Asked::Replay) => run_replay(rt.alloc(), input, output, error),
         Ok(Asked::Serve(serving)) => {
             let end = serve::<Brand, H, W>(rt, &serving, Blank::new(), output);
+            tell_end(error, end)
+        }
+        Ok(Asked::Check(settings)) => {
+            let end = check_site(rt, rt.alloc(), settings, output);
             tell_end(error, end)
         }
         Ok(Asked::Shown(text)) => {

@@ -14,6 +14,8 @@ pub enum Asked<'a> {
     Replay,
     /// `serve`: a folder is served.
     Serve(Serving<'a>),
+    /// `check`: the settings at this path are checked, and their folder.
+    Check(&'a str),
     /// `--help` or `--version`: this text is shown.
     Shown(String),
     /// Words that are refused, with a text that says why.
@@ -29,11 +31,20 @@ pub struct Serving<'a> {
     pub requests: Option<u64>,
 }
 
-fn serve_words<'a>(alloc: Global) -> Result<Command<'a>, AllocError> {
-    let settings = Arg::new(alloc, "SETTINGS")
+fn settings_word<'a>(alloc: Global) -> Arg<'a> {
+    Arg::new(alloc, "SETTINGS")
         .required(true)
         .action(ArgAction::Set)
-        .help("The settings of the server and its crawl, a TOML file");
+        .help("The settings of the server and its crawl, a TOML file")
+}
+
+fn check_words<'a>(alloc: Global) -> Result<Command<'a>, AllocError> {
+    Command::new(alloc, "check")
+        .about("Tell what is wrong with the settings and their folder, and where")
+        .arg(settings_word(alloc))
+}
+
+fn serve_words<'a>(alloc: Global) -> Result<Command<'a>, AllocError> {
     let requests = Arg::new(alloc, "requests")
         .long("requests")
         .value_name("N")
@@ -42,7 +53,7 @@ fn serve_words<'a>(alloc: Global) -> Result<Command<'a>, AllocError> {
         .help("End after N connections, at most 1000000");
     Command::new(alloc, "serve")
         .about("Serve a folder, crawl the allowed hosts and answer searches")
-        .arg(settings)?
+        .arg(settings_word(alloc))?
         .arg(requests)
 }
 
@@ -56,6 +67,7 @@ fn program_words<'a>(alloc: Global) -> Result<Command<'a>, AllocError> {
         .no_binary_name(true)
         .subcommand_required(true)
         .subcommand(replay)?
+        .subcommand(check_words(alloc)?)?
         .subcommand(serve_words(alloc)?)
 }
 
@@ -78,6 +90,12 @@ pub fn read_words<'a>(alloc: Global, words: &'a [String]) -> Result<Asked<'a>, N
         Ok(matches) => matches,
         Err(error) => return shown(alloc, &error),
     };
+    if let Some(check) = matches.subcommand_matches("check") {
+        return match check.get_str("SETTINGS") {
+            Some(settings) => Ok(Asked::Check(settings)),
+            None => Err(NoMemory),
+        };
+    }
     let Some(serve) = matches.subcommand_matches("serve") else {
         return Ok(Asked::Replay);
     };
