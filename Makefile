@@ -20,6 +20,7 @@ test:
 	bench/program.sh
 	tests/replays.py
 	tests/requests.py --lines 500
+	tests/log.py
 	tests/attack.py
 	bench/refusals.sh
 
