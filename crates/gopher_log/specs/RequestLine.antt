@@ -1,6 +1,5 @@
 -- The line of a request: six fields, which stand between TABs.
-use Rattle.std.specs.Prelude.{ℕ, List, [], ◌∷◌, ◌++◌, codes, slice_get}
-use Rattle.std.specs.Option.{option_get_or}
+use Rattle.std.specs.Prelude.{ℕ, List, [], ◌∷◌, ◌++◌, codes, drop}
 use Rattle.std.specs.Fmt.{decimal}
 use Rattle.gopher_item.specs.Menu.{fields_of, first_field}
 use Rattle.gopher_log.specs.declared.moment.Moment.{Moment}
@@ -21,7 +20,7 @@ selector_of asked = first_field (fields_of asked)
 
 -- what stands between the first TAB of a line and the second; nothing where it has none
 abbrev pub search_of : List ℕ → List ℕ
-search_of asked = option_get_or (slice_get (fields_of asked) 1) []
+search_of asked = first_field (drop 1 (fields_of asked))
 
 abbrev pub asked_bytes : List ℕ → List ℕ
 asked_bytes asked = escaped (selector_of asked) ++ codes "\t" ++ escaped (search_of asked)
