@@ -108,7 +108,8 @@ impl ThreadLog {
         let (Ok(now), Some(ended)) = (Instant::now(rt), moment_now(rt)) else {
             return;
         };
-        let Ok(peer) = format!(in alloc; "{}", accepted.peer) else {
+        let address = accepted.peer;
+        let Ok(peer) = format!(in alloc; "{address}") else {
             return;
         };
         if self.batch.is_full() {

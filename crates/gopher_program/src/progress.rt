@@ -56,6 +56,23 @@ fn tell_until_over<C: Crew, R: Wait + Drop, W: Wait + Clock + Eprint>(
     unreachable!()
 }
 
+// Crawls, and notes that it is over.
+fn crawl_until_over<
+    C: Crew + Send + Sync,
+    R: Wait + Drop + Send + Sync,
+    W: Net<Listener = TcpListener, Stream = TcpStream> + Threads + Wait + Sync,
+>(
+    rt: &W,
+    alloc: Global,
+    desk: &Desk<C, R>,
+    pairs: Vec<(TcpFetch, Share<C>)>,
+    is_over: &AtomicBool,
+) -> Result<Vec<WorkEnd<TcpFetch, C>>, CrawlRefused<TcpFetch, C>> {
+    let crawled = crawl(rt, alloc, desk, pairs);
+    is_over.store(true, Ordering::SeqCst);
+    crawled
+}
+
 /// Crawls as `gopher_crew::crawl` does, and tells the sizes of the crawl on the error stream every ten
 /// seconds and at its end.
 pub fn crawl_and_tell<
@@ -68,15 +85,12 @@ pub fn crawl_and_tell<
     desk: &Desk<C, R>,
     pairs: Vec<(TcpFetch, Share<C>)>,
 ) -> Result<Vec<WorkEnd<TcpFetch, C>>, CrawlRefused<TcpFetch, C>> {
-    let is_over = AtomicBool::new(false);
+    let over = AtomicBool::new(false);
+    let is_over = &over;
     let (crawled, _told) = thread::join(
         rt,
-        || {
-            let crawled = crawl(rt, alloc, desk, pairs);
-            is_over.store(true, Ordering::SeqCst);
-            crawled
-        },
-        || tell_until_over(rt, alloc, desk, &is_over),
+        move || crawl_until_over(rt, alloc, desk, pairs, is_over),
+        move || tell_until_over(rt, alloc, desk, is_over),
     );
     crawled
 }
