@@ -1,4 +1,4 @@
--- Lines that are still to be handed out.
+-- Lines of requests that are gathered before they are written.
 use Rattle.std.specs.Prelude.{ℕ, ◌+◌, ◌&&◌, ◌==◌, Bool, List, [], ◌++◌, codes, length, min, nat_le, if◌then◌else◌}
 use Rattle.std.specs.Fmt.{decimal}
 use Rattle.gopher_log.specs.RequestLine.{RequestData, request_bytes}

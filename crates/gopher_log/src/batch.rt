@@ -1,6 +1,6 @@
 //! Lines gathered before they are written.
 
-ghost use Rattle.std.specs.Prelude.{◌≡◌, [], OnOk, OnErr, IfOk};
+ghost use Rattle.std.specs.Prelude.{◌≡◌, OnOk, OnErr};
 ghost use Rattle.gopher_log.specs.Batch.{is_full, is_empty, with_line, with_dropped, with_request, all_told, no_lines};
 
 use crate::request_line::{RequestLine, push_request};
@@ -13,8 +13,8 @@ use std::mem::replace;
 // A batch of more bytes takes no further line.
 const MOST_BYTES: usize = 65_536;
 
-/// Lines that are still to be handed out, and the number of requests that were dropped since the last of
-/// them. It takes memory as it grows, to 65,536 bytes and one line more at most.
+/// Lines of requests, and the number of requests that were dropped since the last of them. It takes
+/// memory as it grows, for 65,536 bytes and one line more at most.
 #[derive(Drop)]
 pub struct Batch {
     written: Vec<u8>,
@@ -42,14 +42,14 @@ impl Batch {
         }
     }
 
-    /// Whether it takes no further line: it has 65,536 bytes or more. Takes no memory.
+    /// Whether it takes no line more: it has 65,536 bytes or more. Takes no memory.
     pub fn is_full(&self) -> bool
         ensures { result ≡ is_full self.now }
     {
         self.written.len() >= MOST_BYTES
     }
 
-    /// Whether nothing is to be handed out: no line, and no number of dropped requests. Takes no memory.
+    /// Whether there is nothing in it: no line, and no dropped request. Takes no memory.
     pub fn is_empty(&self) -> bool
         ensures { result ≡ is_empty self.now }
     {
@@ -92,8 +92,10 @@ impl Batch {
         self.dropped = self.dropped.saturating_add(1);
     }
 
-    // Appends the line that tells how many requests were dropped.
-    fn tell_dropped(&mut self) -> Result<(), NoMemory>
+    /// Appends a line that tells how many requests were dropped, if any were; it counts from none again.
+    ///
+    /// Refused only where memory is (90); the batch is as it was.
+    pub fn tell_dropped(&mut self) -> Result<(), NoMemory>
         ensures told { OnOk result (self.new ≡ record { written = all_told self.old; dropped = 0 }) }
         ensures refused { OnErr result (self.new ≡ self.old) }
     {
@@ -110,24 +112,18 @@ impl Batch {
         Ok(())
     }
 
-    /// Hands out its lines, and behind them a line that tells how many requests were dropped, if any
-    /// were. Nothing is left in the batch.
-    ///
-    /// Refused only where memory is (90); the batch is as it was.
-    pub fn take(&mut self, alloc: Global) -> Result<Vec<u8>, NoMemory>
-        ensures taken { IfOk result (λ lines. lines.items ≡ all_told self.old) }
-        ensures emptied { OnOk result (self.new ≡ no_lines) }
-        ensures refused { OnErr result (self.new ≡ self.old) }
+    /// Its lines. Takes no memory.
+    pub fn lines(&self) -> &[u8]
+        ensures { result.now ≡ self.now.written }
     {
-        self.tell_dropped()?;
-        Ok(replace(&mut self.written, Vec::new(alloc)))
+        &self.written
     }
 
-    /// Takes back the lines that it handed out last: they come before those that follow.
-    pub fn put_back(&mut self, lines: Vec<u8>)
-        requires { self.old.written ≡ [] }
-        ensures { self.new ≡ record { written = lines.items; dropped = self.old.dropped } }
+    /// Hands out all that it has; nothing is left in it. Takes no memory.
+    pub fn take(&mut self, alloc: Global) -> Batch
+        ensures taken { result ≡ self.old }
+        ensures emptied { self.new ≡ no_lines }
     {
-        self.written = lines;
+        replace(self, Batch::new(alloc))
     }
 }

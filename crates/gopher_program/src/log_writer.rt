@@ -2,6 +2,7 @@
 
 use crate::logging::LogQueue;
 use gopher_item::NoMemory;
+use gopher_log::Batch;
 use std::alloc::Global;
 use std::fs::{File, Files, OpenOptions};
 use std::io::{self, Eprint, ErrorKind, Write};
@@ -39,7 +40,8 @@ enum Step {
 struct LogWriter {
     path: String,
     file: Option<File>,
-    lines: Vec<u8>,
+    alloc: Global,
+    batch: Batch,
     written: usize,
     is_told: bool,
 }
@@ -77,15 +79,24 @@ impl LogWriter {
 
     // Takes the next batch, if all of the last is written. False where there is none.
     fn take_next(&mut self, rt: &impl Wait, queue: &LogQueue) -> bool {
-        if self.written < self.lines.len() {
+        if !self.batch.is_empty() {
             return true;
         }
-        let Some(lines) = queue.pop(rt) else {
+        let Some(batch) = queue.pop(rt) else {
             return false;
         };
-        self.lines = lines;
+        self.batch = batch;
         self.written = 0;
         true
+    }
+
+    // Takes it that so many bytes more of the batch are written.
+    fn advance(&mut self, count: usize) {
+        self.written = self.written.saturating_add(count);
+        if self.written >= self.batch.lines().len() {
+            self.batch = Batch::new(self.alloc);
+            self.written = 0;
+        }
     }
 
     // Writes what is left of the batch, as far as the file takes it.
@@ -93,11 +104,11 @@ impl LogWriter {
         let Some(file) = &mut self.file else {
             return Step::Refused;
         };
-        let left = &self.lines[self.written.min(self.lines.len())..];
-        match file.write(left) {
+        let lines = self.batch.lines();
+        match file.write(&lines[self.written.min(lines.len())..]) {
             Ok(0) => Step::Refused,
             Ok(count) => {
-                self.written = self.written.saturating_add(count);
+                self.advance(count);
                 Step::Written
             }
             Err(error) => {
@@ -113,11 +124,13 @@ impl LogWriter {
     // Takes a step: one write at most.
     fn step<R: Files<File = File> + Wait + Eprint>(&mut self, rt: &R, queue: &LogQueue) -> Step {
         self.open(rt);
-        if self.take_next(rt, queue) {
-            self.write(rt)
-        } else {
-            Step::Empty
+        if !self.take_next(rt, queue) {
+            return Step::Empty;
         }
+        if self.batch.tell_dropped().is_err() {
+            return Step::Refused;
+        }
+        self.write(rt)
     }
 }
 
@@ -156,7 +169,8 @@ fn spawn_writer<
     let writer = LogWriter {
         path: String::from_str(alloc, path)?,
         file: None,
-        lines: Vec::new(alloc),
+        alloc,
+        batch: Batch::new(alloc),
         written: 0,
         is_told: false,
     };

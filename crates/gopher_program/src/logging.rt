@@ -18,7 +18,7 @@ const MOST_KEPT: u64 = 250;
 /// The batches of lines that wait to be written.
 #[derive(Drop)]
 pub struct LogQueue {
-    batches: ArrayQueue<Vec<u8>>,
+    batches: ArrayQueue<Batch>,
     is_closed: AtomicBool,
 }
 
@@ -32,7 +32,7 @@ impl LogQueue {
     }
 
     /// Takes the batch that has waited for longest.
-    pub fn pop(&self, rt: &impl Wait) -> Option<Vec<u8>> {
+    pub fn pop(&self, rt: &impl Wait) -> Option<Batch> {
         self.batches.pop(rt)
     }
 
@@ -149,14 +149,12 @@ impl ThreadLog {
     /// Hands on its lines, if they find room.
     pub fn hand_on<R: Wait + Clock>(&mut self, rt: &R, alloc: Global) {
         self.due = None;
-        let Ok(lines) = self.batch.take(alloc) else {
-            return;
-        };
-        if lines.is_empty() {
+        if self.batch.is_empty() {
             return;
         }
-        if let Err(lines) = self.queue.batches.push(rt, lines) {
-            self.batch.put_back(lines);
+        let batch = self.batch.take(alloc);
+        if let Err(batch) = self.queue.batches.push(rt, batch) {
+            self.batch = batch;
             self.wait_again(rt);
         }
     }
