@@ -10,7 +10,7 @@ use std::alloc::AllocError;
 fn is_plain(byte: u8) -> bool
     ensures { result ≡ is_plain byte }
 {
-    (32..=126).contains(&byte) && byte != b'\\'
+    byte >= 32 && byte <= 126 && byte != b'\\'
 }
 
 // Whether each of the bytes stands for itself.
@@ -53,6 +53,7 @@ fn push_each(out: &mut Vec<u8>, bytes: &[u8]) -> Result<(), AllocError>
     Ok(())
 }
 
+#[tactic(auto, using(crate::proofs::Escapes::escaped_plain))]
 /// Appends bytes as the log writes them: those from 32 to 126 but for the backslash as they are, any
 /// other as a backslash, `x` and its two hexadecimal digits.
 pub fn push_escaped(out: &mut Vec<u8>, bytes: &[u8]) -> Result<(), AllocError>
