@@ -53,9 +53,9 @@ fn push_each(out: &mut Vec<u8>, bytes: &[u8]) -> Result<(), AllocError>
     Ok(())
 }
 
-#[tactic(auto, using(crate::proofs::Escapes::escaped_plain))]
 /// Appends bytes as the log writes them: those from 32 to 126 but for the backslash as they are, any
 /// other as a backslash, `x` and its two hexadecimal digits.
+#[tactic(auto, using(crate::proofs::Escapes::escaped_plain))]
 pub fn push_escaped(out: &mut Vec<u8>, bytes: &[u8]) -> Result<(), AllocError>
     ensures { OnOk result (out.new.items ≡ out.old.items ++ escaped bytes.now) }
 {

@@ -29,7 +29,7 @@ fn tell<C: Crew, R: Wait + Drop, W: Wait + Eprint>(rt: &W, alloc: Global, desk: 
 }
 
 // Waits until the crawl is over, for ten seconds at most, and tells whether it is.
-fn wait(clock: &impl Clock, is_over: &AtomicBool) -> bool {
+fn wait_for_end(clock: &impl Clock, is_over: &AtomicBool) -> bool {
     for _rest in 0..RESTS {
         if is_over.load(Ordering::SeqCst) {
             return true;
@@ -47,7 +47,7 @@ fn tell_until_over<C: Crew, R: Wait + Drop, W: Wait + Clock + Eprint>(
     is_over: &AtomicBool,
 ) {
     for _round in rt.forever() {
-        let was_over = wait(rt, is_over);
+        let was_over = wait_for_end(rt, is_over);
         tell(rt, alloc, desk);
         if was_over {
             return;
