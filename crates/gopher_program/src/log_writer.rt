@@ -11,8 +11,9 @@ use std::sync::{Arc, Wait};
 use std::thread::{self, JoinHandle, Threads};
 use std::time::{Clock, Duration};
 
-// For how many milliseconds the thread rests where nothing can be written.
-const REST: u64 = 100;
+// For how many milliseconds the thread rests at most where nothing can be written. It rests for one at
+// first, and then for twice as long each time.
+const MOST_REST: u64 = 100;
 
 // How often it tries in vain to write what is left, once the server has ended.
 const MOST_TRIES_AT_END: u32 = 10;
@@ -143,20 +144,23 @@ fn write_log<R: Files<File = File> + Wait + Clock + Eprint>(
 ) {
     let mut writer = writer;
     let mut tries = 0u32;
+    let mut rest = 1u64;
     for _step in rt.forever() {
         let is_closed = queue.is_closed();
         let step = writer.step(rt, queue);
         if step == Step::Written {
             tries = 0;
+            rest = 1;
             continue;
         }
         if is_closed && (step == Step::Empty || tries >= MOST_TRIES_AT_END) {
             return;
         }
-        if is_closed {
+        if is_closed && rest == MOST_REST {
             tries = tries.saturating_add(1);
         }
-        thread::sleep(rt, Duration::from_millis(REST));
+        thread::sleep(rt, Duration::from_millis(rest));
+        rest = rest.saturating_mul(2).min(MOST_REST);
     }
     unreachable!()
 }

@@ -7,10 +7,15 @@ use std::alloc::Global;
 use std::net::IpAddr;
 use std::sync::atomic::{AtomicBool, Ordering};
 use std::sync::{Arc, Wait};
+use std::thread;
 use std::time::{Clock, Duration, Instant, SystemTime, UNIX_EPOCH};
 
 // How many batches wait to be written at most.
 const MOST_BATCHES: usize = 64;
+
+// How often a server thread that ends tries to hand on its lines, and the milliseconds between two tries.
+const MOST_TRIES: u32 = 20;
+const REST: u64 = 50;
 
 // For how many milliseconds a server thread keeps a line to itself at most.
 const MOST_KEPT: u64 = 250;
@@ -156,6 +161,17 @@ impl ThreadLog {
         if let Err(batch) = self.queue.batches.push(rt, batch) {
             self.batch = batch;
             self.wait_again(rt);
+        }
+    }
+
+    /// Hands on its lines for good, where the thread ends. It waits for room, a second at most.
+    pub fn end<R: Wait + Clock>(&mut self, rt: &R, alloc: Global) {
+        for _try in 0..MOST_TRIES {
+            self.hand_on(rt, alloc);
+            if self.batch.is_empty() {
+                return;
+            }
+            thread::sleep(rt, Duration::from_millis(REST));
         }
     }
 

@@ -240,7 +240,7 @@ impl<'a, 't, A: Answers<'a> + Drop> Server<'a, 't, A> {
     // Hands on what is left of the log.
     fn end_log<R: Wait + Clock>(&mut self, rt: &R) {
         if let Some(log) = &mut self.log {
-            log.hand_on(rt, self.alloc);
+            log.end(rt, self.alloc);
         }
     }
 
