@@ -1,6 +1,6 @@
 //! Bytes that a client sent, as the log writes them.
 
-ghost use Rattle.std.specs.Prelude.{◌≡◌, ◌++◌, OnOk};
+ghost use Rattle.std.specs.Prelude.{◌≡◌, ◌++◌, ◌<◌, OnOk};
 ghost use Rattle.std.specs.List.{list_all};
 ghost use Rattle.gopher_log.specs.Escaped.{is_plain, hex_digit, escaped_byte, escaped};
 
