@@ -29,6 +29,6 @@ abbrev pub fraction_bytes : ℕ → List ℕ
 fraction_bytes micro = pair (micro / 10_000) ++ pair (micro / 100) ++ pair micro
 
 -- 2001-02-03T04:05:06.000789Z
-abbrev pub moment_bytes : Moment → List ℕ
+unfoldable pub moment_bytes : Moment → List ℕ
 moment_bytes moment =
     day_bytes moment.date ++ codes "T" ++ clock_bytes moment.second ++ codes "." ++ fraction_bytes moment.micro ++ codes "Z"
