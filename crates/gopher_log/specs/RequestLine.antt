@@ -1,5 +1,5 @@
 -- The line of a request: six fields, which stand between TABs.
-use Rattle.std.specs.Prelude.{ℕ, List, [], ◌∷◌, ◌++◌, codes, drop}
+use Rattle.std.specs.Prelude.{ℕ, List, ◌++◌, codes, drop}
 use Rattle.std.specs.Fmt.{decimal}
 use Rattle.gopher_item.specs.Menu.{fields_of, first_field}
 use Rattle.gopher_log.specs.declared.moment.Moment.{Moment}

@@ -105,7 +105,8 @@ impl Batch {
         let mut digits = Buffer::new();
         self.line.clear();
         self.line.extend_from_slice(b"# dropped ")?;
-        self.line.extend_from_slice(digits.format(self.dropped).as_bytes())?;
+        self.line
+            .extend_from_slice(digits.format(self.dropped).as_bytes())?;
         self.line.push(b'\n')?;
         self.written.extend_from_slice(&self.line)?;
         self.dropped = 0;

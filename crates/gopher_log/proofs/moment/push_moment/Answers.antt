@@ -4,7 +4,7 @@ use Rattle.gopher_log.proofs.Appends.{and_then}
 use Rattle.gopher_log.proofs.moment.push_moment.Goals as goal
 
 pub returns : goal.returns
-  unfolding moment_bytes
+unfolding moment_bytes
 returns c =
     let fraction = fraction_bytes c.args.moment.micro in
     let clock = clock_bytes c.args.moment.second in
