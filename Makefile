@@ -21,6 +21,7 @@ test:
 	tests/replays.py
 	tests/requests.py --lines 500
 	tests/check.py
+	tests/log.py
 	tests/attack.py
 	bench/refusals.sh
 

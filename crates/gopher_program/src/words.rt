@@ -29,6 +29,25 @@ pub struct Serving<'a> {
     pub settings: &'a str,
     /// After how many connections the server ends; never without a number.
     pub requests: Option<u64>,
+    /// The path of the log, if requests are logged.
+    pub log: Option<&'a str>,
+    /// Whether the crawl's sizes are told as it goes on.
+    pub progress: bool,
+}
+
+fn log_word<'a>(alloc: Global) -> Arg<'a> {
+    Arg::new(alloc, "log")
+        .long("log")
+        .value_name("FILE")
+        .action(ArgAction::Set)
+        .help("Append a line for each request to this file")
+}
+
+fn progress_word<'a>(alloc: Global) -> Arg<'a> {
+    Arg::new(alloc, "progress")
+        .long("progress")
+        .action(ArgAction::SetTrue)
+        .help("Tell the crawl's sizes on standard error every ten seconds")
 }
 
 fn settings_word<'a>(alloc: Global) -> Arg<'a> {
@@ -54,7 +73,9 @@ fn serve_words<'a>(alloc: Global) -> Result<Command<'a>, AllocError> {
     Command::new(alloc, "serve")
         .about("Serve a folder, crawl the allowed hosts and answer searches")
         .arg(settings_word(alloc))?
-        .arg(requests)
+        .arg(requests)?
+        .arg(log_word(alloc))?
+        .arg(progress_word(alloc))
 }
 
 fn program_words<'a>(alloc: Global) -> Result<Command<'a>, AllocError> {
@@ -105,5 +126,7 @@ pub fn read_words<'a>(alloc: Global, words: &'a [String]) -> Result<Asked<'a>, N
     Ok(Asked::Serve(Serving {
         settings,
         requests: serve.get_one::<u64>("requests"),
+        log: serve.get_str("log"),
+        progress: serve.get_flag("progress"),
     }))
 }
