@@ -66,12 +66,23 @@ pub fn query(alloc: Global, text: &[u8]) -> Checked<Query> {
     query.map_err(|_again| "a query is refused twice")
 }
 
+// Whether the page of a text has this title.
+fn has_title(
+    alloc: Global,
+    scope: &Scope,
+    selector: &[u8],
+    reply: &[u8],
+    title: &[u8],
+) -> Checked<bool> {
+    let page = page(alloc, scope, b'0', selector, reply)?;
+    Ok(page.title() == title)
+}
+
 /// Titles of texts.
 pub fn check_titles(alloc: Global) -> Checked<()> {
     let scope = scope(alloc).or_else(|| scope(alloc)).ok_or("no scope")?;
     for (selector, reply, title) in TITLED {
-        let page = page(alloc, &scope, b'0', *selector, *reply)?;
-        if page.title() != *title {
+        if !has_title(alloc, &scope, *selector, *reply, *title)? {
             return Err("a page has another title");
         }
     }
