@@ -31,6 +31,10 @@ CLAUSE = re.compile(r"(?m)^ *(?:ensures|requires|ghost)\b.*$")
 NAMES_ALONE = re.compile(r"is not in scope|has no field|has no `|is no name|was not admitted|were not checked|: module `|\(nearest: ")
 
 
+# parts of reasons that show no goal without a proof
+NO_GOAL = re.compile(r"^it calls |the borrow checker does not cover|the borrow checker's part in its proof is not made|expected a measure")
+
+
 class BadEdit(Exception):
     """Why an edit shows nothing."""
 
@@ -138,8 +142,7 @@ def lacking(crate, said):
         return None
     lacks = {}
     for function, reason in re.findall(rf"(?m)^fn {crate}::(\S+): no proof: (.*)$", said):
-        own = [part for part in reason.split("; ") if not part.startswith("it calls ")]
-        lacks[function] = "" if "the borrow checker does not cover" in reason else "; ".join(own)
+        lacks[function] = "; ".join(part for part in reason.split("; ") if not NO_GOAL.search(part))
     for function in re.findall(rf"(?m)^fn {crate}::(\S+): not proved", said):
         folder = re.escape(function.replace("::", "/"))
         errors = re.findall(rf"(?m)^\./proofs/{folder}/\w+\.antt:\d+:\d+: error: (.*)$", said)
