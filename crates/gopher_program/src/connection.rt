@@ -97,7 +97,13 @@ impl<'a> Connection<'a> {
             return;
         };
         if let Some(asked) = self.conversation.asked_line() {
-            log.add(rt, alloc, accepted, asked, self.conversation.sent_len() as u64);
+            log.add(
+                rt,
+                alloc,
+                accepted,
+                asked,
+                self.conversation.sent_len() as u64,
+            );
         }
     }
 
