@@ -24,4 +24,5 @@ mod words;
 
 pub use fault::{Detail, ProgramFault};
 pub use fetching::TcpFetch;
+pub use log_writer::OpenLog;
 pub use program::run;
