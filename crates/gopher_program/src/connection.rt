@@ -42,6 +42,19 @@ pub struct Connection<'a> {
     stirred: u64,
 }
 
+// Has the request of a conversation logged, if a line was asked.
+fn log_request<R: Wait + Clock>(
+    rt: &R,
+    alloc: Global,
+    log: &mut ThreadLog,
+    accepted: Accepted,
+    conversation: &Conversation<'_>,
+) {
+    if let Some(asked) = conversation.asked_line() {
+        log.add(rt, alloc, accepted, asked, conversation.sent_len() as u64);
+    }
+}
+
 impl<'a> Connection<'a> {
     /// A connection of which nothing was read yet, and how it was accepted, if its request is logged.
     pub fn new(alloc: Global, stream: TcpStream, accepted: Option<Accepted>) -> Connection<'a> {
@@ -93,11 +106,8 @@ impl<'a> Connection<'a> {
 
     /// Has its request logged, unless that was done, or no line was asked.
     pub fn log_to<R: Wait + Clock>(&mut self, rt: &R, alloc: Global, log: &mut ThreadLog) {
-        let Some(accepted) = self.accepted.take() else {
-            return;
-        };
-        if let Some(asked) = self.conversation.asked_line() {
-            log.add(rt, alloc, accepted, asked, self.conversation.sent_len() as u64);
+        if let Some(accepted) = self.accepted.take() {
+            log_request(rt, alloc, log, accepted, &self.conversation);
         }
     }
 

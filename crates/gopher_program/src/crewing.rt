@@ -7,7 +7,7 @@ use crate::announcing::{tell_listening, tell_status};
 use crate::fault::ProgramFault;
 use crate::fetching::TcpFetch;
 use crate::listening::listen;
-use crate::log_writer::{end_log, queue_of, start_log};
+use crate::log_writer::{OpenLog, end_log, queue_of, start_log};
 use crate::opening::{Opened, open, read_settings};
 use crate::progress::crawl_and_tell;
 use crate::starting::{Shop, join_all, start_threads};
@@ -135,6 +135,7 @@ fn open_shop<R: Net, W: Write>(
 pub fn serve<
     C: Crew + Send + Sync + 'static,
     R: Files<File = File>
+        + OpenLog
         + Net<Listener = TcpListener, Stream = TcpStream>
         + Threads
         + Wait

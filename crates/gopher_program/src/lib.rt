@@ -25,4 +25,5 @@ mod words;
 
 pub use fault::{Detail, ProgramFault};
 pub use fetching::TcpFetch;
+pub use log_writer::OpenLog;
 pub use program::run;

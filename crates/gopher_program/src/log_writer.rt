@@ -4,7 +4,7 @@ use crate::logging::LogQueue;
 use gopher_item::NoMemory;
 use gopher_log::Batch;
 use std::alloc::Global;
-use std::fs::{File, Files, OpenOptions};
+use std::fs::{File, OpenOptions};
 use std::io::{self, Eprint, ErrorKind, Write};
 use std::os::fd::AsRawFd;
 use std::sync::{Arc, Wait};
@@ -47,14 +47,22 @@ struct LogWriter {
     is_told: bool,
 }
 
-// Opens a log. A file is appended to, and made where there is none; a pipe is opened for reading too, so
-// that it can be opened, and written, while nobody reads it. No call of it waits for a reader.
-fn open_log<R: Files<File = File>>(rt: &R, path: &str) -> io::Result<File> {
-    let mut how = OpenOptions::new();
-    how.read(true).append(true).create(true);
-    let file = how.open(rt, path)?;
-    let _refused = os::set_nonblocking(file.as_raw_fd(), true);
-    Ok(file)
+/// A runtime that opens logs. It is a trait of its own since what is known of a type parameter's `Files`
+/// isn't known in another thread.
+pub trait OpenLog {
+    /// Opens a log. A file is appended to, and made where there is none; a pipe is opened for reading too,
+    /// so that it can be opened, and written, while nobody reads it. No call of it waits for a reader.
+    fn open_log(&self, path: &str) -> io::Result<File>;
+}
+
+impl OpenLog for HostRuntime {
+    fn open_log(&self, path: &str) -> io::Result<File> {
+        let mut how = OpenOptions::new();
+        how.read(true).append(true).create(true);
+        let file = how.open(self, path)?;
+        let _refused = os::set_nonblocking(file.as_raw_fd(), true);
+        Ok(file)
+    }
 }
 
 impl LogWriter {
@@ -68,11 +76,11 @@ impl LogWriter {
     }
 
     // Opens the file, if it isn't open.
-    fn open<R: Files<File = File> + Eprint>(&mut self, rt: &R) {
+    fn open<R: OpenLog + Eprint>(&mut self, rt: &R) {
         if self.file.is_some() {
             return;
         }
-        match open_log(rt, self.path.as_str()) {
+        match rt.open_log(self.path.as_str()) {
             Ok(file) => self.file = Some(file),
             Err(error) => self.tell(rt, error),
         }
@@ -123,7 +131,7 @@ impl LogWriter {
     }
 
     // Takes a step: one write at most.
-    fn step<R: Files<File = File> + Wait + Eprint>(&mut self, rt: &R, queue: &LogQueue) -> Step {
+    fn step<R: OpenLog + Wait + Eprint>(&mut self, rt: &R, queue: &LogQueue) -> Step {
         self.open(rt);
         if !self.take_next(rt, queue) {
             return Step::Empty;
@@ -137,11 +145,7 @@ impl LogWriter {
 
 // Writes the batches of a queue until no more come. What a file refuses is tried again; what it refuses
 // after the last batch came is given up after some tries.
-fn write_log<R: Files<File = File> + Wait + Clock + Eprint>(
-    rt: &R,
-    writer: LogWriter,
-    queue: &LogQueue,
-) {
+fn write_log<R: OpenLog + Wait + Clock + Eprint>(rt: &R, writer: LogWriter, queue: &LogQueue) {
     let mut writer = writer;
     let mut tries = 0u32;
     let mut rest = 1u64;
@@ -166,9 +170,11 @@ fn write_log<R: Files<File = File> + Wait + Clock + Eprint>(
 }
 
 // Starts the thread. None where the system refuses it.
-fn spawn_writer<
-    R: Files<File = File> + Threads + Wait + Clock + Eprint + Clone + Send + Drop + 'static,
->(rt: &R, alloc: Global, path: &str) -> Result<Option<Log>, NoMemory> {
+fn spawn_writer<R: OpenLog + Threads + Wait + Clock + Eprint + Clone + Send + Drop + 'static>(
+    rt: &R,
+    alloc: Global,
+    path: &str,
+) -> Result<Option<Log>, NoMemory> {
     let queue = Arc::new(alloc, LogQueue::new(alloc)?)?;
     let writer = LogWriter {
         path: String::from_str(alloc, path)?,
@@ -190,9 +196,11 @@ fn spawn_writer<
 
 /// Starts the thread that writes the log, if there is to be one. Where it can't be started, that is told
 /// on the error stream, and nothing is logged.
-pub fn start_log<
-    R: Files<File = File> + Threads + Wait + Clock + Eprint + Clone + Send + Drop + 'static,
->(rt: &R, alloc: Global, path: Option<&str>) -> Option<Log> {
+pub fn start_log<R: OpenLog + Threads + Wait + Clock + Eprint + Clone + Send + Drop + 'static>(
+    rt: &R,
+    alloc: Global,
+    path: Option<&str>,
+) -> Option<Log> {
     let path = path?;
     match spawn_writer(rt, alloc, path) {
         Ok(Some(log)) => Some(log),

@@ -15,6 +15,7 @@ const MOST_BATCHES: usize = 64;
 
 // How often a server thread that ends tries to hand on its lines, and the milliseconds between two tries.
 const MOST_TRIES: u32 = 20;
+
 const REST: u64 = 50;
 
 // For how many milliseconds a server thread keeps a line to itself at most.

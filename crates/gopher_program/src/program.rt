@@ -12,6 +12,7 @@ use crate::announcing::{send_text, write_fault};
 use crate::checking::check_site;
 use crate::crewing::serve;
 use crate::fault::ProgramFault;
+use crate::log_writer::OpenLog;
 use crate::words::{Asked, read_words};
 use gopher_crew::Blank;
 use gopher_hole::{ReplayFault, replay, send_all};
@@ -125,6 +126,7 @@ fn tell_end<E: Write>(error: &mut Watched<E>, end: Result<(), ProgramFault>) -> 
 /// A failure of `error` changes nothing.
 pub fn run<
     H: Files<File = File>
+        + OpenLog
         + Net<Listener = TcpListener, Stream = TcpStream>
         + Threads
         + Wait
