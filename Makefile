@@ -16,10 +16,12 @@ test:
 	rt ci
 	tools/test_wrong_bodies.py
 	tools/test_gophermap_to_menu.py
-	tools/wrong_bodies.py
+	tools/wrong_bodies.py --after-ci
 	bench/program.sh
 	tests/replays.py
 	tests/requests.py --lines 500
+	tests/check.py
+	tests/log.py
 	tests/attack.py
 	bench/refusals.sh
 

@@ -69,6 +69,7 @@ count refused
 count refused replay extra
 count refused serve
 count refused serve s.toml --requests 1000001
+count refused serve s.toml --log
 count shown --help
 count shown --version
 count shown serve --help

@@ -2,26 +2,26 @@
 # Refuses each allocation of refused_growths in turn, until a run meets none, and compares what it writes.
 set -euo pipefail
 cd "$(dirname "$0")/.."
-program=crates/refused_growths/out/refused_growths
-wanted=crates/refused_growths/stdout
+program=$PWD/crates/refused_growths/out/refused_growths
+IFS= read -r -d '' wanted < crates/refused_growths/stdout || true
 [ -x "$program" ] || (cd crates/refused_growths && rt run > /dev/null)
 folder=$(mktemp -d)
 trap 'rm -rf "$folder"' EXIT
 cc -O2 -shared -fPIC -o "$folder/refusals.so" bench/refusals.c
-failed=0
-for refused in $(seq 1 10000); do
+cd crates/refused_growths/data
+export COUNTED=$folder/counted
+refused=0 counted=1 failed=0
+while [ "$counted" -gt "$refused" ]; do
+  refused=$((refused + 1))
   code=0
-  echo 0 > "$folder/counted"
-  timeout 10 env REFUSED="$refused" COUNTED="$folder/counted" LD_PRELOAD="$folder/refusals.so" \
-    "$program" > "$folder/written" || code=$?
-  if [ "$code" != 0 ] || ! cmp -s "$folder/written" "$wanted"; then
+  echo 0 > "$COUNTED"
+  timeout 10 env REFUSED="$refused" LD_PRELOAD="$folder/refusals.so" "$program" > "$folder/written" || code=$?
+  IFS= read -r -d '' written < "$folder/written" || true
+  if [ "$code" != 0 ] || [ "$written" != "$wanted" ]; then
     failed=$((failed + 1))
-    echo "refusals: where allocation $refused is refused, it ends with $code and writes:"
-    cat "$folder/written"
+    printf 'refusals: where allocation %s is refused, it ends with %s and writes:\n%s' "$refused" "$code" "$written"
   fi
-  if [ "$(cat "$folder/counted")" -lt "$refused" ]; then
-    break
-  fi
+  read -r counted < "$COUNTED"
 done
 echo "refusals: $refused runs, $failed failed"
 [ "$failed" = 0 ]

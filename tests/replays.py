@@ -4,8 +4,8 @@
     tests/replays.py [--scripts N] [--seed S] [PROGRAM]
 
 The scripts: N that are drawn (500 without N, always the same without S); those of worked.py, with the answers that were
-worked out by hand; crawls in every order of their outcomes; and catalogues whose pages end around each size at which the
-segments of the index change. The last line is
+worked out by hand; the example's whole search, cut after each of its bytes; crawls in every order of their outcomes; and
+catalogues whose pages end around each size at which the segments of the index change. The last line is
 'replays: N passed, M failed'; a script on which the program differs is left in the folder that is named then.
 """
 import argparse
@@ -22,6 +22,7 @@ from worked import WORKED
 
 ROOT = pathlib.Path(__file__).resolve().parent.parent
 
+WHOLE_SEARCH = (ROOT / "examples" / "whole_search.script").read_bytes()
 HEAD = b"allow\th\t70\t\nseed\t1\th\t70\t\n"
 TWO_TEXTS = {b"": b"|0A\t/a\th\t70\n|0B\t/b\th\t70\n|.\n", b"/a": b"|moon\n|.\n", b"/b": b"|moon\n|.\n"}
 LINKS_BACK = {b"": b"|1A\t/a\th\t70\n|.\n", b"/a": b"|1Home\t\th\t70\n|0B\t/b\th\t70\n|.\n"}
@@ -66,6 +67,8 @@ def crawl_in_order(replies, failing, tries, question, order):
 def wanted_runs(scripts, seed):
     """Each script with how its output has to end."""
     yield from WORKED
+    for length in range(len(WHOLE_SEARCH)):
+        yield WHOLE_SEARCH[:length], b""
     for crawl in CRAWLS:
         *how, answer = crawl
         for order in range(128):

@@ -1,9 +1,10 @@
 #!/usr/bin/env python3
 """Tries the wrong bodies: edits that turn the meaning of a function, each of which the prover has to refuse.
 
-    tools/wrong_bodies.py [--reasons] [CRATE|CRATE/NAME ..]
+    tools/wrong_bodies.py [--reasons] [--after-ci] [CRATE|CRATE/NAME ..]
 
-tries those of these crates, or these, or all; with --reasons it prints for each what its function lacks.
+tries those of these crates, or these, or all; with --reasons it prints for each what its function lacks. The libraries
+that checks stand on are built, but with --after-ci: then they are those that `rt ci` has left, of the same sources.
 
 An edit is a file crates/CRATE/wrong-bodies/NAME.edit: a line 'function: PATH', the function whose meaning it turns, as a
 check names it below its crate; a line 'file: src/NAME.rt'; then pairs of lines 'old: TEXT' and 'new: TEXT'. An old text
@@ -28,6 +29,10 @@ MEMORY_OF_A_CHECK = 3 << 20  # KiB
 FUNCTION = re.compile(r"(?ms)^( *)(?:pub(?:\(\w+\))? )?(?:const )?fn (?=\w).*?^\1\}\n")
 CLAUSE = re.compile(r"(?m)^ *(?:ensures|requires|ghost)\b.*$")
 NAMES_ALONE = re.compile(r"is not in scope|has no field|has no `|is no name|was not admitted|were not checked|: module `|\(nearest: ")
+
+
+# parts of reasons that show no goal without a proof
+NO_GOAL = re.compile(r"^it calls |the borrow checker's part in its proof is not made|expected a measure")
 
 
 class BadEdit(Exception):
@@ -137,7 +142,7 @@ def lacking(crate, said):
         return None
     lacks = {}
     for function, reason in re.findall(rf"(?m)^fn {crate}::(\S+): no proof: (.*)$", said):
-        own = [part for part in reason.split("; ") if not part.startswith("it calls ")]
+        own = [part for part in reason.split("; ") if not NO_GOAL.search(part)]
         lacks[function] = "" if "the borrow checker does not cover" in reason else "; ".join(own)
     for function in re.findall(rf"(?m)^fn {crate}::(\S+): not proved", said):
         folder = re.escape(function.replace("::", "/"))
@@ -159,8 +164,19 @@ def try_group(edits, built):
     return {edit: (edit.function in lacks, lacks.get(edit.function, "NOT REFUSED")) for edit in edits}
 
 
+def mark_left():
+    """Marks the libraries that `rt ci` has left as built of these sources. It leaves them without a mark, since they hold
+    statements alone, and a check would build each anew."""
+    sys.path.insert(0, str(pathlib.Path(shutil.which("rt")).resolve().parent))
+    import rtlib
+
+    for library in rtlib.crates_below(str(ROOT)):
+        if os.path.isdir(library.rlib):
+            pathlib.Path(library.rlib).with_name("stamp").write_text(library.stamp())
+
+
 def build(crate):
-    """Builds a library that checks of other crates stand on."""
+    """Builds a library that checks of other crates stand on, unless it is there."""
     ran = run(["rt", "lib"], ROOT / "crates" / crate)
     if ran.returncode:
         raise RuntimeError(f"{crate} is not proved:\n{ran.stdout[-2000:]}")
@@ -207,7 +223,9 @@ def try_all(edits, below):
 
 def main(words):
     below = libraries_below()
-    edits, failed = read_edits([word for word in words if word != "--reasons"])
+    edits, failed = read_edits([word for word in words if not word.startswith("--")])
+    if "--after-ci" in words:
+        mark_left()
     tried = try_all(edits, below)
     refused = [f"{edit}: {why}" for edit, (is_refused, why) in tried.items() if is_refused]
     failed += [f"{edit}: {why}" for edit, (is_refused, why) in tried.items() if not is_refused]

@@ -4,10 +4,10 @@ use crate::worked::{
     DENY_RULE, FIRST_CRAWL, PLACE_LIMIT, REFUSED_PAGES, REFUSED_START, SHORT, TWO_TRIES, Worked,
 };
 use gopher_hole::{ReplayFault, replay};
-use gopher_program::run;
+use gopher_program::{OpenLog, run};
 use gopher_text::Watched;
 use std::alloc::{AllocError, Global};
-use std::fs::{self, Files};
+use std::fs::{self, File, Files};
 use std::net::{Net, TcpListener, TcpStream};
 use std::process::Abort;
 use std::sync::Wait;
@@ -16,11 +16,13 @@ use std::thread::Threads;
 use std::time::Clock;
 
 /// A system on which the program runs, in a test.
-pub trait Host: Files
+pub trait Host: Files<File = File>
+    + OpenLog
     + Net<Listener = TcpListener, Stream = TcpStream>
     + Threads
     + Wait
     + Clock
+    + Eprint
     + AllocGlobal
     + Clone
     + Send
@@ -30,11 +32,13 @@ pub trait Host: Files
     + 'static {}
 
 impl<
-    H: Files
+    H: Files<File = File>
+        + OpenLog
         + Net<Listener = TcpListener, Stream = TcpStream>
         + Threads
         + Wait
         + Clock
+        + Eprint
         + AllocGlobal
         + Clone
         + Send

@@ -13,6 +13,9 @@ use std::process::Abort;
 use std::sync::Wait;
 use std::test::Fail;
 
+// A line, of which a part may come.
+const LINE: &[u8] = b"/a.txt\r\n";
+
 // A whole conversation by `advance` alone, over streams of which no call that would wait is made again.
 fn converse<'a, A: Answers<'a>, R: Read, W: Write>(
     alloc: Global,
@@ -219,41 +222,53 @@ fn failures<C: Crew, R: Wait + Abort + AllocGlobal>(rt: &R, blank: Blank) -> Res
 // Whether a stream that fails, or would wait, at any place ends both as it should.
 fn fails_with_its_stream<'a, A: Answers<'a> + Drop>(alloc: Global, answers: A) -> bool {
     let mut answers = answers;
-    for room in 0..HELLO.len() {
-        if !fails_to_write(alloc, &mut answers, room) {
+    for room in 0..ROOT.len() {
+        if !fails_to_write(alloc, &mut answers, b"\r\n", ROOT, room) {
             return false;
         }
     }
-    fails_to_read(alloc, &mut answers) && would_wait(alloc, &mut answers)
+    for room in 0..HELLO.len() {
+        if !fails_to_write(alloc, &mut answers, b"/a.txt\n", HELLO, room) {
+            return false;
+        }
+    }
+    for given in 0..LINE.len() {
+        if !fails_to_read(alloc, &mut answers, &LINE[..given])
+            || !would_wait(alloc, &mut answers, &LINE[..given])
+        {
+            return false;
+        }
+    }
+    true
 }
 
-// Whether a reader that fails ends both with 10, and nothing is sent.
-fn fails_to_read<'a, A: Answers<'a>>(alloc: Global, answers: &mut A) -> bool {
-    let pieces = Pieces::new(b"/a", 9, Ending::Fails);
+// Whether a reader that fails after these bytes ends both with 10, and nothing is sent.
+fn fails_to_read<'a, A: Answers<'a>>(alloc: Global, answers: &mut A, given: &[u8]) -> bool {
+    let pieces = Pieces::new(given, 9, Ending::Fails);
     let fault = ServeFault::ReadFailed;
     converses(alloc, answers, pieces, 100, Err(Turn::Failed(fault)), b"")
         && serves(alloc, answers, pieces, 100, Err(fault), b"")
 }
 
-// Whether a reader that would wait lets a conversation wait, and fails for `serve_one`.
-fn would_wait<'a, A: Answers<'a>>(alloc: Global, answers: &mut A) -> bool {
-    let pieces = Pieces::new(b"/a", 9, Ending::Waits);
+// Whether a reader that would wait after these bytes lets a conversation wait, and fails for `serve_one`.
+fn would_wait<'a, A: Answers<'a>>(alloc: Global, answers: &mut A, given: &[u8]) -> bool {
+    let pieces = Pieces::new(given, 9, Ending::Waits);
+    let fault = ServeFault::ReadFailed;
     converses(alloc, answers, pieces, 100, Err(Turn::Waits), b"")
-        && serves(
-            alloc,
-            answers,
-            pieces,
-            100,
-            Err(ServeFault::ReadFailed),
-            b"",
-        )
+        && serves(alloc, answers, pieces, 100, Err(fault), b"")
 }
 
-// Whether a writer with too little room ends both with 13, after what it had room for.
-fn fails_to_write<'a, A: Answers<'a>>(alloc: Global, answers: &mut A, room: usize) -> bool {
-    let pieces = Pieces::new(b"/a.txt\n", 9, Ending::Ends);
+// Whether a writer with too little room for the reply ends both with 13, after what it had room for.
+fn fails_to_write<'a, A: Answers<'a>>(
+    alloc: Global,
+    answers: &mut A,
+    line: &[u8],
+    reply: &[u8],
+    room: usize,
+) -> bool {
+    let pieces = Pieces::new(line, 9, Ending::Ends);
     let fault = ServeFault::WriteFailed;
-    let sent = &HELLO[..room.min(HELLO.len())];
+    let sent = &reply[..room.min(reply.len())];
     converses(alloc, answers, pieces, room, Err(Turn::Failed(fault)), sent)
         && serves(alloc, answers, pieces, room, Err(fault), sent)
 }

@@ -69,9 +69,11 @@ fn a_mebibyte_is_fetched_and_not_a_byte_more(rt: HostRuntime) -> Result<(), Fail
 #[test]
 fn a_fetch_that_fails_says_why(rt: HostRuntime) -> Result<(), Fail> {
     let alloc = rt.alloc();
-    for ending in [Ending::Fails, Ending::Waits] {
-        let pieces = Pieces::new(b"1Mo", 2, ending);
-        assert!(rt; fails(alloc, pieces, 100, Why::Read, b"/moon\r\n")?);
+    for given in [b"".as_slice(), b"1", b"1M", b"1Mo"] {
+        for ending in [Ending::Fails, Ending::Waits] {
+            let pieces = Pieces::new(given, 2, ending);
+            assert!(rt; fails(alloc, pieces, 100, Why::Read, b"/moon\r\n")?);
+        }
     }
     let pieces = Pieces::new(b"1Mo", 2, Ending::Ends);
     for room in 0..7 {

@@ -2,9 +2,9 @@
 ghost use Rattle.std.specs.Prelude.{◌≡◌, []};
 
 use crate::sites::{
-    BAD_REQUEST, FOUND, HELLO, NO_WORDS, NOT_FOUND, ROOT, desk, finds_docs, replies,
+    BAD_REQUEST, FOUND, HELLO, NO_CATALOGUE, NO_WORDS, NOT_FOUND, ROOT, desk, finds_docs, replies,
 };
-use gopher_crew::{Blank, Crew, Pass};
+use gopher_crew::{Blank, Crew, Desk, Pass, Share};
 use gopher_serve::{Answers, Site, answer};
 use gopher_tree::Replies;
 use std::alloc::Global;
@@ -106,7 +106,15 @@ fn hits<C: Crew, R: Wait + Abort + AllocGlobal>(rt: &R, blank: Blank) -> Result<
     assert!(rt; answers(alloc, &replies, &mut pass, b"/search\tdocs", FOUND)?);
     let mut pass = searches_a_site(alloc, Site::new(&replies, pass))?.into_pass();
     assert!(rt; answers(alloc, &replies, &mut pass, b"/search\tdocs", FOUND)?);
+    assert!(rt; closes(alloc, desk, share));
+    assert!(rt; answers(alloc, &replies, &mut pass, b"/search\tdocs", NO_CATALOGUE)?);
     Ok(())
+}
+
+// Whether the desk is closed with its one share.
+fn closes<C: Crew, R: Wait>(alloc: Global, desk: Desk<C, &R>, share: Share<C>) -> bool {
+    let mut shares = Vec::new(alloc);
+    shares.push(share).is_ok() && desk.close(shares).is_ok()
 }
 
 // The site, once it answered searches.

@@ -26,6 +26,8 @@ pub const NO_WORDS: &[u8] = b"3No words\t\tlocalhost\t7070\r\n.\r\n";
 
 pub const BAD_REQUEST: &[u8] = b"3Bad request\t\tlocalhost\t7070\r\n.\r\n";
 
+pub const NO_CATALOGUE: &[u8] = b"3No catalogue\t\tlocalhost\t7070\r\n.\r\n";
+
 /// The reply to a search of `docs`, once the pass has seen the page.
 pub const FOUND: &[u8] = b"1Docs\t\tlocalhost\t70\r\n.\r\n";
 

@@ -1,5 +1,4 @@
 pub mod Places
-pub mod Ranges
 pub mod Steps
 pub mod Sizes
 pub mod Lists
@@ -16,7 +15,6 @@ pub mod Reach
 pub mod FinishedCrawls
 pub mod StateSizes
 pub mod OneState
-pub mod KnownLemmas
 pub mod StandingLemmas
 pub mod IndexedLemmas
 pub mod IndexedCalls

@@ -1,11 +1,12 @@
 -- What the catalogue keeps beside its record says what the record says.
 use Rattle.std.specs.Prelude.{◌≡◌, ℕ, ◌+◌, ◌*◌, ◌^◌, ◌<◌, ◌≤◌, List, length, map}
 use Rattle.std.specs.List.{range_with_len}
-use Rattle.gopher_catalogue.specs.declared.known.Standing.{Standing}
+use Rattle.gopher_frontier.specs.declared.known.Standing.{Standing}
 use Rattle.gopher_catalogue.specs.Event.{OpeningData, EventData}
 use Rattle.gopher_catalogue.specs.Frontier.{known, dropped, waiting, out, done, claims, is_out}
 use Rattle.gopher_catalogue.specs.Legal.{IsLegal}
-use Rattle.gopher_catalogue.specs.Tables.{FrontierData, RecordData, opening_in, later_in}
+use Rattle.gopher_frontier.specs.Tables.{FrontierData}
+use Rattle.gopher_catalogue.specs.History.{RecordData, opening_in, later_in}
 
 -- how a number stands after these events
 abbrev pub standing_of : List EventData → ℕ → Standing

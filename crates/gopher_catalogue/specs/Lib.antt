@@ -6,7 +6,7 @@ pub mod Frontier
 pub mod Legal
 pub mod Step
 pub mod Turn
-pub mod Tables
+pub mod History
 pub mod Indexed
 pub mod Laws
 pub mod Pages

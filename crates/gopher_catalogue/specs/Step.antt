@@ -9,11 +9,11 @@ use Rattle.gopher_catalogue.specs.declared.fault.OpenFault.{OpenFault}
 use Rattle.gopher_catalogue.specs.declared.fault.OpenFault.TheVariants.{SeedOutOfScope, BadPlaces, BadTries}
 use Rattle.gopher_catalogue.specs.declared.fault.FoundFault.{FoundFault}
 use Rattle.gopher_catalogue.specs.declared.fault.FoundFault.TheVariants.{NotOut, WrongPlace}
-use Rattle.gopher_catalogue.specs.declared.answer.Added.{Added}
-use Rattle.gopher_catalogue.specs.declared.answer.Status.{Status}
 use Rattle.gopher_catalogue.specs.Opening.{opening_of}
 use Rattle.gopher_catalogue.specs.Event.{OpeningData, EventData, Opened, Claimed, Found}
 use Rattle.gopher_catalogue.specs.Frontier.{known, dropped, waiting, out, done, is_out}
+pub use Rattle.gopher_frontier.specs.declared.sizes.Added.{Added}
+pub use Rattle.gopher_frontier.specs.declared.sizes.Status.{Status}
 
 -- ---- open
 

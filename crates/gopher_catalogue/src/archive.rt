@@ -5,7 +5,7 @@ ghost use Rattle.std.specs.Arc.{arc_value};
 ghost use Rattle.gopher_catalogue.specs.Event.{Opened, Found};
 ghost use Rattle.gopher_catalogue.specs.EventOf.{event_data};
 ghost use Rattle.gopher_catalogue.specs.Pages.{page_of_event, pages_indexed, with_page_of};
-ghost use Rattle.gopher_catalogue.specs.Tables.{Grown, IsOpened, opening_in};
+ghost use Rattle.gopher_catalogue.specs.History.{Grown, IsOpened, opening_in};
 
 use crate::event::Event;
 use crate::history::History;
@@ -29,7 +29,7 @@ pub(crate) struct Archive {
 
 impl Model for Archive {
     ghost use Rattle.std.specs.Prelude.{◌≡◌};
-    ghost use Rattle.gopher_catalogue.specs.Tables.{RecordData};
+    ghost use Rattle.gopher_catalogue.specs.History.{RecordData};
 
     ghost Value = { RecordData };
 

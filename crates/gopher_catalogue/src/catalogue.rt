@@ -13,12 +13,12 @@ ghost use Rattle.gopher_catalogue.specs.FinalAnswer.{AreFinalHits, AreFinalOccur
 ghost use Rattle.gopher_catalogue.specs.Pages.{pages_found, AreHitsIn, AreOccurrencesIn};
 ghost use Rattle.gopher_catalogue.specs.Turn.{turn_data, IsTake};
 
-use crate::answer::{Added, Claim, Status, Turn};
+use crate::answer::{Claim, Turn};
 use crate::archive::Archive;
 use crate::event::{Event, Why};
 use crate::fault::{FailRefused, FoundFault, FoundRefused, OpenFault, OpenRefused};
-use crate::frontier::Frontier;
 use crate::opening::Opening;
+use gopher_frontier::{Added, Frontier, Status};
 use gopher_index::{Hit, Index};
 use gopher_item::{NoMemory, Place};
 use gopher_page::{Page, Query};

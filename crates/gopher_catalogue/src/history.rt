@@ -3,7 +3,7 @@
 ghost use Rattle.std.specs.Prelude.{◌≡◌, ◌+◌, ◌<◌, ◌≤◌, [], ◌∷◌, ◌++◌, length, map, IfOk, OnOk};
 ghost use Rattle.std.specs.Arc.{arc_value};
 ghost use Rattle.gopher_catalogue.specs.EventOf.{event_data};
-ghost use Rattle.gopher_catalogue.specs.Tables.{RecordData, opening_in, IsOpened};
+ghost use Rattle.gopher_catalogue.specs.History.{RecordData, opening_in, IsOpened};
 
 use crate::event::Event;
 use crate::opening::Opening;
@@ -21,7 +21,7 @@ pub(crate) struct History {
 impl Model for History {
     ghost use Rattle.std.specs.Prelude.{◌-◌, map, vec_len, vec_capacity};
     ghost use Rattle.gopher_catalogue.specs.EventOf.{event_data};
-    ghost use Rattle.gopher_catalogue.specs.Tables.{RecordData};
+    ghost use Rattle.gopher_catalogue.specs.History.{RecordData};
 
     ghost Value = { RecordData };
 

@@ -4,13 +4,11 @@ use Rattle.gopher_page.specs.Page.{PageData}
 use Rattle.gopher_catalogue.specs.declared.event.EventData.{EventData}
 use Rattle.gopher_catalogue.specs.declared.event.EventData.TheVariants.{Opened, Found, Failed}
 use Rattle.gopher_catalogue.specs.declared.event.Why.{Why}
-use Rattle.gopher_catalogue.specs.declared.answer.Added.{Added}
-use Rattle.gopher_catalogue.specs.declared.answer.Status.{Status}
 use Rattle.gopher_catalogue.specs.declared.fault.FoundFault.{FoundFault}
 use Rattle.gopher_catalogue.specs.Opening.{OpeningData}
 use Rattle.gopher_catalogue.specs.Fault.{IsFoundFault}
 use Rattle.gopher_catalogue.specs.Legal.{IsLegal}
-use Rattle.gopher_catalogue.specs.Step.{TurnData, Take, turn_of, after_turn, added_by, found_fault, status_of}
+use Rattle.gopher_catalogue.specs.Step.{Added, Status, TurnData, Take, turn_of, after_turn, added_by, found_fault, status_of}
 use Rattle.gopher_crew.specs.Crew.{KeptData, ShareData}
 
 -- the note is there exactly where the published record is the whole record, and it is of that record

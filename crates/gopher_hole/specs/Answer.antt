@@ -5,8 +5,7 @@ use Rattle.std.specs.Fmt.{decimal}
 use Rattle.gopher_item.specs.Fault.{item_fault_code}
 use Rattle.gopher_item.specs.Place.{PlaceData}
 use Rattle.gopher_item.specs.declared.fault.ItemFault.{ItemFault}
-use Rattle.gopher_catalogue.specs.declared.answer.Added.{Added}
-use Rattle.gopher_catalogue.specs.declared.answer.Status.{Status}
+use Rattle.gopher_catalogue.specs.Step.{Added, Status}
 use Rattle.gopher_index.specs.declared.hit.Hit.{Hit}
 
 abbrev pub ok_line : List ℕ

@@ -1,11 +1,13 @@
 //! One connection with a client.
 
+use crate::logging::{Accepted, ThreadLog};
 use gopher_serve::{Answers, Conversation, Turn, advance};
 use gopher_text::Watched;
 use mio::net::TcpStream;
 use std::alloc::Global;
 use std::io::{ErrorKind, Read};
 use std::net::Shutdown;
+use std::sync::Wait;
 use std::time::{Clock, Duration, Instant};
 
 // A connection whose reply has more bytes is read on after it.
@@ -35,16 +37,31 @@ pub enum Stand {
 pub struct Connection<'a> {
     stream: TcpStream,
     conversation: Conversation<'a>,
+    accepted: Option<Accepted>,
     until: Option<Instant>,
     stirred: u64,
 }
 
+// Has the request of a conversation logged, if a line was asked.
+fn log_request<R: Wait + Clock>(
+    rt: &R,
+    alloc: Global,
+    log: &mut ThreadLog,
+    accepted: Accepted,
+    conversation: &Conversation<'_>,
+) {
+    if let Some(asked) = conversation.asked_line() {
+        log.add(rt, alloc, accepted, asked, conversation.sent_len() as u64);
+    }
+}
+
 impl<'a> Connection<'a> {
-    /// A connection of which nothing was read yet.
-    pub fn new(alloc: Global, stream: TcpStream) -> Connection<'a> {
+    /// A connection of which nothing was read yet, and how it was accepted, if its request is logged.
+    pub fn new(alloc: Global, stream: TcpStream, accepted: Option<Accepted>) -> Connection<'a> {
         Connection {
             stream,
             conversation: Conversation::new(alloc),
+            accepted,
             until: None,
             stirred: 0,
         }
@@ -84,6 +101,13 @@ impl<'a> Connection<'a> {
                 Stand::Lingers => self.linger(clock),
                 stand => stand,
             },
+        }
+    }
+
+    /// Has its request logged, unless that was done, or no line was asked.
+    pub fn log_to<R: Wait + Clock>(&mut self, rt: &R, alloc: Global, log: &mut ThreadLog) {
+        if let Some(accepted) = self.accepted.take() {
+            log_request(rt, alloc, log, accepted, &self.conversation);
         }
     }
 

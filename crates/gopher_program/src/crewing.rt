@@ -7,7 +7,9 @@ use crate::announcing::{tell_listening, tell_status};
 use crate::fault::ProgramFault;
 use crate::fetching::TcpFetch;
 use crate::listening::listen;
+use crate::log_writer::{OpenLog, end_log, queue_of, start_log};
 use crate::opening::{Opened, open, read_settings};
+use crate::progress::crawl_and_tell;
 use crate::starting::{Shop, join_all, start_threads};
 use crate::words::Serving;
 use gopher_catalogue::Status;
@@ -15,8 +17,8 @@ use gopher_crew::{Blank, Crew, Desk, Pass, Share, WorkEnd, crawl};
 use gopher_text::Watched;
 use gopher_tree::Replies;
 use std::alloc::Global;
-use std::fs::Files;
-use std::io::Write;
+use std::fs::{File, Files};
+use std::io::{Eprint, Write};
 use std::net::{Net, TcpListener, TcpStream};
 use std::sync::Wait;
 use std::thread::Threads;
@@ -60,6 +62,7 @@ fn serve_and_crawl<
         + Threads
         + Wait
         + Clock
+        + Eprint
         + Clone
         + Send
         + Sync
@@ -72,13 +75,18 @@ fn serve_and_crawl<
     desk: &Desk<C, &R>,
     passes: Vec<Pass<C>>,
     pairs: Vec<(TcpFetch, Share<C>)>,
+    progress: bool,
 ) -> Result<Vec<WorkEnd<TcpFetch, C>>, ProgramFault> {
     let started = start_threads(rt, alloc, &shop, passes);
     drop(shop);
     if started.threads.is_empty() {
         return Err(ProgramFault::NoThread);
     }
-    let crawled = crawl(rt, alloc, desk, pairs);
+    let crawled = if progress {
+        crawl_and_tell(rt, alloc, desk, pairs)
+    } else {
+        crawl(rt, alloc, desk, pairs)
+    };
     let accept_failed = join_all(rt, started.threads);
     if let Some(fault) = fault_at_end(accept_failed, started.is_short, crawled.is_ok()) {
         return Err(fault);
@@ -126,11 +134,13 @@ fn open_shop<R: Net, W: Write>(
 /// Serves and crawls as the settings say, and tells where it listens and how the crawl ended.
 pub fn serve<
     C: Crew + Send + Sync + 'static,
-    R: Files
+    R: Files<File = File>
+        + OpenLog
         + Net<Listener = TcpListener, Stream = TcpStream>
         + Threads
         + Wait
         + Clock
+        + Eprint
         + AllocGlobal
         + Clone
         + Send
@@ -153,8 +163,11 @@ pub fn serve<
         shares,
     } = open::<C, R>(rt, alloc, settings, blank)?;
     let pairs = pairs_of(alloc, shares)?;
-    let shop = open_shop(rt, alloc, replies, serving.requests, output)?;
-    let ends = serve_and_crawl(rt, alloc, shop, &desk, passes, pairs)?;
-    let status = close(alloc, desk, ends)?;
+    let mut shop = open_shop(rt, alloc, replies, serving.requests, output)?;
+    let log = start_log(rt, alloc, serving.log);
+    shop.log = queue_of(&log);
+    let ended = serve_and_crawl(rt, alloc, shop, &desk, passes, pairs, serving.progress);
+    end_log(rt, log);
+    let status = close(alloc, desk, ended?)?;
     tell_status(alloc, status, output)
 }

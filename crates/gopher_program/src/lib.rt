@@ -6,13 +6,17 @@
 #![tactic(auto)]
 
 mod announcing;
+mod checking;
 mod connection;
 mod crewing;
 mod fault;
 mod fetching;
 mod listening;
+mod log_writer;
+mod logging;
 mod opening;
 mod program;
+mod progress;
 mod seats;
 mod serving;
 mod starting;
@@ -21,4 +25,5 @@ mod words;
 
 pub use fault::{Detail, ProgramFault};
 pub use fetching::TcpFetch;
+pub use log_writer::OpenLog;
 pub use program::run;

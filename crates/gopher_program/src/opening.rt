@@ -30,8 +30,13 @@ pub struct Opened<C: Crew, R: Wait + Drop> {
     pub shares: Vec<Share<C>>,
 }
 
-// The bytes of the file of the settings.
-fn settings_bytes<R: Files>(rt: &R, alloc: Global, path: &str) -> Result<Vec<u8>, ProgramFault> {
+/// The bytes of the file of the settings. Refused with 80 where it can't be read or has over 1,048,576
+/// bytes; 90.
+pub fn settings_bytes<R: Files>(
+    rt: &R,
+    alloc: Global,
+    path: &str,
+) -> Result<Vec<u8>, ProgramFault> {
     let Ok(file) = fs::open(rt, path) else {
         return Err(ProgramFault::SettingsUnreadable);
     };

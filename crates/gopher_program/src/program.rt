@@ -9,15 +9,17 @@ ghost use Rattle.gopher_program.specs.Fault.{fault_line};
 ghost use Rattle.gopher_program.specs.Program.{asks_replay, status_of, said_of, Says, SaysFault};
 
 use crate::announcing::{send_text, write_fault};
+use crate::checking::check_site;
 use crate::crewing::serve;
 use crate::fault::ProgramFault;
+use crate::log_writer::OpenLog;
 use crate::words::{Asked, read_words};
 use gopher_crew::Blank;
 use gopher_hole::{ReplayFault, replay, send_all};
 use gopher_text::Watched;
 use std::alloc::Global;
-use std::fs::Files;
-use std::io::{Read, Write};
+use std::fs::{File, Files};
+use std::io::{Eprint, Read, Write};
 use std::marker::Brand;
 use std::net::{Net, TcpListener, TcpStream};
 use std::sync::Wait;
@@ -111,18 +113,25 @@ fn tell_end<E: Write>(error: &mut Watched<E>, end: Result<(), ProgramFault>) -> 
 /// - `serve SETTINGS`, with `--requests N` if it is to end, serves the folder of the settings, crawls,
 ///   and answers searches. `output` gets the line `listening HOST PORT` once the server listens, and
 ///   the sizes of the crawl at the end: status 0. Where that fails, `error` gets the line of the fault,
-///   as `hole: 33 port`, and the status is 1.
+///   as `hole: 33 port`, and the status is 1. With `--log FILE` a line for each request is appended to
+///   the file; with `--progress` the sizes of the crawl are told as it goes on. What is told while it
+///   serves, as that the log can't be written, goes to the error stream of `rt`, not to `error`.
+/// - `check SETTINGS` writes to `output` what is wrong with the settings or their folder, in words, and
+///   where, or what a sound site has: status 0. Where there is a fault, `error` gets the line that `serve`
+///   would write, and the status is 1.
 /// - `--help` and `--version` write their text to `output`: status 0.
 /// - Any other words read and write nothing, but for a text on `error` that says what is wrong with
 ///   them: status 2.
 ///
 /// A failure of `error` changes nothing.
 pub fn run<
-    H: Files
+    H: Files<File = File>
+        + OpenLog
         + Net<Listener = TcpListener, Stream = TcpStream>
         + Threads
         + Wait
         + Clock
+        + Eprint
         + AllocGlobal
         + Clone
         + Send
@@ -161,6 +170,10 @@ pub fn run<
         Ok(Asked::Replay) => run_replay(rt.alloc(), input, output, error),
         Ok(Asked::Serve(serving)) => {
             let end = serve::<Brand, H, W>(rt, &serving, Blank::new(), output);
+            tell_end(error, end)
+        }
+        Ok(Asked::Check(settings)) => {
+            let end = check_site(rt, rt.alloc(), settings, output);
             tell_end(error, end)
         }
         Ok(Asked::Shown(text)) => {

@@ -31,8 +31,11 @@ impl<'a> Seats<'a> {
         self.connections.is_empty()
     }
 
-    // The key of the connection that has been quiet for longest.
-    fn quietest(&self) -> Option<usize> {
+    /// The key of the connection that has been quiet for longest, where all seats are taken.
+    pub fn quietest(&self) -> Option<usize> {
+        if self.connections.len() < self.most {
+            return None;
+        }
         let quietest = self
             .connections
             .iter()
@@ -40,14 +43,8 @@ impl<'a> Seats<'a> {
         quietest.map(|(key, _connection)| key)
     }
 
-    /// Seats a connection, and gives its key. Where all seats are taken, the connection that has been
-    /// quiet for longest is dropped for it. None where memory is refused; then it is dropped itself.
+    /// Seats a connection, and gives its key. None where memory is refused; then it is dropped.
     pub fn seat(&mut self, connection: Connection<'a>) -> Option<usize> {
-        if self.connections.len() >= self.most {
-            if let Some(key) = self.quietest() {
-                self.remove(key);
-            }
-        }
         let key = self.connections.insert(connection).ok()?;
         self.stir(key);
         Some(key)

@@ -1,6 +1,7 @@
 //! A server thread.
 
 use crate::connection::{Connection, Stand};
+use crate::logging::{Accepted, ThreadLog};
 use crate::seats::Seats;
 use crate::turns::Turns;
 use gopher_serve::Answers;
@@ -8,9 +9,10 @@ use mio::net::TcpListener;
 use mio::{Events, Interest, Poll, Token};
 use std::alloc::Global;
 use std::io::ErrorKind;
+use std::net::SocketAddr;
 use std::os::fd::AsRawFd;
 use std::sync::{Arc, Wait};
-use std::time::Clock;
+use std::time::{Clock, Duration};
 
 // How many connections are accepted in one go.
 const MOST_ACCEPTS: u32 = 16;
@@ -35,6 +37,8 @@ pub struct Post {
     pub listener: Arc<TcpListener>,
     /// How many connections it may hold.
     pub seats: usize,
+    /// Its part of the log, if requests are logged.
+    pub log: Option<ThreadLog>,
 }
 
 impl Post {
@@ -60,6 +64,7 @@ struct Server<'a, 't, A: Answers<'a> + Drop> {
     seats: Seats<'a>,
     answers: A,
     turns: &'t Turns,
+    log: Option<ThreadLog>,
     accept_failed: bool,
 }
 
@@ -85,14 +90,15 @@ impl<'a, 't, A: Answers<'a> + Drop> Server<'a, 't, A> {
     }
 
     // Accepts the connections that wait.
-    fn accept(&mut self, clock: &impl Clock) {
+    fn accept<R: Wait + Clock>(&mut self, rt: &R) {
         for _accepted in 0..MOST_ACCEPTS {
             let Some(listener) = &self.listener else {
                 return;
             };
             match listener.accept() {
-                Ok((stream, _address)) => {
-                    self.welcome(clock, Connection::new(self.alloc, stream));
+                Ok((stream, address)) => {
+                    let accepted = self.accepted(rt, address);
+                    self.welcome(rt, Connection::new(self.alloc, stream, accepted));
                     self.take_turn();
                 }
                 Err(error) => match error.kind() {
@@ -107,12 +113,26 @@ impl<'a, 't, A: Answers<'a> + Drop> Server<'a, 't, A> {
         }
     }
 
+    // How a connection is accepted, if its request is logged.
+    fn accepted(&self, clock: &impl Clock, address: SocketAddr) -> Option<Accepted> {
+        match &self.log {
+            Some(_log) => Accepted::now(clock, address.ip()),
+            None => None,
+        }
+    }
+
     // Goes on with a new connection at once, and seats it where it has to wait.
-    fn welcome(&mut self, clock: &impl Clock, connection: Connection<'a>) {
+    fn welcome<R: Wait + Clock>(&mut self, rt: &R, connection: Connection<'a>) {
         let mut connection = connection;
-        let stand = connection.go_on(clock, self.alloc, &mut self.answers, &mut self.buffer);
+        let stand = connection.go_on(rt, self.alloc, &mut self.answers, &mut self.buffer);
+        if stand != Stand::Waits {
+            self.log_request(rt, &mut connection);
+        }
         if stand == Stand::Ends {
             return;
+        }
+        if let Some(quietest) = self.seats.quietest() {
+            self.drop_at(rt, quietest);
         }
         let Some(key) = self.seats.seat(connection) else {
             return;
@@ -123,6 +143,29 @@ impl<'a, 't, A: Answers<'a> + Drop> Server<'a, 't, A> {
         if stand == Stand::Lingers {
             self.seats.linger(key);
         }
+    }
+
+    // Has the request of a connection logged, if requests are.
+    fn log_request<R: Wait + Clock>(&mut self, rt: &R, connection: &mut Connection<'a>) {
+        if let Some(log) = &mut self.log {
+            connection.log_to(rt, self.alloc, log);
+        }
+    }
+
+    // Has the request of the connection at a key logged, if requests are.
+    fn log_request_at<R: Wait + Clock>(&mut self, rt: &R, key: usize) {
+        let Some(log) = &mut self.log else {
+            return;
+        };
+        if let Some(connection) = self.seats.get_mut(key) {
+            connection.log_to(rt, self.alloc, log);
+        }
+    }
+
+    // Drops the connection at a key.
+    fn drop_at<R: Wait + Clock>(&mut self, rt: &R, key: usize) {
+        self.log_request_at(rt, key);
+        self.seats.remove(key);
     }
 
     // Has the connection at a key reported when its client is ready. False where the system refuses.
@@ -150,34 +193,35 @@ impl<'a, 't, A: Answers<'a> + Drop> Server<'a, 't, A> {
     }
 
     // Goes on with the connection at a key.
-    fn go_on(&mut self, clock: &impl Clock, key: usize) {
+    fn go_on<R: Wait + Clock>(&mut self, rt: &R, key: usize) {
         let Some(connection) = self.seats.get_mut(key) else {
             return;
         };
-        match connection.go_on(clock, self.alloc, &mut self.answers, &mut self.buffer) {
+        match connection.go_on(rt, self.alloc, &mut self.answers, &mut self.buffer) {
             Stand::Waits => self.seats.stir(key),
             Stand::Ready => {
                 self.seats.stir(key);
                 if !self.watch_again(key) {
-                    self.seats.remove(key);
+                    self.drop_at(rt, key);
                 }
             }
             Stand::Lingers => {
+                self.log_request_at(rt, key);
                 self.seats.linger(key);
                 if !self.watch_again(key) {
                     self.seats.remove(key);
                 }
             }
-            Stand::Ends => self.seats.remove(key),
+            Stand::Ends => self.drop_at(rt, key),
         }
     }
 
     // Goes on with what an event names.
-    fn meet(&mut self, clock: &impl Clock, token: Token) {
+    fn meet<R: Wait + Clock>(&mut self, rt: &R, token: Token) {
         if token.0 == LISTENER {
-            self.accept(clock);
+            self.accept(rt);
         } else {
-            self.go_on(clock, token.0);
+            self.go_on(rt, token.0);
         }
     }
 
@@ -186,16 +230,44 @@ impl<'a, 't, A: Answers<'a> + Drop> Server<'a, 't, A> {
         self.listener.is_none() && self.seats.is_empty()
     }
 
+    // Hands on the lines of the log that are due.
+    fn hand_on<R: Wait + Clock>(&mut self, rt: &R) {
+        if let Some(log) = &mut self.log {
+            log.hand_on_due(rt, self.alloc);
+        }
+    }
+
+    // Hands on what is left of the log.
+    fn end_log<R: Wait + Clock>(&mut self, rt: &R) {
+        if let Some(log) = &mut self.log {
+            log.end(rt, self.alloc);
+        }
+    }
+
+    // How long it may wait for events; none where it may wait for as long as none comes.
+    fn patience(&self, clock: &impl Clock) -> Option<Duration> {
+        let seats = self.seats.patience(clock);
+        let Some(log) = &self.log else {
+            return seats;
+        };
+        match (seats, log.patience()) {
+            (Some(seats), Some(log)) => Some(seats.min(log)),
+            (seats, None) => seats,
+            (None, log) => log,
+        }
+    }
+
     // Waits for events, and meets them. False where the system refuses to wait.
-    fn work(&mut self, clock: &impl Clock, events: &mut Events) -> bool {
-        let patience = self.seats.patience(clock);
+    fn work<R: Wait + Clock>(&mut self, rt: &R, events: &mut Events) -> bool {
+        let patience = self.patience(rt);
         if self.poll.poll(events, patience).is_err() {
             return false;
         }
         for event in events.iter() {
-            self.meet(clock, event.token());
+            self.meet(rt, event.token());
         }
-        self.seats.end_lingering(clock);
+        self.seats.end_lingering(rt);
+        self.hand_on(rt);
         true
     }
 }
@@ -215,6 +287,7 @@ pub fn serve_at<'a, A: Answers<'a> + Drop, R: Wait + Clock>(
         buffer,
         listener,
         seats,
+        log,
     } = post;
     let mut events = events;
     let mut server = Server {
@@ -225,14 +298,17 @@ pub fn serve_at<'a, A: Answers<'a> + Drop, R: Wait + Clock>(
         seats: Seats::new(alloc, seats),
         answers,
         turns,
+        log,
         accept_failed: false,
     };
     server.take_turn();
     for _round in rt.forever() {
         if server.is_done() {
+            server.end_log(rt);
             return server.accept_failed;
         }
         if !server.work(rt, &mut events) {
+            server.end_log(rt);
             return true;
         }
     }

@@ -2,6 +2,7 @@
 
 ghost use Rattle.std.specs.Prelude.{◌≤◌};
 
+use crate::logging::{LogQueue, ThreadLog};
 use crate::serving::{Post, serve_at};
 use crate::turns::Turns;
 use gopher_crew::{Crew, Pass};
@@ -35,6 +36,8 @@ pub struct Shop {
     pub replies: Arc<Replies>,
     /// How many connections they may accept.
     pub turns: Arc<Turns>,
+    /// Where they hand on the lines of the log, if requests are logged.
+    pub log: Option<Arc<LogQueue>>,
 }
 
 impl Shop {
@@ -49,6 +52,7 @@ impl Shop {
             listener: Arc::new(alloc, listener)?,
             replies: Arc::new(alloc, replies)?,
             turns: Arc::new(alloc, Turns::new(requests))?,
+            log: None,
         })
     }
 }
@@ -85,19 +89,23 @@ fn seats_each(files: u64, threads: u64) -> u64
     (seats / threads.max(1)).max(1)
 }
 
+// A server thread's part of the log, if requests are logged.
+fn thread_log(alloc: Global, log: &Option<Arc<LogQueue>>) -> io::Result<Option<ThreadLog>> {
+    match log {
+        Some(queue) => Ok(Some(ThreadLog::new(alloc, Arc::try_clone(queue)?))),
+        None => Ok(None),
+    }
+}
+
 // What a server thread needs of the system.
-fn post_at<R: Net>(
-    rt: &R,
-    alloc: Global,
-    listener: &Arc<TcpListener>,
-    seats: u64,
-) -> io::Result<Post> {
+fn post_at<R: Net>(rt: &R, alloc: Global, shop: &Shop, seats: u64) -> io::Result<Post> {
     Ok(Post {
         poll: Poll::new(rt)?,
         events: Events::with_capacity(alloc, EVENTS)?,
         buffer: [0u8; 4096],
-        listener: Arc::try_clone(listener)?,
+        listener: Arc::try_clone(&shop.listener)?,
         seats: seats as usize,
+        log: thread_log(alloc, &shop.log)?,
     })
 }
 
@@ -106,7 +114,7 @@ fn start_one<
     C: Crew + Send + Sync + 'static,
     R: Net + Threads + Wait + Clock + Clone + Send + Drop + 'static,
 >(rt: &R, alloc: Global, shop: &Shop, pass: Pass<C>, seats: u64) -> Option<JoinHandle<bool>> {
-    let post = post_at(rt, alloc, &shop.listener, seats).ok()?;
+    let post = post_at(rt, alloc, shop, seats).ok()?;
     if !post.watch_listener() {
         return None;
     }

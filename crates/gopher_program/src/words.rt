@@ -14,6 +14,8 @@ pub enum Asked<'a> {
     Replay,
     /// `serve`: a folder is served.
     Serve(Serving<'a>),
+    /// `check`: the settings at this path are checked, and their folder.
+    Check(&'a str),
     /// `--help` or `--version`: this text is shown.
     Shown(String),
     /// Words that are refused, with a text that says why.
@@ -27,13 +29,41 @@ pub struct Serving<'a> {
     pub settings: &'a str,
     /// After how many connections the server ends; never without a number.
     pub requests: Option<u64>,
+    /// The path of the log, if requests are logged.
+    pub log: Option<&'a str>,
+    /// Whether the crawl's sizes are told as it goes on.
+    pub progress: bool,
+}
+
+fn log_word<'a>(alloc: Global) -> Arg<'a> {
+    Arg::new(alloc, "log")
+        .long("log")
+        .value_name("FILE")
+        .action(ArgAction::Set)
+        .help("Append a line for each request to this file")
+}
+
+fn progress_word<'a>(alloc: Global) -> Arg<'a> {
+    Arg::new(alloc, "progress")
+        .long("progress")
+        .action(ArgAction::SetTrue)
+        .help("Tell the crawl's sizes on standard error every ten seconds")
+}
+
+fn settings_word<'a>(alloc: Global) -> Arg<'a> {
+    Arg::new(alloc, "SETTINGS")
+        .required(true)
+        .action(ArgAction::Set)
+        .help("The settings of the server and its crawl, a TOML file")
+}
+
+fn check_words<'a>(alloc: Global) -> Result<Command<'a>, AllocError> {
+    Command::new(alloc, "check")
+        .about("Tell what is wrong with the settings and their folder, and where")
+        .arg(settings_word(alloc))
 }
 
 fn serve_words<'a>(alloc: Global) -> Result<Command<'a>, AllocError> {
-    let settings = Arg::new(alloc, "SETTINGS")
-        .required(true)
-        .action(ArgAction::Set)
-        .help("The settings of the server and its crawl, a TOML file");
     let requests = Arg::new(alloc, "requests")
         .long("requests")
         .value_name("N")
@@ -42,8 +72,10 @@ fn serve_words<'a>(alloc: Global) -> Result<Command<'a>, AllocError> {
         .help("End after N connections, at most 1000000");
     Command::new(alloc, "serve")
         .about("Serve a folder, crawl the allowed hosts and answer searches")
-        .arg(settings)?
-        .arg(requests)
+        .arg(settings_word(alloc))?
+        .arg(requests)?
+        .arg(log_word(alloc))?
+        .arg(progress_word(alloc))
 }
 
 fn program_words<'a>(alloc: Global) -> Result<Command<'a>, AllocError> {
@@ -56,6 +88,7 @@ fn program_words<'a>(alloc: Global) -> Result<Command<'a>, AllocError> {
         .no_binary_name(true)
         .subcommand_required(true)
         .subcommand(replay)?
+        .subcommand(check_words(alloc)?)?
         .subcommand(serve_words(alloc)?)
 }
 
@@ -78,6 +111,12 @@ pub fn read_words<'a>(alloc: Global, words: &'a [String]) -> Result<Asked<'a>, N
         Ok(matches) => matches,
         Err(error) => return shown(alloc, &error),
     };
+    if let Some(check) = matches.subcommand_matches("check") {
+        return match check.get_str("SETTINGS") {
+            Some(settings) => Ok(Asked::Check(settings)),
+            None => Err(NoMemory),
+        };
+    }
     let Some(serve) = matches.subcommand_matches("serve") else {
         return Ok(Asked::Replay);
     };
@@ -87,5 +126,7 @@ pub fn read_words<'a>(alloc: Global, words: &'a [String]) -> Result<Asked<'a>, N
     Ok(Asked::Serve(Serving {
         settings,
         requests: serve.get_one::<u64>("requests"),
+        log: serve.get_str("log"),
+        progress: serve.get_flag("progress"),
     }))
 }

@@ -13,4 +13,4 @@ mod settings;
 pub use fault::SettingsFault;
 pub use rule::Rule;
 pub use scope::Scope;
-pub use settings::{Key, Settings};
+pub use settings::{Key, Settings, is_key_name, key_has_unknown};

@@ -19,6 +19,7 @@ mod text;
 use crate::fault::SettingsFault;
 use crate::scope::Scope;
 use check::settings_fault;
+pub use check::{is_key_name, key_has_unknown};
 use form::Form;
 use gopher_item::{Home, ItemFault, NoMemory, Place};
 use items::{rules, seeds, values_at};

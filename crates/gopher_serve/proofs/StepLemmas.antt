@@ -115,9 +115,9 @@ said_still given first left w0 talk next before after still so_far = record {
   stands = subst (Stands given so_far.ended so_far.taken so_far.sent) (sym still.talk) so_far.stands;
 }
 
-said_some : (given : List ℕ → List ℕ → Type 0) (first left w0 : Option (List ℕ)) (reply : List ℕ) (count : ℕ) (next : Talk) (before after : StreamData)
-    → SaysSome (Responds reply count) next before after → Talks given first left w0 before.bytes (Responds reply count) → Talks given first left w0 after.bytes next
-said_some given first left w0 reply count next before after said so_far = record {
+said_some : (given : List ℕ → List ℕ → Type 0) (first left w0 : Option (List ℕ)) (line reply : List ℕ) (count : ℕ) (next : Talk) (before after : StreamData)
+    → SaysSome (Responds line reply count) next before after → Talks given first left w0 before.bytes (Responds line reply count) → Talks given first left w0 after.bytes next
+said_some given first left w0 line reply count next before after said so_far = record {
   taken = so_far.taken;
   sent = so_far.sent ++ take said.count (drop count reply);
   ended = so_far.ended;
@@ -127,8 +127,9 @@ said_some given first left w0 reply count next before after said so_far = record
   stands = subst (Stands given so_far.ended so_far.taken (so_far.sent ++ take said.count (drop count reply))) (sym said.is) more;
 }
   where
-    more : StandsAnswered given so_far.ended so_far.taken (so_far.sent ++ take said.count (drop count reply)) reply (count + said.count)
+    more : StandsAnswered given so_far.ended so_far.taken (so_far.sent ++ take said.count (drop count reply)) line reply (count + said.count)
     more = record {
+      asked_is = so_far.stands.asked_is;
       line_is = so_far.stands.line_is;
       given_is = so_far.stands.given_is;
       sent_is = ap (λ l. l ++ take said.count (drop count reply)) so_far.stands.sent_is ∙ sym (take-add count said.count reply);
@@ -140,14 +141,14 @@ said_all given first left w0 talk next before after said so_far =
     subst (λ (t : Talk). Talks given first left w0 after.bytes t) (sym said.talk)
     (subst (λ (s : StreamData). Talks given first left w0 s.bytes talk) (sym said.same) so_far)
 
-pub spoken : (given : List ℕ → List ℕ → Type 0) (first left w0 : Option (List ℕ)) (reply : List ℕ) (count : ℕ) (next : Talk) (before after : StreamData) (turn : Turn)
-    → Says (Responds reply count) next before after turn → Talks given first left w0 before.bytes (Responds reply count) → Talks given first left w0 after.bytes next
-spoken given first left w0 reply count next before after Done (inl all) so_far = said_all given first left w0 (Responds reply count) next before after all so_far
-spoken given first left w0 reply count next before after Done (inr (some, none)) so_far = said_some given first left w0 reply count next before after some so_far
-spoken given first left w0 reply count next before after Paused (inl some) so_far = said_some given first left w0 reply count next before after some so_far
-spoken given first left w0 reply count next before after Paused (inr still) so_far = said_still given first left w0 (Responds reply count) next before after still so_far
-spoken given first left w0 reply count next before after Waits still so_far = said_still given first left w0 (Responds reply count) next before after still so_far
-spoken given first left w0 reply count next before after (Failed fault) (why, still) so_far = said_still given first left w0 (Responds reply count) next before after still so_far
+pub spoken : (given : List ℕ → List ℕ → Type 0) (first left w0 : Option (List ℕ)) (line reply : List ℕ) (count : ℕ) (next : Talk) (before after : StreamData) (turn : Turn)
+    → Says (Responds line reply count) next before after turn → Talks given first left w0 before.bytes (Responds line reply count) → Talks given first left w0 after.bytes next
+spoken given first left w0 line reply count next before after Done (inl all) so_far = said_all given first left w0 (Responds line reply count) next before after all so_far
+spoken given first left w0 line reply count next before after Done (inr (some, none)) so_far = said_some given first left w0 line reply count next before after some so_far
+spoken given first left w0 line reply count next before after Paused (inl some) so_far = said_some given first left w0 line reply count next before after some so_far
+spoken given first left w0 line reply count next before after Paused (inr still) so_far = said_still given first left w0 (Responds line reply count) next before after still so_far
+spoken given first left w0 line reply count next before after Waits still so_far = said_still given first left w0 (Responds line reply count) next before after still so_far
+spoken given first left w0 line reply count next before after (Failed fault) (why, still) so_far = said_still given first left w0 (Responds line reply count) next before after still so_far
 
 -- ---- answers
 
@@ -157,8 +158,8 @@ later given more ended taken sent (Gathers bytes) wider stands = stands
 later given more ended taken sent (Asks line) wider stands = stands
 later given more ended taken sent IsTooLong wider stands = stands
 later given more ended taken sent LacksMemory wider stands = stands
-later given more ended taken sent (Responds reply count) wider stands =
-    record { line_is = stands.line_is; given_is = wider _ _ stands.given_is; sent_is = stands.sent_is }
+later given more ended taken sent (Responds line reply count) wider stands =
+    record { asked_is = stands.asked_is; line_is = stands.line_is; given_is = wider _ _ stands.given_is; sent_is = stands.sent_is }
 
 -- what was given stays given
 pub talks_later : (given more : List ℕ → List ℕ → Type 0) (first left w0 w1 : Option (List ℕ)) (talk : Talk) → ((line reply : List ℕ) → given line reply → more line reply)
@@ -192,8 +193,9 @@ replied leads_to gives start a b first left w0 w1 line next leads stays is so_fa
   stands = subst (Stands (IsGiven leads_to gives start b) so_far.ended so_far.taken so_far.sent) (sym is.is) answered;
 }
   where
-    answered : StandsAnswered (IsGiven leads_to gives start b) so_far.ended so_far.taken so_far.sent is.reply 0
+    answered : StandsAnswered (IsGiven leads_to gives start b) so_far.ended so_far.taken so_far.sent line is.reply 0
     answered = record {
+      asked_is = so_far.stands.1;
       line_is = so_far.stands.0 ∙ ap Asks so_far.stands.1;
       given_is = subst (λ (l : List ℕ). IsGiven leads_to gives start b l is.reply) so_far.stands.1 (record { before = a; after = b; begins = leads; given = is.given; ends = stays });
       sent_is = so_far.stands.2;
@@ -253,10 +255,10 @@ steps_on {A = A} leads_to gives talk next a b had left before after turn stays j
         (answered leads_to gives start a b first had.bytes w0 before.bytes line next turn leads (stays b) replied so_far))
     by IsTooLong (fails, same, answers, reader, writer) start first w0 leads so_far = still start first w0 IsTooLong same answers reader writer so_far
     by LacksMemory (fails, same, answers, reader, writer) start first w0 leads so_far = still start first w0 LacksMemory same answers reader writer so_far
-    by (Responds reply count) (said, answers, reader) start first w0 leads so_far =
+    by (Responds line reply count) (said, answers, reader) start first w0 leads so_far =
         same_answers start a b first left.bytes w0 after.bytes next answers
         (moved (λ (s : StreamData). Talks (IsGiven leads_to gives start a) first s.bytes w0 after.bytes next) had left reader
-        (spoken (IsGiven leads_to gives start a) first had.bytes w0 reply count next before after turn said so_far))
+        (spoken (IsGiven leads_to gives start a) first had.bytes w0 line reply count next before after turn said so_far))
 
 -- ---- one step of each kind
 
@@ -268,7 +270,7 @@ module _ {A : Type 0} (leads_to : A → A → Type 0) (gives : A → A → List 
   listens_on (Asks line) next a had left writer turn is listens = absurd cc
   listens_on IsTooLong next a had left writer turn is listens = absurd cc
   listens_on LacksMemory next a had left writer turn is listens = absurd cc
-  listens_on (Responds reply count) next a had left writer turn is listens = absurd cc
+  listens_on (Responds line reply count) next a had left writer turn is listens = absurd cc
 
   pub asks_on : (talk next : Talk) (a b : A) (reader writer : StreamData) (turn : Turn) → stage.Asks ≡ stage_of talk
       → ((line : List ℕ) → talk ≡ Asks line → Replies gives a b line next turn) → Advances leads_to gives talk next a b reader.bytes reader.bytes writer.bytes writer.bytes
@@ -276,7 +278,7 @@ module _ {A : Type 0} (leads_to : A → A → Type 0) (gives : A → A → List 
   asks_on (Asks line) next a b reader writer turn is replies = steps_on leads_to gives (Asks line) next a b reader reader writer writer turn stays joins (replies line refl, refl, refl)
   asks_on IsTooLong next a b reader writer turn is replies = absurd cc
   asks_on LacksMemory next a b reader writer turn is replies = absurd cc
-  asks_on (Responds reply count) next a b reader writer turn is replies = absurd cc
+  asks_on (Responds line reply count) next a b reader writer turn is replies = absurd cc
 
   pub says_on : (talk next : Talk) (a : A) (reader before after : StreamData) (turn : Turn) → stage.Responds ≡ stage_of talk
       → Says talk next before after turn → Advances leads_to gives talk next a a reader.bytes reader.bytes before.bytes after.bytes
@@ -284,4 +286,4 @@ module _ {A : Type 0} (leads_to : A → A → Type 0) (gives : A → A → List 
   says_on (Asks line) next a reader before after turn is says = absurd cc
   says_on IsTooLong next a reader before after turn is says = absurd cc
   says_on LacksMemory next a reader before after turn is says = absurd cc
-  says_on (Responds reply count) next a reader before after turn is says = steps_on leads_to gives (Responds reply count) next a a reader reader before after turn stays joins (says, refl, refl)
+  says_on (Responds line reply count) next a reader before after turn is says = steps_on leads_to gives (Responds line reply count) next a a reader reader before after turn stays joins (says, refl, refl)

@@ -19,6 +19,14 @@ heard_is gathered piece items count sent before after old new view gathering gro
     is ∙ settled sent ∙ ap (λ l. known_line (first_line l)) grown ∙ sym (heard_known gathered piece count test)
     ∙ ap (λ t. heard false t piece) (sym was)
 
+-- a conversation that asks a line holds that line
+pub asked_is : (gathered line : List ℕ) (before : Phase) (sent : ℕ) → talk_in gathered before sent ≡ Asks line → first_line gathered ≡ line
+asked_is gathered line phase.Gathering sent view = absurd cc
+asked_is gathered line phase.Asked sent view = cc
+asked_is gathered line phase.TooLong sent view = absurd cc
+asked_is gathered line phase.LacksMemory sent view = absurd cc
+asked_is gathered line (phase.Answering reply) sent view = absurd cc
+
 -- so many bytes more of its reply were sent
 pub said_is : (gathered : List ℕ) (before : Phase) (sent count size left : ℕ) (old : Talk) → sent ≤ length (reply_in before) → talk_in gathered before sent ≡ old
     → size ≡ length (reply_of_talk old) → left ≡ length (unsent_of old) → count ≤ left
@@ -35,4 +43,4 @@ said_is gathered before sent count size left old within view whole rest fits =
     by phase.LacksMemory fewer is remains = refl
     by (phase.Answering reply) fewer is remains =
         let same : size - (left - count) ≡ sent + count = omega (arith, length-drop sent (reply_bytes reply)) in
-        ap (Responds (reply_bytes reply)) same
+        ap (Responds (first_line gathered) (reply_bytes reply)) same

@@ -44,7 +44,7 @@ Listens old new had left (Failed fault) = (fault ≡ ReadFailed) × IsStill old 
 pub record IsReplied {A : Type 0} (gives : A → A → List ℕ → List ℕ → Type 0) (before after : A) (line : List ℕ) (new : Talk) : Type 0 where
   pub reply : List ℕ
   pub given : gives before after line reply
-  pub is : new ≡ Responds reply 0
+  pub is : new ≡ Responds line reply 0
 
 -- one question, by the turn that it makes
 abbrev pub Replies : {A : Type 0} → (A → A → List ℕ → List ℕ → Type 0) → A → A → List ℕ → Talk → Turn → Type 0
@@ -82,7 +82,7 @@ Steps gives (Gathers bytes) new a b had left before after turn = Listens (Gather
 Steps gives (Asks line) new a b had left before after turn = Replies gives a b line new turn × (left ≡ had) × (after ≡ before)
 Steps gives IsTooLong new a b had left before after turn = (turn ≡ Failed LineTooLong) × (new ≡ IsTooLong) × (b ≡ a) × (left ≡ had) × (after ≡ before)
 Steps gives LacksMemory new a b had left before after turn = (turn ≡ Failed NoMemory) × (new ≡ LacksMemory) × (b ≡ a) × (left ≡ had) × (after ≡ before)
-Steps gives (Responds reply sent) new a b had left before after turn = Says (Responds reply sent) new before after turn × (b ≡ a) × (left ≡ had)
+Steps gives (Responds line reply sent) new a b had left before after turn = Says (Responds line reply sent) new before after turn × (b ≡ a) × (left ≡ had)
 
 -- the turn that a call makes which failed
 abbrev pub IsTurnAfter : ServeFault → Turn → Type 0
@@ -101,7 +101,8 @@ pub record IsGiven {A : Type 0} (leads_to : A → A → Type 0) (gives : A → A
   pub ends : leads_to after now
 
 -- a reply was given to the first line of what came in, and so many bytes of it went out
-pub record StandsAnswered (given : List ℕ → List ℕ → Type 0) (ended : Bool) (taken sent reply : List ℕ) (count : ℕ) : Type 0 where
+pub record StandsAnswered (given : List ℕ → List ℕ → Type 0) (ended : Bool) (taken sent line reply : List ℕ) (count : ℕ) : Type 0 where
+  pub asked_is : line ≡ first_line taken
   pub line_is : talk_of ended taken ≡ Asks (first_line taken)
   pub given_is : given (first_line taken) reply
   pub sent_is : sent ≡ take count reply
@@ -112,7 +113,7 @@ Stands given ended taken sent (Gathers bytes) = (talk_of ended taken ≡ Gathers
 Stands given ended taken sent (Asks line) = (talk_of ended taken ≡ Asks line) × (line ≡ first_line taken) × (sent ≡ [])
 Stands given ended taken sent IsTooLong = (talk_of ended taken ≡ IsTooLong) × (sent ≡ [])
 Stands given ended taken sent LacksMemory = sent ≡ []
-Stands given ended taken sent (Responds reply count) = StandsAnswered given ended taken sent reply count
+Stands given ended taken sent (Responds line reply count) = StandsAnswered given ended taken sent line reply count
 
 -- the same, by what the reader had at first and has left, and what the writer held at first and holds
 pub record Talks (given : List ℕ → List ℕ → Type 0) (had left old new : Option (List ℕ)) (talk : Talk) : Type 0 where

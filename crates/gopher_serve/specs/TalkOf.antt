@@ -12,7 +12,7 @@ talk_in gathered phase.Gathering sent = Gathers gathered
 talk_in gathered phase.Asked sent = Asks (first_line gathered)
 talk_in gathered phase.TooLong sent = IsTooLong
 talk_in gathered phase.LacksMemory sent = LacksMemory
-talk_in gathered (phase.Answering reply) sent = Responds (reply_bytes reply) sent
+talk_in gathered (phase.Answering reply) sent = Responds (first_line gathered) (reply_bytes reply) sent
 
 -- the reply that a conversation holds
 abbrev pub reply_in : Phase → List ℕ

@@ -1,11 +1,12 @@
 //! A conversation with one client, that knows no stream.
 
-ghost use Rattle.std.specs.Prelude.{◌≡◌, ◌≤◌, [], ℕ, length, false, true};
+ghost use Rattle.std.specs.Prelude.{◌≡◌, ◌≤◌, [], ℕ, List, length, false, true};
+ghost use Rattle.std.specs.Option.{option_map};
 ghost use Rattle.std.specs.Io.BufRead.{first_line, strip_last};
 ghost use Rattle.gopher_text.specs.Line.{has_feed};
 ghost use Rattle.gopher_tree.specs.Kept.{reply_bytes};
-ghost use Rattle.gopher_serve.specs.Talk.{Hears, IsLine, heard, is_known, known_line, reply_of_talk, said, stage_of, unsent_of};
-ghost use Rattle.gopher_serve.specs.Talk.{Responds, Gathers};
+ghost use Rattle.gopher_serve.specs.Talk.{Hears, IsLine, asked_of, heard, is_known, known_line, reply_of_talk, said, sent_of, stage_of, unsent_of};
+ghost use Rattle.gopher_serve.specs.Talk.{Asks, Responds, Gathers};
 ghost use Rattle.gopher_serve.specs.TalkOf.{talk_in, reply_in};
 
 use gopher_tree::Reply;
@@ -136,6 +137,27 @@ impl<'a> Conversation<'a> {
         }
     }
 
+    /// The line that it was asked, without its end; none where no line was at its end yet, or the line was
+    /// too long. Takes no memory.
+    pub fn asked_line(&self) -> Option<&[u8]>
+        ensures { option_map (λ line. line.now) result ≡ asked_of self.now }
+    {
+        match &self.phase {
+            Phase::Asked | Phase::Answering(_) => Some(first_line(&self.gathered)),
+            _ => None,
+        }
+    }
+
+    /// How many bytes of its reply were sent; 0 where there is none yet. Takes no memory.
+    pub fn sent_len(&self) -> usize
+        ensures { result ≡ sent_of self.now }
+    {
+        match &self.phase {
+            Phase::Answering(_) => self.sent,
+            _ => 0,
+        }
+    }
+
     // What it is to do next.
     pub(crate) fn stage(&self) -> Stage
         ensures { result ≡ stage_of self.now }
@@ -186,7 +208,7 @@ impl<'a> Conversation<'a> {
 
     // Takes the reply to its line.
     pub(crate) fn respond(&mut self, reply: Reply<'a>)
-        ensures { self.new ≡ Responds (reply_bytes reply.entry) 0 }
+        ensures { (line : List ℕ) → self.old ≡ Asks line → self.new ≡ Responds line (reply_bytes reply.entry) 0 }
     {
         self.phase = Phase::Answering(reply);
         self.sent = 0;

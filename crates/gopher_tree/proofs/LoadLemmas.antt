@@ -1,12 +1,13 @@
 -- What a walk through a folder lists, step by step, and why it stops.
-use Rattle.std.proofs.Common.{◌≡◌, ℕ, Bool, true, false, cond, ltb, List, [], ◌∷◌, ◌++◌, length, take, Option, None, Some, Result, Ok, Err, IfSome, IfOk, IfErr, refl, sym, ap, ◌∙◌, subst, inl, inr}
+use Rattle.std.proofs.Common.{◌≡◌, ℕ, ◌<◌, Bool, true, false, cond, ltb, List, [], ◌∷◌, ◌++◌, length, take, Option, None, Some, Result, Ok, Err, IfSome, IfOk, IfErr, refl, sym, ap, ◌∙◌, subst, inl, inr}
+use Rattle.std.proofs.lemmas.Bool.{ltb-true}
 use Rattle.std.proofs.lemmas.List.{append_assoc, append-nil}
 use Rattle.std.specs.Option.{option_map}
 use Rattle.std.specs.declared.io.traits.Take.{Take}
 use Rattle.std.specs.Io.Take.{take_limit, take_inner, take_remaining}
 use Rattle.gopher_tree.specs.Files.{File}
 use Rattle.gopher_tree.specs.Fault.{path_fault, or_fault, file_fault, fault_after, files_fault}
-use Rattle.gopher_tree.specs.Load.{folder_fault, StopsAfter, Lists, Walks, Loads, IsUnreadable, RefusesFile}
+use Rattle.gopher_tree.specs.Load.{folder_fault, StopsAt, Lists, WalksTo, Loads, LoadsTo, IsUnreadable, RefusesFile}
 use Rattle.gopher_tree.specs.declared.fault.TreeFault.{TreeFault}
 use Rattle.gopher_tree.specs.declared.fault.TreeFault.TheVariants.{LongSelector, TooBig, NoMemory}
 use Rattle.gopher_tree.proofs.FaultLemmas.{or_fault-none}
@@ -39,58 +40,62 @@ lists_more first between last (added, is, none) (more, is_more, none_more) = (
 )
 
 -- a walk that goes on behind what was listed
-pub walks_on : {T : Type 0} (listed : T → List File) (first between : List File) (result : Result T TreeFault) → Lists first between → Walks listed between result → Walks listed first result
-walks_on listed first between (Ok walk) lists walks = lists_more first between (listed walk) lists walks
-walks_on listed first between (Err fault) lists (files, more, stops) = (files, lists_more first between files lists more, stops)
+pub walks_on : {T : Type 0} (listed : T → List File) (first between : List File) (path : List ℕ) (result : Result T TreeFault) → Lists first between → WalksTo listed between path result → WalksTo listed first path result
+walks_on listed first between path (Ok walk) lists walks = lists_more first between (listed walk) lists walks
+walks_on listed first between path (Err fault) lists (files, more, stops) = (files, lists_more first between files lists more, stops)
 
 -- a walk that stops where it is
-pub walks_none : {T : Type 0} (listed : T → List File) (first : List File) (result : Result T TreeFault) (fault : TreeFault) → result ≡ Err fault → StopsAfter first fault → Walks listed first result
-walks_none listed first result fault is stops = subst (Walks listed first) (sym is) (first, lists_none first, stops)
+pub walks_none : {T : Type 0} (listed : T → List File) (first : List File) (path : List ℕ) (result : Result T TreeFault) (fault : TreeFault) → result ≡ Err fault → StopsAt first path fault → WalksTo listed first path result
+walks_none listed first path result fault is stops = subst (WalksTo listed first path) (sym is) (first, lists_none first, stops)
 
-pub stops_unreadable : (files : List File) (number : ℕ) (fault : TreeFault) → number ≡ length files → IsUnreadable number fault → StopsAfter files fault
-stops_unreadable files number fault same unreadable = inr (inr (inr (subst (λ n. IsUnreadable n fault) same unreadable)))
+pub stops_unreadable : (files : List File) (path : List ℕ) (number : ℕ) (fault : TreeFault) → number ≡ length files → IsUnreadable number fault → StopsAt files path fault
+stops_unreadable files path number fault same unreadable = inr (inr (inr (subst (λ n. IsUnreadable n fault) same unreadable)))
 
-pub stops_memory : (files : List File) (fault : TreeFault) → fault ≡ NoMemory → StopsAfter files fault
-stops_memory files fault is = inr (inr (inr (inr is)))
+pub stops_memory : (files : List File) (path : List ℕ) (fault : TreeFault) → fault ≡ NoMemory → StopsAt files path fault
+stops_memory files path fault is = inr (inr (inr (inr is)))
 
 -- a file whose path has a fault by itself
 pub path_refused : (files : List File) (nodes : ℕ) (path bytes : List ℕ) (number : ℕ) (fault : TreeFault) → number ≡ length files → path_fault number path ≡ Some fault → RefusesFile files nodes (path, bytes) fault
 path_refused files nodes path bytes number fault same is =
     inl (or_fault-some (path_fault (length files) path) _ fault (ap (λ n. path_fault n path) (sym same) ∙ is))
 
-pub stops_file : (files : List File) (nodes : ℕ) (file : File) (fault : TreeFault) → RefusesFile files nodes file fault → StopsAfter files fault
-stops_file files nodes file fault (inl is) = inl (file, is)
-stops_file files nodes file fault (inr (inl many)) = inr (inr (inl many.1))
-stops_file files nodes file fault (inr (inr memory)) = stops_memory files fault memory
+pub stops_file : (files : List File) (nodes : ℕ) (path bytes : List ℕ) (fault : TreeFault) → RefusesFile files nodes (path, bytes) fault → StopsAt files path fault
+stops_file files nodes path bytes fault (inl is) = inl (bytes, is)
+stops_file files nodes path bytes fault (inr (inl many)) = inr (inr (inl many.1))
+stops_file files nodes path bytes fault (inr (inr memory)) = stops_memory files path fault memory
 
 -- a walk that comes to a file
-pub walks_file : {T : Type 0} (listed : T → List File) (first : List File) (nodes : ℕ) (file : File) (result : Result T TreeFault)
-    → IfOk result (λ walk. (file_fault first file ≡ None) × (listed walk ≡ first ++ file ∷ []))
-    → IfErr result (RefusesFile first nodes file) → Walks listed first result
-walks_file listed first nodes file (Ok walk) lists refused = lists_one first file (listed walk) lists.0 lists.1
-walks_file listed first nodes file (Err fault) lists refused = (first, lists_none first, stops_file first nodes file fault refused)
+pub walks_file : {T : Type 0} (listed : T → List File) (first : List File) (nodes : ℕ) (path bytes : List ℕ) (result : Result T TreeFault)
+    → IfOk result (λ walk. (file_fault first (path, bytes) ≡ None) × (listed walk ≡ first ++ (path, bytes) ∷ []))
+    → IfErr result (RefusesFile first nodes (path, bytes)) → WalksTo listed first path result
+walks_file listed first nodes path bytes (Ok walk) lists refused = lists_one first (path, bytes) (listed walk) lists.0 lists.1
+walks_file listed first nodes path bytes (Err fault) lists refused = (first, lists_none first, stops_file first nodes path bytes fault refused)
 
 -- a folder that has a fault
-pub stops_folder : (files : List File) (nodes : ℕ) (path : List ℕ) (fault : TreeFault) → folder_fault (length files) nodes path ≡ Some fault → StopsAfter files fault
-stops_folder files nodes path fault is = by (ltb 254 (length path)) (ltb 4095 nodes) is
+pub stops_folder : (files : List File) (nodes : ℕ) (path : List ℕ) (fault : TreeFault) → folder_fault (length files) nodes path ≡ Some fault → StopsAt files path fault
+stops_folder files nodes path fault is = by (ltb 254 (length path)) (ltb 4095 nodes) refl is
   where
-    by : (t s : Bool) → cond t (Some (LongSelector (length files))) (cond s (Some (TooBig (length files))) None) ≡ Some fault → StopsAfter files fault
-    by true s h = let e : fault ≡ LongSelector (length files) = cc in inr (inl e)
-    by false true h = let e : fault ≡ TooBig (length files) = cc in inr (inr (inl e))
-    by false false h = absurd cc
+    by : (t s : Bool) → ltb 254 (length path) ≡ t → cond t (Some (LongSelector (length files))) (cond s (Some (TooBig (length files))) None) ≡ Some fault → StopsAt files path fault
+    by true s long h = let e : fault ≡ LongSelector (length files) = cc in inr (inl (ltb-true 254 (length path) long, e))
+    by false true long h = let e : fault ≡ TooBig (length files) = cc in inr (inr (inl e))
+    by false false long h = absurd cc
 
 -- all that a tree lists has no fault
 pub faultless : (files : List File) → Lists [] files → files_fault files ≡ None
 faultless files (added, is, none) = ap files_fault is ∙ none
 
 -- a folder is refused before anything is listed
-pub loads_memory : (result : Result (List File) TreeFault) (fault : TreeFault) → result ≡ Err fault → fault ≡ NoMemory → Loads result
-loads_memory result fault is memory = subst Loads (sym is) ([], refl, stops_memory [] fault memory)
+pub loads_memory : (path : List ℕ) (result : Result (List File) TreeFault) (fault : TreeFault) → result ≡ Err fault → fault ≡ NoMemory → LoadsTo path result
+loads_memory path result fault is memory = subst (LoadsTo path) (sym is) ([], refl, stops_memory [] path fault memory)
 
 -- a folder is refused where its walk stops
-pub loads_refused : {T : Type 0} (listed : T → List File) (first : List File) (result : Result (List File) TreeFault) (fault : TreeFault) → result ≡ Err fault → first ≡ [] → Walks listed first (Err fault) → Loads result
-loads_refused listed first result fault is none (files, lists, stops) =
-    subst Loads (sym is) (files, faultless files (subst (λ l. Lists l files) none lists), stops)
+pub loads_refused : {T : Type 0} (listed : T → List File) (first : List File) (path : List ℕ) (result : Result (List File) TreeFault) (fault : TreeFault) → result ≡ Err fault → first ≡ [] → WalksTo listed first path (Err fault) → LoadsTo path result
+loads_refused listed first path result fault is none (files, lists, stops) =
+    subst (LoadsTo path) (sym is) (files, faultless files (subst (λ l. Lists l files) none lists), stops)
+
+-- a folder is refused at some path
+pub loads_some : (path : List ℕ) (fault : TreeFault) → LoadsTo path (Err fault) → Loads (Err fault)
+loads_some path fault loads = (path, loads)
 
 -- the known bytes that a reader with a limit gives
 pub taken : {R : Type 0} (remaining : R → Option (List ℕ)) (reader : R) (limited : Take R) (bytes : List ℕ) → take_limit limited ≡ 16777217 → take_inner limited ≡ reader

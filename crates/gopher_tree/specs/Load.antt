@@ -1,9 +1,10 @@
 -- A walk through a folder: what it lists, and why it stops.
-use Rattle.std.specs.Prelude.{◌≡◌, ℕ, ◌≤◌, Bool, false, not, ◌==◌, ◌||◌, nat_lt, List, [], ◌∷◌, ◌++◌, length, Option, None, Some, Result, Ok, Err, ◌⊎◌, if◌then◌else◌}
+use Rattle.std.specs.Prelude.{◌≡◌, ℕ, ◌<◌, ◌≤◌, Bool, false, not, ◌==◌, ◌||◌, nat_lt, List, [], ◌∷◌, ◌++◌, length, Option, None, Some, Result, Ok, Err, ◌⊎◌, if◌then◌else◌}
 use Rattle.gopher_tree.specs.Path.{is_menu_name}
 use Rattle.gopher_tree.specs.Files.{File}
 use Rattle.gopher_tree.specs.Fault.{file_fault, fault_after, files_fault}
 use Rattle.gopher_tree.specs.declared.fault.TreeFault.{TreeFault}
+use Rattle.gopher_tree.specs.declared.fault.LoadRefused.{LoadRefused}
 use Rattle.gopher_tree.specs.declared.fault.TreeFault.TheVariants.{LongSelector, TooBig, Unreadable, NoMemory}
 
 -- whether a name is listed: none that is empty, and of those with a period in front `.menu` alone
@@ -23,20 +24,31 @@ IsUnreadable number fault = (fault ≡ Unreadable number) ⊎ (fault ≡ NoMemor
 abbrev pub RefusesFile : List File → ℕ → File → TreeFault → Type 0
 RefusesFile files nodes file fault = (file_fault files file ≡ Some fault) ⊎ (((4096 ≤ nodes) × (fault ≡ TooBig (length files))) ⊎ (fault ≡ NoMemory))
 
--- why a walk stops that listed these files: at a file, by the fault that it has behind them; at a folder; or at what can't be read
-abbrev pub StopsAfter : List File → TreeFault → Type 0
-StopsAfter files fault = ((file : File) × (file_fault files file ≡ Some fault)) ⊎ ((fault ≡ LongSelector (length files)) ⊎ ((fault ≡ TooBig (length files)) ⊎ IsUnreadable (length files) fault))
+-- why a walk stops at a path, that listed these files: the file there has this fault behind them, the folder there is one too deep or too many, or it can't be read
+abbrev pub StopsAt : List File → List ℕ → TreeFault → Type 0
+StopsAt files path fault =
+    ((bytes : List ℕ) × (file_fault files (path, bytes) ≡ Some fault))
+    ⊎ (((254 < length path) × (fault ≡ LongSelector (length files))) ⊎ ((fault ≡ TooBig (length files)) ⊎ IsUnreadable (length files) fault))
 
 -- a walk that had listed `before` lists these, none of which has a fault
 abbrev pub Lists : List File → List File → Type 0
 Lists before files = (added : List File) × (files ≡ before ++ added) × (fault_after before added ≡ None)
 
--- a walk that had listed `before` ends, or stops behind the files that it listed up to then
-abbrev pub Walks : {T : Type 0} → (T → List File) → List File → Result T TreeFault → Type 0
-Walks listed before (Ok walk) = Lists before (listed walk)
-Walks listed before (Err fault) = (files : List File) × Lists before files × StopsAfter files fault
+-- a walk that had listed `before` ends, or stops at a path, behind the files that it listed up to then
+abbrev pub WalksTo : {T : Type 0} → (T → List File) → List File → List ℕ → Result T TreeFault → Type 0
+WalksTo listed before path (Ok walk) = Lists before (listed walk)
+WalksTo listed before path (Err fault) = (files : List File) × Lists before files × StopsAt files path fault
 
--- a folder makes the tree of the files that its walk lists, or is refused where that stops
+-- a folder makes the tree of the files that its walk lists, or is refused where that stops, at a path
+abbrev pub LoadsTo : List ℕ → Result (List File) TreeFault → Type 0
+LoadsTo path (Ok files) = files_fault files ≡ None
+LoadsTo path (Err fault) = (files : List File) × (files_fault files ≡ None) × StopsAt files path fault
+
+abbrev pub LoadsAt : Result (List File) LoadRefused → Type 0
+LoadsAt (Ok files) = files_fault files ≡ None
+LoadsAt (Err refused) = LoadsTo refused.path.items (Err refused.fault)
+
+-- a folder makes the tree of the files that its walk lists, or is refused where that stops, at some path
 abbrev pub Loads : Result (List File) TreeFault → Type 0
 Loads (Ok files) = files_fault files ≡ None
-Loads (Err fault) = (files : List File) × (files_fault files ≡ None) × StopsAfter files fault
+Loads (Err fault) = (path : List ℕ) × LoadsTo path (Err fault)

@@ -39,6 +39,15 @@ pub enum TreeFault {
     NoMemory,
 }
 
+/// Why a folder makes no tree, and where.
+#[derive(Debug, Drop)]
+pub struct LoadRefused {
+    /// The fault.
+    pub fault: TreeFault,
+    /// The path of what has it, from the root, without a slash in front; empty for the root itself.
+    pub path: Vec<u8>,
+}
+
 impl TreeFault {
     /// The number of the fault: 20 to 26, or 90.
     pub fn code(self) -> u8

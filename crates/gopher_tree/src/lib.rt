@@ -19,7 +19,7 @@ mod replies;
 mod reply;
 mod tree;
 
-pub use fault::TreeFault;
+pub use fault::{LoadRefused, TreeFault};
 pub use line::{push_last_line, push_line};
 pub use replies::{Replies, RepliesRefused, Reply};
 pub use reply::error_reply;

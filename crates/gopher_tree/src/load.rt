@@ -1,13 +1,14 @@
 //! Trees of folders of the file system.
 
-ghost use Rattle.std.specs.Prelude.{◌≡◌, ◌<◌, ◌≤◌, ◌+◌, ◌++◌, [], ◌∷◌, length, None, Some, IfOk, IfErr, MatchResult};
+ghost use Rattle.std.specs.Prelude.{◌≡◌, ◌<◌, ◌≤◌, ◌+◌, ◌++◌, [], ◌∷◌, length, None, Some, IfOk, IfErr, OnOk, MatchResult};
 ghost use Rattle.gopher_tree.specs.Fault.{file_fault, files_fault};
-ghost use Rattle.gopher_tree.specs.Load.{folder_fault, RefusesFile, Walks, Loads};
+ghost use Rattle.gopher_tree.specs.Load.{folder_fault, RefusesFile, WalksTo, Loads, LoadsTo, LoadsAt};
 
-use crate::fault::TreeFault;
+use crate::fault::{LoadRefused, TreeFault};
 use crate::folder::{Target, names_in, read_file, target_of, without_links};
 use crate::path::{LONGEST_PATH, path_fault, path_in};
 use crate::tree::{MOST_NODES, Tree};
+use gopher_item::NoMemory;
 use std::alloc::Global;
 use std::fs::Files;
 use std::path::{Path, PathBuf};
@@ -18,6 +19,15 @@ use std::path::{Path, PathBuf};
 struct Walk {
     tree: Tree,
     nodes: usize,
+}
+
+// Notes the path at which a walk is.
+fn note_path(at: &mut Vec<u8>, path: &[u8]) -> Result<(), NoMemory>
+    ensures { OnOk result (at.new.items ≡ path.now) }
+{
+    at.clear();
+    at.extend_from_slice(path)?;
+    Ok(())
 }
 
 impl Walk {
@@ -75,13 +85,14 @@ impl Walk {
         file: Path<'_>,
         path: Vec<u8>,
     ) -> Result<Walk, TreeFault>
-        ensures { Walks (λ walk. walk.tree) self.tree result }
+        ensures { WalksTo (λ walk. walk.tree) self.tree path.items result }
     {
         let bytes = read_file(rt, alloc, file, self.tree.number_of_files())?;
         self.with_file(alloc, path, bytes)
     }
 
-    // Lists what a folder has, and what its folders have, name by name.
+    // Lists what a folder has, and what its folders have, name by name. Where that fails, `at` is the
+    // path of what it failed at, where that is another than the folder itself.
     #[cycle(walk)]
     fn through_folder<R: Files>(
         self,
@@ -89,19 +100,20 @@ impl Walk {
         alloc: Global,
         folder: Path<'_>,
         path: &[u8],
+        at: &mut Vec<u8>,
     ) -> Result<Walk, TreeFault>
         requires { length path.now ≤ 254 }
-        ensures { Walks (λ walk. walk.tree) self.tree result }
+        ensures { WalksTo (λ walk. walk.tree) self.tree at.new.items result }
     {
         let names = names_in(rt, alloc, folder, self.tree.number_of_files())?;
         let mut walk = self;
         for name in names {
-            walk = walk.through_name(rt, alloc, folder, path, name.as_str())?;
+            walk = walk.through_name(rt, alloc, folder, path, name.as_str(), at)?;
         }
         Ok(walk)
     }
 
-    // Lists what a name in a folder leads to.
+    // Lists what a name in a folder leads to. Where that fails, `at` is the path of what it failed at.
     #[cycle(walk)]
     fn through_name<R: Files>(
         self,
@@ -110,10 +122,11 @@ impl Walk {
         folder: Path<'_>,
         path: &[u8],
         name: &str,
+        at: &mut Vec<u8>,
     ) -> Result<Walk, TreeFault>
         requires short { length path.now ≤ 254 }
         requires named { 0 < length name.now }
-        ensures { Walks (λ walk. walk.tree) self.tree result }
+        ensures { WalksTo (λ walk. walk.tree) self.tree at.new.items result }
     {
         let Ok(place) = folder.join(alloc, name) else {
             return Err(TreeFault::NoMemory);
@@ -121,12 +134,15 @@ impl Walk {
         let Ok(path) = path_in(alloc, path, name.as_bytes()) else {
             return Err(TreeFault::NoMemory);
         };
+        let Ok(()) = note_path(at, &path) else {
+            return Err(TreeFault::NoMemory);
+        };
         match target_of(rt, place.as_path(), self.tree.number_of_files())? {
             Target::File => self.through_file(rt, alloc, place.as_path(), path),
             Target::Folder => {
                 let walk = self.with_folder(&path)?;
                 let place = without_links(rt, alloc, place)?;
-                walk.through_folder(rt, alloc, place.as_path(), &path)
+                walk.through_folder(rt, alloc, place.as_path(), &path, at)
             }
             Target::Neither => Ok(self),
         }
@@ -152,11 +168,40 @@ impl Tree {
     ///   counts among the nodes.
     /// - `LongSelector` (22) and `TooBig` (23) for a folder too, whether it has files or not.
     /// - `NoMemory` (90).
+    #[tactic(auto, using(crate::proofs::LoadLemmas::loads_some))]
     pub fn load<R: Files>(rt: &R, alloc: Global, root: &str) -> Result<Tree, TreeFault>
         ensures { Loads result }
     {
-        let walk = Walk::new(alloc)?;
-        let walk = walk.through_folder(rt, alloc, Path::new(root), b"")?;
-        Ok(walk.tree)
+        match Tree::load_at(rt, alloc, root) {
+            Ok(tree) => Ok(tree),
+            Err(refused) => Err(refused.fault),
+        }
     }
+
+    /// The tree of a folder, as `load` makes it; where it is refused, the path of what was refused too,
+    /// from the root: of the file or the folder that has the fault, of the one that can't be read, or of
+    /// the folder with a name that is not UTF-8. The root's own path is empty. Where memory was refused,
+    /// the path says nothing.
+    ///
+    /// # Errors
+    ///
+    /// Those of `load`.
+    pub fn load_at<R: Files>(rt: &R, alloc: Global, root: &str) -> Result<Tree, LoadRefused>
+        ensures { LoadsAt result }
+    {
+        let mut path = Vec::new(alloc);
+        match load_to(rt, alloc, root, &mut path) {
+            Ok(tree) => Ok(tree),
+            Err(fault) => Err(LoadRefused { fault, path }),
+        }
+    }
+}
+
+// The tree of a folder; where it is refused, `at` is the path of what was refused.
+fn load_to<R: Files>(rt: &R, alloc: Global, root: &str, at: &mut Vec<u8>) -> Result<Tree, TreeFault>
+    ensures { LoadsTo at.new.items result }
+{
+    let walk = Walk::new(alloc)?;
+    let walk = walk.through_folder(rt, alloc, Path::new(root), b"", at)?;
+    Ok(walk.tree)
 }

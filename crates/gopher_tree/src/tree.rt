@@ -1,8 +1,8 @@
 //! Trees.
 
-ghost use Rattle.std.specs.Prelude.{◌≡◌, ℕ, ◌+◌, ◌≤◌, ◌<◌, ◌++◌, ◌∷◌, ◌||◌, ◌&&◌, ◌==◌, not, [], None, Some, List, length, take, slice_index, if◌then◌else◌, map, fold, is_some, IfOk, MatchResult};
+ghost use Rattle.std.specs.Prelude.{◌≡◌, ℕ, ◌+◌, ◌≤◌, ◌<◌, ◌++◌, ◌∷◌, ◌||◌, ◌&&◌, ◌==◌, not, [], None, Some, List, length, take, slice_index, if◌then◌else◌, map, fold, count_by, is_some, IfOk, MatchResult};
 ghost use Rattle.std.specs.List.{list_any};
-ghost use Rattle.gopher_tree.specs.Path.{rest_after};
+ghost use Rattle.gopher_tree.specs.Path.{rest_after, is_menu_path};
 ghost use Rattle.gopher_tree.specs.Files.{is_file, is_folder, children, add_path, paths_of, nodes, is_among, file_at, total_bytes};
 ghost use Rattle.gopher_tree.specs.Fault.{is_too_big, is_twice, menu_fault, file_fault, files_fault, MakesTree};
 ghost use Rattle.gopher_tree.specs.Reply.{named, folder_reply, tree_reply};
@@ -79,15 +79,25 @@ impl Tree {
         })
     }
 
-    // How many files there are.
-    pub(crate) fn number_of_files(&self) -> usize
+    /// How many files there are, menu files among them.
+    pub fn number_of_files(&self) -> usize
         ensures { result ≡ length self.now }
     {
         self.files.len()
     }
 
-    // How many bytes the files have.
-    pub(crate) fn number_of_bytes(&self) -> usize
+    /// How many of the files are menu files, which have the name `.menu`.
+    pub fn number_of_menus(&self) -> usize
+        ensures { result ≡ count_by (λ file. is_menu_path file.0) self.now }
+    {
+        self.files
+            .iter()
+            .filter(|file| is_menu_path(file.path()))
+            .count()
+    }
+
+    /// How many bytes the files have, at most 67,108,864.
+    pub fn number_of_bytes(&self) -> usize
         ensures count { result ≡ total_bytes self.now }
         ensures bound { result ≤ 67108864 }
     {

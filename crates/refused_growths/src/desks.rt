@@ -128,6 +128,22 @@ fn work_at<C: Crew, R: Wait + AllocGlobal>(
     sees(second, &query, 3)
 }
 
+/// Claims the root, hands in its page, and has the pass hear of it.
+pub fn tell<C: Crew, R: Wait + AllocGlobal>(
+    rt: &R,
+    desk: &Desk<C, &R>,
+    share: &mut Share<C>,
+    pass: &mut Pass<C>,
+) -> Checked<()> {
+    let alloc = rt.alloc();
+    let query = query(alloc).or_else(|| query(alloc)).ok_or("no query")?;
+    let page = page(alloc).or_else(|| page(alloc)).ok_or("no page")?;
+    claims(rt, desk, share, 0)?;
+    let note = noted(rt, desk, share, page, pass, &query)?;
+    pass.hear(note);
+    Ok(())
+}
+
 /// Claims the root, hands in its page, and searches by two passes, of which the first hears the note.
 pub fn check<C: Crew, R: Wait + AllocGlobal>(rt: &R, blank: Blank) -> Checked<()>
     requires name { blank.name ≡ C.name }

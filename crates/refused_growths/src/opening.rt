@@ -16,11 +16,14 @@ pub type Checked<T> = Result<T, &'static str>;
 /// A desk, with its passes and its shares.
 pub type Opened<'a, C, R> = (Desk<C, &'a R>, Vec<Pass<C>>, Vec<Share<C>>);
 
-/// The scope of one host.
+/// The scope of one host, but for what is private.
 pub fn scope(alloc: Global) -> Option<Scope> {
     let mut allow = Vec::new(alloc);
     allow.push(Rule::new(alloc, b"h", 70, b"").ok()?).ok()?;
-    Some(Scope::new(allow, Vec::new(alloc)))
+    let mut deny = Vec::new(alloc);
+    deny.push(Rule::new(alloc, b"h", 70, b"/private").ok()?)
+        .ok()?;
+    Some(Scope::new(allow, deny))
 }
 
 /// The root of the host.

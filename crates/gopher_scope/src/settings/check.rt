@@ -58,8 +58,9 @@ fn first_fault(table: &Table, keys: &[Key]) -> Option<SettingsFault>
     None
 }
 
+/// Whether the settings have a key of this name. Takes no memory.
 #[tactic(auto, unfolding(crate::specs::Settings::is_key_name))]
-fn is_key_name(name: &str) -> bool
+pub fn is_key_name(name: &str) -> bool
     ensures { result ≡ is_key_name name.now }
 {
     Key::ALL.iter().any(|key| key.name() == name)
@@ -76,8 +77,10 @@ fn has_unknown_key(table: &Table) -> bool
     false
 }
 
+/// Whether at this key stands an array that has a table with a key that isn't named for it. Takes no
+/// memory.
 #[tactic(auto, unfolding(crate::specs::Settings::key_has_unknown))]
-fn key_has_unknown(table: &Table, key: Key) -> bool
+pub fn key_has_unknown(table: &Table, key: Key) -> bool
     ensures { result ≡ key_has_unknown (table_view table.now) key }
 {
     key.form().has_unknown(table, key.name())

@@ -8,20 +8,24 @@ use Rattle.gopher_tree.proofs.load.Walk.+walk.Goals as goal
 pub through_folder-loop-name-init : goal.through_folder-loop-name-init
 through_folder-loop-name-init g t c = (search rules, lists_none c.args.self.tree)
 
+pub through_folder-returns-in_err-names : goal.through_folder-returns-in_err-names
+through_folder-returns-in_err-names g t c =
+    walks_none _ c.args.self.tree c.args.at.now.items c.from_residual.result c.in_err-names.field-0.0 (search rules) (stops_unreadable c.args.self.tree c.args.at.now.items c.number_of_files.result c.in_err-names.field-0.0 c.number_of_files.ensures (search rules))
+
 pub through_folder-returns-in_err-walk : goal.through_folder-returns-in_err-walk
-through_folder-returns-in_err-walk g t c = walks_on _ c.args.self.tree c.loop-name.walk.tree _ c.loop-name.invariant.1 (search rules)
+through_folder-returns-in_err-walk g t c = walks_on _ c.args.self.tree c.loop-name.walk.tree c.through_name.new.at.items _ c.loop-name.invariant.1 (search rules)
 
 pub through_folder-loop-name-preserved : goal.through_folder-loop-name-preserved
 through_folder-loop-name-preserved g t c = (All-rest (λ name. is_shown (string_bytes name) ≡ true) c.in-Some.name (into_iter_items c.next.new.self) (into_iter_items c.loop-name.name-iterator) (search rules) c.loop-name.invariant.0, lists_more c.args.self.tree c.loop-name.walk.tree c.in_ok-walk.walk.tree c.loop-name.invariant.1 (search rules))
 
 pub through_name-returns-in_err-target_of : goal.through_name-returns-in_err-target_of
 through_name-returns-in_err-target_of g t c =
-    walks_none _ c.args.self.tree c.from_residual.result c.in_err-target_of.field-0.0 (search rules) (stops_unreadable c.args.self.tree c.number_of_files.result c.in_err-target_of.field-0.0 c.number_of_files.ensures (search rules))
+    walks_none _ c.args.self.tree c.note_path.new.at.items c.from_residual.result c.in_err-target_of.field-0.0 (search rules) (stops_unreadable c.args.self.tree c.note_path.new.at.items c.number_of_files.result c.in_err-target_of.field-0.0 c.number_of_files.ensures (search rules))
 
 pub through_name-returns-in_err-walk-in-Folder : goal.through_name-returns-in_err-walk-in-Folder
 through_name-returns-in_err-walk-in-Folder g t c =
-    walks_none _ c.args.self.tree c.from_residual-in_err-walk-in-Folder.result c.in_err-walk-in-Folder.field-0.0 (search rules) (stops_folder c.args.self.tree c.args.self.nodes c.deref.result.now c.in_err-walk-in-Folder.field-0.0 (search rules))
+    walks_none _ c.args.self.tree c.note_path.new.at.items c.from_residual-in_err-walk-in-Folder.result c.in_err-walk-in-Folder.field-0.0 (search rules) (stops_folder c.args.self.tree c.args.self.nodes c.note_path.new.at.items c.in_err-walk-in-Folder.field-0.0 (search rules))
 
 pub through_name-returns-in_err-place-in-Folder : goal.through_name-returns-in_err-place-in-Folder
 through_name-returns-in_err-place-in-Folder g t c =
-    walks_none _ c.args.self.tree c.from_residual-in_err-place-in-Folder.result c.in_err-place-in-Folder.field-0.0 (search rules) (stops_memory c.args.self.tree _ (search rules))
+    walks_none _ c.args.self.tree c.note_path.new.at.items c.from_residual-in_err-place-in-Folder.result c.in_err-place-in-Folder.field-0.0 (search rules) (stops_memory c.args.self.tree c.note_path.new.at.items c.in_err-place-in-Folder.field-0.0 (search rules))

@@ -1,0 +1,32 @@
+-- What is told of a folder, and of a text of settings.
+use Rattle.std.proofs.Common.{◌≡◌, ◌≢◌, ℕ, List, [], Option, None, Some, Ok, Err}
+use Rattle.toml.specs.Parse.{parse_document}
+use Rattle.gopher_scope.specs.Settings.{SettingsData, settings_of}
+use Rattle.gopher_scope.specs.declared.fault.SettingsFault.{SettingsFault}
+use Rattle.gopher_scope.specs.declared.fault.SettingsFault.TheVariants as settings_fault
+use Rattle.gopher_tree.specs.Load.{LoadsTo}
+use Rattle.gopher_tree.specs.declared.fault.TreeFault.{TreeFault}
+use Rattle.gopher_check.specs.declared.obstacle.Obstacle.{Obstacle}
+use Rattle.gopher_check.specs.Report.{fault_report, path_below, menu_line_of, TellsSite, TellsText}
+use Rattle.gopher_check.specs.declared.fault.SiteFault.{SiteFault}
+use Rattle.gopher_check.specs.declared.fault.SiteFault.TheVariants as fault
+
+pub tells_text : (path text words : List ℕ) (settings : SettingsData) (found : Option SiteFault)
+    → settings_of (parse_document text) ≡ Ok settings → TellsSite path settings words found → TellsText path text words found
+tells_text path text words settings None is tells = (settings, is, tells)
+tells_text path text words settings (Some (fault.Settings why)) is tells = absurd tells
+tells_text path text words settings (Some (fault.Tree why how)) is tells = (settings, is, tells)
+tells_text path text words settings (Some (fault.SeedOutOfScope seed)) is tells = (settings, is, tells)
+tells_text path text words settings (Some fault.SettingsUnreadable) is tells = absurd tells
+
+-- what is told of a folder that makes no tree
+pub tells_folder : (path : List ℕ) (settings : SettingsData) (words below : List ℕ) (why : TreeFault) (how : Obstacle)
+    → LoadsTo below (Err why) → words ≡ fault_report (fault.Tree why how) (path_below settings.root below) (menu_line_of why) []
+    → TellsSite path settings words (Some (fault.Tree why how))
+tells_folder path settings words below why how loads is = (below, loads, is)
+
+-- what is told of settings that are refused
+pub tells_refused : (path text words : List ℕ) (why : SettingsFault) (line : Option ℕ) (unknown : List ℕ)
+    → (why ≢ settings_fault.NoMemory → settings_of (parse_document text) ≡ Err why) → words ≡ fault_report (fault.Settings why) path line unknown
+    → TellsText path text words (Some (fault.Settings why))
+tells_refused path text words why line unknown refused is = (refused, (line, unknown, is))

@@ -1,0 +1,33 @@
+-- The lines of a report: one thing a line, whatever bytes stand in names.
+use Rattle.std.specs.Prelude.{ℕ, ◌==◌, List, [], ◌∷◌, ◌++◌, if◌then◌else◌}
+use Rattle.std.specs.List.{flat_map}
+use Rattle.std.specs.Fmt.{decimal}
+use Rattle.gopher_item.specs.Bytes.{is_control}
+
+-- a byte as it is shown: a TAB, an LF, a CR and a backslash as `\t`, `\n`, `\r` and `\\`, any other control byte as `\?`
+abbrev pub shown_byte : ℕ → List ℕ
+shown_byte byte =
+    if byte == 9 then 92 ∷ 116 ∷ []
+    else (if byte == 10 then 92 ∷ 110 ∷ []
+    else (if byte == 13 then 92 ∷ 114 ∷ []
+    else (if byte == 92 then 92 ∷ 92 ∷ []
+    else (if is_control byte then 92 ∷ 63 ∷ [] else byte ∷ []))))
+
+abbrev pub shown : List ℕ → List ℕ
+shown bytes = flat_map shown_byte bytes
+
+-- a line of words behind what they are
+abbrev pub words_line : List ℕ → List ℕ → List ℕ
+words_line front words = front ++ shown words ++ 10 ∷ []
+
+-- a line of a number behind what it is
+abbrev pub number_line : List ℕ → ℕ → List ℕ
+number_line front number = front ++ decimal number ++ 10 ∷ []
+
+-- a host and a port
+abbrev pub server_words : List ℕ → ℕ → List ℕ
+server_words host port = shown host ++ 32 ∷ decimal port
+
+-- the rest of a line: a host, a port, and a selector or the beginning of one
+abbrev pub address_rest : List ℕ → ℕ → List ℕ → List ℕ
+address_rest host port selector = server_words host port ++ 32 ∷ shown selector ++ 10 ∷ []

@@ -1,0 +1,176 @@
+//! A site that is checked: its settings, its folder, and the seeds of its crawl.
+
+ghost use Rattle.std.specs.Prelude.{◌≡◌, [], None, Some, IfOk};
+ghost use Rattle.gopher_scope.specs.Settings.{settings_data};
+ghost use Rattle.gopher_tree.specs.Fault.{files_fault};
+ghost use Rattle.gopher_check.specs.declared.fault.SiteFault.TheVariants.{SettingsUnreadable};
+ghost use Rattle.gopher_check.specs.Report.{fault_report, menu_line_of, path_below, seed_outside, TellsSite, TellsText};
+
+use crate::fault::SiteFault;
+use crate::fault_words::fault_report;
+use crate::obstacle::obstacle_at;
+use crate::site_words::site_report;
+use crate::unknown::unknown_key;
+use gopher_item::{NoMemory, Place};
+use gopher_scope::{Scope, Settings, SettingsFault};
+use gopher_tree::{Tree, TreeFault};
+use std::alloc::Global;
+use std::fs::Files;
+
+/// What a check tells.
+#[derive(Debug, Drop)]
+pub struct Report {
+    /// Its words, in lines.
+    pub words: Vec<u8>,
+    /// The first fault; none of a sound site.
+    pub fault: Option<SiteFault>,
+}
+
+/// The report of settings whose file can't be read. `path` is where it should be.
+///
+/// Refused only where memory is (90).
+pub fn unreadable(alloc: Global, path: &str) -> Result<Report, NoMemory>
+    ensures fault { IfOk result (λ report. report.fault ≡ Some SettingsUnreadable) }
+    ensures words { IfOk result (λ report. report.words.items
+        ≡ fault_report SettingsUnreadable path.now None []) }
+{
+    let fault = SiteFault::SettingsUnreadable;
+    let words = fault_report(alloc, fault, path.as_bytes(), None, b"")?;
+    Ok(Report {
+        words,
+        fault: Some(fault),
+    })
+}
+
+// The first seed that the scope doesn't allow.
+fn seed_outside(scope: &Scope, seeds: &[Place]) -> Option<usize>
+    ensures { result ≡ seed_outside scope.now seeds.now }
+{
+    seeds.iter().position(|seed| !scope.allows(seed))
+}
+
+// The line of a menu file that a fault names.
+fn menu_line_of(fault: TreeFault) -> Option<usize>
+    ensures { result ≡ menu_line_of fault }
+{
+    match fault {
+        TreeFault::BadMenuLine { line, .. } => Some(line),
+        _ => None,
+    }
+}
+
+// A path from the root, behind the root's own.
+fn path_below(alloc: Global, root: &str, path: &[u8]) -> Result<Vec<u8>, NoMemory>
+    ensures { IfOk result (λ below. below.items ≡ path_below root.now path.now) }
+{
+    let mut below = Vec::from_slice(alloc, root.as_bytes())?;
+    below.extend_from_slice(b"/")?;
+    below.extend_from_slice(path)?;
+    Ok(below)
+}
+
+// The number of the line, from 1, at which a text is no TOML, where it is none.
+fn broken_line(alloc: Global, text: &str) -> Option<usize> {
+    let Err(fault) = toml::table_from_str(alloc, text) else {
+        return None;
+    };
+    let bytes = text.as_bytes();
+    let start = fault.span()?.start.min(bytes.len());
+    let feeds = bytes[..start].iter().filter(|byte| **byte == b'\n').count();
+    Some(feeds.saturating_add(1))
+}
+
+// The report of settings with the tree of their folder.
+fn tree_report(
+    alloc: Global,
+    path: &str,
+    settings: Settings,
+    tree: &Tree,
+) -> Result<Report, NoMemory>
+    requires { files_fault tree.now ≡ None }
+    ensures { IfOk result (λ report. TellsSite path.now (settings_data settings)
+        report.words.items report.fault) }
+{
+    if let Some(seed) = seed_outside(&settings.scope, &settings.seeds) {
+        let fault = SiteFault::SeedOutOfScope(seed);
+        let words = fault_report(alloc, fault, path.as_bytes(), None, b"")?;
+        return Ok(Report {
+            words,
+            fault: Some(fault),
+        });
+    }
+    let words = site_report(alloc, path.as_bytes(), settings, tree)?;
+    Ok(Report { words, fault: None })
+}
+
+// The report of settings.
+#[tactic(auto, using(crate::proofs::Tells::tells_folder))]
+fn settings_report<R: Files>(
+    rt: &R,
+    alloc: Global,
+    path: &str,
+    settings: Settings,
+) -> Result<Report, NoMemory>
+    ensures { IfOk result (λ report. TellsSite path.now (settings_data settings)
+        report.words.items report.fault) }
+{
+    match Tree::load_at(rt, alloc, settings.root.as_str()) {
+        Ok(tree) => tree_report(alloc, path, settings, &tree),
+        Err(refused) => {
+            let place = path_below(alloc, settings.root.as_str(), &refused.path)?;
+            let fault = SiteFault::Tree(refused.fault, obstacle_at(rt, alloc, &place));
+            let words = fault_report(alloc, fault, &place, menu_line_of(refused.fault), b"")?;
+            Ok(Report {
+                words,
+                fault: Some(fault),
+            })
+        }
+    }
+}
+
+// The number of the line at which settings are no TOML, where that is their fault.
+fn settings_line(alloc: Global, text: &str, fault: SettingsFault) -> Option<usize> {
+    match fault {
+        SettingsFault::NotToml => broken_line(alloc, text),
+        _ => None,
+    }
+}
+
+// The key of settings that isn't known, where that is their fault.
+fn settings_key(alloc: Global, text: &str, fault: SettingsFault) -> Result<Vec<u8>, NoMemory> {
+    match fault {
+        SettingsFault::UnknownKey => unknown_key(alloc, text),
+        _ => Ok(Vec::new(alloc)),
+    }
+}
+
+/// The report of the settings that a text states, of the folder that they name, and of their seeds. `path`
+/// is where the text was found.
+///
+/// The first fault is told, in this order: of the settings (30 to 34), of the folder (20 to 26), of the
+/// seeds (50). For 30 the line is told, too, for 34 the key; for 26 what the system says when what can't be read is tried
+/// once more.
+///
+/// Refused only where memory is (90).
+#[tactic(auto, using(crate::proofs::Tells::tells_text, crate::proofs::Tells::tells_refused))]
+pub fn check<R: Files>(rt: &R, alloc: Global, path: &str, text: &str) -> Result<Report, NoMemory>
+    ensures { IfOk result (λ report. TellsText path.now text.now
+        report.words.items report.fault) }
+{
+    match Settings::read(alloc, text) {
+        Ok(settings) => {
+            let report = settings_report(rt, alloc, path, settings)?;
+            Ok(report)
+        }
+        Err(refused) => {
+            let fault = SiteFault::Settings(refused);
+            let line = settings_line(alloc, text, refused);
+            let key = settings_key(alloc, text, refused)?;
+            let words = fault_report(alloc, fault, path.as_bytes(), line, &key)?;
+            Ok(Report {
+                words,
+                fault: Some(fault),
+            })
+        }
+    }
+}

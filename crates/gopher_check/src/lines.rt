@@ -1,0 +1,84 @@
+//! The lines of a report.
+
+ghost use Rattle.std.specs.Prelude.{◌≡◌, ◌++◌, OnOk};
+ghost use Rattle.gopher_check.specs.Lines.{shown_byte, shown, words_line, number_line, server_words, address_rest};
+
+use gopher_item::is_control;
+use itoa::Buffer;
+use std::alloc::AllocError;
+
+// Appends a byte as it is shown.
+fn push_byte(byte: u8, out: &mut Vec<u8>) -> Result<(), AllocError>
+    ensures { OnOk result (out.new.items ≡ out.old.items ++ shown_byte byte) }
+{
+    if byte == b'\t' {
+        out.extend_from_slice(b"\\t")
+    } else if byte == b'\n' {
+        out.extend_from_slice(b"\\n")
+    } else if byte == b'\r' {
+        out.extend_from_slice(b"\\r")
+    } else if byte == b'\\' {
+        out.extend_from_slice(b"\\\\")
+    } else if is_control(byte) {
+        out.extend_from_slice(b"\\?")
+    } else {
+        out.push(byte)?;
+        Ok(())
+    }
+}
+
+/// Appends bytes as they are shown: a TAB, an LF, a CR and a backslash as `\t`, `\n`, `\r` and `\\`, any
+/// other control byte as `\?`.
+pub(crate) fn push_shown(bytes: &[u8], out: &mut Vec<u8>) -> Result<(), AllocError>
+    ensures { OnOk result (out.new.items ≡ out.old.items ++ shown bytes.now) }
+{
+    for byte in bytes {
+        push_byte(*byte, out)?;
+    }
+    Ok(())
+}
+
+/// Appends a line: what the words are, and the words.
+pub(crate) fn push_words(front: &[u8], words: &[u8], out: &mut Vec<u8>) -> Result<(), AllocError>
+    ensures { OnOk result (out.new.items ≡ out.old.items ++ words_line front.now words.now) }
+{
+    out.extend_from_slice(front)?;
+    push_shown(words, out)?;
+    out.extend_from_slice(b"\n")
+}
+
+/// Appends a line: what the number is, and the number.
+pub(crate) fn push_number(front: &[u8], number: usize, out: &mut Vec<u8>) -> Result<(), AllocError>
+    ensures { OnOk result (out.new.items ≡ out.old.items ++ number_line front.now number) }
+{
+    let mut digits = Buffer::new();
+    out.extend_from_slice(front)?;
+    out.extend_from_slice(digits.format(number).as_bytes())?;
+    out.extend_from_slice(b"\n")
+}
+
+/// Appends a host and a port.
+pub(crate) fn push_server(host: &[u8], port: u16, out: &mut Vec<u8>) -> Result<(), AllocError>
+    ensures { OnOk result (out.new.items ≡ out.old.items ++ server_words host.now port) }
+{
+    let mut digits = Buffer::new();
+    push_shown(host, out)?;
+    out.extend_from_slice(b" ")?;
+    out.extend_from_slice(digits.format(port).as_bytes())
+}
+
+/// Appends the rest of a line: a host, a port, and a selector or the beginning of one.
+pub(crate) fn push_address(
+    host: &[u8],
+    port: u16,
+    selector: &[u8],
+    out: &mut Vec<u8>,
+) -> Result<(), AllocError>
+    ensures { OnOk result (out.new.items ≡ out.old.items
+        ++ address_rest host.now port selector.now) }
+{
+    push_server(host, port, out)?;
+    out.extend_from_slice(b" ")?;
+    push_shown(selector, out)?;
+    out.extend_from_slice(b"\n")
+}

@@ -1,0 +1,93 @@
+//! Why something can't be read.
+
+ghost use Rattle.std.specs.Prelude.{◌≡◌};
+ghost use Rattle.gopher_check.specs.Fault.{obstacle_cause, obstacle_remedy};
+
+use std::alloc::Global;
+use std::fs::{self, Files};
+use std::io::{self, ErrorKind};
+use std::path::Path;
+use std::str;
+
+/// Why something can't be read.
+#[derive(Clone, Copy, Debug, PartialEq, Eq)]
+pub enum Obstacle {
+    /// A name in the folder is not UTF-8.
+    NotUtf8,
+    /// The right to read it is missing.
+    Denied,
+    /// Nothing is there.
+    Missing,
+    /// It is no folder, and one is wanted.
+    NotFolder,
+    /// Links lead to one another without an end.
+    Loop,
+    /// The system says otherwise, or it can be read now.
+    Other,
+}
+
+impl Obstacle {
+    /// What is wrong, in words.
+    pub fn cause(self) -> &'static str
+        ensures { result.now ≡ obstacle_cause self }
+    {
+        match self {
+            Obstacle::NotUtf8 => "a name in this folder is not UTF-8",
+            Obstacle::Denied => "the right to read this is missing",
+            Obstacle::Missing => "nothing is there",
+            Obstacle::NotFolder => "a folder is wanted, and this is none",
+            Obstacle::Loop => "links lead to one another without an end",
+            Obstacle::Other => "the system could not read it",
+        }
+    }
+
+    /// What to do about it, in words.
+    pub fn remedy(self) -> &'static str
+        ensures { result.now ≡ obstacle_remedy self }
+    {
+        match self {
+            Obstacle::NotUtf8 => "rename it: ls -b shows its bytes",
+            Obstacle::Denied => "let the server's user read it, and enter the folders above it",
+            Obstacle::Missing => "make the folder, or correct root in the settings",
+            Obstacle::NotFolder => "correct root in the settings",
+            Obstacle::Loop => "take the link away",
+            Obstacle::Other => "try to read it as the server's user",
+        }
+    }
+}
+
+// What an error of the system says.
+fn obstacle_of(kind: ErrorKind) -> Obstacle {
+    match kind {
+        ErrorKind::InvalidFilename => Obstacle::NotUtf8,
+        ErrorKind::PermissionDenied => Obstacle::Denied,
+        ErrorKind::NotFound => Obstacle::Missing,
+        ErrorKind::NotADirectory => Obstacle::NotFolder,
+        ErrorKind::FilesystemLoop => Obstacle::Loop,
+        _ => Obstacle::Other,
+    }
+}
+
+// Reads the names of a folder, or opens a file.
+fn read_at<R: Files>(rt: &R, alloc: Global, path: Path<'_>) -> io::Result<()> {
+    let found = fs::metadata(rt, path)?;
+    if found.is_dir() {
+        for entry in fs::read_dir(&(rt, alloc), path)? {
+            let _ = entry?;
+        }
+        return Ok(());
+    }
+    let _ = fs::open(rt, path)?;
+    Ok(())
+}
+
+/// Why what lies at a path can't be read, as the system says when it is tried once more.
+pub(crate) fn obstacle_at<R: Files>(rt: &R, alloc: Global, path: &[u8]) -> Obstacle {
+    let Ok(path) = str::from_utf8(path) else {
+        return Obstacle::Other;
+    };
+    match read_at(rt, alloc, Path::new(path)) {
+        Ok(()) => Obstacle::Other,
+        Err(error) => obstacle_of(error.kind()),
+    }
+}

@@ -1,0 +1,103 @@
+//! What is told of a sound site.
+
+ghost use Rattle.std.specs.Prelude.{◌≡◌, ◌++◌, IfOk, OnOk};
+ghost use Rattle.std.specs.List.{flat_map};
+ghost use Rattle.gopher_scope.specs.Settings.{settings_data};
+ghost use Rattle.gopher_check.specs.Report.{address_lines, size_lines, seed_line, rule_line, site_report};
+
+use crate::lines::{push_address, push_number, push_server, push_words};
+use gopher_item::{Home, NoMemory, Place};
+use gopher_scope::{Rule, Settings};
+use gopher_tree::Tree;
+use std::alloc::{AllocError, Global};
+
+// Appends where the site is served, and the folder.
+fn push_home(home: &Home, root: &str, out: &mut Vec<u8>) -> Result<(), AllocError>
+    ensures { OnOk result (out.new.items ≡ out.old.items ++ address_lines home.now root.now) }
+{
+    out.extend_from_slice(b"address: ")?;
+    push_server(home.host(), home.port(), out)?;
+    out.extend_from_slice(b"\n")?;
+    push_words(b"root: ", root.as_bytes(), out)
+}
+
+// Appends how many files, menu files and bytes there are.
+fn push_sizes(tree: &Tree, out: &mut Vec<u8>) -> Result<(), AllocError>
+    ensures { OnOk result (out.new.items ≡ out.old.items ++ size_lines tree.now) }
+{
+    push_number(b"files: ", tree.number_of_files(), out)?;
+    push_number(b"menu files: ", tree.number_of_menus(), out)?;
+    push_number(b"bytes: ", tree.number_of_bytes(), out)
+}
+
+// Appends the line of a seed.
+fn push_seed(seed: &Place, out: &mut Vec<u8>) -> Result<(), AllocError>
+    ensures { OnOk result (out.new.items ≡ out.old.items ++ seed_line seed.now) }
+{
+    out.extend_from_slice(b"seed: ")?;
+    out.push(seed.kind())?;
+    out.push(b' ')?;
+    push_address(seed.host(), seed.port(), seed.selector(), out)
+}
+
+// Appends the lines of the seeds.
+fn push_seeds(seeds: &[Place], out: &mut Vec<u8>) -> Result<(), AllocError>
+    ensures { OnOk result (out.new.items ≡ out.old.items ++ flat_map seed_line seeds.now) }
+{
+    for seed in seeds {
+        push_seed(seed, out)?;
+    }
+    Ok(())
+}
+
+// Appends the line of a rule.
+fn push_rule(front: &[u8], rule: &Rule, out: &mut Vec<u8>) -> Result<(), AllocError>
+    ensures { OnOk result (out.new.items ≡ out.old.items ++ rule_line front.now rule.now) }
+{
+    out.extend_from_slice(front)?;
+    push_address(rule.host(), rule.port(), rule.prefix(), out)
+}
+
+// Appends the lines of rules.
+fn push_rules(front: &[u8], rules: &[Rule], out: &mut Vec<u8>) -> Result<(), AllocError>
+    ensures { OnOk result (out.new.items ≡ out.old.items
+        ++ flat_map (rule_line front.now) rules.now) }
+{
+    for rule in rules {
+        push_rule(front, rule, out)?;
+    }
+    Ok(())
+}
+
+/// What is told of a sound site: the file of its settings, the address, the root, how many files, menu
+/// files and bytes there are, the seeds and the rules of its crawl, each in a line of its own, and that it
+/// is sound.
+///
+/// Refused only where memory is (90).
+pub(crate) fn site_report(
+    alloc: Global,
+    path: &[u8],
+    settings: Settings,
+    tree: &Tree,
+) -> Result<Vec<u8>, NoMemory>
+    ensures { IfOk result (λ report. report.items
+        ≡ site_report path.now (settings_data settings) tree.now) }
+{
+    let Settings {
+        home,
+        root,
+        seeds,
+        scope,
+        ..
+    } = settings;
+    let (allow, deny) = scope.into_rules();
+    let mut report = Vec::new(alloc);
+    push_words(b"settings: ", path, &mut report)?;
+    push_home(&home, root.as_str(), &mut report)?;
+    push_sizes(tree, &mut report)?;
+    push_seeds(&seeds, &mut report)?;
+    push_rules(b"may visit: ", &allow, &mut report)?;
+    push_rules(b"may not visit: ", &deny, &mut report)?;
+    report.extend_from_slice(b"sound\n")?;
+    Ok(report)
+}

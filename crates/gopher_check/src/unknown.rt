@@ -1,0 +1,54 @@
+//! The key of settings that isn't known.
+
+ghost use Rattle.std.specs.Prelude.{◌≡◌, true, false, IfSome};
+ghost use Rattle.toml.specs.View.{table_view};
+ghost use Rattle.gopher_scope.specs.Settings.{is_key_name, key_has_unknown};
+
+use gopher_item::NoMemory;
+use gopher_scope::{Key, is_key_name, key_has_unknown};
+use std::alloc::Global;
+use toml::Table;
+
+// The keys at which arrays of tables stand.
+const ARRAYS: [Key; 3] = [Key::Seeds, Key::Allow, Key::Deny];
+
+// The first key of the table that isn't one of the settings.
+fn own_key(table: &Table) -> Option<&str>
+    ensures { IfSome result (λ name. is_key_name name.now ≡ false) }
+{
+    for name in table.keys() {
+        if !is_key_name(name.as_str()) {
+            return Some(name.as_str());
+        }
+    }
+    None
+}
+
+// The first of these keys whose array has a table with a key that isn't known.
+fn array_key(table: &Table, keys: &[Key]) -> Option<Key>
+    ensures { IfSome result (λ key. key_has_unknown (table_view table.now) key ≡ true) }
+{
+    for key in keys {
+        if key_has_unknown(table, *key) {
+            return Some(*key);
+        }
+    }
+    None
+}
+
+/// The first key of a text of settings that isn't known, by the keys' bytes; where its own table has none,
+/// the key of the first array that has a table with one. Empty where there is none either.
+///
+/// Refused only where memory is (90).
+pub(crate) fn unknown_key(alloc: Global, text: &str) -> Result<Vec<u8>, NoMemory> {
+    let Ok(table) = toml::table_from_str(alloc, text) else {
+        return Ok(Vec::new(alloc));
+    };
+    if let Some(name) = own_key(&table) {
+        return Ok(Vec::from_slice(alloc, name.as_bytes())?);
+    }
+    match array_key(&table, &ARRAYS) {
+        Some(key) => Ok(Vec::from_slice(alloc, key.name().as_bytes())?),
+        None => Ok(Vec::new(alloc)),
+    }
+}

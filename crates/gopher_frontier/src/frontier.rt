@@ -1,0 +1,289 @@
+//! The frontier of a crawl: what is known, what waits, and how much of each.
+
+ghost use Rattle.std.specs.Prelude.{◌≡◌, ◌+◌, ◌-◌, ◌*◌, ◌^◌, ◌<◌, ◌≤◌, [], ◌∷◌, ◌++◌, true, false, length, map, filter, take, slice_get, slice_set, MatchOption, IfOk, OnOk, OnErr};
+ghost use Rattle.std.specs.Option.{option_map, option_map_or};
+ghost use Rattle.std.specs.Arc.{arc_value};
+ghost use Rattle.gopher_item.specs.Place.{same_place};
+ghost use Rattle.gopher_scope.specs.Scope.{allows};
+ghost use Rattle.gopher_frontier.specs.Tables.{FrontierData, Begins, KeepsCounts, KeepsFrontier, Extends, known_part, after_mentions, drops, Learned, is_out_at, after_claim, after_find, after_failure};
+
+use crate::known::{KnownPlaces, Standing};
+use crate::queue::Queue;
+use crate::sizes::{Added, Status};
+use gopher_item::{NoMemory, Place};
+use gopher_scope::Scope;
+use std::alloc::Global;
+use std::marker::Model;
+use std::sync::Arc;
+
+/// The known places, the queue of those that wait, and the sizes, counted as they change. A place goes
+/// by its number: its index, from 0, among the known places.
+///
+/// Contracts see a frontier as its tables (`FrontierData`), and don't ask how they came about: that is
+/// for the caller to keep.
+#[derive(Debug, Drop)]
+pub struct Frontier {
+    known: KnownPlaces,
+    queue: Queue,
+    out: u32,
+    done: u32,
+    dropped: u64,
+}
+
+impl Model for Frontier {
+    ghost use Rattle.gopher_frontier.specs.Tables.{FrontierData};
+
+    ghost Value = { FrontierData };
+
+    ghost view = { λ f. record { places = f.known.places; standings = f.known.standings; waiting = f.queue.waiting; room = f.queue.room; out = f.out; done = f.done; dropped = f.dropped } };
+}
+
+impl Frontier {
+    /// The frontier of a crawl that begins: the seeds, as far as `limit` allows, wait. Refused only
+    /// where memory is (90).
+    pub fn open(alloc: Global, limit: u32, seeds: &[Place]) -> Result<Frontier, NoMemory>
+        requires { limit ≤ 65536 }
+        ensures { IfOk result (Begins limit seeds.now) }
+    {
+        let mut known = KnownPlaces::new(alloc);
+        let dropped = known.mention_seeds(alloc, limit as usize, seeds)?;
+        let mut queue = Queue::new(alloc);
+        queue.reserve(known.len())?;
+        queue.push_range(0, known.len() as u32);
+        Ok(Frontier {
+            known,
+            queue,
+            out: 0,
+            done: 0,
+            dropped,
+        })
+    }
+
+    /// How many places are known. Takes no memory.
+    pub fn len(&self) -> usize
+        ensures places { result ≡ length self.now.places }
+        ensures standings { result ≡ length self.now.standings }
+    {
+        self.known.len()
+    }
+
+    /// How many places are out: claimed, with no outcome yet. Takes no memory.
+    pub fn out(&self) -> u32
+        ensures { result ≡ self.now.out }
+    {
+        self.out
+    }
+
+    /// The known places, each at its number. Takes no memory.
+    pub fn places(&self) -> &[Arc<Place>]
+        ensures { map arc_value result.now ≡ self.now.places }
+    {
+        self.known.as_slice()
+    }
+
+    /// The place of a known number. Takes no memory.
+    pub fn place(&self, number: u32) -> &Arc<Place>
+        requires { number < length self.now.places }
+        ensures { slice_get self.now.places number ≡ Some (arc_value result.now) }
+    {
+        &self.known.as_slice()[number as usize]
+    }
+
+    /// The first number that waits, if one does. Takes no memory.
+    pub fn first(&self) -> Option<u32>
+        ensures { result ≡ slice_get self.now.waiting 0 }
+    {
+        self.queue.first()
+    }
+
+    /// How the place of this number stands, if it is known. Takes no memory.
+    pub fn standing(&self, number: u32) -> Option<Standing>
+        ensures { result ≡ slice_get self.now.standings number }
+    {
+        self.known.standing(number as usize)
+    }
+
+    /// How the place of this number stands, if it is out. Takes no memory.
+    pub fn out_standing(&self, number: u32) -> Option<Standing>
+        ensures { MatchOption result (is_out_at self.now.standings number ≡ false) (λ standing. (slice_get self.now.standings number ≡ Some standing) × (standing.is_out ≡ true)) }
+    {
+        let standing = self.standing(number)?;
+        if standing.is_out {
+            Some(standing)
+        } else {
+            None
+        }
+    }
+
+    /// Whether this is the place of this number. Takes no memory.
+    pub fn has_place(&self, number: u32, place: &Place) -> bool
+        ensures { result ≡ option_map_or (λ other. same_place other place.now) (slice_get self.now.places number) false }
+    {
+        match self.known.as_slice().get(number as usize) {
+            Some(other) => **other == *place,
+            None => false,
+        }
+    }
+
+    /// The sizes. Takes no memory.
+    pub fn status(&self) -> Status
+        requires known { length self.now.places < 2 ^ 32 }
+        requires waiting { length self.now.waiting < 2 ^ 32 }
+        ensures { result ≡ record { known = length self.now.places; waiting = length self.now.waiting; out = self.now.out; done = self.now.done; dropped = self.now.dropped } }
+    {
+        Status {
+            known: self.known.len() as u32,
+            waiting: self.queue.len() as u32,
+            out: self.out,
+            done: self.done,
+            dropped: self.dropped,
+        }
+    }
+
+    /// Makes room in the queue for `additional` numbers. A refusal (90) leaves all as it was.
+    pub fn reserve(&mut self, additional: usize) -> Result<(), NoMemory>
+        ensures keeps { KeepsFrontier self.old self.new }
+        ensures ok { OnOk result (additional ≤ self.new.room) }
+    {
+        self.queue.reserve(additional)
+    }
+
+    /// Mentions the links of a page, counts what that adds, and makes room in the queue for that and
+    /// for each outcome that is due. A refusal (90) leaves all as it was.
+    pub fn learn(
+        &mut self,
+        scope: &Scope,
+        limit: u32,
+        links: &[Arc<Place>],
+    ) -> Result<Added, NoMemory>
+        requires few_links { length links.now ≤ 1048576 }
+        requires limit { limit ≤ 65536 }
+        requires few_places { length self.old.places ≤ limit }
+        requires few_out { self.old.out ≤ 65536 }
+        ensures learned { IfOk result (λ added. Learned limit (filter (allows scope.now) (map arc_value links.now)) self.old self.new added.dropped) }
+        ensures fresh { IfOk result (λ added. added.fresh + length self.old.places ≡ length self.new.places) }
+        ensures few { IfOk result (λ added. added.dropped ≤ 1048576) }
+        ensures room { IfOk result (λ added. added.fresh + self.old.out ≤ self.new.room) }
+        ensures err { OnErr result (KeepsFrontier self.old self.new) }
+    {
+        let before = self.known.len();
+        let learned = self.try_learn(scope, limit, links);
+        if learned.is_err() {
+            self.known.truncate(before);
+        }
+        learned
+    }
+
+    // As `learn`, but a refusal may leave more known places.
+    fn try_learn(
+        &mut self,
+        scope: &Scope,
+        limit: u32,
+        links: &[Arc<Place>],
+    ) -> Result<Added, NoMemory>
+        requires few_links { length links.now ≤ 1048576 }
+        requires limit { limit ≤ 65536 }
+        requires few_places { length self.old.places ≤ limit }
+        requires few_out { self.old.out ≤ 65536 }
+        ensures learned { IfOk result (λ added. Learned limit (filter (allows scope.now) (map arc_value links.now)) self.old self.new added.dropped) }
+        ensures fresh { IfOk result (λ added. added.fresh + length self.old.places ≡ length self.new.places) }
+        ensures few { IfOk result (λ added. added.dropped ≤ 1048576) }
+        ensures room { IfOk result (λ added. added.fresh + self.old.out ≤ self.new.room) }
+        ensures grows { Extends (known_part self.old) (known_part self.new) }
+        ensures keeps { KeepsCounts self.old self.new }
+        ensures more_room { self.old.room ≤ self.new.room }
+    {
+        let before = self.known.len();
+        let dropped = self.known.mention_links(scope, limit as usize, links)?;
+        let fresh = self.known.len() - before;
+        self.queue.reserve(fresh + self.out as usize)?;
+        Ok(Added {
+            fresh: fresh as u32,
+            dropped,
+        })
+    }
+
+    /// Keeps the first `len` places alone; the queue stays. Takes no memory.
+    pub fn forget(&mut self, len: usize)
+        ensures places { self.new.places ≡ take len self.old.places }
+        ensures standings { self.new.standings ≡ take len self.old.standings }
+        ensures keeps { KeepsCounts self.old self.new }
+        ensures room { self.new.room ≡ self.old.room }
+    {
+        self.known.truncate(len);
+    }
+
+    /// Claims the first number that waits, which stands so: it is out from now on. Takes no memory.
+    #[tactic(auto, using(std::proofs::lemmas::Option::slice_get_within))]
+    pub fn claim(&mut self, number: u32, standing: Standing)
+        requires first { slice_get self.old.waiting 0 ≡ Some number }
+        requires standing { slice_get self.old.standings number ≡ Some standing }
+        requires few_claims { standing.claims < 5 }
+        requires few_out { self.old.out ≤ 65536 }
+        ensures { self.new ≡ after_claim self.old number standing }
+    {
+        let claims = standing.claims + 1;
+        self.known.set_standing(
+            number as usize,
+            Standing {
+                claims,
+                is_out: true,
+            },
+        );
+        self.queue.take_first();
+        self.out += 1;
+    }
+
+    // A number that is out, and stands so, is out no more.
+    #[tactic(auto, using(std::proofs::lemmas::Option::slice_get_within))]
+    fn settle(&mut self, number: u32, standing: Standing)
+        requires standing { slice_get self.old.standings number ≡ Some standing }
+        requires some_out { 0 < self.old.out }
+        ensures { self.new ≡ record self.old { standings = slice_set self.old.standings number (record { claims = standing.claims; is_out = false }); out = self.old.out - 1 } }
+    {
+        let claims = standing.claims;
+        self.known.set_standing(
+            number as usize,
+            Standing {
+                claims,
+                is_out: false,
+            },
+        );
+        self.out -= 1;
+    }
+
+    /// Notes that a number that is out, and stands so, was found: the places after the first
+    /// `before` wait from now on. Takes no memory.
+    pub fn found(&mut self, number: u32, standing: Standing, before: u32, dropped: u32)
+        requires standing { slice_get self.old.standings number ≡ Some standing }
+        requires before { before ≤ length self.old.places }
+        requires few_places { length self.old.places < 2 ^ 32 }
+        requires room { length self.old.places - before ≤ self.old.room }
+        requires some_out { 0 < self.old.out }
+        requires few_done { self.old.done ≤ 65536 }
+        requires few_dropped { self.old.dropped + dropped < 2 ^ 64 }
+        ensures { self.new ≡ after_find self.old number standing before dropped }
+    {
+        self.settle(number, standing);
+        self.queue.push_range(before, self.known.len() as u32);
+        self.done += 1;
+        self.dropped += u64::from(dropped);
+    }
+
+    /// Notes that a number that is out, and stands so, failed: it waits once more where it was
+    /// claimed fewer than `tries` times. Takes no memory.
+    pub fn fail(&mut self, number: u32, standing: Standing, tries: u32)
+        requires standing { slice_get self.old.standings number ≡ Some standing }
+        requires room { 0 < self.old.room }
+        requires some_out { 0 < self.old.out }
+        requires few_done { self.old.done ≤ 65536 }
+        ensures { self.new ≡ after_failure self.old number standing tries }
+    {
+        self.settle(number, standing);
+        if standing.claims < tries {
+            self.queue.push(number);
+        } else {
+            self.done += 1;
+        }
+    }
+}

@@ -1,0 +1,208 @@
+//! The places that a crawl knows, and how each of them stands.
+
+ghost use Rattle.std.specs.Prelude.{◌≡◌, ◌<◌, [], ◌∷◌, ◌++◌, ◌≤◌, false, length, map, filter, take, slice_get, slice_set, IfOk, OnOk, OnErr};
+ghost use Rattle.std.specs.Arc.{arc_value};
+ghost use Rattle.gopher_item.specs.Place.{is_among};
+ghost use Rattle.gopher_scope.specs.Scope.{allows};
+ghost use Rattle.gopher_frontier.specs.Tables.{KnownData, Extends, unclaimed, is_dropped, after_mention, after_mentions, drops, after_link, is_dropped_link};
+
+use gopher_item::{NoMemory, Place};
+use gopher_scope::Scope;
+use indexmap::IndexMap;
+use std::alloc::Global;
+use std::marker::Model;
+use std::sync::Arc;
+
+/// How a known place stands.
+#[derive(Clone, Copy, Debug, PartialEq, Eq)]
+pub struct Standing {
+    /// How often it was claimed.
+    pub claims: u32,
+    /// Whether it was claimed and has no outcome yet.
+    pub is_out: bool,
+}
+
+impl Standing {
+    /// A place that was never claimed.
+    const UNCLAIMED: Standing = Standing {
+        claims: 0,
+        is_out: false,
+    };
+}
+
+/// The known places in the order of first mention; the index of a place is its number.
+#[derive(Debug, Drop)]
+pub(crate) struct KnownPlaces {
+    standings: IndexMap<Arc<Place>, Standing>,
+    // The keys of `standings` once more, to be served as one slice.
+    places: Vec<Arc<Place>>,
+}
+
+impl Model for KnownPlaces {
+    ghost use Rattle.std.specs.Prelude.{◌≡◌, map};
+    ghost use Rattle.std.specs.Arc.{arc_value};
+    ghost use Rattle.indexmap.specs.IndexMap.{keys, values};
+    ghost use Rattle.gopher_frontier.specs.Tables.{KnownData};
+
+    ghost Value = { KnownData };
+
+    ghost view = { λ k. record { places = map arc_value k.places.items; standings = values k.standings } };
+
+    ghost invariant = { λ k. map arc_value (keys k.standings) ≡ map arc_value k.places.items };
+}
+
+impl KnownPlaces {
+    /// No places.
+    pub fn new(alloc: Global) -> KnownPlaces
+        ensures places { result.places ≡ [] }
+        ensures standings { result.standings ≡ [] }
+    {
+        KnownPlaces {
+            standings: IndexMap::new(alloc),
+            places: Vec::new(alloc),
+        }
+    }
+
+    /// How many places there are.
+    pub fn len(&self) -> usize
+        ensures places { result ≡ length self.now.places }
+        ensures standings { result ≡ length self.now.standings }
+    {
+        self.places.len()
+    }
+
+    /// The places, each at its number.
+    pub fn as_slice(&self) -> &[Arc<Place>]
+        ensures { map arc_value result.now ≡ self.now.places }
+    {
+        &self.places
+    }
+
+    /// Whether the place is known.
+    pub fn contains(&self, place: &Arc<Place>) -> bool
+        ensures { result ≡ is_among self.now.places (arc_value place.now) }
+    {
+        self.standings.contains_key(place)
+    }
+
+    /// How the place of this number stands.
+    pub fn standing(&self, number: usize) -> Option<Standing>
+        ensures { result ≡ slice_get self.now.standings number }
+    {
+        let (_, standing) = self.standings.get_index(number)?;
+        Some(*standing)
+    }
+
+    /// Changes how the place of this number stands.
+    pub fn set_standing(&mut self, number: usize, standing: Standing)
+        requires { number < length self.old.standings }
+        ensures places { self.new.places ≡ self.old.places }
+        ensures standings { self.new.standings ≡ slice_set self.old.standings number standing }
+    {
+        self.standings[number] = standing;
+    }
+
+    /// Adds a place at the end, never claimed so far. A refusal (90) leaves all as it was.
+    pub fn add(&mut self, place: &Arc<Place>) -> Result<(), NoMemory>
+        requires { is_among self.old.places (arc_value place.now) ≡ false }
+        ensures places { OnOk result (self.new.places ≡ self.old.places ++ arc_value place.now ∷ []) }
+        ensures standings { OnOk result (self.new.standings ≡ self.old.standings ++ unclaimed ∷ []) }
+        ensures err { OnErr result (self.new ≡ self.old) }
+    {
+        self.places.reserve(1)?;
+        let listed = place.clone()?;
+        self.standings.insert(place.clone()?, Standing::UNCLAIMED)?;
+        self.places.push_reserved(listed);
+        Ok(())
+    }
+
+    /// Keeps the first `len` places alone.
+    pub fn truncate(&mut self, len: usize)
+        ensures places { self.new.places ≡ take len self.old.places }
+        ensures standings { self.new.standings ≡ take len self.old.standings }
+    {
+        self.standings.truncate(len);
+        self.places.truncate(len);
+    }
+}
+
+impl KnownPlaces {
+    /// Makes a place known, unless it is, or unless `limit` places are: answers whether the mention
+    /// is dropped. A refusal (90) leaves all as it was.
+    pub fn mention(&mut self, limit: usize, place: &Arc<Place>) -> Result<bool, NoMemory>
+        ensures places { OnOk result (self.new.places ≡ after_mention limit self.old.places (arc_value place.now)) }
+        ensures dropped { IfOk result (λ dropped. dropped ≡ is_dropped limit self.old.places (arc_value place.now)) }
+        ensures grows { OnOk result (Extends self.old self.new) }
+        ensures err { OnErr result (self.new ≡ self.old) }
+    {
+        if self.contains(place) {
+            return Ok(false);
+        }
+        if self.len() >= limit {
+            return Ok(true);
+        }
+        self.add(place)?;
+        Ok(false)
+    }
+
+    /// Mentions a link, if the scope allows it: answers whether the mention is dropped. A refusal (90)
+    /// leaves all as it was.
+    fn mention_link(
+        &mut self,
+        scope: &Scope,
+        limit: usize,
+        link: &Arc<Place>,
+    ) -> Result<bool, NoMemory>
+        ensures places { OnOk result (self.new.places ≡ after_link scope.now limit self.old.places (arc_value link.now)) }
+        ensures dropped { IfOk result (λ dropped. dropped ≡ is_dropped_link scope.now limit self.old.places (arc_value link.now)) }
+        ensures grows { OnOk result (Extends self.old self.new) }
+        ensures err { OnErr result (self.new ≡ self.old) }
+    {
+        if scope.allows(link) {
+            self.mention(limit, link)
+        } else {
+            Ok(false)
+        }
+    }
+
+    /// Mentions those of the links that the scope allows, and counts the mentions dropped. A refusal
+    /// (90) leaves the places of before, and perhaps more behind them.
+    pub fn mention_links(
+        &mut self,
+        scope: &Scope,
+        limit: usize,
+        links: &[Arc<Place>],
+    ) -> Result<u32, NoMemory>
+        requires { length links.now ≤ 1048576 }
+        ensures places { OnOk result (self.new.places ≡ after_mentions limit self.old.places (filter (allows scope.now) (map arc_value links.now))) }
+        ensures dropped { IfOk result (λ dropped. dropped ≡ drops limit self.old.places (filter (allows scope.now) (map arc_value links.now))) }
+        ensures few { IfOk result (λ dropped. dropped ≤ length links.now) }
+        ensures grows { Extends self.old self.new }
+    {
+        let mut dropped = 0;
+        for link in links {
+            dropped += u32::from(self.mention_link(scope, limit, link)?);
+        }
+        Ok(dropped)
+    }
+
+    /// Mentions the seeds of a crawl, and counts the mentions dropped.
+    pub fn mention_seeds(
+        &mut self,
+        alloc: Global,
+        limit: usize,
+        seeds: &[Place],
+    ) -> Result<u64, NoMemory>
+        ensures places { OnOk result (self.new.places ≡ after_mentions limit self.old.places seeds.now) }
+        ensures dropped { IfOk result (λ dropped. dropped ≡ drops limit self.old.places seeds.now) }
+        ensures few { IfOk result (λ dropped. dropped ≤ length seeds.now) }
+        ensures grows { Extends self.old self.new }
+    {
+        let mut dropped = 0;
+        for seed in seeds {
+            let place = Arc::new(alloc, seed.clone()?)?;
+            dropped += u64::from(self.mention(limit, &place)?);
+        }
+        Ok(dropped)
+    }
+}

@@ -1,0 +1,93 @@
+//! The numbers that wait to be claimed.
+
+ghost use Rattle.std.specs.Prelude.{◌≡◌, ◌+◌, ◌-◌, ◌^◌, ◌<◌, ◌≤◌, [], ◌∷◌, ◌++◌, length, drop, slice_get, OnOk};
+ghost use Rattle.std.specs.List.{range_with_len};
+ghost use Rattle.gopher_frontier.specs.Tables.{QueueData};
+
+use gopher_item::NoMemory;
+use std::alloc::Global;
+use std::marker::Model;
+
+/// A queue of numbers. Nothing leaves the list: the index of the first that waits rises.
+#[derive(Debug, Drop)]
+pub(crate) struct Queue {
+    entries: Vec<u32>,
+    taken: usize,
+}
+
+impl Model for Queue {
+    ghost use Rattle.std.specs.Prelude.{◌≤◌, ◌-◌, drop, vec_len, vec_capacity};
+    ghost use Rattle.gopher_frontier.specs.Tables.{QueueData};
+
+    ghost Value = { QueueData };
+
+    ghost view = { λ q. record { waiting = drop q.taken q.entries.items; room = vec_capacity q.entries - vec_len q.entries } };
+
+    ghost invariant = { λ q. q.taken ≤ vec_len q.entries };
+}
+
+impl Queue {
+    /// An empty queue.
+    pub fn new(alloc: Global) -> Queue
+        ensures { result.waiting ≡ [] }
+    {
+        Queue {
+            entries: Vec::new(alloc),
+            taken: 0,
+        }
+    }
+
+    /// How many numbers wait.
+    pub fn len(&self) -> usize
+        ensures { result ≡ length self.now.waiting }
+    {
+        self.entries.len() - self.taken
+    }
+
+    /// The first number that waits.
+    pub fn first(&self) -> Option<u32>
+        ensures { result ≡ slice_get self.now.waiting 0 }
+    {
+        self.entries.get(self.taken).copied()
+    }
+
+    /// Takes the first number that waits.
+    pub fn take_first(&mut self)
+        requires { 0 < length self.old.waiting }
+        ensures waiting { self.new.waiting ≡ drop 1 self.old.waiting }
+        ensures room { self.new.room ≡ self.old.room }
+    {
+        self.taken += 1;
+    }
+
+    /// Makes room for `additional` more numbers. A refusal (90) keeps the room that there was.
+    pub fn reserve(&mut self, additional: usize) -> Result<(), NoMemory>
+        ensures waiting { self.new.waiting ≡ self.old.waiting }
+        ensures room { self.old.room ≤ self.new.room }
+        ensures ok { OnOk result (additional ≤ self.new.room) }
+    {
+        self.entries.reserve(additional)?;
+        Ok(())
+    }
+
+    /// Adds a number at the end, for which there is room.
+    pub fn push(&mut self, number: u32)
+        requires { 0 < self.old.room }
+        ensures waiting { self.new.waiting ≡ self.old.waiting ++ number ∷ [] }
+        ensures room { self.new.room + 1 ≡ self.old.room }
+    {
+        self.entries.push_reserved(number);
+    }
+
+    /// Adds the numbers from `first` up to `end` at the end, for which there is room.
+    pub fn push_range(&mut self, first: u32, end: u32)
+        requires order { first ≤ end }
+        requires room { end - first ≤ self.old.room }
+        ensures waiting { self.new.waiting ≡ self.old.waiting ++ range_with_len first (end - first) }
+        ensures room { self.new.room + (end - first) ≡ self.old.room }
+    {
+        for number in first..end {
+            self.push(number);
+        }
+    }
+}

@@ -1,0 +1,4 @@
+pub mod Moment
+pub mod Escaped
+pub mod RequestLine
+pub mod Batch

@@ -1,0 +1,34 @@
+-- The line of a request: six fields, which stand between TABs.
+use Rattle.std.specs.Prelude.{ℕ, List, ◌++◌, codes, drop}
+use Rattle.std.specs.Fmt.{decimal}
+use Rattle.gopher_item.specs.Menu.{fields_of, first_field}
+use Rattle.gopher_log.specs.declared.moment.Moment.{Moment}
+use Rattle.gopher_log.specs.Moment.{moment_bytes}
+use Rattle.gopher_log.specs.Escaped.{escaped}
+
+-- a request: when it came to its end, who asked, the line, how many bytes were sent, and for how many microseconds it was served
+pub record RequestData : Type 0 where
+  pub ended : Moment
+  pub peer : List ℕ
+  pub asked : List ℕ
+  pub sent : ℕ
+  pub micros : ℕ
+
+-- what stands before the first TAB of a line
+abbrev pub selector_of : List ℕ → List ℕ
+selector_of asked = first_field (fields_of asked)
+
+-- what stands between the first TAB of a line and the second; nothing where it has none
+abbrev pub search_of : List ℕ → List ℕ
+search_of asked = first_field (drop 1 (fields_of asked))
+
+abbrev pub asked_bytes : List ℕ → List ℕ
+asked_bytes asked = escaped (selector_of asked) ++ codes "\t" ++ escaped (search_of asked)
+
+abbrev pub numbers_bytes : ℕ → ℕ → List ℕ
+numbers_bytes sent micros = codes "\t" ++ decimal sent ++ codes "\t" ++ decimal micros
+
+abbrev pub request_bytes : RequestData → List ℕ
+request_bytes request =
+    moment_bytes request.ended ++ codes "\t" ++ escaped request.peer ++ codes "\t" ++ asked_bytes request.asked
+    ++ numbers_bytes request.sent request.micros ++ codes "\n"

@@ -1,0 +1,67 @@
+//! Bytes that a client sent, as the log writes them.
+
+ghost use Rattle.std.specs.Prelude.{◌≡◌, ◌++◌, ◌<◌, OnOk};
+ghost use Rattle.std.specs.List.{list_all};
+ghost use Rattle.gopher_log.specs.Escaped.{is_plain, hex_digit, escaped_byte, escaped};
+
+use std::alloc::AllocError;
+
+// Whether a byte stands for itself in the log.
+fn is_plain(byte: u8) -> bool
+    ensures { result ≡ is_plain byte }
+{
+    byte >= 32 && byte <= 126 && byte != b'\\'
+}
+
+// Whether each of the bytes stands for itself.
+fn are_plain(bytes: &[u8]) -> bool
+    ensures { result ≡ list_all is_plain bytes.now }
+{
+    bytes.iter().all(|byte| is_plain(*byte))
+}
+
+// The digit of a number below 16.
+fn hex_digit(number: u8) -> u8
+    requires { number < 16 }
+    ensures { result ≡ hex_digit number }
+{
+    if number < 10 {
+        b'0' + number
+    } else {
+        b'a' - 10 + number
+    }
+}
+
+// Appends a byte.
+fn push_byte(out: &mut Vec<u8>, byte: u8) -> Result<(), AllocError>
+    ensures { OnOk result (out.new.items ≡ out.old.items ++ escaped_byte byte) }
+{
+    if is_plain(byte) {
+        out.push(byte)?;
+        return Ok(());
+    }
+    out.extend_from_slice(&[b'\\', b'x', hex_digit(byte / 16), hex_digit(byte % 16)])
+}
+
+// Appends bytes one by one.
+fn push_each(out: &mut Vec<u8>, bytes: &[u8]) -> Result<(), AllocError>
+    ensures { OnOk result (out.new.items ≡ out.old.items ++ escaped bytes.now) }
+{
+    for byte in bytes {
+        push_byte(out, *byte)?;
+    }
+    Ok(())
+}
+
+/// Appends bytes as the log writes them: those from 32 to 126 but for the backslash as they are, any
+/// other as a backslash, `x` and its two hexadecimal digits.
+#[tactic(auto, using(crate::proofs::Escapes::escaped_plain))]
+pub fn push_escaped(out: &mut Vec<u8>, bytes: &[u8]) -> Result<(), AllocError>
+    ensures { OnOk result (out.new.items ≡ out.old.items ++ escaped bytes.now) }
+{
+    if are_plain(bytes) {
+        out.extend_from_slice(bytes)
+    } else {
+        push_each(out, bytes)
+    }
+}

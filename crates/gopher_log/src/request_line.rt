@@ -1,0 +1,96 @@
+//! The line of a request.
+
+ghost use Rattle.std.specs.Prelude.{◌≡◌, ◌++◌, OnOk};
+ghost use Rattle.std.specs.Fmt.{decimal};
+ghost use Rattle.gopher_log.specs.RequestLine.{selector_of, search_of, asked_bytes, numbers_bytes, request_bytes};
+
+use crate::escaping::push_escaped;
+use crate::moment::{Moment, push_moment};
+use gopher_item::split_once;
+use itoa::Buffer;
+use std::alloc::AllocError;
+use std::marker::Model;
+
+/// What a line of the log tells of a request.
+#[derive(Drop)]
+pub struct RequestLine<'a> {
+    /// When it came to its end.
+    pub ended: Moment,
+    /// Who asked.
+    pub peer: &'a [u8],
+    /// The line that was asked, without its end.
+    pub asked: &'a [u8],
+    /// How many bytes of the reply were sent.
+    pub sent: u64,
+    /// For how many microseconds it was served.
+    pub micros: u64,
+}
+
+impl<'a> Model for RequestLine<'a> {
+    ghost use Rattle.gopher_log.specs.RequestLine.{RequestData};
+
+    ghost Value = { RequestData };
+
+    ghost view = { λ r. record { ended = r.ended; peer = r.peer.now; asked = r.asked.now; sent = r.sent; micros = r.micros } };
+}
+
+// The selector of a line.
+fn selector_of(asked: &[u8]) -> &[u8]
+    ensures { result.now ≡ selector_of asked.now }
+{
+    match split_once(b'\t', asked) {
+        Some((selector, _rest)) => selector,
+        None => asked,
+    }
+}
+
+// The search string of a line; nothing where it has none.
+fn search_of(asked: &[u8]) -> &[u8]
+    ensures { result.now ≡ search_of asked.now }
+{
+    match split_once(b'\t', asked) {
+        Some((_selector, rest)) => selector_of(rest),
+        None => &[],
+    }
+}
+
+// Appends the selector and the search string of a line.
+fn push_asked(out: &mut Vec<u8>, asked: &[u8]) -> Result<(), AllocError>
+    ensures { OnOk result (out.new.items ≡ out.old.items ++ asked_bytes asked.now) }
+{
+    push_escaped(out, selector_of(asked))?;
+    out.push(b'\t')?;
+    push_escaped(out, search_of(asked))
+}
+
+// Appends a number.
+fn push_number(out: &mut Vec<u8>, number: u64) -> Result<(), AllocError>
+    ensures { OnOk result (out.new.items ≡ out.old.items ++ decimal number) }
+{
+    let mut digits = Buffer::new();
+    out.extend_from_slice(digits.format(number).as_bytes())
+}
+
+// Appends two numbers, each behind a TAB.
+fn push_numbers(out: &mut Vec<u8>, sent: u64, micros: u64) -> Result<(), AllocError>
+    ensures { OnOk result (out.new.items ≡ out.old.items ++ numbers_bytes sent micros) }
+{
+    out.push(b'\t')?;
+    push_number(out, sent)?;
+    out.push(b'\t')?;
+    push_number(out, micros)
+}
+
+/// Appends the line of a request; a beginning of it where memory is refused.
+pub fn push_request(out: &mut Vec<u8>, request: &RequestLine<'_>) -> Result<(), AllocError>
+    ensures { OnOk result (out.new.items ≡ out.old.items ++ request_bytes request.now) }
+{
+    push_moment(out, request.ended)?;
+    out.push(b'\t')?;
+    push_escaped(out, request.peer)?;
+    out.push(b'\t')?;
+    push_asked(out, request.asked)?;
+    push_numbers(out, request.sent, request.micros)?;
+    out.push(b'\n')?;
+    Ok(())
+}

@@ -1,0 +1,309 @@
+#!/usr/bin/env python3
+"""Has the built program check sites that are sound and sites with each fault that settings or a folder can have, and compares
+what it tells with docs/SPECIFICATION.md, and its status and line on standard error with those of `hole serve`.
+
+    tests/check.py [PROGRAM]
+
+Where root runs it, the program checks what may not be read as `nobody`. The last line is 'check: N passed, M failed'.
+"""
+import argparse
+import os
+import pathlib
+import shutil
+import stat
+import subprocess
+import sys
+import tempfile
+
+from server import PROGRAM, WAIT, Tally, free_port
+
+NOBODY = 65_534
+LARGEST_FILE, MOST_BYTES, MOST_NODES, MOST_SETTINGS = 16_777_216, 67_108_864, 4_096, 1_048_576
+
+# The cause and the remedy of each number, and of 26 by what stands in the way.
+BAD_NAME = ("a name on this path holds a TAB, CR or LF, or a folder is named .menu", "rename it")
+RESERVED = ("the name search in the root is kept for the search", "rename it")
+LONG = ("the path from the root has over 254 bytes", "shorten its names, or take away a link to a folder above it")
+TOO_BIG = (
+    "a file has over 16777216 bytes, or all have over 67108864, or files and folders are over 4096",
+    "serve less, or take away a link to a folder above it",
+)
+BAD_LINE = (
+    "this line has none of the forms of a menu file",
+    "write text alone, or type and name, selector, and perhaps host and port, between single TABs",
+)
+NOT_UTF8 = ("a name in this folder is not UTF-8", "rename it: ls -b shows its bytes")
+DENIED = ("the right to read this is missing", "let the server's user read it, and enter the folders above it")
+MISSING = ("nothing is there", "make the folder, or correct root in the settings")
+NOT_FOLDER = ("a folder is wanted, and this is none", "correct root in the settings")
+LOOP = ("links lead to one another without an end", "take the link away")
+NOT_TOML = ("the settings are not TOML", "mend this line: texts stand in quotation marks")
+NO_KEY = ("the key is missing, or one that its tables need", "add it: hole.toml(5) tells the keys")
+WRONG_KIND = (
+    "the value is of another kind, or one in its tables",
+    "texts stand in quotation marks, numbers in none, and tables begin with [[seeds]], [[allow]] or [[deny]]",
+)
+OUT_OF_RANGE = ("the value is out of range, or one in its tables", "hole.toml(5) tells the ranges")
+UNKNOWN = ("the key is not known, or one in its tables", "correct its spelling; the server's own keys stand before the first [[")
+OUTSIDE = (
+    "no rule of allow covers this seed, or a rule of deny does",
+    "add a rule with its host, its port and a beginning of its selector, or take the seed away",
+)
+UNREADABLE = ("the settings cannot be read, have over 1048576 bytes, or are not UTF-8", "correct the path, its rights or the text")
+
+RULES = """
+[[seeds]]
+host = "Localhost"
+port = 7070
+
+[[seeds]]
+type = "0"
+host = "localhost"
+port = 7070
+selector = "/a\\\\b"
+
+[[allow]]
+host = "localhost"
+port = 7070
+
+[[deny]]
+host = "localhost"
+prefix = "/private"
+"""
+
+
+def told(number, path, words, *details):
+    """The lines that are told of a fault."""
+    lines = [f"fault: {number}", f"path: {path}", *details, f"cause: {words[0]}", f"remedy: {words[1]}"]
+    return "".join(line + "\n" for line in lines).encode()
+
+
+class Checked:
+    """A folder for one check, with the settings that name it."""
+
+    def __init__(self, folder, program, user=None):
+        self.folder, self.program, self.user = folder, program, user
+        self.root, self.settings = folder / "root", folder / "hole.toml"
+        self.root.mkdir()
+        self.write(f'host = "127.0.0.1"\nport = {free_port()}\nroot = "{self.root}"\n')
+
+    def write(self, text):
+        self.settings.write_bytes(text if isinstance(text, bytes) else text.encode())
+
+    def add(self, path, content=b""):
+        place = os.path.join(os.fsencode(self.root), path)
+        os.makedirs(os.path.dirname(place), exist_ok=True)
+        with open(place, "wb") as file:
+            file.write(content)
+
+    def run(self, *words):
+        ran = subprocess.run([str(self.program), *words], capture_output=True, timeout=6 * WAIT, user=self.user)
+        return ran.stdout, ran.stderr, ran.returncode
+
+    def check(self):
+        return self.run("check", str(self.settings))
+
+    def serve(self):
+        """How a server ends that takes no connection: its line on standard error, and its status."""
+        return self.run("serve", str(self.settings), "--requests", "0")[1:]
+
+
+def put(path, content=b""):
+    return lambda site: site.add(path, content)
+
+
+def say(text):
+    """Settings of this text, in which ROOT stands for the folder."""
+    return lambda site: site.write(text.replace("ROOT", str(site.root)))
+
+
+def more(text):
+    return lambda site: site.write(site.settings.read_text() + text)
+
+
+def put_sparse(*sizes):
+    """Files of so many bytes, which take no room."""
+    def lay_out(site):
+        for number, size in enumerate(sizes):
+            site.add(b"%d.gif" % number)
+            os.truncate(site.root / f"{number}.gif", size)
+    return lay_out
+
+
+def put_folders(count):
+    def lay_out(site):
+        for number in range(count):
+            (site.root / f"{number:04}").mkdir()
+    return lay_out
+
+
+def put_deep(site):
+    """A folder whose path from the root has 255 bytes."""
+    (site.root / ("a" * 127) / ("b" * 127)).mkdir(parents=True)
+
+
+def put_link(name, target):
+    return lambda site: (site.root / name).symlink_to(target)
+
+
+def put_closed(name, content=None):
+    """A folder that nobody may list, or a file that nobody may read."""
+    def lay_out(site):
+        place = site.root / name
+        site.add(b"open.txt")
+        place.mkdir() if content is None else place.write_bytes(content)
+        place.chmod(0)
+    return lay_out
+
+
+def put_unenterable(site):
+    """A folder whose names may be read, and what they lead to may not."""
+    site.add(b"locked/a.txt")
+    (site.root / "locked").chmod(stat.S_IRUSR | stat.S_IRGRP | stat.S_IROTH)
+
+
+# What lays out a fault, its line on standard error, and what is told of it: FILE stands for the settings, ROOT for the folder.
+HEAD = 'host = "127.0.0.1"\n'
+FAULTS = {
+    "a name with a TAB": (put(b"docs/a\tb.txt"), "20 file 0", told(20, "ROOT/docs/a\\tb.txt", BAD_NAME)),
+    "a name with an LF": (put(b"z\n"), "20 file 0", told(20, "ROOT/z\\n", BAD_NAME)),
+    "a name with a CR": (put(b"a\r/z"), "20 file 0", told(20, "ROOT/a\\r/z", BAD_NAME)),
+    "a name with a TAB, a backslash and an ESC": (put(b"\t\\\x1b"), "20 file 0", told(20, "ROOT/\\t\\\\\\?", BAD_NAME)),
+    "a folder that is named .menu": (put(b".menu/a"), "20 file 0", told(20, "ROOT/.menu/a", BAD_NAME)),
+    "a file search in the root": (put(b"search"), "21 file 0", told(21, "ROOT/search", RESERVED)),
+    "a folder search in the root": (put(b"search/a"), "21 file 0", told(21, "ROOT/search/a", RESERVED)),
+    "a path of 255 bytes": (put(b"a" * 127 + b"/" + b"b" * 127), "22 file 0", told(22, f"ROOT/{'a' * 127}/{'b' * 127}", LONG)),
+    "a folder's path of 255 bytes": (put_deep, "22 file 0", told(22, f"ROOT/{'a' * 127}/{'b' * 127}", LONG)),
+    "a file that is too large": (put_sparse(1, LARGEST_FILE + 1), "23 file 1", told(23, "ROOT/1.gif", TOO_BIG)),
+    "files that are too large together": (
+        put_sparse(*[LARGEST_FILE] * (MOST_BYTES // LARGEST_FILE), 1), "23 file 4", told(23, "ROOT/4.gif", TOO_BIG)
+    ),
+    "too many folders": (put_folders(MOST_NODES), "23 file 0", told(23, f"ROOT/{MOST_NODES - 1:04}", TOO_BIG)),
+    "a bad line": (put(b"docs/.menu", b"text\n\n1a\tb\tc\n"), "24 file 0 line 3", told(24, "ROOT/docs/.menu", BAD_LINE, "line: 3")),
+    "a port that is none": (put(b".menu", b"1a\tb\tc\t70000\n"), "24 file 0 line 1", told(24, "ROOT/.menu", BAD_LINE, "line: 1")),
+    "the second of three files": (
+        lambda site: [site.add(path) for path in (b"a", b"b\t", b"c")], "20 file 1", told(20, "ROOT/b\\t", BAD_NAME)
+    ),
+    "the first of two faults": (
+        lambda site: [put(b"b/.menu", b"\t\n")(site), put(b"a\t")(site)], "20 file 0", told(20, "ROOT/a\\t", BAD_NAME)
+    ),
+    "a name that isn't UTF-8": (put(b"docs/caf\xe9.txt"), "26", told(26, "ROOT/docs", NOT_UTF8)),
+    "a hidden name that isn't UTF-8": (put(b".\xff"), "26", told(26, "ROOT/", NOT_UTF8)),
+    "a link to itself": (put_link("a", "a"), "26", told(26, "ROOT/a", LOOP)),
+    "a root that isn't there": (say(HEAD + 'root = "ROOT/x"\n'), "26", told(26, "ROOT/x/", MISSING)),
+    "a root that is a file": (
+        lambda site: [site.add(b"x"), say(HEAD + 'root = "ROOT/x"\n')(site)], "26", told(26, "ROOT/x/", NOT_FOLDER)
+    ),
+    "no TOML": (say(HEAD + "\nroot = ROOT\n"), "30", told(30, "FILE", NOT_TOML, "line: 3")),
+    "no host": (say('root = "ROOT"\n'), "31 host", told(31, "FILE", NO_KEY, "key: host")),
+    "no root": (say(HEAD), "31 root", told(31, "FILE", NO_KEY, "key: root")),
+    "a seed without a host": (more('[[seeds]]\nselector = "/"\n'), "31 seeds", told(31, "FILE", NO_KEY, "key: seeds")),
+    "a port that is a text": (say(HEAD + 'port = "70"\nroot = "ROOT"\n'), "32 port", told(32, "FILE", WRONG_KIND, "key: port")),
+    "seeds that are a table": (more('[seeds]\nhost = "a"\n'), "32 seeds", told(32, "FILE", WRONG_KIND, "key: seeds")),
+    "a port out of range": (say(HEAD + 'port = 65536\nroot = "ROOT"\n'), "33 port", told(33, "FILE", OUT_OF_RANGE, "key: port")),
+    "no workers": (more("workers = 0\n"), "33 workers", told(33, "FILE", OUT_OF_RANGE, "key: workers")),
+    "a key that isn't known": (more("prot = 70\n"), "34", told(34, "FILE", UNKNOWN, "key: prot")),
+    "two keys that aren't known, one with a TAB": (
+        more('zebra = 1\n"a\\tb" = 2\n[[deny]]\nhosts = 1\n'), "34", told(34, "FILE", UNKNOWN, "key: a\\tb")
+    ),
+    "a key behind a seed": (more('[[seeds]]\nhost = "a"\nthreads = 1\n'), "34", told(34, "FILE", UNKNOWN, "key: seeds")),
+    "a key of a rule": (more('[[deny]]\nhost = "a"\nselector = "/"\n'), "34", told(34, "FILE", UNKNOWN, "key: deny")),
+    "a seed that isn't allowed": (more('[[seeds]]\nhost = "a"\n'), "50 seed 0", told(50, "FILE", OUTSIDE, "seed: 0")),
+    "a second seed that is denied": (
+        more(RULES + 'port = 7070\n[[deny]]\nhost = "localhost"\nport = 7070\nprefix = "/a"\n'),
+        "50 seed 1", told(50, "FILE", OUTSIDE, "seed: 1"),
+    ),
+    "a folder's fault before a seed's": (
+        lambda site: [more('[[seeds]]\nhost = "a"\n')(site), put(b"search")(site)], "21 file 0", told(21, "ROOT/search", RESERVED)
+    ),
+    "settings that aren't UTF-8": (lambda site: site.write(b"host = '\xff'\n"), "80", told(80, "FILE", UNREADABLE)),
+    "settings that are too large": (lambda site: site.write("#" * (MOST_SETTINGS + 1)), "80", told(80, "FILE", UNREADABLE)),
+    "no settings": (lambda site: site.settings.unlink(), "80", told(80, "FILE", UNREADABLE)),
+    "settings that are a folder": (
+        lambda site: [site.settings.unlink(), site.settings.mkdir()], "80", told(80, "FILE", UNREADABLE)
+    ),
+}
+CLOSED = {
+    "a folder that may not be listed": (put_closed("shut"), "26", told(26, "ROOT/shut", DENIED)),
+    "a file that may not be read": (put_closed("shut.txt", b"a\n"), "26", told(26, "ROOT/shut.txt", DENIED)),
+    "a folder that may not be entered": (put_unenterable, "26", told(26, "ROOT/locked/a.txt", DENIED)),
+}
+
+
+def check_faults(tally, program, faults, user=None):
+    """Checks sites with these faults."""
+    for name, (lay_out, line, words) in faults.items():
+        with tempfile.TemporaryDirectory() as place:
+            os.chmod(place, 0o755)
+            site = Checked(pathlib.Path(place), program, user)
+            lay_out(site)
+            wanted = words.replace(b"ROOT", os.fsencode(site.root)).replace(b"FILE", os.fsencode(site.settings))
+            tally.expect(f"{name}: is told", site.check(), (wanted, f"hole: {line}\n".encode(), 1))
+            tally.expect(f"{name}: ends a server so", site.serve(), (f"hole: {line}\n".encode(), 1))
+            for shut in site.root.rglob("*"):
+                if not shut.is_symlink():
+                    shut.chmod(0o755)
+
+
+def check_sound(tally, program):
+    """Checks sound sites."""
+    with tempfile.TemporaryDirectory() as place:
+        site = Checked(pathlib.Path(place), program)
+        empty = f"settings: {site.settings}\naddress: LocalHost 70\nroot: {site.root}\nfiles: 0\nmenu files: 0\nbytes: 0\nsound\n"
+        say('host = "LocalHost"\nroot = "ROOT"\n')(site)
+        tally.expect("an empty site", site.check(), (empty.encode(), b"", 0))
+        say('host = "LocalHost"\nport = 7070\nroot = "ROOT"\n' + RULES)(site)
+        for path, content in {b".menu": b"Welcome\n", b"a/.menu": b"", b"a/b.txt": b"12345", b"a/.hidden": b"no"}.items():
+            site.add(path, content)
+        lines = [
+            f"settings: {site.settings}", "address: LocalHost 7070", f"root: {site.root}", "files: 3", "menu files: 2", "bytes: 13",
+            "seed: 1 localhost 7070 ", "seed: 0 localhost 7070 /a\\\\b", "may visit: localhost 7070 ",
+            "may not visit: localhost 70 /private", "sound",
+        ]
+        tally.expect("a site with rules", site.check(), ("".join(line + "\n" for line in lines).encode(), b"", 0))
+        tally.expect("the same again", site.check()[2], 0)
+
+
+def check_words(tally, program):
+    """Words that are none of the program's, and an output that can't be written."""
+    with tempfile.TemporaryDirectory() as place:
+        site = Checked(pathlib.Path(place), program)
+        for words in (["check"], ["check", str(site.settings), "more"], ["check", str(site.settings), "--requests", "1"]):
+            output, error, status = site.run(*words)
+            tally.expect(f"{len(words)} words: are refused", (output, bool(error), status), (b"", True, 2))
+        tally.expect("check is among the words that --help tells", b"\n  check " in site.run("--help")[0], True)
+        with open("/dev/full", "wb") as full:
+            how = {"stdout": full, "stderr": subprocess.PIPE, "timeout": WAIT}
+            sound = subprocess.run([str(program), "check", str(site.settings)], **how)
+            tally.expect("a full output of a sound site", (sound.stderr, sound.returncode), (b"hole: 13\n", 1))
+            site.add(b"search")
+            faulty = subprocess.run([str(program), "check", str(site.settings)], **how)
+            tally.expect("a full output of a fault", (faulty.stderr, faulty.returncode), (b"hole: 21 file 0\n", 1))
+
+
+def check_closed(tally, program):
+    """Checks what may not be read; where root runs this, by a copy of the program that nobody may run."""
+    if os.geteuid():
+        check_faults(tally, program, CLOSED)
+        return
+    with tempfile.TemporaryDirectory() as place:
+        os.chmod(place, 0o755)
+        copy = shutil.copy(program, place)
+        os.chmod(copy, 0o755)
+        check_faults(tally, copy, CLOSED, NOBODY)
+
+
+def main():
+    words = argparse.ArgumentParser()
+    words.add_argument("program", nargs="?", default=PROGRAM)
+    program = pathlib.Path(words.parse_args().program).resolve()
+    tally = Tally("check")
+    check_sound(tally, program)
+    check_faults(tally, program, FAULTS)
+    check_closed(tally, program)
+    check_words(tally, program)
+    return tally.status()
+
+
+if __name__ == "__main__":
+    sys.exit(main())
