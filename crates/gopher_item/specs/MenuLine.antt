@@ -1,5 +1,5 @@
 -- One item of a menu: what RFC 1436, section 2 and its appendix call a DirEntity.
-use Rattle.std.specs.Prelude.{◌≡◌, ℕ, ◌^◌, ◌<◌, false, ◌||◌, not, List, [], ◌∷◌, ◌++◌, reverse, Option, None, Some, is_some, ◌==◌, if◌then◌else◌}
+use Rattle.std.specs.Prelude.{◌≡◌, ℕ, ◌+◌, ◌^◌, ◌<◌, ◌≤◌, Bool, false, ◌||◌, not, List, [], ◌∷◌, ◌++◌, length, drop, reverse, slice_range, Option, None, Some, is_some, ◌==◌, if◌then◌else◌}
 use Rattle.std.specs.List.{flat_map}
 use Rattle.std.specs.Fmt.{decimal}
 use Rattle.gopher_item.specs.Bytes.{is_special, is_control, has_special}
@@ -14,6 +14,42 @@ pub record MenuLineData : Type 0 where
   pub selector : List ℕ
   pub host : List ℕ
   pub port : ℕ
+
+-- the menu line of these five parts
+abbrev pub menu_line_of : ℕ → List ℕ → List ℕ → List ℕ → ℕ → MenuLineData
+menu_line_of kind display selector host port = record { kind = kind; display = display; selector = selector; host = host; port = port }
+
+-- where the fields of a menu line stand in a text: the display string, the selector and the host, one byte apart
+pub record Cuts : Type 0 where
+  pub start : ℕ
+  pub display_end : ℕ
+  pub selector_end : ℕ
+  pub end : ℕ
+
+-- each field ends at its start or behind it, and the last one in the text
+pub record AreCuts (cuts : Cuts) (text : List ℕ) : Type 0 where
+  pub display : cuts.start ≤ cuts.display_end
+  pub selector : cuts.display_end + 1 ≤ cuts.selector_end
+  pub host : cuts.selector_end + 1 ≤ cuts.end
+  pub within : cuts.end ≤ length text
+
+-- the menu line whose fields stand there
+abbrev pub line_in : ℕ → ℕ → Cuts → List ℕ → MenuLineData
+line_in kind port cuts text = record {
+  kind = kind;
+  display = slice_range text cuts.start cuts.display_end;
+  selector = slice_range text (cuts.display_end + 1) cuts.selector_end;
+  host = slice_range text (cuts.selector_end + 1) cuts.end;
+  port = port;
+}
+
+-- the bytes stand in the text from `start` on
+abbrev pub StandsAt : List ℕ → ℕ → List ℕ → Type 0
+StandsAt text start bytes = (after : List ℕ) × (drop start text ≡ bytes ++ after)
+
+-- three fields with a TAB between them
+abbrev pub joined : List ℕ → List ℕ → List ℕ → List ℕ
+joined display selector host = display ++ 9 ∷ (selector ++ 9 ∷ host)
 
 -- the bytes without the spaces (32) at their front, and at both their ends
 abbrev pub trim_front : List ℕ → List ℕ
@@ -40,13 +76,17 @@ menu_line_bytes line = line.kind ∷ line.display ++ 9 ∷ line.selector ++ 9 �
 abbrev pub menu_bytes : List MenuLineData → List ℕ
 menu_bytes lines = flat_map menu_line_bytes lines ++ 46 ∷ 13 ∷ 10 ∷ []
 
+-- a type that no line has that is made: a control byte, a space or a period
+abbrev pub is_bad_type : ℕ → Bool
+is_bad_type kind = is_control kind || (kind == 32) || (kind == 46)
+
 -- the first fault of the parts of a line that is made, if there is one; a port of 0 is none
 abbrev pub menu_line_fault : ℕ → List ℕ → List ℕ → List ℕ → Option ItemFault
 menu_line_fault kind display selector host =
     if not (is_selector selector) then Some BadSelector else
     (if not (is_host host) then Some BadHost else
     (if has_special display then Some BadDisplay else
-    (if is_control kind || (kind == 32) || (kind == 46) then Some BadType else None)))
+    (if is_bad_type kind then Some BadType else None)))
 
 -- the place that a menu line names, where it names one
 abbrev pub place_named : MenuLineData → Option PlaceData

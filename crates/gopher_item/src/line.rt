@@ -4,7 +4,7 @@ ghost use Rattle.std.specs.Prelude.{◌≡◌, ◌<◌, ◌==◌, false, [], ◌
 ghost use Rattle.std.specs.Io.BufRead.{drop_through};
 ghost use Rattle.std.specs.List.{list_any};
 ghost use Rattle.std.specs.Str.Lines.{strip_carriage_return};
-ghost use Rattle.gopher_item.specs.Lines.{lines_of};
+ghost use Rattle.gopher_item.specs.Lines.{IsAround, lines_of};
 
 use crate::fault::NoMemory;
 use crate::split::split_once;
@@ -19,6 +19,7 @@ pub fn first_line(bytes: &[u8]) -> Option<(&[u8], &[u8])>
     ensures no_feed { IfSome result (λ parts. list_any (λ byte. byte == 10) parts.0.now ≡ false) }
     ensures rest { IfSome result (λ parts. parts.1.now ≡ drop_through 10 bytes.now) }
     ensures shorter { IfSome result (λ parts. length parts.1.now < length bytes.now) }
+    ensures whole { IfSome result (λ parts. IsAround bytes.now parts.0.now parts.1.now) }
 {
     if bytes.is_empty() {
         return None;
@@ -30,7 +31,8 @@ pub fn first_line(bytes: &[u8]) -> Option<(&[u8], &[u8])>
 }
 
 fn without_carriage_return(line: &[u8]) -> &[u8]
-    ensures { result.now ≡ strip_carriage_return line.now }
+    ensures stripped { result.now ≡ strip_carriage_return line.now }
+    ensures whole { IsAround line.now result.now [] }
 {
     match line {
         [front @ .., b'\r'] => front,

@@ -9,6 +9,7 @@ use crate::item::entry_of;
 use crate::line::first_line;
 use crate::menu_line::MenuLine;
 use std::alloc::Global;
+use std::sync::Arc;
 
 /// A line of a menu that was read.
 #[derive(Debug, Drop)]
@@ -44,6 +45,7 @@ fn is_last_line(line: &[u8]) -> bool
 pub fn read_menu(alloc: Global, bytes: &[u8]) -> Result<Menu, NoMemory>
     ensures { IfOk result (λ menu. ReadsMenu bytes.now menu.entries.items menu.ended) }
 {
+    let text = Arc::new(alloc, ByteString::from_slice(alloc, bytes)?)?;
     let mut entries = Vec::new(alloc);
     let mut rest = bytes;
     while let Some((line, after)) = first_line(rest) {
@@ -54,7 +56,8 @@ pub fn read_menu(alloc: Global, bytes: &[u8]) -> Result<Menu, NoMemory>
             });
         }
         if !line.is_empty() {
-            entries.push(entry_of(alloc, line)?)?;
+            let start = bytes.len() - rest.len();
+            entries.push(entry_of(alloc, &text, start, line)?)?;
         }
         rest = after;
     }

@@ -1,6 +1,6 @@
 //! Bytes that are cut at the first of one byte.
 
-ghost use Rattle.std.specs.Prelude.{◌≡◌, ◌<◌, ◌==◌, false, [], ◌∷◌, length, IfSome, MatchOption};
+ghost use Rattle.std.specs.Prelude.{◌≡◌, ◌<◌, ◌==◌, false, [], ◌∷◌, ◌++◌, length, IfSome, MatchOption};
 ghost use Rattle.std.specs.Io.BufRead.{drop_through};
 ghost use Rattle.std.specs.List.{list_any, slice_split};
 
@@ -14,6 +14,7 @@ pub fn split_once(byte: u8, bytes: &[u8]) -> Option<(&[u8], &[u8])>
     ensures none { MatchOption result (list_any (λ b. b == byte) bytes.now ≡ false) (λ parts. list_any (λ b. b == byte) parts.0.now ≡ false) }
     ensures rest { MatchOption result (drop_through byte bytes.now ≡ []) (λ parts. parts.1.now ≡ drop_through byte bytes.now) }
     ensures shorter { IfSome result (λ parts. length parts.1.now < length bytes.now) }
+    ensures whole { IfSome result (λ parts. bytes.now ≡ parts.0.now ++ byte ∷ parts.1.now) }
 {
     match memchr(byte, bytes) {
         Some(end) => Some((&bytes[..end], &bytes[end + 1..])),

@@ -1,12 +1,8 @@
-use Rattle.std.proofs.Common.{◌≡◌, ℕ, suc, ◌+◌, ◌-◌, List, ◌∷◌, length, take, drop, add-one, arith, ap, sym, ◌∙◌}
+use Rattle.std.proofs.Common.{◌≡◌, List, ◌∷◌, take, arith, ap, sym, ◌∙◌}
 use Rattle.std.specs.List.{slice_split}
-use Rattle.std.proofs.lemmas.List.{take_all, length-drop}
 use Rattle.std.specs.Prelude.{◌==◌}
-use Rattle.gopher_item.proofs.Splits.{slice_split_at_first, slice_split_nowhere, drop_through_at_first, drop_through_nowhere, list_any_before, list_any_nowhere}
+use Rattle.gopher_item.proofs.Splits.{after_cut, cut_whole, slice_split_at_first, slice_split_nowhere, drop_through_at_first, drop_through_nowhere, list_any_before, list_any_nowhere}
 use Rattle.gopher_item.proofs.split.split_once.Goals as goal
-
-after_cut : (bytes : List ℕ) (end : ℕ) → take (length bytes - (end + 1)) (drop (end + 1) bytes) ≡ drop (suc end) bytes
-after_cut bytes end = take_all _ _ (omega (arith, length-drop (end + 1) bytes)) ∙ ap (λ k. drop k bytes) (add-one end)
 
 pub returns-in-Some-clause-parts : goal.returns-in-Some-clause-parts
 returns-in-Some-clause-parts c =
@@ -36,3 +32,8 @@ returns-in-Some-clause-rest c =
 
 pub returns-in-None-clause-rest : goal.returns-in-None-clause-rest
 returns-in-None-clause-rest c = drop_through_nowhere c.args.byte c.args.bytes.now c.in-None.ensures
+
+pub returns-in-Some-clause-whole : goal.returns-in-Some-clause-whole
+returns-in-Some-clause-whole c =
+    let found = c.in-Some.ensures in
+    cut_whole c.args.byte c.args.bytes.now c.in-Some.end found.0.high found.1
