@@ -10,8 +10,11 @@ bench/replay.sh crates/hole/out/hole
 folder=$(mktemp -d)
 trap 'rm -rf "$folder"' EXIT
 bench/files.py "$folder"
-crates/measure/out/measure menu "$folder/menu"
-crates/measure/out/measure text "$folder/text"
+cc -O2 -o "$folder/splits" bench/splits.c
+for kind in menu text; do
+    crates/measure/out/measure "$kind" "$folder/$kind"
+    "$folder/splits" "$kind" "$folder/$kind"
+done
 crates/measure/out/measure settings examples/hole.toml
 crates/measure/out/measure site "$folder/site"
 crates/measure/out/measure replies "$folder/site"

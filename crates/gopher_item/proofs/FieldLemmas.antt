@@ -5,7 +5,6 @@ use Rattle.std.proofs.lemmas.List.Splits.{slice_split-cons_yes, slice_split-cons
 use Rattle.std.proofs.lemmas.List.{take_all}
 use Rattle.gopher_item.specs.Bytes.{is_special, has_special}
 use Rattle.gopher_item.specs.Menu.{BeginsWithField, HasFields, HasFirstField, fields_of}
-use Rattle.gopher_item.specs.MenuLine.{joined}
 use Rattle.gopher_item.proofs.MenuLines.{joined-append}
 
 abbrev is_plain : List ℕ → Bool

@@ -1,8 +1,8 @@
 -- The fields of a menu line, which stand in a text one byte apart.
-use Rattle.std.proofs.Common.{◌≡◌, ℕ, ◌+◌, ◌-◌, ◌≤◌, List, [], ◌∷◌, ◌++◌, length, take, drop, refl, sym, ap, ◌∙◌, append_assoc, arith}
+use Rattle.std.proofs.Common.{◌≡◌, ℕ, ◌+◌, ◌-◌, ◌≤◌, List, [], ◌∷◌, ◌++◌, length, drop, refl, sym, ap, ◌∙◌, append_assoc, arith}
 use Rattle.std.specs.Prelude.{slice_range}
 use Rattle.std.proofs.lemmas.List.{take_at, drop_at, drop-drop, length-append, length-drop}
-use Rattle.gopher_item.specs.MenuLine.{MenuLineData, Cuts, AreCuts, line_in, menu_line_of, StandsAt, joined}
+use Rattle.gopher_item.specs.MenuLine.{Cuts, AreCuts, line_in, menu_line_of, StandsAt, joined}
 
 pub joined-append : (display selector host after : List ℕ) → joined display selector host ++ after ≡ display ++ 9 ∷ (selector ++ 9 ∷ (host ++ after))
 joined-append display selector host after =

@@ -1,4 +1,4 @@
-use Rattle.std.proofs.Common.{◌≡◌, ◌-◌, ◌++◌, ◌∙◌, List, [], length, drop, take, ap, sym}
+use Rattle.std.proofs.Common.{◌-◌, ◌++◌, ◌∙◌, length, drop, take, ap, sym}
 use Rattle.std.proofs.lemmas.List.{append-nil, take-append-drop}
 use Rattle.gopher_item.proofs.line.without_carriage_return.Goals as goal
 

@@ -1,4 +1,4 @@
-use Rattle.std.proofs.Common.{◌≡◌, List, ◌∷◌, take, arith, ap, sym, ◌∙◌}
+use Rattle.std.proofs.Common.{◌∷◌, take, arith, ap, sym, ◌∙◌}
 use Rattle.std.specs.List.{slice_split}
 use Rattle.std.specs.Prelude.{◌==◌}
 use Rattle.gopher_item.proofs.Splits.{after_cut, cut_whole, slice_split_at_first, slice_split_nowhere, drop_through_at_first, drop_through_nowhere, list_any_before, list_any_nowhere}
