@@ -79,7 +79,7 @@ four_fields line first r1 selector r2 host r3 port one two three four = record {
   stands = (
     9 ∷ r3,
     one.whole
-    ∙ ap (λ l. first ++ 9 ∷ l) (two.whole ∙ ap (λ l. selector ++ 9 ∷ l) three.whole)
-    ∙ sym (joined-append first selector host (9 ∷ r3)),
+        ∙ ap (λ l. first ++ 9 ∷ l) (two.whole ∙ ap (λ l. selector ++ 9 ∷ l) three.whole)
+        ∙ sym (joined-append first selector host (9 ∷ r3)),
   );
 }

@@ -25,8 +25,8 @@ pub still_left : (bytes seen rest line after : List ℕ) → bytes ≡ seen ++ r
 still_left bytes seen rest line after left around = (
   seen ++ (line ++ around.0),
   left
-  ∙ ap (λ l. seen ++ l) (around.1 ∙ sym (append_assoc line around.0 after))
-  ∙ sym (append_assoc seen (line ++ around.0) after),
+      ∙ ap (λ l. seen ++ l) (around.1 ∙ sym (append_assoc line around.0 after))
+      ∙ sym (append_assoc seen (line ++ around.0) after),
 )
 
 -- a line of what is left stands in the bytes
@@ -35,6 +35,6 @@ pub stands_in_rest : (text bytes seen rest line after : List ℕ) → text ≡ b
 stands_in_rest text bytes seen rest line after same left around = (
   around.0 ++ after,
   ap (drop (length bytes - length rest)) (same ∙ left)
-  ∙ drop_at seen rest (length bytes - length rest) (omega (arith, ap length left, length-append seen rest))
-  ∙ around.1,
+      ∙ drop_at seen rest (length bytes - length rest) (omega (arith, ap length left, length-append seen rest))
+      ∙ around.1,
 )

@@ -75,8 +75,12 @@ line_in-cuts_of kind port start display selector host text stands =
 pub within : (kind start : ℕ) (display selector host text : List ℕ) → StandsAt text start (joined (kind ∷ display) selector host)
     → start + 1 + length display + 1 + length selector + 1 + length host ≤ length text
 within kind start display selector host text stands = omega (
-  arith, ap length (from_display kind start display selector host text stands), length-drop (start + 1) text,
-  length-append display (9 ∷ (selector ++ 9 ∷ (host ++ stands.0))), length-append selector (9 ∷ (host ++ stands.0)), length-append host stands.0,
+  arith,
+  ap length (from_display kind start display selector host text stands),
+  length-drop (start + 1) text,
+  length-append display (9 ∷ (selector ++ 9 ∷ (host ++ stands.0))),
+  length-append selector (9 ∷ (host ++ stands.0)),
+  length-append host stands.0,
 )
 
 pub are_cuts : (kind start : ℕ) (display selector host text : List ℕ) → StandsAt text start (joined (kind ∷ display) selector host)

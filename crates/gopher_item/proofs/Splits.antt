@@ -120,7 +120,7 @@ pub around_feed : (bytes line front rest : List ℕ) → bytes ≡ line ++ 10 �
 around_feed bytes line front rest whole stripped = (
   stripped.0 ++ 10 ∷ [],
   whole
-  ∙ ap (λ l. l ++ 10 ∷ rest) (stripped.1 ∙ ap (λ l. front ++ l) (append-nil stripped.0))
-  ∙ append_assoc front stripped.0 (10 ∷ rest)
-  ∙ ap (λ l. front ++ l) (sym (append_assoc stripped.0 (10 ∷ []) rest)),
+      ∙ ap (λ l. l ++ 10 ∷ rest) (stripped.1 ∙ ap (λ l. front ++ l) (append-nil stripped.0))
+      ∙ append_assoc front stripped.0 (10 ∷ rest)
+      ∙ ap (λ l. front ++ l) (sym (append_assoc stripped.0 (10 ∷ []) rest)),
 )

@@ -100,10 +100,20 @@ trim_spaces-same_length xs size =
     let first = trim_front_rest xs in
     let last = trim_front_rest (reverse front) in
     let front_size : length front ≡ length xs = omega (
-      arith, size, length-reverse back, length-reverse front, trim_front-length xs, trim_front-length (reverse front),
+      arith,
+      size,
+      length-reverse back,
+      length-reverse front,
+      trim_front-length xs,
+      trim_front-length (reverse front),
     ) in
     let back_size : length back ≡ length (reverse front) = omega (
-      arith, size, length-reverse back, length-reverse front, trim_front-length xs, trim_front-length (reverse front),
+      arith,
+      size,
+      length-reverse back,
+      length-reverse front,
+      trim_front-length xs,
+      trim_front-length (reverse front),
     ) in
     ap reverse (none_left last.0 back (reverse front) last.1 back_size)
     ∙ reverse-reverse front

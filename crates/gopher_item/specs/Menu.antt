@@ -29,11 +29,12 @@ fields_of line = slice_split (λ byte. byte == 9) line
 abbrev pub item_of_fields : List ℕ → List ℕ → List ℕ → List ℕ → Option MenuLineData
 item_of_fields [] selector host port = None
 item_of_fields (kind ∷ display) selector host port =
-    option_map (λ number. menu_line_of kind display selector (trim_spaces host) number) (number_of 65535 (trim_spaces port))
+    option_map (λ number. menu_line_of kind display selector (trim_spaces host) number)
+    (number_of 65535 (trim_spaces port))
 
 -- fields after the fourth count for nothing
 abbrev pub item_of_list : List (List ℕ) → Option MenuLineData
-item_of_list (kind_and_display ∷ selector ∷ host ∷ port ∷ more) = item_of_fields kind_and_display selector host port
+item_of_list (first ∷ selector ∷ host ∷ port ∷ more) = item_of_fields first selector host port
 item_of_list _ = None
 
 -- whether a CR or a NUL is among the bytes

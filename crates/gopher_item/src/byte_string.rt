@@ -1,6 +1,6 @@
 //! An owned string of bytes, which contracts see as the list of its bytes.
 
-ghost use Rattle.std.specs.Prelude.{◌≡◌, ℕ, List, [], ◌∷◌, ◌++◌, length, map, nat_eq, Some, IfOk, refl};
+ghost use Rattle.std.specs.Prelude.{◌≡◌, ◌==◌, ℕ, List, [], ◌∷◌, ◌++◌, length, map, nat_eq, Some, IfOk, refl};
 ghost use Rattle.std.specs.Ordering.{nat_cmp};
 ghost use Rattle.std.specs.Cmp;
 ghost use Rattle.std.specs.Cmp.Lexicographic.{pointwise, slice_cmp, nat_list_eq_equiv, nat_list_cmp_total, texts_ties, texts_po};
@@ -10,7 +10,7 @@ ghost use Rattle.std.proofs.Common.{rules};
 ghost use Rattle.gopher_item.specs.Place.{lower_case};
 
 use crate::fault::NoMemory;
-use std::alloc::Global;
+use std::alloc::{AllocError, Global};
 use std::cmp::Ordering;
 use std::hash::{Hash, Hasher};
 use std::marker::Model;
@@ -66,10 +66,25 @@ impl ByteString {
         self.held
     }
 
-    /// A second string of the same bytes. Refused only where memory is (90).
-    pub fn clone(&self) -> Result<Self, NoMemory>
-        ensures { IfOk result (λ b. b ≡ self.now) }
+    /// How many bytes there are.
+    pub fn len(&self) -> usize
+        ensures { result ≡ length self.now }
     {
+        self.held.len()
+    }
+
+    /// Whether there are none.
+    pub fn is_empty(&self) -> bool
+        ensures { result ≡ (length self.now == 0) }
+    {
+        self.held.is_empty()
+    }
+}
+
+impl Clone for ByteString {
+    ghost is_clone = { λ bytes copy. copy ≡ bytes };
+
+    fn clone(&self) -> Result<ByteString, AllocError> {
         Ok(ByteString {
             held: self.held.clone()?,
         })

@@ -29,7 +29,8 @@ fn has_return_or_nul(line: &[u8]) -> bool
 
 // The bytes before the first TAB, or all where there is none, and what stands after it.
 pub(crate) fn field(bytes: &[u8]) -> (&[u8], Option<&[u8]>)
-    ensures { MatchOption result.1 (fields_of bytes.now ≡ result.0.now ∷ []) (λ rest. fields_of bytes.now ≡ result.0.now ∷ fields_of rest.now) }
+    ensures { MatchOption result.1 (fields_of bytes.now ≡ result.0.now ∷ [])
+        (λ rest. fields_of bytes.now ≡ result.0.now ∷ fields_of rest.now) }
 {
     match split_once(TAB, bytes) {
         Some((first, rest)) => (first, Some(rest)),
@@ -37,8 +38,8 @@ pub(crate) fn field(bytes: &[u8]) -> (&[u8], Option<&[u8]>)
     }
 }
 
-// The bytes before the first TAB, or all where there is none, and what stands after it; or `None` where
-// a CR or a NUL comes before it.
+// The bytes before the first TAB, or all where there is none, and what stands after it; or `None`
+// where a CR or a NUL comes before it.
 fn plain_field(bytes: &[u8]) -> Option<(&[u8], Option<&[u8]>)>
     ensures { MatchOption result (has_return_or_nul bytes.now ≡ true)
         (λ cut. MatchOption cut.1 (IsLastField bytes.now cut.0.now)
@@ -87,8 +88,8 @@ fn last_field(bytes: &[u8]) -> Option<&[u8]>
     Some(first)
 }
 
-// The item of four fields that hold no special byte. The first three stand in the text from `start` on,
-// with a TAB between them.
+// The item of four fields that hold no special byte. The first three stand in the text from `start`
+// on, with a TAB between them.
 fn item_of_fields(
     alloc: Global,
     text: &Arc<ByteString>,
@@ -112,8 +113,7 @@ fn item_of_fields(
     };
     let trimmed = trim_spaces(host);
     if trimmed.len() == host.len() {
-        let line =
-            MenuLine::in_text(text, start, *kind, display, selector, host, port as u16)?;
+        let line = MenuLine::in_text(text, start, *kind, display, selector, host, port as u16)?;
         Ok(Some(line))
     } else {
         let line = MenuLine::of_fields(alloc, *kind, display, selector, trimmed, port as u16)?;

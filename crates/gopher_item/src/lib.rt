@@ -24,7 +24,7 @@ pub use byte_string::ByteString;
 pub use bytes::{has_special, is_control, is_host, is_selector};
 pub use fault::{ItemFault, NoMemory, RequestFault};
 pub use home::Home;
-pub use line::{first_line, lines};
+pub use line::{first_line, is_last_line, lines};
 pub use menu::{Entry, Menu, read_menu};
 pub use menu_line::MenuLine;
 pub use number::read_number;

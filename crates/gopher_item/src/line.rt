@@ -5,6 +5,7 @@ ghost use Rattle.std.specs.Io.BufRead.{drop_through};
 ghost use Rattle.std.specs.List.{list_any};
 ghost use Rattle.std.specs.Str.Lines.{strip_carriage_return};
 ghost use Rattle.gopher_item.specs.Lines.{IsAround, lines_of};
+ghost use Rattle.gopher_item.specs.Menu.{is_last_line};
 
 use crate::fault::NoMemory;
 use crate::split::split_once;
@@ -15,7 +16,8 @@ use std::alloc::Global;
 /// A line ends in LF, and one CR directly before the LF belongs to the end; a last line without LF
 /// is a line as it stands. Takes no memory.
 pub fn first_line(bytes: &[u8]) -> Option<(&[u8], &[u8])>
-    ensures line { MatchOption result (bytes.now ≡ []) (λ parts. lines_of bytes.now ≡ parts.0.now ∷ lines_of parts.1.now) }
+    ensures line { MatchOption result (bytes.now ≡ [])
+        (λ parts. lines_of bytes.now ≡ parts.0.now ∷ lines_of parts.1.now) }
     ensures no_feed { IfSome result (λ parts. list_any (λ byte. byte == 10) parts.0.now ≡ false) }
     ensures rest { IfSome result (λ parts. parts.1.now ≡ drop_through 10 bytes.now) }
     ensures shorter { IfSome result (λ parts. length parts.1.now < length bytes.now) }
@@ -38,6 +40,14 @@ fn without_carriage_return(line: &[u8]) -> &[u8]
         [front @ .., b'\r'] => front,
         _ => line,
     }
+}
+
+/// Whether the line is a period alone, which ends a menu and a text (RFC 1436, section 2 and the
+/// appendix).
+pub fn is_last_line(line: &[u8]) -> bool
+    ensures { result ≡ is_last_line line.now }
+{
+    matches!(line, [b'.'])
 }
 
 /// The lines of the bytes. Refused only where memory is (90).

@@ -2,10 +2,11 @@
 
 ghost use Rattle.std.specs.Prelude.{◌≡◌, ℕ, ◌==◌, ◌||◌, ◌<◌, ◌^◌, ◌∷◌, IfOk, IfNone};
 ghost use Rattle.std.specs.Arc.{arc_value};
+ghost use Rattle.std.specs.Cmp;
 ghost use Rattle.gopher_item.specs.Bytes.{is_control};
 ghost use Rattle.gopher_item.specs.Fault.{Makes};
 ghost use Rattle.gopher_item.specs.Place.{place_fault, place_of};
-ghost use Rattle.gopher_item.specs.MenuLine.{IsMenuLine, StandsAt, is_bad_type, joined, menu_line_fault, menu_line_of};
+ghost use Rattle.gopher_item.specs.MenuLine.{IsMenuLine, StandsAt, is_bad_type, joined, menu_line_fault, menu_line_of, same_line, same_line_equiv};
 
 use crate::byte_string::ByteString;
 use crate::bytes::{has_special, is_control, is_host, is_selector};
@@ -35,20 +36,15 @@ pub struct MenuLine {
 
 impl Model for MenuLine {
     ghost use Rattle.std.specs.Arc.{arc_value};
-    ghost use Rattle.gopher_item.specs.MenuLine.{MenuLineData, IsMenuLine, Cuts, AreCuts, line_in};
+    ghost use Rattle.gopher_item.specs.MenuLine.{MenuLineData, StandsIn, cuts_at, line_in};
 
     ghost Value = { MenuLineData };
 
     ghost view = { λ m. line_in m.kind m.port
-        (record { start = m.start; display_end = m.display_end; selector_end = m.selector_end; end = m.end })
-        (arc_value m.text) };
+        (cuts_at m.start m.display_end m.selector_end m.end) (arc_value m.text) };
 
-    ghost invariant = { λ m. AreCuts
-        (record { start = m.start; display_end = m.display_end; selector_end = m.selector_end; end = m.end })
-        (arc_value m.text)
-        × IsMenuLine (line_in m.kind m.port
-        (record { start = m.start; display_end = m.display_end; selector_end = m.selector_end; end = m.end })
-        (arc_value m.text)) };
+    ghost invariant = { λ m. StandsIn m.kind m.port
+        (cuts_at m.start m.display_end m.selector_end m.end) (arc_value m.text) };
 }
 
 // The type and the three texts, one after another, with a TAB between the texts.
@@ -115,7 +111,8 @@ impl MenuLine {
         requires fields { IsMenuLine (menu_line_of kind display.now selector.now host.now port) }
         requires stands { StandsAt (arc_value text.now) start
             (joined (kind ∷ display.now) selector.now host.now) }
-        ensures { IfOk result (λ line. line ≡ menu_line_of kind display.now selector.now host.now port) }
+        ensures { IfOk result (λ line.
+            line ≡ menu_line_of kind display.now selector.now host.now port) }
     {
         // The text's length fits a `usize`, and so does each place in it.
         let _length = text.as_slice().len();
@@ -144,7 +141,8 @@ impl MenuLine {
         port: u16,
     ) -> Result<MenuLine, NoMemory>
         requires { IsMenuLine (menu_line_of kind display.now selector.now host.now port) }
-        ensures { IfOk result (λ line. line ≡ menu_line_of kind display.now selector.now host.now port) }
+        ensures { IfOk result (λ line.
+            line ≡ menu_line_of kind display.now selector.now host.now port) }
     {
         let text = ByteString::from(joined(alloc, kind, display, selector, host)?);
         let text = Arc::new(alloc, text)?;
@@ -172,10 +170,7 @@ impl MenuLine {
         if let Some(fault) = menu_line_fault(kind, display, selector, host) {
             return Err(fault);
         }
-        let Ok(line) = MenuLine::of_fields(alloc, kind, display, selector, host, port) else {
-            return Err(ItemFault::NoMemory);
-        };
-        Ok(line)
+        Ok(MenuLine::of_fields(alloc, kind, display, selector, host, port)?)
     }
 
     /// The type (RFC 1436, section 3.8).
@@ -238,5 +233,39 @@ impl fmt::Debug for MenuLine {
             .field("host", &self.host())
             .field("port", &self.port())
             .finish()
+    }
+}
+
+impl PartialEq for MenuLine {
+    ghost eq = { same_line };
+
+    ghost laws = { Cmp.partial_equiv_from_equiv same_line_equiv };
+
+    fn eq(&self, other: &MenuLine) -> bool {
+        self.kind() == other.kind()
+            && self.display() == other.display()
+            && self.selector() == other.selector()
+            && self.host() == other.host()
+            && self.port() == other.port()
+    }
+}
+
+impl Eq for MenuLine {
+    ghost laws = { same_line_equiv };
+}
+
+impl Clone for MenuLine {
+    ghost is_clone = { λ line copy. copy ≡ line };
+
+    fn clone(&self) -> Result<MenuLine, AllocError> {
+        Ok(MenuLine {
+            kind: self.kind,
+            port: self.port,
+            start: self.start,
+            display_end: self.display_end,
+            selector_end: self.selector_end,
+            end: self.end,
+            text: Arc::try_clone(&self.text)?,
+        })
     }
 }

@@ -34,7 +34,8 @@ fn are_digits(bytes: &[u8]) -> bool
 
 fn value_up_to(limit: u32, digits: &[u8]) -> Option<u32>
     requires { IsTrue (list_all is_ascii_digit digits.now) }
-    ensures { result ≡ (if nat_le (digits_value 10 digits.now) limit then Some (digits_value 10 digits.now) else None) }
+    ensures { result ≡ (if nat_le (digits_value 10 digits.now) limit
+        then Some (digits_value 10 digits.now) else None) }
 {
     let mut value: u64 = 0;
     for digit in digits {

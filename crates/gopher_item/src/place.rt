@@ -29,9 +29,11 @@ impl Model for Place {
 
     ghost Value = { PlaceData };
 
-    ghost view = { λ p. record { host = p.host; port = p.port; selector = p.selector; kind = p.kind } };
+    ghost view = { λ p.
+        record { host = p.host; port = p.port; selector = p.selector; kind = p.kind } };
 
-    ghost inverse = { λ d. record { host = d.host; port = d.port; selector = d.selector; kind = d.kind } };
+    ghost inverse = { λ d.
+        record { host = d.host; port = d.port; selector = d.selector; kind = d.kind } };
 }
 
 /// The first fault of a server's address: `BadHost` (3) or `BadPort` (4).
@@ -73,17 +75,14 @@ impl Place {
         host: &[u8],
         port: u16,
     ) -> Result<Place, ItemFault>
-        ensures { Makes (place_fault kind selector.now host.now port) (place_of kind selector.now host.now port) result }
+        ensures { Makes (place_fault kind selector.now host.now port)
+            (place_of kind selector.now host.now port) result }
     {
         if let Some(fault) = place_fault(kind, selector, host, port) {
             return Err(fault);
         }
-        let Ok(host) = ByteString::lower_cased(alloc, host) else {
-            return Err(ItemFault::NoMemory);
-        };
-        let Ok(selector) = ByteString::from_slice(alloc, selector) else {
-            return Err(ItemFault::NoMemory);
-        };
+        let host = ByteString::lower_cased(alloc, host)?;
+        let selector = ByteString::from_slice(alloc, selector)?;
         Ok(Place {
             host,
             port,
@@ -149,7 +148,8 @@ impl PartialEq for Place {
 impl PartialOrd for Place {
     ghost partial_cmp = { as_partial_cmp place_cmp };
 
-    ghost laws = { Cmp.partial_order_from_own_ties (Cmp.partial_order_from_total place_cmp_total) same_place_ties };
+    ghost laws = { Cmp.partial_order_from_own_ties (Cmp.partial_order_from_total place_cmp_total)
+        same_place_ties };
 
     fn partial_cmp(&self, other: &Place) -> Option<Ordering> {
         Some(self.cmp(other))

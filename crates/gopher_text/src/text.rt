@@ -5,11 +5,11 @@ ghost use Rattle.std.specs.Io.{StartsWith};
 ghost use Rattle.std.specs.Io.BufRead.{drop_through};
 ghost use Rattle.std.specs.List.{flat_map};
 ghost use Rattle.gopher_item.specs.Lines.{lines_of};
-ghost use Rattle.gopher_item.specs.Menu.{any_last_line, is_last_line};
+ghost use Rattle.gopher_item.specs.Menu.{any_last_line};
 ghost use Rattle.gopher_text.specs.Line.{has_feed};
 ghost use Rattle.gopher_text.specs.Text.{HoldNoFeed, ReadsText, line_read, text_bytes, text_line_bytes, text_lines};
 
-use gopher_item::{ByteString, NoMemory, first_line};
+use gopher_item::{ByteString, NoMemory, first_line, is_last_line};
 use std::alloc::{AllocError, Global};
 
 /// A text that was read.
@@ -58,12 +58,6 @@ pub fn first_text_line(bytes: &[u8]) -> Option<(&[u8], &[u8])>
         return None;
     }
     Some((line_as_read(line), rest))
-}
-
-fn is_last_line(line: &[u8]) -> bool
-    ensures { result ≡ is_last_line line.now }
-{
-    matches!(line, [b'.'])
 }
 
 // A line without the period that was put in front of it.

@@ -31,7 +31,7 @@ loop-line-preserved c =
     )
 
 pub loop-line-init : goal.loop-line-init
-loop-line-init c = (rw c.new-entries.ensures.items refl, refl, ([], refl))
+loop-line-init c = (rw c.in_ok-entries.ensures.items refl, refl, ([], refl))
 
 pub overflow_sub-start : goal.overflow_sub-start
 overflow_sub-start c =
