@@ -1,4 +1,4 @@
-use Rattle.std.proofs.Common.{◌≡◌, ◌-◌, ◌∙◌, length, drop, sym, arith}
+use Rattle.std.proofs.Common.{◌∙◌, sym, arith}
 use Rattle.std.proofs.lemmas.List.{take_all, length-drop}
 use Rattle.gopher_item.proofs.TrimSearches.{trim_front_found, trim_front_nowhere}
 use Rattle.gopher_item.proofs.trim.trim_front.Goals as goal
