@@ -1,7 +1,8 @@
 #!/usr/bin/env bash
-# Every timing: scripts replayed, menus and texts read and written, settings read, a site loaded and its
-# replies made, a host in memory of 16,384 texts crawled by 4, 2 and 1 workers, and a catalogue of 65,536 pages
-# built and searched, beside a plain C program that makes the same pages, adds them to postings and searches these.
+# Every timing: scripts replayed, menus and texts read and written, beside a plain C program that splits
+# them, settings read, a site loaded and its replies made, a host in memory of 16,384 texts crawled by 4, 2
+# and 1 workers, and a catalogue of 65,536 pages built and searched, beside a plain C program that makes the
+# same pages, adds them to postings and searches these.
 set -euo pipefail
 cd "$(dirname "$0")/.."
 (cd crates/hole && rt run -- replay < stdin > /dev/null)

@@ -1,10 +1,10 @@
 -- A `.menu` file: the menu of its folder, written by hand.
-use Rattle.std.specs.Prelude.{ℕ, ◌+◌, Bool, ◌&&◌, ◌||◌, not, ◌==◌, List, [], ◌∷◌, map, Option, None, Some, is_some, if◌then◌else◌}
+use Rattle.std.specs.Prelude.{ℕ, ◌+◌, Bool, ◌&&◌, not, List, [], ◌∷◌, map, Option, None, Some, is_some, if◌then◌else◌}
 use Rattle.std.specs.List.{filter_map}
-use Rattle.gopher_item.specs.Bytes.{is_control, has_special}
+use Rattle.gopher_item.specs.Bytes.{has_special}
 use Rattle.gopher_item.specs.Lines.{lines_of}
 use Rattle.gopher_item.specs.Menu.{fields_of}
-use Rattle.gopher_item.specs.MenuLine.{MenuLineData, trim_spaces}
+use Rattle.gopher_item.specs.MenuLine.{MenuLineData, is_bad_type, trim_spaces}
 use Rattle.gopher_item.specs.Number.{number_of}
 use Rattle.gopher_item.specs.Place.{HomeData, is_host, is_selector}
 
@@ -17,7 +17,7 @@ pub record WrittenLineData : Type 0 where
 
 -- whether a menu line that is made may have these parts
 abbrev pub is_item : ℕ → List ℕ → List ℕ → Bool
-is_item kind display selector = is_selector selector && not (has_special display) && not (is_control kind || (kind == 32) || (kind == 46))
+is_item kind display selector = is_selector selector && not (has_special display) && not (is_bad_type kind)
 
 abbrev pub item_of : ℕ → List ℕ → List ℕ → Option HomeData → Option WrittenLineData
 item_of kind display selector server = if is_item kind display selector then Some (record { kind = kind; display = display; selector = selector; server = server }) else None
