@@ -40,7 +40,8 @@ pub fn read_line_from<R: Read>(alloc: Global, reader: &mut Watched<R>) -> Result
     ensures refused { IfErr result (RefusesLine (R.remaining reader.old.device)
         (R.remaining reader.new.device) reader.old.failures reader.new.failures) }
     ensures turns { (reader.old.failures ≤ reader.new.failures)
-        × ((bytes : List ℕ) × Consumes (R.remaining reader.old.device) (R.remaining reader.new.device) bytes
+        × ((bytes : List ℕ)
+        × Consumes (R.remaining reader.old.device) (R.remaining reader.new.device) bytes
         × (reader.new.failures + length bytes ≤ reader.old.failures + 4096)) }
 {
     let mut held = [0; MOST_WITH_END];

@@ -34,7 +34,8 @@ pub fn write_text(lines: &[ByteString], out: &mut Vec<u8>) -> Result<(), NoMemor
 ///
 /// All or nothing: refused only where memory is (90), and then `out` is as it was.
 pub fn write_text_of(bytes: &[u8], out: &mut Vec<u8>) -> Result<(), NoMemory>
-    ensures written { OnOk result (out.new.items ≡ out.old.items ++ text_bytes (lines_of bytes.now)) }
+    ensures written { OnOk result
+        (out.new.items ≡ out.old.items ++ text_bytes (lines_of bytes.now)) }
     ensures refused { OnErr result (out.new.items ≡ out.old.items) }
 {
     let length = out.len();
@@ -69,7 +70,8 @@ fn push_lines(lines: &[ByteString], out: &mut Vec<u8>) -> Result<(), AllocError>
 
 // Appends the bytes of the lines that `bytes` are, and of the last line.
 fn push_lines_of(bytes: &[u8], out: &mut Vec<u8>) -> Result<(), AllocError>
-    ensures written { OnOk result (out.new.items ≡ out.old.items ++ text_bytes (lines_of bytes.now)) }
+    ensures written { OnOk result
+        (out.new.items ≡ out.old.items ++ text_bytes (lines_of bytes.now)) }
     ensures kept { StartsWith out.new.items out.old.items }
 {
     let mut rest = bytes;
