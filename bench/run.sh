@@ -12,9 +12,10 @@ folder=$(mktemp -d)
 trap 'rm -rf "$folder"' EXIT
 bench/files.py "$folder"
 cc -O2 -o "$folder/splits" bench/splits.c
-for kind in menu text; do
-    crates/measure/out/measure "$kind" "$folder/$kind"
-    "$folder/splits" "$kind" "$folder/$kind"
+for file in menu reply text; do
+    kind=${file/reply/menu}
+    crates/measure/out/measure "$kind" "$folder/$file"
+    "$folder/splits" "$kind" "$folder/$file"
 done
 crates/measure/out/measure settings examples/hole.toml
 crates/measure/out/measure site "$folder/site"
