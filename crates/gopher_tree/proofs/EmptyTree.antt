@@ -29,7 +29,7 @@ IsTree-empty index held = record {
   index = record {
     entries = λ q. held q ∙ root_entry q;
     paths = λ q. ap is_some (held q) ∙ root_node q;
-    root = refl;
+    apart = λ q folder. refl;
   };
   bytes_is = refl;
   count_is = refl;

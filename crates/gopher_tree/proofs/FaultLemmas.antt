@@ -12,7 +12,7 @@ use Rattle.gopher_tree.specs.Tree.{IsTree}
 use Rattle.gopher_tree.specs.Fault.{path_fault, is_too_big, is_twice, menu_fault, or_fault, file_fault}
 use Rattle.gopher_tree.specs.declared.fault.TreeFault.{TreeFault}
 use Rattle.gopher_tree.specs.declared.index.Entry.{Entry}
-use Rattle.gopher_tree.proofs.EntryLemmas.{entry_of-push, is_file-push}
+use Rattle.gopher_tree.proofs.EntryLemmas.{entry_of-push, apart_push}
 use Rattle.gopher_tree.proofs.NodeLemmas.{entry_after-some, nodes-push}
 
 pub or_fault-none : (a b : Option TreeFault) → or_fault a b ≡ None → (a ≡ None) × (b ≡ None)
@@ -73,9 +73,9 @@ IsTree-push files file old new bytes count added none tree held more =
     let count_is : count + added ≡ length (nodes (files ++ file ∷ [])) = ap (λ n. n + added) tree.count_is ∙ sym more ∙ ap length (sym (nodes-push files file)) in
     record {
       index = record {
-        entries = λ q. held q ∙ ap (λ e. entry_after e (length files) (kind_of file.0 file.1) file.0 q) (tree.index.entries q) ∙ entry_of-push files file good.once tree.index.root q;
+        entries = λ q. held q ∙ ap (λ e. entry_after e (length files) (kind_of file.0 file.1) file.0 q) (tree.index.entries q) ∙ entry_of-push files file good.once (tree.index.apart [] refl) q;
         paths = λ q. ap is_some (held q) ∙ entry_after-some (held_at old q) (length files) (kind_of file.0 file.1) file.0 q (nodes files) good.some (tree.index.paths q) ∙ ap (λ l. is_among l q) (sym (nodes-push files file));
-        root = is_file-push files file tree.index.root good.some;
+        apart = apart_push files file tree.index.apart good.once good.some;
       };
       bytes_is = bytes_is;
       count_is = count_is;

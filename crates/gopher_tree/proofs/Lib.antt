@@ -11,3 +11,6 @@ pub mod EmptyTree
 pub mod ReplyLemmas
 pub mod LoadLemmas
 pub mod KeptLemmas
+pub mod AboveLemmas
+pub mod ListingLemmas
+pub mod SettledLemmas

@@ -3,9 +3,10 @@ use Rattle.std.proofs.Common.{◌≡◌, ℕ, suc, ◌+◌, ◌<◌, Bool, true,
 use Rattle.std.specs.List.{list_any}
 use Rattle.std.specs.Cmp.Lexicographic.{pointwise, nat_list_eq_equiv}
 use Rattle.gopher_tree.specs.Path.{rest_after}
-use Rattle.gopher_tree.specs.Files.{File, is_file}
+use Rattle.gopher_tree.specs.Files.{File, is_file, is_folder}
 use Rattle.gopher_tree.proofs.FolderLemmas.{rest_after-take}
-use Rattle.std.proofs.Math.Bool.{or-true, and-false, and_comm}
+use Rattle.gopher_tree.proofs.AboveLemmas.{AreApart, none_through}
+use Rattle.std.proofs.Math.Bool.{or-true, or-false, and-false, and_comm}
 
 or_split : (a A s b B : Bool) → ((a || (b && s)) || (A || (B && s))) ≡ ((a || A) || ((b || B) && s))
 or_split true A s b B = refl
@@ -26,6 +27,33 @@ pub through_step : (files : List File) (path : List ℕ) (n : ℕ) (found : Bool
     → list_any (λ f. is_some (rest_after f.0 (take (n + 1) path))) files ≡ (found || (eqb (get_or path n 0) 47 && is_file files (take n path)))
 through_step files path n found low e =
     ap (λ m. list_any (λ f. is_some (rest_after f.0 (take m path))) files) (add-one n) ∙ through-take files path n low ∙ ap (λ t. t || (is_file files (take n path) && eqb (get_or path n 0) 47)) e ∙ ap (λ t. found || t) (and_comm (is_file files (take n path)) (eqb (get_or path n 0) 47))
+
+-- no node before a slash, or no slash
+pub through_other : (files : List File) (path : List ℕ) (n : ℕ) (node : Bool) → n < length path → node ≡ (is_file files (take n path) || is_folder files (take n path)) → (eqb (get_or path n 0) 47 && node) ≡ false
+    → list_any (λ f. is_some (rest_after f.0 (take (n + 1) path))) files ≡ list_any (λ f. is_some (rest_after f.0 (take n path))) files
+through_other files path n node low is none =
+    through_step files path n (list_any (λ f. is_some (rest_after f.0 (take n path))) files) low refl
+    ∙ ap (λ t. list_any (λ f. is_some (rest_after f.0 (take n path))) files || t) (by (eqb (get_or path n 0) 47) (is_file files (take n path)) (is_folder files (take n path)) (ap (λ t. eqb (get_or path n 0) 47 && t) (sym is) ∙ none))
+    ∙ or-false (list_any (λ f. is_some (rest_after f.0 (take n path))) files)
+  where
+    by : (slash file folder : Bool) → (slash && (file || folder)) ≡ false → (slash && file) ≡ false
+    by true true folder h = absurd cc
+    by true false folder h = refl
+    by false file folder h = refl
+
+-- a node before a slash: that is the last one that may be a file
+pub through_node : (files : List File) (path : List ℕ) (n : ℕ) (node : Bool) → AreApart files → n < length path → node ≡ (is_file files (take n path) || is_folder files (take n path)) → (eqb (get_or path n 0) 47 && node) ≡ true
+    → list_any (λ f. is_some (rest_after f.0 (take (n + 1) path))) files ≡ is_file files (take n path)
+through_node files path n node apart low is there =
+    let both = and_parts (eqb (get_or path n 0) 47) node there in
+    through_step files path n (list_any (λ f. is_some (rest_after f.0 (take n path))) files) low refl
+    ∙ ap (λ t. t || (eqb (get_or path n 0) 47 && is_file files (take n path))) (none_through files (take n path) apart (sym is ∙ both.1))
+    ∙ ap (λ t. t && is_file files (take n path)) both.0
+  where
+    and_parts : (s t : Bool) → (s && t) ≡ true → (s ≡ true) × (t ≡ true)
+    and_parts true true h = (refl, refl)
+    and_parts true false h = absurd cc
+    and_parts false t h = absurd cc
 
 -- no path leads through anything before its first byte
 pub through_none : (files : List File) (path : List ℕ) → list_any (λ f. is_some (rest_after f.0 (take 0 path))) files ≡ false

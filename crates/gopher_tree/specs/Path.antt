@@ -56,6 +56,10 @@ rest_below (byte ∷ folder) path = rest_after (byte ∷ folder) path
 abbrev pub is_below : List ℕ → List ℕ → Bool
 is_below folder path = is_some (rest_below folder path)
 
+-- whether a slash stands at this place of a path
+abbrev pub is_slash : List ℕ → ℕ → Bool
+is_slash path place = slice_index path place == 47
+
 -- the folders that the first `count` bytes of a path lead through, but the root: its beginnings before each slash
 abbrev pub folders_within : ℕ → List ℕ → List (List ℕ)
 folders_within zero path = []

@@ -1,11 +1,11 @@
 //! The index of a tree: what stands at each path.
 
-ghost use Rattle.std.specs.Prelude.{◌≡◌, ℕ, ◌+◌, ◌<◌, List, [], length, take, drop, slice_index, ◌==◌, ◌&&◌, None, Some, IfOk, OnOk, nat_eq, if◌then◌else◌};
+ghost use Rattle.std.specs.Prelude.{◌≡◌, ℕ, ◌+◌, ◌<◌, List, [], length, take, drop, ◌&&◌, None, Some, is_some, IfOk, OnOk, nat_eq, if◌then◌else◌};
 ghost use Rattle.std.specs.Cmp.Lexicographic.{pointwise};
 ghost use Rattle.std.specs.Option.{option_copied};
-ghost use Rattle.gopher_tree.specs.Path.{names_of};
+ghost use Rattle.gopher_tree.specs.Path.{names_of, is_slash};
 ghost use Rattle.gopher_tree.specs.Files.{child_of};
-ghost use Rattle.gopher_tree.specs.Index.{held_at, is_file_entry, children_at, with_child, folder_with, folders_after, entry_after};
+ghost use Rattle.gopher_tree.specs.Index.{held_at, is_file_entry, folder_at, names_at, with_child, folder_with, folders_after, entry_after, AddsBefore, IsSettled};
 ghost use Rattle.gopher_tree.specs.Child.{child_data};
 
 use crate::children::Children;
@@ -42,19 +42,21 @@ pub(crate) fn is_file_entry(entry: Option<&Entry>) -> bool
 }
 
 // Takes the folder at the path out, where there is one.
-fn take_children(alloc: Global, index: &mut Index, folder: &[u8]) -> Children
-    ensures children { result ≡ children_at (held_at index.old folder.now) }
-    ensures others { (path : List ℕ) → held_at index.new path ≡ (if pointwise nat_eq path folder.now then None else held_at index.old path) }
+fn take_folder(index: &mut Index, folder: &[u8]) -> Option<Children>
+    ensures children { result ≡ folder_at (held_at index.old folder.now) }
+    ensures others { (path : List ℕ) → held_at index.new path
+        ≡ (if pointwise nat_eq path folder.now then None else held_at index.old path) }
 {
     match index.remove(folder) {
-        Some(Entry::Folder(children)) => children,
-        _ => Children::new(alloc),
+        Some(Entry::Folder(children)) => Some(children),
+        _ => None,
     }
 }
 
 // Puts the entry at the path.
 fn put(alloc: Global, index: &mut Index, path: &[u8], entry: Entry) -> Result<(), NoMemory>
-    ensures { OnOk result ((q : List ℕ) → held_at index.new q ≡ (if pointwise nat_eq q path.now then Some entry else held_at index.old q)) }
+    ensures { OnOk result ((q : List ℕ) → held_at index.new q
+        ≡ (if pointwise nat_eq q path.now then Some entry else held_at index.old q)) }
 {
     index.insert(Vec::from_slice(alloc, path)?, entry)?;
     Ok(())
@@ -75,19 +77,40 @@ fn with_child(
     Ok(children)
 }
 
-// Adds a child, where there is one, to the folder, which is made where it isn't there.
+// The folder's names with one more, where there is one; none of a folder that isn't there.
+fn names_with(
+    alloc: Global,
+    held: Option<Children>,
+    child: Option<(&[u8], u8)>,
+) -> Result<Children, NoMemory>
+    ensures { IfOk result (λ names. names ≡ with_child (names_at held) (child_data child.entry)) }
+{
+    match held {
+        Some(children) => with_child(alloc, children, child),
+        None => with_child(alloc, Children::new(alloc), child),
+    }
+}
+
+// Adds a child, where there is one, to the folder, which is made where it isn't there, and tells
+// whether it was there.
 fn add_child(
     alloc: Global,
     index: &mut Index,
     folder: &[u8],
     child: Option<(&[u8], u8)>,
-) -> Result<(), NoMemory>
-    ensures { OnOk result ((path : List ℕ) → held_at index.new path ≡ (if pointwise nat_eq path folder.now then folder_with (held_at index.old folder.now) (child_data child.entry) else held_at index.old path)) }
+) -> Result<bool, NoMemory>
+    ensures added { OnOk result ((path : List ℕ) → held_at index.new path
+        ≡ (if pointwise nat_eq path folder.now
+            then folder_with (held_at index.old folder.now) (child_data child.entry)
+            else held_at index.old path)) }
+    ensures known { IfOk result (λ known. known
+        ≡ is_some (folder_at (held_at index.old folder.now))) }
 {
-    let children = take_children(alloc, index, folder);
-    let children = with_child(alloc, children, child)?;
+    let held = take_folder(index, folder);
+    let known = held.is_some();
+    let children = names_with(alloc, held, child)?;
     put(alloc, index, folder, Entry::Folder(children))?;
-    Ok(())
+    Ok(known)
 }
 
 // The folder that a path leads through before a slash, and what stands behind the slash.
@@ -99,34 +122,43 @@ fn around(path: &[u8], slash: usize) -> (&[u8], &[u8])
     (&path[..slash], &path[slash + 1..])
 }
 
-// Adds the file's path to the folder before this place, where a slash is there.
+// Adds the file's path to the folder before this place, where a slash is there, and tells whether that
+// was a folder before.
 fn add_before(
     alloc: Global,
     index: &mut Index,
     path: &[u8],
     kind: u8,
     place: usize,
-) -> Result<(), NoMemory>
+) -> Result<bool, NoMemory>
     requires { place < length path.now }
-    ensures { OnOk result ((q : List ℕ) → held_at index.new q ≡ (if (slice_index path.now place == 47) && pointwise nat_eq q (take place path.now) then folder_with (held_at index.old (take place path.now)) (child_of kind (names_of (drop (place + 1) path.now))) else held_at index.old q)) }
+    ensures added { OnOk result (AddsBefore index.old index.new kind path.now place) }
+    ensures known { IfOk result (λ known. known ≡ (is_slash path.now place
+        && is_some (folder_at (held_at index.old (take place path.now))))) }
 {
     if path[place] != b'/' {
-        return Ok(());
+        return Ok(false);
     }
     let (folder, rest) = around(path, place);
-    add_child(alloc, index, folder, child_of(kind, rest))?;
-    Ok(())
+    add_child(alloc, index, folder, child_of(kind, rest))
 }
 
-// Adds the file's path to the folders that it leads through.
+// Adds the file's path to the folders that it leads through, the last one first. Above one that was
+// there nothing is new.
 fn add_to_folders(alloc: Global, index: &mut Index, path: &[u8], kind: u8) -> Result<(), NoMemory>
-    requires { 0 < length path.now }
-    ensures { OnOk result ((q : List ℕ) → held_at index.new q ≡ folders_after (held_at index.old q) kind path.now q) }
+    requires some { 0 < length path.now }
+    requires settled { IsSettled index.old kind path.now }
+    ensures { OnOk result ((q : List ℕ) → held_at index.new q
+        ≡ folders_after (held_at index.old q) kind path.now q) }
 {
-    add_child(alloc, index, &[], child_of(kind, path))?;
-    for place in 1..path.len() {
-        add_before(alloc, index, path, kind, place)?;
+    let mut place = path.len();
+    while place > 1 {
+        place -= 1;
+        if add_before(alloc, index, path, kind, place)? {
+            return Ok(());
+        }
     }
+    add_child(alloc, index, &[], child_of(kind, path))?;
     Ok(())
 }
 
@@ -138,8 +170,10 @@ pub(crate) fn add_file(
     kind: u8,
     number: usize,
 ) -> Result<(), NoMemory>
-    requires { 0 < length path.now }
-    ensures { OnOk result ((q : List ℕ) → held_at index.new q ≡ entry_after (held_at index.old q) number kind path.now q) }
+    requires some { 0 < length path.now }
+    requires settled { IsSettled index.old kind path.now }
+    ensures { OnOk result ((q : List ℕ) → held_at index.new q
+        ≡ entry_after (held_at index.old q) number kind path.now q) }
 {
     add_to_folders(alloc, index, path, kind)?;
     put(alloc, index, path, Entry::File(number))?;

@@ -2,9 +2,10 @@
 
 ghost use Rattle.std.specs.Prelude.{◌≡◌, ℕ, ◌+◌, ◌≤◌, ◌<◌, ◌++◌, ◌∷◌, ◌||◌, ◌&&◌, ◌==◌, not, [], None, Some, List, length, take, slice_index, if◌then◌else◌, map, fold, count_by, is_some, IfOk, MatchResult};
 ghost use Rattle.std.specs.List.{list_any};
-ghost use Rattle.gopher_tree.specs.Path.{rest_after, is_menu_path};
-ghost use Rattle.gopher_tree.specs.Files.{is_file, is_folder, children, add_path, paths_of, nodes, is_among, file_at, total_bytes};
-ghost use Rattle.gopher_tree.specs.Fault.{is_too_big, is_twice, menu_fault, file_fault, files_fault, MakesTree};
+ghost use Rattle.gopher_tree.specs.Path.{rest_after, is_menu_path, is_slash, folders_of};
+ghost use Rattle.gopher_tree.specs.Files.{is_file, is_folder, children, add_path, nodes, is_among, total_bytes};
+ghost use Rattle.gopher_tree.specs.Fault.{is_too_big, is_twice, menu_fault, path_fault, file_fault, files_fault, MakesTree};
+ghost use Rattle.gopher_tree.specs.Tree.{Adds};
 ghost use Rattle.gopher_tree.specs.Reply.{named, folder_reply, tree_reply};
 ghost use Rattle.gopher_tree.specs.Found.{Finds, Shows, file_data};
 
@@ -131,22 +132,27 @@ impl Tree {
         self.index.contains_key(path)
     }
 
+    // Whether a slash is at this place of the path, and a node before it.
+    fn has_node_before(&self, path: &[u8], place: usize) -> bool
+        requires { place < length path.now }
+        ensures { result
+            ≡ (is_slash path.now place && is_among (nodes self.now) (take place path.now)) }
+    {
+        path[place] == b'/' && self.has_node(&path[..place])
+    }
+
+    // Of the nodes that the path leads through only the last one can be a file.
     fn leads_through_file(&self, path: &[u8]) -> bool
         ensures { result ≡ list_any (λ file. is_some (rest_after file.0 path.now)) self.now }
     {
-        let mut found = false;
-        for place in 0..path.len() {
-            found = self.has_file_before(path, place, found);
+        let mut place = path.len();
+        while place > 0 {
+            place -= 1;
+            if self.has_node_before(path, place) {
+                return self.is_file(&path[..place]);
+            }
         }
-        found
-    }
-
-    // Whether a file was found, or the path leads through one before this place.
-    fn has_file_before(&self, path: &[u8], place: usize, found: bool) -> bool
-        requires { place < length path.now }
-        ensures { result ≡ (found || ((slice_index path.now place == 47) && is_file self.now (take place path.now))) }
-    {
-        found || (path[place] == b'/' && self.is_file(&path[..place]))
+        false
     }
 
     fn is_twice(&self, path: &[u8]) -> bool
@@ -155,39 +161,41 @@ impl Tree {
         self.has_node(path) || self.leads_through_file(path)
     }
 
-    // How many nodes a path adds.
+    // How many nodes a path adds. Above a folder that is there nothing is new.
     fn new_nodes(&self, path: &[u8]) -> usize
         requires { 0 < length path.now }
-        ensures count { length (fold add_path (nodes self.now) (paths_of path.now)) ≡ length (nodes self.now) + result }
+        ensures count { Adds self.now path.now result }
         ensures bound { result ≤ length path.now }
     {
-        let mut count = 0;
-        for place in 1..path.len() {
-            count += self.nodes_before(path, place);
-        }
         if self.has_node(path) {
-            count
+            self.new_folders(path)
         } else {
-            count + 1
+            self.new_folders(path) + 1
         }
     }
 
-    // How many nodes a path adds by the folder before this place, where a slash is there: one, or none.
-    fn nodes_before(&self, path: &[u8], place: usize) -> usize
-        requires { place < length path.now }
-        ensures count { result ≡ (if (slice_index path.now place == 47) && not (is_among (nodes self.now) (take place path.now)) then 1 else 0) }
-        ensures bound { result ≤ 1 }
+    // How many folders a path adds.
+    fn new_folders(&self, path: &[u8]) -> usize
+        requires { 0 < length path.now }
+        ensures count { length (fold add_path (nodes self.now) ([] ∷ folders_of path.now))
+            ≡ length (nodes self.now) + result }
+        ensures bound { result < length path.now }
     {
-        if path[place] == b'/' && !self.has_node(&path[..place]) {
-            1
-        } else {
-            0
+        let mut count = 0;
+        let mut place = path.len();
+        while place > 1 {
+            place -= 1;
+            if self.has_node_before(path, place) {
+                return count;
+            }
+            count += usize::from(path[place] == b'/');
         }
+        count
     }
 
-    fn is_too_big(&self, path: &[u8], bytes: &[u8]) -> bool
-        requires some { 0 < length path.now }
-        requires short { length path.now ≤ 254 }
+    fn is_too_big(&self, path: &[u8], bytes: &[u8], new_nodes: usize) -> bool
+        requires added { Adds self.now path.now new_nodes }
+        requires short { new_nodes ≤ 254 }
         ensures { result ≡ is_too_big self.now (path.now, bytes.now) }
     {
         if bytes.len() > LARGEST_FILE {
@@ -196,18 +204,18 @@ impl Tree {
         if self.bytes + bytes.len() > MOST_BYTES {
             return true;
         }
-        self.nodes + self.new_nodes(path) > MOST_NODES
+        self.nodes + new_nodes > MOST_NODES
     }
 
-    // The first fault of a file that comes behind these.
-    fn file_fault(&self, path: &[u8], bytes: &[u8]) -> Option<TreeFault>
+    // The first fault of a file that comes behind these, and whose path has none by itself.
+    fn file_fault(&self, path: &[u8], bytes: &[u8], new_nodes: usize) -> Option<TreeFault>
+        requires good { path_fault (length self.now) path.now ≡ None }
+        requires added { Adds self.now path.now new_nodes }
+        requires short { new_nodes ≤ 254 }
         ensures { result ≡ file_fault self.now (path.now, bytes.now) }
     {
         let number = self.files.len();
-        if let Some(fault) = path_fault(number, path) {
-            return Some(fault);
-        }
-        if self.is_too_big(path, bytes) {
+        if self.is_too_big(path, bytes, new_nodes) {
             return Some(TreeFault::TooBig { file: number });
         }
         if let Some(fault) = menu_fault(number, path, bytes) {
@@ -219,32 +227,26 @@ impl Tree {
         None
     }
 
-    // Adds a file that has no fault.
-    fn add(self, alloc: Global, path: Vec<u8>, bytes: Vec<u8>) -> Result<Tree, TreeFault>
-        requires { file_fault self (path.items, bytes.items) ≡ None }
-        ensures { MatchResult result (λ tree. tree ≡ self ++ (path.items, bytes.items) ∷ []) (λ fault. fault ≡ TreeFault.NoMemory) }
+    // Adds a file that has no fault, and whose path adds so many nodes.
+    fn add(
+        self,
+        alloc: Global,
+        path: Vec<u8>,
+        bytes: Vec<u8>,
+        new_nodes: usize,
+    ) -> Result<Tree, NoMemory>
+        requires good { file_fault self (path.items, bytes.items) ≡ None }
+        requires added { Adds self path.items new_nodes }
+        ensures { IfOk result (λ tree. tree ≡ self ++ (path.items, bytes.items) ∷ []) }
     {
-        let new_nodes = self.new_nodes(&path);
-        let Tree {
-            mut files,
-            mut index,
-            bytes: total,
-            nodes,
-        } = self;
+        let mut tree = self;
         let file = File::new(path, bytes);
-        let total = total + file.bytes().len();
-        let Ok(()) = add_file(alloc, &mut index, file.path(), file.kind(), files.len()) else {
-            return Err(TreeFault::NoMemory);
-        };
-        let Ok(()) = files.push(file) else {
-            return Err(TreeFault::NoMemory);
-        };
-        Ok(Tree {
-            files,
-            index,
-            bytes: total,
-            nodes: nodes + new_nodes,
-        })
+        let number = tree.files.len();
+        add_file(alloc, &mut tree.index, file.path(), file.kind(), number)?;
+        tree.bytes += file.bytes().len();
+        tree.nodes += new_nodes;
+        tree.files.push(file)?;
+        Ok(tree)
     }
 
     // Adds a file, or refuses it for its first fault.
@@ -254,12 +256,20 @@ impl Tree {
         path: Vec<u8>,
         bytes: Vec<u8>,
     ) -> Result<Tree, TreeFault>
-        ensures { MakesTree (file_fault self (path.items, bytes.items)) (self ++ (path.items, bytes.items) ∷ []) result }
+        ensures { MakesTree (file_fault self (path.items, bytes.items))
+            (self ++ (path.items, bytes.items) ∷ []) result }
     {
-        if let Some(fault) = self.file_fault(&path, &bytes) {
+        if let Some(fault) = path_fault(self.files.len(), &path) {
             return Err(fault);
         }
-        self.add(alloc, path, bytes)
+        let new_nodes = self.new_nodes(&path);
+        if let Some(fault) = self.file_fault(&path, &bytes, new_nodes) {
+            return Err(fault);
+        }
+        match self.add(alloc, path, bytes, new_nodes) {
+            Ok(tree) => Ok(tree),
+            Err(_) => Err(TreeFault::NoMemory),
+        }
     }
 
     // The menu of a folder that has these names.
