@@ -1,5 +1,5 @@
 -- What holds at each key where nothing is wrong with a table.
-use Rattle.std.proofs.Common.{◌≡◌, ℕ, zero, suc, ℤ, pos, negsuc, ◌<◌, ◌≤◌, ◌==◌, Bool, true, false, not, List, [], ◌∷◌, length, get_or, Option, Some, None, Err, refl, arith}
+use Rattle.std.proofs.Common.{◌≡◌, ℕ, zero, suc, ℤ, pos, negsuc, ◌<◌, ◌≤◌, ◌==◌, Bool, true, false, not, List, [], ◌∷◌, length, get_or, Option, Some, None, Result, Ok, Err, IfOk, refl, sym, subst, arith}
 use Rattle.std.specs.Prelude.{unwrap_or, nat_eq, codes}
 use Rattle.std.specs.Cmp.Lexicographic.{pointwise}
 use Rattle.std.specs.Option.{option_map, option_map_or}
@@ -14,7 +14,10 @@ use Rattle.gopher_item.specs.declared.fault.ItemFault.TheVariants.{BadKind, BadS
 use Rattle.gopher_item.specs.Fault.{Makes}
 use Rattle.gopher_scope.specs.Rows.{all_keys, key_form, fields_of, is_in_range}
 use Rattle.gopher_scope.specs.Reading.{elements, first_of, field_value, field_problem, integer_problem, number_read, text_problem, scalar_problem, table_problem, integer_read, text_read, element_problem, array_problem, tables_problem, values_read, form_problem}
-use Rattle.gopher_scope.specs.Settings.{key_value, key_fault, settings_have_unknown, settings_fault, integer_at, text_at, field_integer, field_text, kind_read}
+use Rattle.gopher_scope.specs.Settings.{key_value, key_fault, settings_have_unknown, settings_fault, settings_read, settings_data, integer_in, integer_at, text_at, field_integer, field_text, kind_read, Answers, IsUpTo, AreInRange}
+use Rattle.gopher_scope.specs.declared.settings.Settings.{Settings}
+use Rattle.gopher_scope.specs.declared.fault.SettingsFault.{SettingsFault}
+use Rattle.gopher_scope.specs.declared.settings.form.Form.TheVariants.{Scalar as One}
 use Rattle.gopher_scope.specs.declared.settings.key.Key.{Key}
 use Rattle.gopher_scope.specs.declared.settings.key.Key.TheVariants as key
 use Rattle.gopher_scope.specs.declared.settings.form.Element.{Element}
@@ -149,3 +152,32 @@ home_fault-none table none =
     let good_host = text_read-in_range Host (key_value table key.Host) (form_problem-none table key.Host none) in
     let good_port = integer_read-positive 70 65535 (key_value table key.Port) (omega arith) (form_problem-none table key.Port none) in
     address_fault-none (text_at table key.Host) (integer_at table key.Port) good_host good_port
+
+integer_in_range : (table : Members) (at : Key) (absent most : ℕ) → key_form at ≡ One (Integer absent most) → 1 ≤ absent → absent ≤ most → settings_fault table ≡ None → IsUpTo most (integer_at table at)
+integer_in_range table at absent most form positive small none =
+    subst (λ f. form_problem f (key_value table at) ≡ None → IsUpTo most (integer_in f (key_value table at))) (sym form)
+    (λ good. (integer_read-positive absent most (key_value table at) positive good, integer_read-most absent most (key_value table at) small good))
+    (form_problem-none table at none)
+
+not_empty : (text : List ℕ) → is_in_range Path text ≡ true → 0 < length text
+not_empty [] good = absurd cc
+not_empty (byte ∷ text) good = omega arith
+
+-- what is read of a table with which nothing is wrong is in its ranges
+pub settings_in_range : (table : Members) → settings_fault table ≡ None → AreInRange (settings_read table)
+settings_in_range table none = record {
+  port = integer_in_range table key.Port 70 65535 refl (omega arith) (omega arith) none;
+  root = not_empty (text_at table key.Root) (text_read-in_range Path (key_value table key.Root) (form_problem-none table key.Root none));
+  places = integer_in_range table key.Places 4096 65536 refl (omega arith) (omega arith) none;
+  workers = integer_in_range table key.Workers 4 16 refl (omega arith) (omega arith) none;
+  threads = integer_in_range table key.Threads 2 8 refl (omega arith) (omega arith) none;
+  tries = integer_in_range table key.Tries 1 5 refl (omega arith) (omega arith) none;
+}
+
+pub answers_in_range : (table : Members) (result : Result Settings SettingsFault) → Answers (settings_fault table) (settings_read table) result → IfOk result (λ settings. AreInRange (settings_data settings))
+answers_in_range table (Err found) answers = tt
+answers_in_range table (Ok made) answers = by (settings_fault table) refl answers
+  where
+    by : (fault : Option SettingsFault) → settings_fault table ≡ fault → Answers fault (settings_read table) (Ok made) → AreInRange (settings_data made)
+    by None none same = subst AreInRange (sym same) (settings_in_range table none)
+    by (Some fault) none same = absurd cc

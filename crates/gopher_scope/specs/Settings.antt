@@ -1,5 +1,5 @@
 -- Settings, and how they are read.
-use Rattle.std.specs.Prelude.{◌≡◌, ℕ, Bool, ◌||◌, List, [], map, Option, None, Some, Result, Ok, Err, nat_eq, codes, string_bytes, if◌then◌else◌}
+use Rattle.std.specs.Prelude.{◌≡◌, ℕ, ◌<◌, ◌≤◌, Bool, ◌||◌, List, [], length, map, Option, None, Some, Result, Ok, Err, nat_eq, codes, string_bytes, if◌then◌else◌}
 use Rattle.std.specs.List.{list_any, filter_map}
 use Rattle.std.specs.Option.{option_map}
 use Rattle.std.specs.Cmp.Lexicographic.{pointwise}
@@ -34,6 +34,19 @@ pub record SettingsData : Type 0 where
 
 abbrev pub settings_data : Settings → SettingsData
 settings_data s = record { home = s.home; root = string_bytes s.root; seeds = s.seeds.items; scope = s.scope; places = s.places; workers = s.workers; threads = s.threads; tries = s.tries }
+
+-- a number from 1 to `most`
+abbrev pub IsUpTo : ℕ → ℕ → Type 0
+IsUpTo most number = (1 ≤ number) × (number ≤ most)
+
+-- numbers within their limits, and a folder that is named
+pub record AreInRange (settings : SettingsData) : Type 0 where
+  pub port : IsUpTo 65535 settings.home.port
+  pub root : 0 < length settings.root
+  pub places : IsUpTo 65536 settings.places
+  pub workers : IsUpTo 16 settings.workers
+  pub threads : IsUpTo 8 settings.threads
+  pub tries : IsUpTo 5 settings.tries
 
 abbrev pub settings_fault_code : SettingsFault → ℕ
 settings_fault_code fault.NotToml = 30

@@ -3,7 +3,7 @@
 ghost use Rattle.std.specs.Prelude.{◌≡◌, ◌≢◌, map, Ok, Err, Some, None, IfOk, IfErr};
 ghost use Rattle.toml.specs.Parse.{parse_document};
 ghost use Rattle.toml.specs.View.{table_view};
-ghost use Rattle.gopher_scope.specs.Settings.{settings_data, settings_fault, settings_read, settings_of, integer_at, text_at, tables_at, seed_read, rule_read, Answers};
+ghost use Rattle.gopher_scope.specs.Settings.{settings_data, settings_fault, settings_read, settings_of, integer_at, text_at, tables_at, seed_read, rule_read, Answers, AreInRange};
 
 mod check;
 mod field;
@@ -138,8 +138,11 @@ impl Settings {
     /// text was read as TOML. A fault inside an array names the array's key: the array's kind and its
     /// length come first, then its elements in their order, and in each of them its keys.
     pub fn read(alloc: Global, text: &str) -> Result<Settings, SettingsFault>
-        ensures read { IfOk result (λ settings. settings_of (parse_document text.now) ≡ Ok (settings_data settings)) }
-        ensures refused { IfErr result (λ fault. fault ≢ SettingsFault.NoMemory → settings_of (parse_document text.now) ≡ Err fault) }
+        ensures read { IfOk result (λ settings.
+            settings_of (parse_document text.now) ≡ Ok (settings_data settings)) }
+        ensures ranges { IfOk result (λ settings. AreInRange (settings_data settings)) }
+        ensures refused { IfErr result (λ fault. fault ≢ SettingsFault.NoMemory
+            → settings_of (parse_document text.now) ≡ Err fault) }
     {
         match toml::table_from_str(alloc, text) {
             Ok(table) => settings_of(alloc, &table),

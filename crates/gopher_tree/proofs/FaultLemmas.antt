@@ -1,5 +1,5 @@
 -- A file without a fault, and the tree that it is added to.
-use Rattle.std.proofs.Common.{◌≡◌, ℕ, ◌+◌, ◌<◌, ◌≤◌, Bool, true, false, cond, ◌||◌, ltb, List, [], ◌∷◌, ◌++◌, length, fold, sum_by, Option, None, Some, is_some, refl, sym, ap, ◌∙◌, arith}
+use Rattle.std.proofs.Common.{◌≡◌, ℕ, ◌+◌, ◌<◌, ◌≤◌, Bool, true, false, cond, ◌||◌, ltb, List, [], ◌∷◌, ◌++◌, length, fold, sum_by, Option, None, Some, is_some, Result, Ok, Err, ◌⊎◌, inl, inr, refl, sym, ap, ◌∙◌, arith}
 use Rattle.std.specs.BTreeMap.{BTreeMap}
 use Rattle.std.specs.declared.vec.Vec.{Vec}
 use Rattle.std.proofs.lemmas.Bool.{or_parts, ltb-false}
@@ -8,9 +8,10 @@ use Rattle.gopher_tree.specs.Path.{names_of, first_name, is_search_name, has_bad
 use Rattle.gopher_tree.specs.Kind.{kind_of}
 use Rattle.gopher_tree.specs.Files.{File, nodes, paths_of, add_path, is_among, total_bytes}
 use Rattle.gopher_tree.specs.Index.{held_at, entry_after}
-use Rattle.gopher_tree.specs.Tree.{IsTree}
-use Rattle.gopher_tree.specs.Fault.{path_fault, is_too_big, is_twice, menu_fault, or_fault, file_fault}
+use Rattle.gopher_tree.specs.Tree.{IsTree, Adds}
+use Rattle.gopher_tree.specs.Fault.{path_fault, is_too_big, is_twice, menu_fault, or_fault, file_fault, AddsFile}
 use Rattle.gopher_tree.specs.declared.fault.TreeFault.{TreeFault}
+use Rattle.gopher_tree.specs.declared.fault.TreeFault.TheVariants.{NoMemory}
 use Rattle.gopher_tree.specs.declared.index.Entry.{Entry}
 use Rattle.gopher_tree.proofs.EntryLemmas.{entry_of-push, apart_push}
 use Rattle.gopher_tree.proofs.NodeLemmas.{entry_after-some, nodes-push}
@@ -60,6 +61,21 @@ few_bytes files file h = ltb-false 67108864 _ (or_parts (ltb 16777216 (length fi
 
 pub few_nodes : (files : List File) (file : File) → is_too_big files file ≡ false → length (nodes (files ++ file ∷ [])) ≤ 4096
 few_nodes files file h = ltb-false 4096 _ (or_parts (ltb 16777216 (length file.1) || ltb 67108864 (total_bytes (files ++ file ∷ []))) _ h).1
+
+-- the nodes are few with those of a file without a fault
+pub few_after : (files : List File) (file : File) (added : ℕ) → file_fault files file ≡ None → Adds files file.0 added → length (nodes files) + added ≤ 4096
+few_after files file added none more =
+    let few = few_nodes files file (good_of files file none).large in
+    let counted = ap length (nodes-push files file) ∙ more in omega (arith, few, counted)
+
+-- what adds a file is refused for its fault, or for want of memory
+pub adds_refused : {T : Type 0} (found : Option TreeFault) (files : T) (fault : TreeFault) → AddsFile found files (Err fault) → (found ≡ Some fault) ⊎ ((found ≡ None) × (fault ≡ NoMemory))
+adds_refused None files fault adds = inr (refl, adds)
+adds_refused (Some first) files fault adds = let same : first ≡ fault = cc in inl (ap (λ f. Some f) same)
+
+pub adds_one : {T : Type 0} (found : Option TreeFault) (files tree : T) → AddsFile found files (Ok tree) → (found ≡ None) × (tree ≡ files)
+adds_one None files tree adds = (refl, adds)
+adds_one (Some first) files tree adds = absurd cc
 
 -- the tree of one file more
 pub IsTree-push : {A : Type 0} (files : List File) (file : File) (old new : BTreeMap (Vec ℕ A) Entry) (bytes count added : ℕ)

@@ -115,6 +115,20 @@ below-slash path n some low slash =
     let long : length (take n path) ≡ n = length-take-le n path (omega arith) in
     rest_below-long (take n path) path (omega arith) ∙ rest_after-at path n low slash
 
+-- the folder before a slash is as it was, where only those behind it were added to
+pub kept_before : (h g : List ℕ → Option Entry) (kind : ℕ) (path : List ℕ) (n : ℕ) → 0 < n → n < length path → eqb (get_or path n 0) 47 ≡ true
+    → ((q : List ℕ) → g q ≡ folders_from (h q) kind path (n + 1) q) → g (take n path) ≡ h (take n path)
+kept_before h g kind path n some low slash after =
+    after (take n path) ∙ ap (λ m. folders_from (h (take n path)) kind path m (take n path)) (add-one n) ∙ ap (λ t. cond t (h (take n path)) (folders_after (h (take n path)) kind path (take n path))) inside
+  where
+    inside : is_in (suc n) path (take n path) ≡ true
+    inside = is_in-slash (take n path) path n low slash ∙ ap (λ t. is_in n path (take n path) || t) (nat_list_eq_equiv.refl (take n path)) ∙ or-true (is_in n path (take n path))
+
+pub both_true : (s t : Bool) → (s && t) ≡ true → (s ≡ true) × (t ≡ true)
+both_true true true h = (refl, refl)
+both_true true false h = absurd cc
+both_true false t h = absurd cc
+
 folders_from-slash : (h g : List ℕ → Option Entry) (kind : ℕ) (path : List ℕ) (n : ℕ) → 0 < n → n < length path → eqb (get_or path n 0) 47 ≡ true
     → ((q : List ℕ) → g q ≡ folders_from (h q) kind path (suc n) q)
     → (q : List ℕ) → cond (pointwise eqb q (take n path)) (folder_with (g (take n path)) (child_of kind (names_of (drop (suc n) path)))) (g q) ≡ folders_from (h q) kind path n q
@@ -123,11 +137,8 @@ folders_from-slash h g kind path n some low slash after q = by (pointwise eqb q 
     folder : List ℕ
     folder = take n path
 
-    inside : is_in (suc n) path folder ≡ true
-    inside = is_in-slash folder path n low slash ∙ ap (λ t. is_in n path folder || t) (nat_list_eq_equiv.refl folder) ∙ or-true (is_in n path folder)
-
     was : g folder ≡ h folder
-    was = after folder ∙ ap (λ t. cond t (h folder) (folders_after (h folder) kind path folder)) inside
+    was = kept_before h g kind path n some low slash (λ p. after p ∙ ap (λ m. folders_from (h p) kind path m p) (sym (add-one n)))
 
     at_folder : folder_with (g folder) (child_of kind (names_of (drop (suc n) path))) ≡ folders_from (h folder) kind path n folder
     at_folder =

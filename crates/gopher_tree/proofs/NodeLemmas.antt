@@ -12,7 +12,7 @@ use Rattle.gopher_tree.specs.Index.{folder_with, entry_after}
 use Rattle.gopher_tree.specs.declared.index.Entry.{Entry}
 use Rattle.gopher_tree.specs.declared.index.Entry.TheVariants as entry
 use Rattle.gopher_tree.proofs.FolderLemmas.{is_in, is_in-cons, is_in-slash, is_in-other, is_in-self, is_in-whole, rest_after-short, length_take_one}
-use Rattle.std.proofs.Math.Bool.{or-true, or-false, or_assoc}
+use Rattle.std.proofs.Math.Bool.{or-true, or-false, or_assoc, and-false}
 
 pub nodes-push : (files : List File) (f : File) → nodes (files ++ f ∷ []) ≡ fold add_path (nodes files) (paths_of f.0)
 nodes-push files f =
@@ -146,19 +146,15 @@ count_known known path (suc n) some low above = ap length (fold_known known ([] 
     below (c ∷ q) e = sym (is_in-cons (suc n) path c q) ∙ e
 
 -- a node before a slash
-pub count_there : (known : List (List ℕ)) (path : List ℕ) (n : ℕ) → 0 < n → n < length path → (eqb (get_or path n 0) 47 && is_among known (take n path)) ≡ true
-    → ((q : List ℕ) → is_among known (take n path) ≡ true → is_below q (take n path) ≡ true → is_among known q ≡ true)
+pub count_there : (known : List (List ℕ)) (path : List ℕ) (n : ℕ) → 0 < n → n < length path → is_among known (take n path) ≡ true
+    → ((q : List ℕ) → is_below q (take n path) ≡ true → is_among known q ≡ true)
     → length (fold add_path known ([] ∷ folders_within (n + 1) path)) ≡ length known
-count_there known path n some low there above = by (eqb (get_or path n 0) 47) refl (is_among known (take n path)) refl there
-  where
-    by : (s : Bool) → eqb (get_or path n 0) 47 ≡ s → (t : Bool) → is_among known (take n path) ≡ t → (s && t) ≡ true → length (fold add_path known ([] ∷ folders_within (n + 1) path)) ≡ length known
-    by true slash true e h =
-        let known_is = count_known known path n some low (λ q. above q e) in
-        let step = count_step known path n some low in
-        let none : cond (eqb (get_or path n 0) 47 && not (is_among known (take n path))) 1 0 ≡ 0 = ap (λ s. cond (s && not (is_among known (take n path))) 1 0) slash ∙ ap (λ t. cond (not t) 1 0) e in
-        omega (arith, known_is, step, none)
-    by true slash false e h = absurd cc
-    by false slash t e h = absurd cc
+count_there known path n some low there above =
+    let counted = count_known known path n some low above in
+    count_step known path n some low
+    ∙ ap (λ t. length (fold add_path known ([] ∷ folders_within n path)) + cond (eqb (get_or path n 0) 47 && not t) 1 0) there
+    ∙ ap (λ t. length (fold add_path known ([] ∷ folders_within n path)) + cond t 1 0) (and-false (eqb (get_or path n 0) 47))
+    ∙ omega (arith, counted)
 
 -- a slash with no node before it, or no slash
 pub count_missing : (known : List (List ℕ)) (path : List ℕ) (n : ℕ) → 0 < n → n < length path → (eqb (get_or path n 0) 47 && is_among known (take n path)) ≡ false
@@ -166,7 +162,7 @@ pub count_missing : (known : List (List ℕ)) (path : List ℕ) (n : ℕ) → 0 
 count_missing known path n some low missing =
     count_step known path n some low ∙ ap (λ m. length (fold add_path known ([] ∷ folders_within n path)) + m) (by (eqb (get_or path n 0) 47) (is_among known (take n path)) missing)
   where
-    by : (s t : Bool) → (s && t) ≡ false → cond (s && not t) 1 0 ≡ cond s 1 0
+    by : (s t : Bool) → (s && t) ≡ false → cond {A = ℕ} (s && not t) 1 0 ≡ cond {A = ℕ} s 1 0
     by true true h = absurd cc
     by true false h = refl
     by false t h = refl

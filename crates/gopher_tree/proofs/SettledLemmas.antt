@@ -12,13 +12,13 @@ use Rattle.std.proofs.Math.Dec.{eqb-suc-zero}
 use Rattle.std.proofs.lemmas.List.Splits.{slice_split-cons_yes, slice_split-cons_no}
 use Rattle.gopher_tree.specs.Path.{names_of, first_name, is_menu_name, rest_after, rest_below, is_below}
 use Rattle.gopher_tree.specs.Kind.{kind_of}
-use Rattle.gopher_tree.specs.Files.{File, Child, has_path, is_file, is_folder, child_of, child_of_rest, child_below, add_child, children}
+use Rattle.gopher_tree.specs.Files.{File, Child, has_path, is_file, is_folder, child_of, child_of_rest, child_below, add_child, children, AboveAreFolders}
 use Rattle.gopher_tree.specs.Index.{held_at, entry_by, entry_of, folder_at, folder_with, IsIndex, IsSettled, number_from}
 use Rattle.gopher_tree.specs.declared.index.Entry.{Entry}
 use Rattle.gopher_tree.specs.declared.index.Entry.TheVariants as entry
 use Rattle.gopher_tree.proofs.PathLemmas.{names_of-some}
-use Rattle.gopher_tree.proofs.EntryLemmas.{number_from-none}
-use Rattle.gopher_tree.proofs.AboveLemmas.{rest_after-is, rest_after-append, rest_after-same, rest_after-more, some_of, folder_above, AreApart, folder_file}
+use Rattle.gopher_tree.proofs.EntryLemmas.{number_from-none, entry_of-some}
+use Rattle.gopher_tree.proofs.AboveLemmas.{rest_after-is, rest_after-append, rest_after-same, rest_after-more, some_of, folder_above, node_above, none_through, AreApart, folder_file}
 use Rattle.gopher_tree.proofs.ListingLemmas.{order, at_name, same_name, at_name-same, at_name-insert, sorted-insert, insert-again}
 
 -- ---- the first name of a path
@@ -246,3 +246,10 @@ settled files index kind path whole folder q some there leads above =
     long : (p : List ℕ) → 0 < length p → is_below p path ≡ true → is_some (rest_after p path) ≡ true
     long [] some h = absurd (omega arith)
     long (c ∷ p) some h = h
+
+-- all that leads to a file or a folder are folders
+pub above_node : {A : Type 0} (files : List File) (index : BTreeMap (Vec ℕ A) Entry) (path : List ℕ) → IsIndex files index → (is_file files path || is_folder files path) ≡ true → AboveAreFolders files path
+above_node files index path whole node = record {
+  known = λ q below. sym (whole.paths q) ∙ ap is_some (whole.entries q) ∙ entry_of-some files q ∙ ap (λ t. is_file files q || t) (node_above files q path node below) ∙ or-true (is_file files q);
+  no_file = none_through files path whole.apart node;
+}

@@ -1,10 +1,9 @@
 //! Trees.
 
-ghost use Rattle.std.specs.Prelude.{◌≡◌, ℕ, ◌+◌, ◌≤◌, ◌<◌, ◌++◌, ◌∷◌, ◌||◌, ◌&&◌, ◌==◌, not, [], None, Some, List, length, take, slice_index, if◌then◌else◌, map, fold, count_by, is_some, IfOk, MatchResult};
-ghost use Rattle.std.specs.List.{list_any};
-ghost use Rattle.gopher_tree.specs.Path.{rest_after, is_menu_path, is_slash, folders_of};
-ghost use Rattle.gopher_tree.specs.Files.{is_file, is_folder, children, add_path, nodes, is_among, total_bytes};
-ghost use Rattle.gopher_tree.specs.Fault.{is_too_big, is_twice, menu_fault, path_fault, file_fault, files_fault, MakesTree};
+ghost use Rattle.std.specs.Prelude.{◌≡◌, ℕ, ◌+◌, ◌≤◌, ◌<◌, ◌++◌, ◌∷◌, ◌||◌, ◌&&◌, ◌==◌, not, [], None, Some, List, length, take, slice_index, if◌then◌else◌, map, fold, count_by, IfOk, IsTrue, MatchResult};
+ghost use Rattle.gopher_tree.specs.Path.{is_menu_path, is_slash, folders_of};
+ghost use Rattle.gopher_tree.specs.Files.{is_file, is_folder, leads_through_file, AboveAreFolders, children, add_path, nodes, is_among, total_bytes};
+ghost use Rattle.gopher_tree.specs.Fault.{is_too_big, is_twice, menu_fault, path_fault, file_fault, files_fault, AddsFile, MakesTree};
 ghost use Rattle.gopher_tree.specs.Tree.{Adds};
 ghost use Rattle.gopher_tree.specs.Reply.{named, folder_reply, tree_reply};
 ghost use Rattle.gopher_tree.specs.Found.{Finds, Shows, file_data};
@@ -128,6 +127,7 @@ impl Tree {
     fn has_node(&self, path: &[u8]) -> bool
         ensures among { result ≡ is_among (nodes self.now) path.now }
         ensures either { result ≡ (is_file self.now path.now || is_folder self.now path.now) }
+        ensures above { IsTrue result → AboveAreFolders self.now path.now }
     {
         self.index.contains_key(path)
     }
@@ -135,15 +135,21 @@ impl Tree {
     // Whether a slash is at this place of the path, and a node before it.
     fn has_node_before(&self, path: &[u8], place: usize) -> bool
         requires { place < length path.now }
-        ensures { result
+        ensures among { result
             ≡ (is_slash path.now place && is_among (nodes self.now) (take place path.now)) }
+        ensures either { result ≡ (is_slash path.now place
+            && (is_file self.now (take place path.now) || is_folder self.now (take place path.now))) }
+        ensures above { IsTrue result → AboveAreFolders self.now (take place path.now) }
     {
-        path[place] == b'/' && self.has_node(&path[..place])
+        if path[place] != b'/' {
+            return false;
+        }
+        self.has_node(&path[..place])
     }
 
     // Of the nodes that the path leads through only the last one can be a file.
     fn leads_through_file(&self, path: &[u8]) -> bool
-        ensures { result ≡ list_any (λ file. is_some (rest_after file.0 path.now)) self.now }
+        ensures { result ≡ leads_through_file self.now path.now }
     {
         let mut place = path.len();
         while place > 0 {
@@ -188,7 +194,7 @@ impl Tree {
             if self.has_node_before(path, place) {
                 return count;
             }
-            count += usize::from(path[place] == b'/');
+            count += slashes_at(path, place);
         }
         count
     }
@@ -256,7 +262,7 @@ impl Tree {
         path: Vec<u8>,
         bytes: Vec<u8>,
     ) -> Result<Tree, TreeFault>
-        ensures { MakesTree (file_fault self (path.items, bytes.items))
+        ensures { AddsFile (file_fault self (path.items, bytes.items))
             (self ++ (path.items, bytes.items) ∷ []) result }
     {
         if let Some(fault) = path_fault(self.files.len(), &path) {
@@ -350,6 +356,15 @@ impl Tree {
             None => not_found(alloc, home),
         }
     }
+}
+
+// How many slashes are at a place of a path: one, or none.
+fn slashes_at(path: &[u8], place: usize) -> usize
+    requires { place < length path.now }
+    ensures count { result ≡ (if is_slash path.now place then 1 else 0) }
+    ensures bound { result ≤ 1 }
+{
+    if path[place] == b'/' { 1 } else { 0 }
 }
 
 // The fault of a menu file, where the file is one.
