@@ -9,7 +9,7 @@ use Rattle.gopher_tree.specs.Kind.{kind_of}
 use Rattle.gopher_tree.specs.Files.{File, nodes, paths_of, add_path, is_among, total_bytes}
 use Rattle.gopher_tree.specs.Index.{held_at, entry_after}
 use Rattle.gopher_tree.specs.Tree.{IsTree, Adds}
-use Rattle.gopher_tree.specs.Fault.{path_fault, is_too_big, is_twice, menu_fault, or_fault, file_fault, AddsFile}
+use Rattle.gopher_tree.specs.Fault.{path_fault, is_too_big, is_twice, menu_fault, or_fault, file_fault, fault_after, AddsFile, MakesTree}
 use Rattle.gopher_tree.specs.declared.fault.TreeFault.{TreeFault}
 use Rattle.gopher_tree.specs.declared.fault.TreeFault.TheVariants.{NoMemory}
 use Rattle.gopher_tree.specs.declared.index.Entry.{Entry}
@@ -76,6 +76,21 @@ adds_refused (Some first) files fault adds = let same : first ≡ fault = cc in 
 pub adds_one : {T : Type 0} (found : Option TreeFault) (files tree : T) → AddsFile found files (Ok tree) → (found ≡ None) × (tree ≡ files)
 adds_one None files tree adds = (refl, adds)
 adds_one (Some first) files tree adds = absurd cc
+
+-- the fault of a file is that of the files that it begins
+pub makes_refused : {T U : Type 0} (done rest : List File) (file : File) (all : Option TreeFault) (tree : T) (files : U) (fault : TreeFault)
+    → fault_after done (file ∷ rest) ≡ all → AddsFile (file_fault done file) tree (Err fault) → MakesTree all files (Err fault)
+makes_refused done rest file all tree files fault is adds = by (adds_refused (file_fault done file) tree fault adds)
+  where
+    by : (file_fault done file ≡ Some fault) ⊎ ((file_fault done file ≡ None) × (fault ≡ NoMemory)) → (all ≡ Some fault) ⊎ (fault ≡ NoMemory)
+    by (inl due) = inl (sym is ∙ ap (λ f. or_fault f (fault_after (done ++ file ∷ []) rest)) due)
+    by (inr memory) = inr memory.1
+
+pub makes_on : (done rest : List File) (file : File) (all : Option TreeFault) (tree : List File)
+    → fault_after done (file ∷ rest) ≡ all → AddsFile (file_fault done file) (done ++ file ∷ []) (Ok tree) → fault_after tree rest ≡ all
+makes_on done rest file all tree is adds =
+    let one = adds_one (file_fault done file) (done ++ file ∷ []) tree adds in
+    ap (λ l. fault_after l rest) one.1 ∙ sym (ap (λ f. or_fault f (fault_after (done ++ file ∷ []) rest)) one.0) ∙ is
 
 -- the tree of one file more
 pub IsTree-push : {A : Type 0} (files : List File) (file : File) (old new : BTreeMap (Vec ℕ A) Entry) (bytes count added : ℕ)

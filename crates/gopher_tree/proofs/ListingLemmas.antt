@@ -52,10 +52,10 @@ at_name-insert (e ∷ es) name kind q = by (order name e.0) refl (at_name-insert
     twice false = refl
 
     turn : (s t : Bool) (rest : Option ℕ) → (s ≡ true → t ≡ true → ⊥) → cond s (Some e.1) (cond t (Some kind) rest) ≡ cond t (Some kind) (cond s (Some e.1) rest)
-    turn true true rest no = absurd (no refl refl)
-    turn true false rest no = refl
-    turn false true rest no = refl
-    turn false false rest no = refl
+    turn true true rest never = absurd (never refl refl)
+    turn true false rest never = refl
+    turn false true rest never = refl
+    turn false false rest never = refl
 
     by : (o : Ordering) → order name e.0 ≡ o
         → at_name q (insert_entry order es name kind) ≡ cond (is_eq (order q name)) (Some kind) (at_name q es)

@@ -132,7 +132,7 @@ kind_agrees files folder q r file kind apart is parts among h = by (rest_below q
     named rest e [] names_is k = absurd cc
     named rest e (n ∷ []) names_is k = own (is_menu_name n) k
       where
-        own : (t : Bool) → cond t None (Some (n, kind_of file.0 file.1)) ≡ Some (name, kind) → kind ≡ 49
+        own : (t : Bool) → cond {A = Option Child} t None (Some (n, kind_of file.0 file.1)) ≡ Some (name, kind) → kind ≡ 49
         own true k = absurd cc
         own false k =
             let same : n ≡ name = cc in
@@ -155,11 +155,12 @@ agrees files (file ∷ some) folder q r apart is parts among = (
 
 kind_kept : (q name : List ℕ) (files : List File) (names : List Child) → Agrees q name files → at_name name names ≡ Some 49 → at_name name (fold add_child names (filter_map (child_below q) files)) ≡ Some 49
 kind_kept q name [] names agree there = there
-kind_kept q name (file ∷ files) names agree there = by (child_below q file) refl
+kind_kept q name (file ∷ files) names agree there = by (child_below q file) refl (λ more stays. kind_kept q name files more agree.1 stays)
   where
-    by : (o : Option Child) → child_below q file ≡ o → at_name name (fold add_child names (cons_option o (filter_map (child_below q) files))) ≡ Some 49
-    by None e = kind_kept q name files names agree.1 there
-    by (Some c) e = kind_kept q name files (add_child names c) agree.1 (at_name-insert names c.0 c.1 name ∙ at (is_eq (order name c.0)) refl)
+    by : (o : Option Child) → child_below q file ≡ o → ((more : List Child) → at_name name more ≡ Some 49 → at_name name (fold add_child more (filter_map (child_below q) files)) ≡ Some 49)
+        → at_name name (fold add_child names (cons_option o (filter_map (child_below q) files))) ≡ Some 49
+    by None e later = later names there
+    by (Some c) e later = later (add_child names c) (at_name-insert names c.0 c.1 name ∙ at (is_eq (order name c.0)) refl)
       where
         at : (t : Bool) → is_eq (order name c.0) ≡ t → cond t (Some c.1) (at_name name names) ≡ Some 49
         at true same = ap (λ k. Some k) (agree.0 c.1 (e ∙ ap (λ n. Some (n, c.1)) (sym (same_name name c.0 same))))
@@ -169,18 +170,22 @@ kind_found : (q name folder : List ℕ) (files : List File) (names : List Child)
     → ((file : File) → is_some (rest_after folder file.0) ≡ true → child_below q file ≡ Some (name, 49))
     → list_any (λ file. is_some (rest_after folder file.0)) files ≡ true → at_name name (fold add_child names (filter_map (child_below q) files)) ≡ Some 49
 kind_found q name folder [] names agree gives h = absurd cc
-kind_found q name folder (file ∷ files) names agree gives h = by (is_some (rest_after folder file.0)) refl h
+kind_found q name folder (file ∷ files) names agree gives h = by (is_some (rest_after folder file.0)) refl h (λ more k. kind_found q name folder files more agree.1 gives k)
   where
-    later : (o : Option Child) → list_any (λ f. is_some (rest_after folder f.0)) files ≡ true → at_name name (fold add_child names (cons_option o (filter_map (child_below q) files))) ≡ Some 49
-    later None k = kind_found q name folder files names agree.1 gives k
-    later (Some c) k = kind_found q name folder files (add_child names c) agree.1 gives k
+    abbrev Finds : List Child → Type 0
+    Finds more = at_name name (fold add_child more (filter_map (child_below q) files)) ≡ Some 49
+
+    each : (o : Option Child) → ((more : List Child) → Finds more) → at_name name (fold add_child names (cons_option o (filter_map (child_below q) files))) ≡ Some 49
+    each None later = later names
+    each (Some c) later = later (add_child names c)
 
     by : (t : Bool) → is_some (rest_after folder file.0) ≡ t → (t || list_any (λ f. is_some (rest_after folder f.0)) files) ≡ true
+        → ((more : List Child) → list_any (λ f. is_some (rest_after folder f.0)) files ≡ true → Finds more)
         → at_name name (fold add_child names (cons_option (child_below q file) (filter_map (child_below q) files))) ≡ Some 49
-    by true e k =
+    by true e k later =
         ap (λ o. at_name name (fold add_child names (cons_option o (filter_map (child_below q) files)))) (gives file e)
         ∙ kind_kept q name files (add_child names (name, 49)) agree.1 (at_name-insert names name 49 name ∙ ap (λ t. cond t (Some 49) (at_name name names)) (at_name-same name))
-    by false e k = later (child_below q file) k
+    by false e k later = each (child_below q file) (λ more. later more k)
 
 pub names_ascend : (names children : List Child) → IsStrictlySortedBy order (keys_of names) → IsStrictlySortedBy order (keys_of (fold add_child names children))
 names_ascend names [] sorted = sorted

@@ -176,7 +176,10 @@ fn read_most<R: Read + Drop>(alloc: Global, reader: R, number: usize) -> Result<
 {
     let mut bytes = Vec::new(alloc);
     match reader.take(MOST_READ).read_to_end(&mut bytes) {
-        Ok(_) => Ok(bytes),
+        Ok(_) => {
+            bytes.shrink_to_fit();
+            Ok(bytes)
+        }
         Err(error) => Err(read_fault(error, number)),
     }
 }

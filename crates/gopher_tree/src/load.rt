@@ -19,6 +19,7 @@ use std::path::{Path, PathBuf};
 struct Walk {
     tree: Tree,
     nodes: usize,
+    ghost counted: { length tree < nodes },
 }
 
 // Notes the path at which a walk is.

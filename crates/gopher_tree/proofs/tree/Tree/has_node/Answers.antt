@@ -13,8 +13,8 @@ returns-clause-either c =
     c.contains_key.ensures ∙ ap is_some (c.self.invariant.index.entries path) ∙ entry_of-some _ path ∙ ap (λ files. is_file files path || is_folder files path) c.self.view_is
 
 pub returns-clause-above : goal.returns-clause-above
-returns-clause-above c = λ yes.
+returns-clause-above c = λ there.
     let path = c.args.path.now in
     let files = c.self.inside.files.items in
-    let node : (is_file files path || is_folder files path) ≡ true = sym (c.contains_key.ensures ∙ ap is_some (c.self.invariant.index.entries path) ∙ entry_of-some files path) ∙ yes in
+    let node : (is_file files path || is_folder files path) ≡ true = sym (c.contains_key.ensures ∙ ap is_some (c.self.invariant.index.entries path) ∙ entry_of-some files path) ∙ there in
     subst (λ l. AboveAreFolders l path) c.self.view_is (above_node files c.self.inside.index path c.self.invariant.index node)

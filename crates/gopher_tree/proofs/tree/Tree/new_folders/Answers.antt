@@ -16,8 +16,8 @@ loop-place-preserved c =
     let step = count_missing known path place (omega arith) low (sym c.has_node_before.ensures.among ∙ c.if-has_node_before.false) in
     record {
       some = omega arith;
-      within = omega (arith, c.loop-place.invariant.within, c.slashes_at.ensures.bound);
-      counted = omega (arith, counted, step, c.slashes_at.ensures.count);
+      within = omega (arith, c.loop-place.invariant.within, c.slashes_at-count.ensures.bound);
+      counted = omega (arith, counted, step, c.slashes_at-count.ensures.count);
     }
 
 pub returns-then-has_node_before-clause-count : goal.returns-then-has_node_before-clause-count
