@@ -44,7 +44,8 @@ impl Rule {
     /// CR, LF or NUL; `BadHost` (3) where the host is empty, over 255 bytes, or holds a space or a
     /// control byte; `BadPort` (4) where the port is 0; `NoMemory` (90).
     pub fn new(alloc: Global, host: &[u8], port: u16, prefix: &[u8]) -> Result<Rule, ItemFault>
-        ensures { Makes (rule_fault host.now port prefix.now) (rule_of host.now port prefix.now) result }
+        ensures { Makes (rule_fault host.now port prefix.now)
+            (rule_of host.now port prefix.now) result }
     {
         if let Some(fault) = rule_fault(host, port, prefix) {
             return Err(fault);

@@ -84,15 +84,18 @@ fn home(alloc: Global, table: &Table) -> Result<Home, NoMemory>
 
 fn seeds_at(alloc: Global, table: &Table) -> Result<Vec<Place>, NoMemory>
     requires { settings_fault (table_view table.now) ≡ None }
-    ensures { IfOk result (λ seeds. seeds.items ≡ map seed_read (tables_at (table_view table.now) Key.Seeds)) }
+    ensures { IfOk result (λ seeds.
+        seeds.items ≡ map seed_read (tables_at (table_view table.now) Key.Seeds)) }
 {
     seeds(alloc, values_at(table, Key::Seeds.name()))
 }
 
 fn scope_at(alloc: Global, table: &Table) -> Result<Scope, NoMemory>
     requires { settings_fault (table_view table.now) ≡ None }
-    ensures allow { IfOk result (λ scope. scope.allow ≡ map rule_read (tables_at (table_view table.now) Key.Allow)) }
-    ensures deny { IfOk result (λ scope. scope.deny ≡ map rule_read (tables_at (table_view table.now) Key.Deny)) }
+    ensures allow { IfOk result (λ scope.
+        scope.allow ≡ map rule_read (tables_at (table_view table.now) Key.Allow)) }
+    ensures deny { IfOk result (λ scope.
+        scope.deny ≡ map rule_read (tables_at (table_view table.now) Key.Deny)) }
 {
     let allow = rules(alloc, values_at(table, Key::Allow.name()))?;
     let deny = rules(alloc, values_at(table, Key::Deny.name()))?;
@@ -101,7 +104,8 @@ fn scope_at(alloc: Global, table: &Table) -> Result<Scope, NoMemory>
 
 fn settings_read(alloc: Global, table: &Table) -> Result<Settings, NoMemory>
     requires { settings_fault (table_view table.now) ≡ None }
-    ensures { IfOk result (λ settings. settings_data settings ≡ settings_read (table_view table.now)) }
+    ensures { IfOk result (λ settings.
+        settings_data settings ≡ settings_read (table_view table.now)) }
 {
     Ok(Settings {
         home: home(alloc, table)?,
@@ -116,7 +120,8 @@ fn settings_read(alloc: Global, table: &Table) -> Result<Settings, NoMemory>
 }
 
 fn settings_of(alloc: Global, table: &Table) -> Result<Settings, SettingsFault>
-    ensures { Answers (settings_fault (table_view table.now)) (settings_read (table_view table.now)) result }
+    ensures { Answers (settings_fault (table_view table.now))
+        (settings_read (table_view table.now)) result }
 {
     if let Some(fault) = settings_fault(table) {
         return Err(fault);

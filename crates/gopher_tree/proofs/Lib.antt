@@ -14,3 +14,4 @@ pub mod KeptLemmas
 pub mod AboveLemmas
 pub mod ListingLemmas
 pub mod SettledLemmas
+pub mod LawLemmas

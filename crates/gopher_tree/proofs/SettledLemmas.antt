@@ -47,7 +47,7 @@ names_of-slash (b ∷ r) s = by (eqb b 47) refl (names_of-some r) (names_of-slas
     )
 
 -- a path of one name is that name
-names_of-one : (r name : List ℕ) → names_of r ≡ name ∷ [] → r ≡ name
+pub names_of-one : (r name : List ℕ) → names_of r ≡ name ∷ [] → r ≡ name
 names_of-one [] name h = cc
 names_of-one (b ∷ r) name h = by (eqb b 47) refl (names_of-some r) (names_of-one r)
   where
@@ -153,6 +153,10 @@ agrees files (file ∷ some) folder q r apart is parts among = (
 -- ---- what the names of a folder have at the name
 
 
+-- these names, with those that the files give the folder, have a folder of the name
+abbrev HasFolder : List ℕ → List ℕ → List File → List Child → Type 0
+HasFolder q name files names = at_name name (fold add_child names (filter_map (child_below q) files)) ≡ Some 49
+
 kind_kept : (q name : List ℕ) (files : List File) (names : List Child) → Agrees q name files → at_name name names ≡ Some 49 → at_name name (fold add_child names (filter_map (child_below q) files)) ≡ Some 49
 kind_kept q name [] names agree there = there
 kind_kept q name (file ∷ files) names agree there = by (child_below q file) refl (λ more stays. kind_kept q name files more agree.1 stays)
@@ -172,15 +176,12 @@ kind_found : (q name folder : List ℕ) (files : List File) (names : List Child)
 kind_found q name folder [] names agree gives h = absurd cc
 kind_found q name folder (file ∷ files) names agree gives h = by (is_some (rest_after folder file.0)) refl h (λ more k. kind_found q name folder files more agree.1 gives k)
   where
-    abbrev Finds : List Child → Type 0
-    Finds more = at_name name (fold add_child more (filter_map (child_below q) files)) ≡ Some 49
-
-    each : (o : Option Child) → ((more : List Child) → Finds more) → at_name name (fold add_child names (cons_option o (filter_map (child_below q) files))) ≡ Some 49
+    each : (o : Option Child) → ((more : List Child) → HasFolder q name files more) → at_name name (fold add_child names (cons_option o (filter_map (child_below q) files))) ≡ Some 49
     each None later = later names
     each (Some c) later = later (add_child names c)
 
     by : (t : Bool) → is_some (rest_after folder file.0) ≡ t → (t || list_any (λ f. is_some (rest_after folder f.0)) files) ≡ true
-        → ((more : List Child) → list_any (λ f. is_some (rest_after folder f.0)) files ≡ true → Finds more)
+        → ((more : List Child) → list_any (λ f. is_some (rest_after folder f.0)) files ≡ true → HasFolder q name files more)
         → at_name name (fold add_child names (cons_option (child_below q file) (filter_map (child_below q) files))) ≡ Some 49
     by true e k later =
         ap (λ o. at_name name (fold add_child names (cons_option o (filter_map (child_below q) files)))) (gives file e)
@@ -191,7 +192,7 @@ pub names_ascend : (names children : List Child) → IsStrictlySortedBy order (k
 names_ascend names [] sorted = sorted
 names_ascend names (c ∷ children) sorted = names_ascend (add_child names c) children (sorted-insert names c.0 c.1 sorted)
 
-none_ascend : IsStrictlySortedBy order (keys_of {X = ℕ} [])
+pub none_ascend : IsStrictlySortedBy order (keys_of {X = ℕ} [])
 unfolding IsStrictlySortedBy
 none_ascend = tt
 

@@ -1,11 +1,11 @@
 -- Replies that are made once, and how many bytes of them are kept.
-use Rattle.std.specs.Prelude.{◌≡◌, ℕ, ◌+◌, ◌*◌, ◌≤◌, List, sum_by, length}
+use Rattle.std.specs.Prelude.{◌≡◌, ℕ, ◌+◌, ◌*◌, ◌≤◌, ◌==◌, nat_le, Bool, true, List, Option, None, Some, count_by, sum_by, length}
 use Rattle.std.specs.List.{All}
 use Rattle.gopher_item.specs.Place.{HomeData}
 use Rattle.gopher_tree.specs.Files.{File, total_bytes}
 use Rattle.gopher_tree.specs.Reply.{tree_reply}
 use Rattle.gopher_tree.specs.declared.kept.KeptReply.{KeptReply}
-use Rattle.gopher_tree.specs.declared.kept.Kept.{Kept}
+use Rattle.gopher_tree.specs.declared.kept.KeptReplies.{KeptReplies}
 use Rattle.gopher_tree.specs.declared.replies.Reply.{Reply}
 use Rattle.gopher_tree.specs.declared.replies.Reply.TheVariants as reply
 
@@ -17,13 +17,22 @@ abbrev pub kept_bytes : List KeptReply → ℕ
 kept_bytes replies = sum_by (λ kept. length kept.bytes) replies
 
 -- each reply is that of its selector; texts are at most twice the files' bytes and 24,576 more, menus at most 16 MiB
-pub record IsKept (files : List File) (home : HomeData) (kept : Kept) : Type 0 where
+pub record IsKept (files : List File) (home : HomeData) (kept : KeptReplies) : Type 0 where
   pub right : All (IsReply files home) kept.replies.items
   pub whole : kept_bytes kept.replies.items ≡ kept.texts + kept.menus
   pub most_is : kept.most_texts ≡ 2 * total_bytes files + 24576
   pub few_bytes : total_bytes files ≤ 67108864
   pub few_texts : kept.texts ≤ kept.most_texts
   pub few_menus : kept.menus ≤ 16777216
+
+-- how many bytes the menu of a menu file has at most: each of its lines may get the server's address, an `i` and a selector's TABs
+abbrev pub most_menu_bytes : HomeData → List ℕ → ℕ
+most_menu_bytes home written = (count_by (λ byte. byte == 10) written + 1) * (length home.host + 11) + length written + 3
+
+-- whether a folder that has this menu file, or none, is sure to have a menu of at most so many bytes
+abbrev pub is_menu_within : HomeData → ℕ → Option File → Bool
+is_menu_within home room None = true
+is_menu_within home room (Some file) = nat_le (most_menu_bytes home file.1) room
 
 -- the replies of a tree: its files, the server's address, and how many bytes the kept texts and menus have
 pub record RepliesData : Type 0 where

@@ -11,3 +11,4 @@ pub mod Reply
 pub mod Found
 pub mod Load
 pub mod Kept
+pub mod Laws

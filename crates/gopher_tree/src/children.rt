@@ -52,7 +52,8 @@ impl Children {
         home: &Home,
         out: &mut Vec<u8>,
     ) -> Result<(), AllocError>
-        ensures { OnOk result (out.new.items ≡ out.old.items ++ flat_map menu_line_bytes (map (child_line home.now front.now) self.now)) }
+        ensures { OnOk result (out.new.items ≡ out.old.items
+            ++ flat_map menu_line_bytes (map (child_line home.now front.now) self.now)) }
     {
         for (name, kind) in &self.held {
             push_child_line(*kind, name.as_slice(), front, home, out)?;

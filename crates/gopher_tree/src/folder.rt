@@ -29,7 +29,8 @@ pub(crate) enum Target {
 // The fault of what can't be read; `number` files were listed before.
 fn read_fault(error: io::Error, number: usize) -> TreeFault
     ensures memory { error_kind error ≡ ErrorKind.OutOfMemory → result ≡ TreeFault.NoMemory }
-    ensures unreadable { error_kind error ≢ ErrorKind.OutOfMemory → result ≡ TreeFault.Unreadable number }
+    ensures unreadable { error_kind error ≢ ErrorKind.OutOfMemory
+        → result ≡ TreeFault.Unreadable number }
     ensures refused { IsUnreadable number result }
 {
     match error.kind() {
@@ -67,7 +68,9 @@ fn shown_names<R: Files>(
     folder: Path<'_>,
     number: usize,
 ) -> Result<Vec<String>, TreeFault>
-    ensures { MatchResult result (λ names. All (λ name. is_shown (string_bytes name) ≡ true) names.items) (IsUnreadable number) }
+    ensures { MatchResult result
+        (λ names. All (λ name. is_shown (string_bytes name) ≡ true) names.items)
+        (IsUnreadable number) }
 {
     let entries = match fs::read_dir(&(rt, alloc), folder) {
         Ok(entries) => entries,
@@ -95,7 +98,8 @@ pub(crate) fn names_in<R: Files>(
     folder: Path<'_>,
     number: usize,
 ) -> Result<Vec<String>, TreeFault>
-    ensures shown { IfOk result (λ names. All (λ name. is_shown (string_bytes name) ≡ true) names.items) }
+    ensures shown { IfOk result (λ names.
+        All (λ name. is_shown (string_bytes name) ≡ true) names.items) }
     ensures order { IfOk result (λ names. IsSorted string_cmp names.items) }
     ensures refused { IfErr result (IsUnreadable number) }
 {
@@ -128,7 +132,8 @@ pub(crate) fn target_of<R: Files>(
 fn target_found(found: fs::Metadata) -> Target
     ensures folder { IsDir (file_type found) → result ≡ Target.Folder }
     ensures file { IsFile (file_type found) → result ≡ Target.File }
-    ensures neither { (IsDir (file_type found) → ⊥) → (IsFile (file_type found) → ⊥) → result ≡ Target.Neither }
+    ensures neither { (IsDir (file_type found) → ⊥) → (IsFile (file_type found) → ⊥)
+        → result ≡ Target.Neither }
 {
     if found.is_dir() {
         Target::Folder
@@ -171,7 +176,8 @@ pub(crate) fn read_file<R: Files>(
 }
 
 fn read_most<R: Read + Drop>(alloc: Global, reader: R, number: usize) -> Result<Vec<u8>, TreeFault>
-    ensures read { IfSome (R.remaining reader) (λ all. IfOk result (λ bytes. bytes.items ≡ take 16777217 all)) }
+    ensures read { IfSome (R.remaining reader) (λ all.
+        IfOk result (λ bytes. bytes.items ≡ take 16777217 all)) }
     ensures refused { IfErr result (IsUnreadable number) }
 {
     let mut bytes = Vec::new(alloc);

@@ -1,11 +1,12 @@
 //! The replies of a tree that are kept: those of its texts and of its folders.
 
-ghost use Rattle.std.specs.Prelude.{◌≡◌, ◌≤◌, ◌+◌, ◌*◌, [], ◌∷◌, ◌++◌, length, ◌^◌, ◌<◌, ℕ, List, IfOk, IfSome, OnOk};
+ghost use Rattle.std.specs.Prelude.{◌≡◌, ◌≤◌, ◌+◌, ◌*◌, [], ◌∷◌, ◌++◌, length, min, ◌^◌, ◌<◌, ℕ, List, IfOk, IfSome, OnOk};
 ghost use Rattle.std.specs.List.{All};
 ghost use Rattle.gopher_item.specs.Place.{HomeData};
-ghost use Rattle.gopher_tree.specs.Files.{File, total_bytes};
+ghost use Rattle.gopher_tree.specs.Files.{File, file_at, total_bytes};
+ghost use Rattle.gopher_tree.specs.Path.{menu_path};
 ghost use Rattle.gopher_tree.specs.Reply.{tree_reply};
-ghost use Rattle.gopher_tree.specs.Kept.{IsReply, IsKept, kept_bytes};
+ghost use Rattle.gopher_tree.specs.Kept.{IsReply, IsKept, kept_bytes, most_menu_bytes, is_menu_within};
 
 use crate::path::menu_path;
 use crate::tree::{Found, MOST_NODES, Node, Tree};
@@ -28,7 +29,7 @@ pub(crate) struct KeptReply {
 // Replies in the order of their selectors' bytes, how many bytes the texts and the menus among them
 // have, and how many the texts may have.
 #[derive(Debug, Drop)]
-pub(crate) struct Kept {
+pub(crate) struct KeptReplies {
     replies: Vec<KeptReply>,
     texts: usize,
     menus: usize,
@@ -49,7 +50,9 @@ const MOST_MORE_IN_LINE: usize = 11;
 const LAST_LINE: usize = 3;
 
 // How many bytes the menu of a menu file has at most.
-fn most_menu_bytes(written: &[u8], home: &Home) -> usize {
+fn most_menu_bytes(written: &[u8], home: &Home) -> usize
+    ensures { result ≡ min (most_menu_bytes home.now written.now) 18446744073709551615 }
+{
     let line = home.host().len() + MOST_MORE_IN_LINE;
     let feeds = written.iter().filter(|byte| **byte == b'\n').count();
     (feeds + 1)
@@ -58,27 +61,32 @@ fn most_menu_bytes(written: &[u8], home: &Home) -> usize {
         .saturating_add(LAST_LINE)
 }
 
-// Whether the folder's menu is sure to have at most `room` bytes.
+// Whether the folder's menu is sure to have at most `room` bytes; a listing is taken to.
 fn is_menu_within(
     alloc: Global,
     tree: &Tree,
     home: &Home,
     folder: &[u8],
     room: usize,
-) -> Result<bool, NoMemory> {
+) -> Result<bool, NoMemory>
+    requires { room < 18446744073709551615 }
+    ensures { IfOk result (λ within. within
+        ≡ is_menu_within home.now room (file_at tree.now (menu_path folder.now))) }
+{
     let path = menu_path(alloc, folder)?;
     match tree.found(&path) {
         Some(Found::File(file)) => Ok(most_menu_bytes(file.bytes(), home) <= room),
-        _ => Ok(true),
+        Some(Found::Folder(_)) => Ok(true),
+        None => Ok(true),
     }
 }
 
-impl Kept {
+impl KeptReplies {
     // What is kept of a tree that a server with the address `home` sends.
-    pub(crate) fn of(alloc: Global, tree: &Tree, home: &Home) -> Result<Kept, NoMemory>
+    pub(crate) fn of(alloc: Global, tree: &Tree, home: &Home) -> Result<KeptReplies, NoMemory>
         ensures { IfOk result (IsKept tree.now home.now) }
     {
-        let mut kept = Kept {
+        let mut kept = KeptReplies {
             replies: Vec::new(alloc),
             texts: 0,
             menus: 0,
@@ -97,7 +105,7 @@ impl Kept {
         tree: &Tree,
         home: &Home,
         path: &[u8],
-    ) -> Result<Kept, NoMemory>
+    ) -> Result<KeptReplies, NoMemory>
         requires { IsKept tree.now home.now self }
         ensures { IfOk result (IsKept tree.now home.now) }
     {
@@ -125,7 +133,8 @@ impl Kept {
 
     // The reply that is kept for the selector.
     pub(crate) fn reply(&self, selector: &[u8]) -> Option<&[u8]>
-        ensures { (files : List File) (home : HomeData) → IsKept files home self.now → IfSome result (λ bytes. bytes.now ≡ tree_reply files home selector.now) }
+        ensures { (files : List File) (home : HomeData) → IsKept files home self.now
+            → IfSome result (λ bytes. bytes.now ≡ tree_reply files home selector.now) }
     {
         let place = self
             .replies
@@ -159,7 +168,8 @@ fn push_within(
 ) -> Result<usize, NoMemory>
     requires { All (IsReply tree.now home.now) replies.old.items }
     ensures right { OnOk result (All (IsReply tree.now home.now) replies.new.items) }
-    ensures whole { IfOk result (λ count. kept_bytes replies.new.items ≡ kept_bytes replies.old.items + count) }
+    ensures whole { IfOk result (λ count.
+        kept_bytes replies.new.items ≡ kept_bytes replies.old.items + count) }
     ensures within { IfOk result (λ count. count ≤ room) }
 {
     let bytes = tree.reply(alloc, &selector, home)?;
@@ -177,7 +187,8 @@ fn push_reply(
     bytes: Vec<u8>,
     replies: &mut Vec<KeptReply>,
 ) -> Result<(), NoMemory>
-    ensures { OnOk result (replies.new.items ≡ replies.old.items ++ (record { selector = selector.items; bytes = bytes.items }) ∷ []) }
+    ensures { OnOk result (replies.new.items
+        ≡ replies.old.items ++ record { selector = selector.items; bytes = bytes.items } ∷ []) }
 {
     let mut bytes = bytes;
     bytes.shrink_to_fit();

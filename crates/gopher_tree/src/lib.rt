@@ -11,6 +11,7 @@ mod folder;
 mod index;
 mod kept;
 mod kind;
+pub mod laws;
 mod line;
 mod load;
 mod menu_file;

@@ -21,7 +21,8 @@ fn push_front(kind: u8, display: &[u8], out: &mut Vec<u8>) -> Result<(), AllocEr
 
 // Appends a TAB, the host, a TAB, the port and the line's end.
 fn push_server(host: &[u8], port: u16, out: &mut Vec<u8>) -> Result<(), AllocError>
-    ensures { OnOk result (out.new.items ≡ out.old.items ++ (9 ∷ host.now ++ 9 ∷ decimal port ++ 13 ∷ 10 ∷ [])) }
+    ensures { OnOk result (out.new.items ≡ out.old.items
+        ++ (9 ∷ host.now ++ 9 ∷ decimal port ++ 13 ∷ 10 ∷ [])) }
 {
     let mut digits = Buffer::new();
     out.push(b'\t')?;
@@ -44,7 +45,8 @@ pub fn push_line(
     port: u16,
     out: &mut Vec<u8>,
 ) -> Result<(), AllocError>
-    ensures { OnOk result (out.new.items ≡ out.old.items ++ menu_line_bytes (record { kind = kind; display = display.now; selector = selector.now; host = host.now; port = port })) }
+    ensures { OnOk result (out.new.items ≡ out.old.items ++ menu_line_bytes (record {
+        kind = kind; display = display.now; selector = selector.now; host = host.now; port = port })) }
 {
     push_front(kind, display, out)?;
     out.extend_from_slice(selector)?;
@@ -60,7 +62,8 @@ pub(crate) fn push_child_line(
     home: &Home,
     out: &mut Vec<u8>,
 ) -> Result<(), AllocError>
-    ensures { OnOk result (out.new.items ≡ out.old.items ++ menu_line_bytes (child_line home.now front.now (name.now, kind))) }
+    ensures { OnOk result (out.new.items ≡ out.old.items
+        ++ menu_line_bytes (child_line home.now front.now (name.now, kind))) }
 {
     push_front(kind, name, out)?;
     out.extend_from_slice(front)?;

@@ -33,7 +33,8 @@ fn note_path(at: &mut Vec<u8>, path: &[u8]) -> Result<(), NoMemory>
 
 impl Walk {
     fn new(alloc: Global) -> Result<Walk, TreeFault>
-        ensures { MatchResult result (λ walk. walk.tree ≡ []) (λ fault. fault ≡ TreeFault.NoMemory) }
+        ensures { MatchResult result
+            (λ walk. walk.tree ≡ []) (λ fault. fault ≡ TreeFault.NoMemory) }
     {
         let Ok(tree) = Tree::empty(alloc) else {
             return Err(TreeFault::NoMemory);
@@ -43,9 +44,13 @@ impl Walk {
 
     // Lists a file, or refuses it for its first fault; empty folders are among the nodes then.
     fn with_file(self, alloc: Global, path: Vec<u8>, bytes: Vec<u8>) -> Result<Walk, TreeFault>
-        ensures listed { IfOk result (λ walk. (file_fault self.tree (path.items, bytes.items) ≡ None) × (walk.tree ≡ self.tree ++ (path.items, bytes.items) ∷ [])) }
-        ensures counted { IfOk result (λ walk. (self.nodes < 4096) × (walk.nodes ≡ self.nodes + 1)) }
-        ensures refused { IfErr result (RefusesFile self.tree self.nodes (path.items, bytes.items)) }
+        ensures listed { IfOk result (λ walk.
+            (file_fault self.tree (path.items, bytes.items) ≡ None)
+            × (walk.tree ≡ self.tree ++ (path.items, bytes.items) ∷ [])) }
+        ensures counted { IfOk result (λ walk.
+            (self.nodes < 4096) × (walk.nodes ≡ self.nodes + 1)) }
+        ensures refused { IfErr result
+            (RefusesFile self.tree self.nodes (path.items, bytes.items)) }
     {
         let number = self.tree.number_of_files();
         if let Some(fault) = path_fault(number, &path) {
@@ -61,9 +66,12 @@ impl Walk {
 
     // Visits a folder, or refuses it for its first fault.
     fn with_folder(self, path: &[u8]) -> Result<Walk, TreeFault>
-        ensures visited { IfOk result (λ walk. (walk.tree ≡ self.tree) × (walk.nodes ≡ self.nodes + 1) × (folder_fault (length self.tree) self.nodes path.now ≡ None)) }
+        ensures visited { IfOk result (λ walk.
+            (walk.tree ≡ self.tree) × (walk.nodes ≡ self.nodes + 1)
+            × (folder_fault (length self.tree) self.nodes path.now ≡ None)) }
         ensures short { IfOk result (λ walk. length path.now ≤ 254) }
-        ensures refused { IfErr result (λ fault. folder_fault (length self.tree) self.nodes path.now ≡ Some fault) }
+        ensures refused { IfErr result (λ fault.
+            folder_fault (length self.tree) self.nodes path.now ≡ Some fault) }
     {
         let number = self.tree.number_of_files();
         if path.len() > LONGEST_PATH {

@@ -114,7 +114,8 @@ pub(crate) fn bad_line(bytes: &[u8]) -> Option<usize>
 
 // Appends the line as a server with the address `home` sends it.
 fn push_written(line: WrittenLine, home: &Home, out: &mut Vec<u8>) -> Result<(), AllocError>
-    ensures written { OnOk result (out.new.items ≡ out.old.items ++ menu_line_bytes (line_at home.now (line_data line.entry))) }
+    ensures written { OnOk result (out.new.items ≡ out.old.items
+        ++ menu_line_bytes (line_at home.now (line_data line.entry))) }
 {
     let (host, port) = match line.server {
         Some(server) => server,
@@ -129,7 +130,8 @@ pub(crate) fn push_written_lines(
     home: &Home,
     out: &mut Vec<u8>,
 ) -> Result<(), AllocError>
-    ensures { OnOk result (out.new.items ≡ out.old.items ++ flat_map menu_line_bytes (written_menu home.now bytes.now)) }
+    ensures { OnOk result (out.new.items ≡ out.old.items
+        ++ flat_map menu_line_bytes (written_menu home.now bytes.now)) }
 {
     let mut rest = bytes;
     while let Some((line, after)) = first_line(rest) {

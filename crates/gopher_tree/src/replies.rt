@@ -6,7 +6,7 @@ ghost use Rattle.gopher_tree.specs.Files.{File, total_bytes};
 ghost use Rattle.gopher_tree.specs.Reply.{tree_reply, not_found_bytes};
 ghost use Rattle.gopher_tree.specs.Kept.{IsKept, reply_bytes};
 
-use crate::kept::Kept;
+use crate::kept::KeptReplies;
 use crate::reply::not_found;
 use crate::tree::{Node, Tree};
 use gopher_item::{ByteString, Home, NoMemory};
@@ -27,7 +27,7 @@ pub struct Replies {
     tree: Tree,
     home: Home,
     not_found: ByteString,
-    kept: Kept,
+    kept: KeptReplies,
 }
 
 impl Model for Replies {
@@ -39,7 +39,8 @@ impl Model for Replies {
 
     ghost Value = { RepliesData };
 
-    ghost view = { λ r. record { files = r.tree; home = r.home; size = kept_bytes r.kept.replies.items } };
+    ghost view = { λ r. record {
+        files = r.tree; home = r.home; size = kept_bytes r.kept.replies.items } };
 
     ghost invariant = { λ r. IsKept r.tree r.home r.kept × (r.not_found ≡ not_found_bytes r.home) };
 }
@@ -79,7 +80,8 @@ pub struct RepliesRefused {
 
 // The selector; for the empty one the other that names the root.
 fn full_selector(selector: &[u8]) -> &[u8]
-    ensures { (files : List File) (home : HomeData) → tree_reply files home result.now ≡ tree_reply files home selector.now }
+    ensures { (files : List File) (home : HomeData)
+        → tree_reply files home result.now ≡ tree_reply files home selector.now }
 {
     match selector {
         [] => b"/",
@@ -92,7 +94,9 @@ impl Replies {
     ///
     /// Refused only where memory is (90); then the tree and the address are handed back.
     pub fn new(alloc: Global, tree: Tree, home: Home) -> Result<Replies, RepliesRefused>
-        ensures { MatchResult result (λ replies. (replies.files ≡ tree) × (replies.home ≡ home)) (λ refused. (refused.tree ≡ tree) × (refused.home ≡ home)) }
+        ensures { MatchResult result
+            (λ replies. (replies.files ≡ tree) × (replies.home ≡ home))
+            (λ refused. (refused.tree ≡ tree) × (refused.home ≡ home)) }
     {
         let Ok(not_found) = not_found(alloc, &home) else {
             return Err(RepliesRefused {
@@ -101,7 +105,7 @@ impl Replies {
                 home,
             });
         };
-        let Ok(kept) = Kept::of(alloc, &tree, &home) else {
+        let Ok(kept) = KeptReplies::of(alloc, &tree, &home) else {
             return Err(RepliesRefused {
                 fault: NoMemory,
                 tree,
@@ -119,7 +123,8 @@ impl Replies {
     /// The reply to a selector, as `Tree::reply` has it. 90 where memory is refused for a reply that is
     /// made anew.
     pub fn reply(&self, alloc: Global, selector: &[u8]) -> Result<Reply<'_>, NoMemory>
-        ensures { IfOk result (λ reply. reply_bytes reply ≡ tree_reply self.now.files self.now.home selector.now) }
+        ensures { IfOk result (λ reply.
+            reply_bytes reply ≡ tree_reply self.now.files self.now.home selector.now) }
     {
         if let Some(bytes) = self.kept.reply(full_selector(selector)) {
             return Ok(Reply::Kept(bytes));

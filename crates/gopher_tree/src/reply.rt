@@ -61,7 +61,8 @@ fn front_of(alloc: Global, folder: &[u8]) -> Result<Vec<u8>, NoMemory>
 
 // Appends the search line, in the root.
 fn push_head(folder: &[u8], home: &Home, out: &mut Vec<u8>) -> Result<(), AllocError>
-    ensures { OnOk result (out.new.items ≡ out.old.items ++ flat_map menu_line_bytes (head_lines home.now folder.now)) }
+    ensures { OnOk result (out.new.items ≡ out.old.items
+        ++ flat_map menu_line_bytes (head_lines home.now folder.now)) }
 {
     if !folder.is_empty() {
         return Ok(());
@@ -77,7 +78,8 @@ pub(crate) fn listing_reply(
     children: &Children,
     home: &Home,
 ) -> Result<Vec<u8>, NoMemory>
-    ensures { IfOk result (λ bytes. bytes.items ≡ menu_bytes (listing_of home.now folder.now children.now)) }
+    ensures { IfOk result (λ bytes.
+        bytes.items ≡ menu_bytes (listing_of home.now folder.now children.now)) }
 {
     let front = front_of(alloc, folder)?;
     let mut out = Vec::new(alloc);

@@ -304,7 +304,8 @@ impl Tree {
     /// `TooBig` (23), `BadMenuLine` (24), `Twice` (25). `NoMemory` (90) where memory is refused before
     /// that. The list is dropped then.
     pub fn of_files(alloc: Global, files: Vec<(Vec<u8>, Vec<u8>)>) -> Result<Tree, TreeFault>
-        ensures { MakesTree (files_fault (map file_data files.items)) (map file_data files.items) result }
+        ensures { MakesTree (files_fault (map file_data files.items))
+            (map file_data files.items) result }
     {
         let Ok(mut tree) = Tree::empty(alloc) else {
             return Err(TreeFault::NoMemory);

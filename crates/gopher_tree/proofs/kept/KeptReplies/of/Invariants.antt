@@ -1,5 +1,5 @@
 use Rattle.gopher_tree.specs.Kept.{IsKept}
-use Rattle.gopher_tree.proofs.kept.Kept.of.Given as goal
+use Rattle.gopher_tree.proofs.kept.KeptReplies.of.Given as goal
 
 abbrev pub invariant-loop-path : goal.invariant-loop-path
 invariant-loop-path l =
