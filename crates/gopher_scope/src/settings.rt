@@ -1,9 +1,9 @@
 //! Settings: how they are read.
 
-ghost use Rattle.std.specs.Prelude.{◌≡◌, ◌≢◌, map, Ok, Err, Some, None, IfOk, IfErr};
+ghost use Rattle.std.specs.Prelude.{◌≡◌, ◌≢◌, map, Ok, Err, Some, None, IfOk, IfErr, IfSome};
 ghost use Rattle.toml.specs.Parse.{parse_document};
 ghost use Rattle.toml.specs.View.{table_view};
-ghost use Rattle.gopher_scope.specs.Settings.{settings_data, settings_fault, settings_read, settings_of, integer_at, text_at, tables_at, seed_read, rule_read, Answers, AreInRange};
+ghost use Rattle.gopher_scope.specs.Settings.{settings_data, settings_fault, settings_read, settings_of, integer_at, text_at, tables_at, seed_read, rule_read, Answers, AreInRange, StandsIn};
 
 mod check;
 mod field;
@@ -146,6 +146,8 @@ impl Settings {
         ensures read { IfOk result (λ settings.
             settings_of (parse_document text.now) ≡ Ok (settings_data settings)) }
         ensures ranges { IfOk result (λ settings. AreInRange (settings_data settings)) }
+        ensures table { IfOk result (λ settings.
+            IfSome (parse_document text.now) (λ table. StandsIn table (settings_data settings))) }
         ensures refused { IfErr result (λ fault. fault ≢ SettingsFault.NoMemory
             → settings_of (parse_document text.now) ≡ Err fault) }
     {

@@ -14,7 +14,8 @@ returns-in_err-tree c =
     let items : into_iter_items c.loop-path.path-iterator ≡ (c.in-Some.path, c.in-Some.bytes) ∷ into_iter_items c.next.new.self = search rules in
     let due = ap (λ l. fault_after done (map (file_data {A = Global} {B = Global}) l)) (sym items) ∙ c.loop-path.invariant.0 in
     let adds : AddsFile (file_fault done file) (done ++ file ∷ []) (Err c.in_err-tree.field-0.0) = search rules in
-    subst (MakesTree (files_fault (map (file_data {A = Global} {B = Global}) c.args.files.items)) (map (file_data {A = Global} {B = Global}) c.args.files.items)) (search rules)
+    let result_is : c.from_residual.result ≡ Err c.in_err-tree.field-0.0 = search rules in
+    subst (MakesTree (files_fault (map (file_data {A = Global} {B = Global}) c.args.files.items)) (map (file_data {A = Global} {B = Global}) c.args.files.items)) (sym result_is)
     (makes_refused done rest file (files_fault (map (file_data {A = Global} {B = Global}) c.args.files.items)) (done ++ file ∷ []) (map (file_data {A = Global} {B = Global}) c.args.files.items) c.in_err-tree.field-0.0 due adds)
 
 pub loop-path-preserved : goal.loop-path-preserved
