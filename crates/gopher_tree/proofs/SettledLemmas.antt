@@ -121,11 +121,11 @@ rest_below-is : (q p r : List ℕ) → rest_below q p ≡ Some r → p ≡ befor
 rest_below-is [] p r h = cc
 rest_below-is (c ∷ q) p r h = rest_after-is (c ∷ q) p r h ∙ sym (before-append (c ∷ q) r (omega arith))
 
-pair_name : (n name : List ℕ) (a b : ℕ) → Some (n, a) ≡ Some (name, b) → n ≡ name
-pair_name n name a b h = cc
+pair_name : (x y : Child) → Some x ≡ Some y → x.0 ≡ y.0
+pair_name x y h = let same : x ≡ y = cc in ap (λ c. c.0) same
 
-pair_kind : (n name : List ℕ) (a b : ℕ) → Some (n, a) ≡ Some (name, b) → b ≡ a
-pair_kind n name a b h = cc
+pair_kind : (x y : Child) → Some x ≡ Some y → y.1 ≡ x.1
+pair_kind x y h = let same : x ≡ y = cc in sym (ap (λ c. c.1) same)
 
 kind_agrees : (files : List File) (folder q r : List ℕ) (file : File) (kind : ℕ) → AreApart files → is_folder files folder ≡ true → folder ≡ before q ++ r → is_file files file.0 ≡ true
     → child_below q file ≡ Some (first_name (names_of r), kind) → kind ≡ 49
@@ -141,9 +141,9 @@ kind_agrees files folder q r file kind apart is parts among h = by (rest_below q
         own : (t : Bool) → cond {A = Option Child} t None (Some (n, kind_of file.0 file.1)) ≡ Some (name, kind) → kind ≡ 49
         own true k = absurd cc
         own false k =
-            let same : n ≡ name = pair_name n name (kind_of file.0 file.1) kind k in
+            let same : n ≡ name = pair_name (n, kind_of file.0 file.1) (name, kind) k in
             absurd (file_of_name files folder (before q) r apart is parts file.0 (rest_below-is q file.0 rest e ∙ ap (λ l. before q ++ l) (names_of-one rest n names_is ∙ same)) among)
-    named rest e (n ∷ next ∷ more) names_is k = pair_kind n name 49 kind k
+    named rest e (n ∷ next ∷ more) names_is k = pair_kind (n, 49) (name, kind) k
 
     by : (o : Option (List ℕ)) → rest_below q file.0 ≡ o → child_of_rest (kind_of file.0 file.1) o ≡ Some (name, kind) → kind ≡ 49
     by None e k = absurd cc

@@ -137,7 +137,7 @@ impl Walk {
         requires named { 0 < length name.now }
         ensures { WalksTo (λ walk. walk.tree) self.tree at.new.items result }
     {
-        let Ok(place) = folder.join(alloc, name) else {
+        let Ok(location) = folder.join(alloc, name) else {
             return Err(TreeFault::NoMemory);
         };
         let Ok(path) = path_in(alloc, path, name.as_bytes()) else {
@@ -146,12 +146,12 @@ impl Walk {
         let Ok(()) = note_path(at, &path) else {
             return Err(TreeFault::NoMemory);
         };
-        match target_of(rt, place.as_path(), self.tree.number_of_files())? {
-            Target::File => self.through_file(rt, alloc, place.as_path(), path),
+        match target_of(rt, location.as_path(), self.tree.number_of_files())? {
+            Target::File => self.through_file(rt, alloc, location.as_path(), path),
             Target::Folder => {
                 let walk = self.with_folder(&path)?;
-                let place = without_links(rt, alloc, place)?;
-                walk.through_folder(rt, alloc, place.as_path(), &path, at)
+                let location = without_links(rt, alloc, location)?;
+                walk.through_folder(rt, alloc, location.as_path(), &path, at)
             }
             Target::Neither => Ok(self),
         }
