@@ -1,6 +1,6 @@
 -- The names of a folder's listing: in which order they stand, and which they are.
-use Rattle.std.proofs.Common.{◌≡◌, ℕ, Bool, true, false, cond, ◌&&◌, ◌||◌, not, List, [], ◌∷◌, fold, map, Option, None, Some, is_some, refl, sym, ap, ◌∙◌}
-use Rattle.std.specs.Prelude.{Contains, IsTrue, ◌↔◌, nat_eq}
+use Rattle.std.proofs.Common.{◌≡◌, ℕ, Bool, true, false, cond, ◌&&◌, ◌||◌, not, List, [], ◌∷◌, fold, Option, None, Some, is_some, refl, sym, ap, ◌∙◌}
+use Rattle.std.specs.Prelude.{nat_eq}
 use Rattle.std.specs.List.{list_any, filter_map, cons_option}
 use Rattle.std.specs.Ordering.{is_eq, eq_by_cmp}
 use Rattle.std.specs.Cmp.{eq_by_cmp_equiv}

@@ -1,8 +1,8 @@
 -- The folders above a folder of a list of files have what they have of a path through it.
-use Rattle.std.proofs.Common.{◌≡◌, ℕ, ◌<◌, Bool, true, false, cond, ◌||◌, eqb, List, [], ◌∷◌, ◌++◌, length, fold, Option, None, Some, is_some, ◌⊎◌, inl, inr, refl, sym, ap, subst, ◌∙◌, arith}
+use Rattle.std.proofs.Common.{◌≡◌, ℕ, ◌<◌, Bool, true, false, cond, ◌||◌, eqb, List, [], ◌∷◌, ◌++◌, length, fold, Option, None, Some, is_some, ◌⊎◌, inl, inr, refl, sym, ap, ◌∙◌, arith}
 use Rattle.std.specs.List.{list_any, filter_map, cons_option, onto_first}
-use Rattle.std.specs.Ordering.{is_eq, nat_cmp}
-use Rattle.std.specs.Cmp.Lexicographic.{pointwise, slice_cmp, nat_list_eq_equiv}
+use Rattle.std.specs.Ordering.{is_eq}
+use Rattle.std.specs.Cmp.Lexicographic.{nat_list_eq_equiv}
 use Rattle.std.specs.List.Sorted.{IsStrictlySortedBy}
 use Rattle.std.specs.BTreeMap.{BTreeMap}
 use Rattle.std.specs.Map.{keys_of}
@@ -18,7 +18,7 @@ use Rattle.gopher_tree.specs.declared.index.Entry.{Entry}
 use Rattle.gopher_tree.specs.declared.index.Entry.TheVariants as entry
 use Rattle.gopher_tree.proofs.PathLemmas.{names_of-some}
 use Rattle.gopher_tree.proofs.EntryLemmas.{number_from-none, entry_of-some}
-use Rattle.gopher_tree.proofs.AboveLemmas.{rest_after-is, rest_after-append, rest_after-same, rest_after-more, some_of, folder_above, node_above, none_through, AreApart, folder_file}
+use Rattle.gopher_tree.proofs.AboveLemmas.{rest_after-is, rest_after-same, rest_after-more, some_of, folder_above, node_above, none_through, AreApart, folder_file}
 use Rattle.gopher_tree.proofs.ListingLemmas.{order, at_name, same_name, at_name-same, at_name-insert, sorted-insert, insert-again}
 
 -- ---- the first name of a path
@@ -43,7 +43,7 @@ names_of-slash (b ∷ r) s = by (eqb b 47) refl (names_of-some r) (names_of-slas
       rest.0,
       rest.1,
       slice_split-cons_no (λ x. eqb x 47) b (r ++ 47 ∷ s) e ∙ ap (onto_first b) rest.2
-      ∙ ap (λ n. n ∷ rest.0 ∷ rest.1) (sym (ap first_name (slice_split-cons_no (λ x. eqb x 47) b r e ∙ ap (onto_first b) some.2) ∙ ap (λ n. b ∷ n) (sym (ap first_name some.2)))),
+          ∙ ap (λ n. n ∷ rest.0 ∷ rest.1) (sym (ap first_name (slice_split-cons_no (λ x. eqb x 47) b r e ∙ ap (onto_first b) some.2) ∙ ap (λ n. b ∷ n) (sym (ap first_name some.2)))),
     )
 
 -- a path of one name is that name
@@ -158,7 +158,6 @@ agrees files (file ∷ some) folder q r apart is parts among = (
 
 -- ---- what the names of a folder have at the name
 
-
 -- these names, with those that the files give the folder, have a folder of the name
 abbrev HasFolder : List ℕ → List ℕ → List File → List Child → Type 0
 HasFolder q name files names = at_name name (fold add_child names (filter_map (child_below q) files)) ≡ Some 49
@@ -224,7 +223,7 @@ children_again files folder q r apart some is below =
     let name = first_name (names_of r) in
     insert-again (children files q) name 49 (names_ascend [] (filter_map (child_below q) files) none_ascend)
     (kind_found q name folder files [] (agrees files files folder q r apart is (rest_below-is q folder r below) (λ p h. h))
-     (λ file. child_below-through q folder r file below) (any_of_folder files folder some is))
+    (λ file. child_below-through q folder r file below) (any_of_folder files folder some is))
 
 entry_of-folder_is : (files : List File) (q : List ℕ) → is_file files q ≡ false → is_folder files q ≡ true → entry_of files q ≡ Some (entry.Folder (children files q))
 entry_of-folder_is files q none is =

@@ -101,8 +101,8 @@ fn add_child(
 ) -> Result<bool, NoMemory>
     ensures added { OnOk result ((path : List ℕ) → held_at index.new path
         ≡ (if pointwise nat_eq path folder.now
-            then folder_with (held_at index.old folder.now) (child_data child.entry)
-            else held_at index.old path)) }
+        then folder_with (held_at index.old folder.now) (child_data child.entry)
+        else held_at index.old path)) }
     ensures known { IfOk result (λ known. known
         ≡ is_some (folder_at (held_at index.old folder.now))) }
 {

@@ -46,7 +46,12 @@ pub fn push_line(
     out: &mut Vec<u8>,
 ) -> Result<(), AllocError>
     ensures { OnOk result (out.new.items ≡ out.old.items ++ menu_line_bytes (record {
-        kind = kind; display = display.now; selector = selector.now; host = host.now; port = port })) }
+      kind = kind;
+      display = display.now;
+      selector = selector.now;
+      host = host.now;
+      port = port;
+    })) }
 {
     push_front(kind, display, out)?;
     out.extend_from_slice(selector)?;

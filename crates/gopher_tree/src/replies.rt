@@ -40,7 +40,10 @@ impl Model for Replies {
     ghost Value = { RepliesData };
 
     ghost view = { λ r. record {
-        files = r.tree; home = r.home; size = kept_bytes r.kept.replies.items } };
+      files = r.tree;
+      home = r.home;
+      size = kept_bytes r.kept.replies.items;
+    } };
 
     ghost invariant = { λ r. IsKept r.tree r.home r.kept × (r.not_found ≡ not_found_bytes r.home) };
 }

@@ -38,10 +38,10 @@ returns-then-branch c =
     let there : is_some (folder_at (held_at c.args.index.now (take place path))) ≡ true =
     ap (λ e. is_some (folder_at e)) (sym (kept_before (held_at c.args.index.now) (held_at c.loop-place.index) c.args.kind path place (omega arith) low both.0 before)) ∙ both.1 in
     λ q.
-        c.in_ok-add_before.ensures.added q
-        ∙ folders_from-step (held_at c.args.index.now) (held_at c.loop-place.index) c.args.kind path place (omega arith) low before q
-        ∙ folders_from-settled (held_at c.args.index.now) c.args.kind path place (omega arith) low both.0
-        (λ p leads above. c.requires.settled (take place path) p (omega (arith, length-take-le place path (omega arith))) there leads above) q
+    c.in_ok-add_before.ensures.added q
+    ∙ folders_from-step (held_at c.args.index.now) (held_at c.loop-place.index) c.args.kind path place (omega arith) low before q
+    ∙ folders_from-settled (held_at c.args.index.now) c.args.kind path place (omega arith) low both.0
+    (λ p leads above. c.requires.settled (take place path) p (omega (arith, length-take-le place path (omega arith))) there leads above) q
 
 pub returns : goal.returns
 returns c = λ q.

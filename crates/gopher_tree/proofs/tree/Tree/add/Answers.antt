@@ -2,7 +2,7 @@ use Rattle.std.proofs.Common.{◌≡◌, ℕ, ◌+◌, ◌++◌, ◌∷◌, [], 
 use Rattle.gopher_tree.specs.Kind.{kind_of}
 use Rattle.gopher_tree.specs.Files.{nodes}
 use Rattle.gopher_tree.specs.Fault.{file_fault}
-use Rattle.gopher_tree.specs.Index.{held_at, entry_after, IsSettled}
+use Rattle.gopher_tree.specs.Index.{held_at, entry_after}
 use Rattle.gopher_tree.specs.Tree.{IsTree, Adds}
 use Rattle.gopher_tree.proofs.FaultLemmas.{IsTree-push, few_after}
 use Rattle.gopher_tree.proofs.SettledLemmas.{settled}

@@ -1,4 +1,4 @@
-use Rattle.std.proofs.Common.{◌≡◌, ℕ, ◌+◌, ◌-◌, ◌<◌, true, false, ◌&&◌, ◌||◌, eqb, length, get_or, take, arith, sym, ap, ◌∙◌}
+use Rattle.std.proofs.Common.{◌≡◌, ℕ, ◌+◌, ◌-◌, ◌||◌, eqb, length, get_or, take, arith, sym, ap, ◌∙◌}
 use Rattle.std.proofs.lemmas.List.{take_all}
 use Rattle.gopher_tree.specs.Files.{leads_through_file, is_file, is_folder}
 use Rattle.gopher_tree.proofs.FolderLemmas.{both_true}
@@ -33,7 +33,7 @@ returns-then-has_node_before c =
     let slash = both_true (eqb (get_or path place 0) 47) (is_file files (take place path) || is_folder files (take place path)) (sym c.has_node_before.ensures.either ∙ c.if-has_node_before.true) in
     c.is_file.ensures
     ∙ sym (c.loop-place.invariant.through ∙ ap (λ n. leads_through_file files (take n path)) next
-           ∙ through_node files path place (omega (arith, c.loop-place.invariant.within)) slash.0 (c.has_node_before.ensures.above c.if-has_node_before.true).no_file)
+    ∙ through_node files path place (omega (arith, c.loop-place.invariant.within)) slash.0 (c.has_node_before.ensures.above c.if-has_node_before.true).no_file)
 
 pub returns : goal.returns
 returns c =

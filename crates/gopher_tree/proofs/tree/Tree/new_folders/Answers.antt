@@ -1,5 +1,5 @@
-use Rattle.std.proofs.Common.{◌≡◌, ℕ, ◌+◌, ◌-◌, ◌<◌, true, ◌&&◌, eqb, [], ◌∷◌, length, fold, get_or, take, arith, sym, ap, ◌∙◌}
-use Rattle.gopher_tree.specs.Path.{folders_of, folders_within}
+use Rattle.std.proofs.Common.{◌≡◌, ℕ, ◌+◌, ◌-◌, ◌<◌, eqb, [], ◌∷◌, length, fold, get_or, take, arith, sym, ap, ◌∙◌}
+use Rattle.gopher_tree.specs.Path.{folders_within}
 use Rattle.gopher_tree.specs.Files.{add_path, nodes, is_among}
 use Rattle.gopher_tree.proofs.FolderLemmas.{both_true}
 use Rattle.gopher_tree.proofs.NodeLemmas.{count_root, count_there, count_missing}

@@ -1,4 +1,4 @@
-use Rattle.std.proofs.Common.{◌≡◌, ◌+◌, true, false, length, fold, arith, sym, ◌∙◌}
+use Rattle.std.proofs.Common.{true, false, arith, sym, ◌∙◌}
 use Rattle.gopher_tree.specs.Files.{nodes}
 use Rattle.gopher_tree.proofs.NodeLemmas.{all_counted}
 use Rattle.gopher_tree.proofs.tree.Tree.new_nodes.Goals as goal

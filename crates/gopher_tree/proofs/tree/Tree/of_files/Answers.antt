@@ -24,10 +24,9 @@ loop-path-preserved c =
     let rest : List File = map (file_data {A = Global} {B = Global}) (into_iter_items c.next.new.self) in
     let file : File = (c.in-Some.path.items, c.in-Some.bytes.items) in
     let items : into_iter_items c.loop-path.path-iterator ≡ (c.in-Some.path, c.in-Some.bytes) ∷ into_iter_items c.next.new.self = search rules in
-    let adds : AddsFile (file_fault done file) (done ++ file ∷ []) (Ok c.in_ok-tree.tree) = search rules in
-    (
+    let adds : AddsFile (file_fault done file) (done ++ file ∷ []) (Ok c.in_ok-tree.tree) = search rules in (
       makes_on done rest file (files_fault (map (file_data {A = Global} {B = Global}) c.args.files.items)) c.in_ok-tree.tree
-      (ap (λ l. fault_after done (map (file_data {A = Global} {B = Global}) l)) (sym items) ∙ c.loop-path.invariant.0) adds,
+          (ap (λ l. fault_after done (map (file_data {A = Global} {B = Global}) l)) (sym items) ∙ c.loop-path.invariant.0) adds,
       ap (λ l. l ++ rest) (adds_one (file_fault done file) (done ++ file ∷ []) c.in_ok-tree.tree adds).1 ∙ append_assoc done (file ∷ []) rest
-      ∙ ap (λ l. done ++ map (file_data {A = Global} {B = Global}) l) (sym items) ∙ c.loop-path.invariant.1,
+          ∙ ap (λ l. done ++ map (file_data {A = Global} {B = Global}) l) (sym items) ∙ c.loop-path.invariant.1,
     )
