@@ -2,7 +2,7 @@ use Rattle.std.proofs.Common.{◌≡◌, map, take}
 use Rattle.std.specs.Arc.{arc_value}
 use Rattle.gopher_segment.specs.Segment.{pages_of}
 use Rattle.gopher_segment.specs.SegmentRows.{AreConsecutive}
-use Rattle.gopher_index.proofs.settling.segment_of.Given as goal
+use Rattle.gopher_index.proofs.merging.segment_of.Given as goal
 
 abbrev pub invariant-loop-index : goal.invariant-loop-index
 invariant-loop-index l = record {

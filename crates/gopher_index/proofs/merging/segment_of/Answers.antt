@@ -4,7 +4,7 @@ use Rattle.std.specs.Arc.{arc_value}
 use Rattle.gopher_segment.specs.Segment.{SegmentData, pages_of}
 use Rattle.gopher_segment.specs.SegmentRows.{AreConsecutive}
 use Rattle.gopher_index.proofs.SettlingLemmas.{pages_of-append, consecutive_append}
-use Rattle.gopher_index.proofs.settling.segment_of.Goals as goal
+use Rattle.gopher_index.proofs.merging.segment_of.Goals as goal
 
 pub loop-index-preserved : goal.loop-index-preserved
 loop-index-preserved c =
