@@ -11,6 +11,7 @@ ghost use Rattle.gopher_crew.specs.Desk.{events_of, parts_of, HasAll};
 ghost use Rattle.gopher_crew.specs.Kept.{IsNoted, IsTurned, RisesAt, IsFindFault, IsOpeningOf, rise_of, NotesTurn, NotesFind, NotesFailure};
 
 use crate::crew::Crew;
+use crate::errand::Errand;
 use crate::gathering::join;
 use crate::journal::Journal;
 use crate::note::Note;
@@ -154,6 +155,30 @@ impl<C: Crew, R: Wait + Drop> Kept<C, R> {
         self.catalogue.fail(number, why)?;
         share.add(&mut self.book);
         Ok(self.journal.follow(&self.catalogue))
+    }
+
+    /// Pages that are due to be merged, unless none are, memory is refused, or a part of the record can't
+    /// be entered into the history.
+    pub(crate) fn errand(&mut self) -> Option<Errand<C>>
+        ensures { self.new ≡ self.old }
+    {
+        let front = self.journal.entered(&self.catalogue)?;
+        let Ok(Some(due)) = self.catalogue.due() else {
+            return None;
+        };
+        Some(Errand::new(due, front))
+    }
+
+    /// Puts what an errand merged in its place in the index, and publishes the version of that.
+    pub(crate) fn install(&mut self, errand: Errand<C>)
+        ensures { self.new ≡ self.old }
+    {
+        let Some(front) = self.journal.entered(&self.catalogue) else {
+            return;
+        };
+        if let Some(due) = errand.due_in(&front) {
+            self.catalogue.install(due);
+        }
     }
 
     /// How many events the record has after the first. Takes no memory.

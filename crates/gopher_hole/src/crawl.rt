@@ -76,7 +76,10 @@ fn hand_in(
     ensures record { OnOk result (catalogue.new ≡ after_page catalogue.old number page) }
 {
     match catalogue.found(number, page) {
-        Ok(added) => added_line(alloc, added),
+        Ok(added) => {
+            catalogue.settle();
+            added_line(alloc, added)
+        }
         Err(refused) => {
             let fault = refused.fault;
             if fault == FoundFault::NoMemory {

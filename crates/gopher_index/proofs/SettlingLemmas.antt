@@ -1,5 +1,5 @@
 -- Segments one after another, and one in the place of some of them.
-use Rattle.std.proofs.Common.{◌≡◌, ℕ, ◌+◌, ◌≤◌, ◌×◌, List, [], ◌∷◌, ◌++◌, length, take, drop, refl, sym, ap, subst, ◌∙◌, append_assoc, arith}
+use Rattle.std.proofs.Common.{◌≡◌, ℕ, ◌+◌, ◌≤◌, List, [], ◌∷◌, ◌++◌, length, min, take, drop, refl, sym, ap, subst, ◌∙◌, append_assoc, arith}
 use Rattle.std.proofs.lemmas.List.{length-append, length-take, append-nil, take-append-drop}
 use Rattle.std.proofs.Math.Seq.{drop-append_seam}
 use Rattle.gopher_page.specs.Page.{PageData}
@@ -59,10 +59,10 @@ module _ (segments : List SegmentData) (start end : ℕ) (merged : SegmentData) 
         let first = pages_of (take start segments) in
         let last = pages_of (drop end segments) in
         let fore = cut_same first (pages_of (drop start segments) ++ loose) stands.before (merged.pages ++ stands.after)
-            (sym (append_assoc first (pages_of (drop start segments)) loose) ∙ ap (λ l. l ++ loose) (sym (pages_at segments start)) ∙ stands.at) (here ∙ sym stands.number) in
+        (sym (append_assoc first (pages_of (drop start segments)) loose) ∙ ap (λ l. l ++ loose) (sym (pages_at segments start)) ∙ stands.at) (here ∙ sym stands.number) in
         let long : length (pages_of (take end segments)) ≡ length (stands.before ++ merged.pages) = omega (arith, there, stands.number, length-append stands.before merged.pages) in
         let through = cut_same (pages_of (take end segments)) (last ++ loose) (stands.before ++ merged.pages) stands.after
-            (sym (append_assoc (pages_of (take end segments)) last loose) ∙ ap (λ l. l ++ loose) (sym (pages_at segments end)) ∙ stands.at ∙ sym (append_assoc stands.before merged.pages stands.after)) long in
+        (sym (append_assoc (pages_of (take end segments)) last loose) ∙ ap (λ l. l ++ loose) (sym (pages_at segments end)) ∙ stands.at ∙ sym (append_assoc stands.before merged.pages stands.after)) long in
         pages_of-append (take start segments) (merged ∷ drop end segments)
         ∙ sym (append_assoc first merged.pages last)
         ∙ ap (λ l. (l ++ merged.pages) ++ last) fore.0
@@ -82,8 +82,16 @@ module _ (segments : List SegmentData) (loose : List PageData) (merged : Segment
       let rest : drop (length merged.pages) loose ≡ stands.after = ap (drop (length merged.pages)) cut.1 ∙ drop-append_seam merged.pages stands.after in
       ap (λ l. l ++ drop (length merged.pages) loose) (pages_of-append segments (merged ∷ []) ∙ ap (λ l. pages_of segments ++ l) (append-nil merged.pages))
       ∙ append_assoc (pages_of segments) merged.pages (drop (length merged.pages) loose)
-      ∙ ap (λ l. pages_of segments ++ merged.pages ++ l) rest
+      ∙ ap (λ l. pages_of segments ++ (merged.pages ++ l)) rest
       ∙ ap (λ l. pages_of segments ++ l) (sym cut.1)
+
+-- ---- how many pages
+
+pub counted : (n pages count : ℕ) → count ≡ min n 18446744073709551615 → count ≡ pages → pages ≤ 65536 → n ≡ pages
+counted n pages count is same few = omega (arith, is, same, few)
+
+pub counted_all : (n count : ℕ) → count ≡ min n 18446744073709551615 → n ≤ 65536 → count ≡ n
+counted_all n count is few = omega (arith, is, few)
 
 -- ---- runs that are due
 
@@ -91,6 +99,9 @@ module _ (segments : List SegmentData) (loose : List PageData) (merged : Segment
 module _ (segments : List SegmentData) (loose : List PageData) (settled start count : ℕ) (index : IsIndex segments loose settled) where
   rest_at : (n : ℕ) → length (pages_of segments) ≡ length (pages_of (take n segments)) + length (pages_of (drop n segments))
   rest_at n = ap length (pages_at segments n) ∙ length-append (pages_of (take n segments)) (pages_of (drop n segments))
+
+  pub pages_at_most : length (pages_of (take start segments)) ≤ 65536
+  pages_at_most = omega (arith, index.settled_is, index.bound, rest_at start)
 
   pub part_run : IsRun (length (pages_of (take start segments))) (take count (drop start segments)) []
   part_run =
@@ -117,7 +128,7 @@ module _ (segments : List SegmentData) (loose : List PageData) (settled start co
         at =
             ap (λ l. l ++ loose) (pages_at segments start ∙ ap (λ l. first ++ l) (pages_at rest count))
             ∙ append_assoc first (run ++ last) loose
-            ∙ ap (λ l. first ++ l) (append_assoc run last loose ∙ ap (λ l. l ++ last ++ loose) (sym (append-nil run)));
+            ∙ ap (λ l. first ++ l) (append_assoc run last loose ∙ ap (λ l. l ++ (last ++ loose)) (sym (append-nil run)));
         number = refl;
       }
 
@@ -134,4 +145,24 @@ module _ (segments : List SegmentData) (loose : List PageData) (settled start co
     after = drop count loose;
     at = ap (λ l. pages_of segments ++ l) (sym (take-append-drop count loose));
     number = sym index.settled_is;
+  }
+
+-- ---- other segments and loose pages of the same pages
+
+module _ (segments segments' : List SegmentData) (loose loose' : List PageData) (settled : ℕ) (index : IsIndex segments loose settled) (consecutive : AreConsecutive 0 segments') where
+  pub loose_index : (settled' : ℕ) → settled' ≡ min (length (pages_of segments')) 18446744073709551615 → pages_of segments' ++ loose' ≡ pages_of segments ++ loose → IsIndex segments' loose' settled'
+  loose_index settled' count same =
+      let long : length (pages_of segments') + length loose' ≡ length (pages_of segments) + length loose = sym (length-append (pages_of segments') loose') ∙ ap length same ∙ length-append (pages_of segments) loose in
+      let is : settled' ≡ length (pages_of segments') = counted_all (length (pages_of segments')) settled' count (omega (arith, long, index.settled_is, index.bound)) in
+      record {
+        consecutive = consecutive;
+        settled_is = is;
+        bound = omega (arith, is, long, index.settled_is, index.bound);
+      }
+
+  pub segments_index : pages_of segments' ≡ pages_of segments → IsIndex segments' loose settled
+  segments_index same = record {
+    consecutive = consecutive;
+    settled_is = index.settled_is ∙ sym (ap length same);
+    bound = index.bound;
   }

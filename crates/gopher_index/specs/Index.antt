@@ -24,7 +24,7 @@ run_data first segments loose = record { first = first; pages = pages_of segment
 pub record StandsIn (run : SegmentData) (pages : List PageData) : Type 0 where
   pub before : List PageData
   pub after : List PageData
-  pub at : pages ≡ before ++ run.pages ++ after
+  pub at : pages ≡ before ++ (run.pages ++ after)
   pub number : length before ≡ run.first
 
 -- before the segment at an index stand so many pages

@@ -22,7 +22,7 @@ use std::sync::Arc;
 // How many loose pages are merged at once.
 const MERGED: usize = 16;
 
-// From how many loose pages on a page that is added waits for them to be merged.
+// From how many loose pages on a page that is added waits until some are merged.
 const MOST_LOOSE: usize = 256;
 
 // How many runs are merged at most where one is due after another.
@@ -75,14 +75,14 @@ impl Index {
     /// and then the pages are what they were.
     ///
     /// The page stands in no segment until it is merged into one (`due`, `settle`). Where 256 pages
-    /// stand in none, they are merged first.
+    /// stand in none, some are merged first.
     pub fn add(&mut self, page: Arc<Page>) -> Result<(), NoMemory>
         requires { length self.old < 65536 }
         ensures { MatchResult result (λ _. self.new ≡ self.old ++ arc_value page ∷ []) (λ _. self.new ≡ self.old) }
     {
         if self.loose.len() >= MOST_LOOSE {
             self.taken.clear();
-            self.settle();
+            self.settle_one();
         }
         self.loose.push(page)?;
         Ok(())
@@ -130,7 +130,12 @@ impl Index {
         requires { StandsIn due self.old }
         ensures { self.new ≡ self.old }
     {
-        let Due { first, segments: _segments, loose: _loose, merged } = due;
+        let Due {
+            first,
+            segments: _segments,
+            loose: _loose,
+            merged,
+        } = due;
         self.taken.retain(|other| *other != first);
         let Some(merged) = merged else {
             return;
@@ -146,27 +151,37 @@ impl Index {
         ensures { self.new ≡ self.old }
     {
         let alloc = *self.loose.allocator();
-        let _put = if first == self.settled && merged.pages().len() <= self.loose.len() {
-            put_for_loose(alloc, merged, &mut self.segments, &mut self.loose)
-        } else {
-            put_for_segments(alloc, first, merged, &mut self.segments)
+        if first == self.settled && merged.pages().len() <= self.loose.len() {
+            let _put = put_for_loose(alloc, merged, &mut self.segments, &mut self.loose);
+            self.settled = pages_len(&self.segments);
+            return;
+        }
+        let _put = put_for_segments(alloc, first, merged, &mut self.segments);
+    }
+
+    // Merges one run that is due, and tells whether it did.
+    fn settle_one(&mut self) -> bool
+        ensures { self.new ≡ self.old }
+    {
+        let alloc = *self.loose.allocator();
+        let Ok(Some(mut due)) = self.untaken() else {
+            return false;
         };
-        self.settled = pages_len(&self.segments);
+        let Ok(()) = due.merge(alloc) else {
+            return false;
+        };
+        self.install(due);
+        true
     }
 
     /// Merges what is due, unless memory is refused. The pages are what they were.
     pub fn settle(&mut self)
         ensures { self.new ≡ self.old }
     {
-        let alloc = *self.loose.allocator();
         for _run in 0..MOST_RUNS {
-            let Ok(Some(mut due)) = self.untaken() else {
+            if !self.settle_one() {
                 return;
-            };
-            let Ok(()) = due.merge(alloc) else {
-                return;
-            };
-            self.install(due);
+            }
         }
     }
 

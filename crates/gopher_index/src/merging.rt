@@ -32,7 +32,11 @@ pub(crate) fn shared<T: Drop>(alloc: Global, items: &[Arc<T>]) -> Result<Vec<Arc
 }
 
 /// The segment of loose pages, of which the first has this number.
-pub(crate) fn segment_of(alloc: Global, first: usize, loose: &[Arc<Page>]) -> Result<Segment, NoMemory>
+pub(crate) fn segment_of(
+    alloc: Global,
+    first: usize,
+    loose: &[Arc<Page>],
+) -> Result<Segment, NoMemory>
     requires { first + length loose.now ≤ 65536 }
     ensures first { IfOk result (λ segment. segment.first ≡ first) }
     ensures pages { IfOk result (λ segment. segment.pages ≡ map arc_value loose.now) }

@@ -20,7 +20,9 @@ pub(crate) fn is_taken(taken: &[usize], first: usize) -> bool {
 
 // Whether segments have so many pages each.
 fn are_alike(segments: &[Arc<Segment>], pages: usize) -> bool {
-    segments.iter().all(|segment| segment.pages().len() == pages)
+    segments
+        .iter()
+        .all(|segment| segment.pages().len() == pages)
 }
 
 // Whether a segment can take what all of these have.
@@ -46,7 +48,11 @@ fn is_due(first: usize, segments: &[Arc<Segment>]) -> bool
     if first.checked_rem(together) != Some(0) {
         return false;
     }
-    let needed = if size.pages < LARGE { MERGED } else { MERGED + 1 };
+    let needed = if size.pages < LARGE {
+        MERGED
+    } else {
+        MERGED + 1
+    };
     if segments.len() < needed {
         return false;
     }
