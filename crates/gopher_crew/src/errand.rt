@@ -61,6 +61,9 @@ impl<C: Crew> Errand<C> {
             front: own,
             of: _of,
         } = self;
-        if own.begins(front) { Some(due) } else { None }
+        if !own.begins(front) {
+            return None;
+        }
+        Some(due)
     }
 }

@@ -169,7 +169,7 @@ impl<C: Crew, R: Wait + Drop> Kept<C, R> {
         Some(Errand::new(due, front))
     }
 
-    /// Puts what an errand merged in its place in the index, and publishes the version of that.
+    /// Puts what an errand merged in its place in the index. It is published with the next event.
     pub(crate) fn install(&mut self, errand: Errand<C>)
         ensures { self.new ≡ self.old }
     {
