@@ -3,3 +3,4 @@ pub mod Adding
 pub mod Publishing
 pub mod Records
 pub mod Keeping
+pub mod Errands
