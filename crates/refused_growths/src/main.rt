@@ -1,7 +1,7 @@
 //! Calls of each part of the library, of which one growth is refused. A refused call changes nothing, gives
 //! back what it was handed, and succeeds then.
 //!
-//! It writes the same whichever allocation is refused: `rt try --fail-alloc 1..` refuses each in turn.
+//! It writes the same whichever allocation is refused: bench/refusals.sh refuses each in turn.
 #![tactic(auto)]
 
 mod answers;
