@@ -17,13 +17,13 @@ test:
 	tools/test_wrong_bodies.py
 	tools/test_gophermap_to_menu.py
 	tools/wrong_bodies.py --after-ci
-	bench/program.sh
+	tests/program.sh
 	tests/replays.py
 	tests/requests.py --lines 500
 	tests/check.py
 	tests/log.py
 	tests/attack.py
-	bench/refusals.sh
+	tests/refusals.sh
 
 # The program beside the plain models of tests/, on scripts, folders and request lines that are drawn anew each time.
 .PHONY: fuzz

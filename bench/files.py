@@ -1,5 +1,6 @@
 #!/usr/bin/env python3
-"""Writes the files that crates/measure times: a menu and a text of 16 MiB, and a small site."""
+"""Writes the files that crates/bench_measure times: a menu and a text of 16 MiB, a menu as long as a reply may be,
+and a small site."""
 import os
 import sys
 
@@ -17,10 +18,10 @@ def lines_up_to(size, line):
     return "".join(parts)
 
 
-def menu():
+def menu(size):
     return (
         lines_up_to(
-            SIZE,
+            size,
             lambda number: f"0A file of the folder, number {number}\t/folder/file-{number}.txt\tgopher.example.org\t70\r\n",
         )
         + ".\r\n"
@@ -61,7 +62,7 @@ def site(folder):
         out.write(bytes(range(256)) * (FILE_SIZE // 256))
 
 
-for name, content in (("menu", menu()), ("text", text())):
+for name, content in (("menu", menu(SIZE)), ("reply", menu(FILE_SIZE - 100)), ("text", text())):
     with open(f"{sys.argv[1]}/{name}", "w", newline="") as out:
         out.write(content)
 site(f"{sys.argv[1]}/site")

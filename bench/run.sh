@@ -1,24 +1,29 @@
 #!/usr/bin/env bash
-# Every timing: scripts replayed, menus and texts read and written, settings read, a site loaded and its
-# replies made, a host in memory of 16,384 texts crawled by 4, 2 and 1 workers, and a catalogue of 65,536 pages
-# built and searched, beside a plain C program that makes the same pages, adds them to postings and searches these.
+# Every timing: scripts replayed, menus and texts read and written, beside a plain C program that splits
+# them, settings read, a site loaded and its replies made, a host in memory of 16,384 texts crawled by 4, 2
+# and 1 workers, and a catalogue of 65,536 pages built and searched, beside a plain C program that makes the
+# same pages, adds them to postings and searches these.
 set -euo pipefail
 cd "$(dirname "$0")/.."
 (cd crates/hole && rt run -- replay < stdin > /dev/null)
-(cd crates/measure && rt run > /dev/null)
+(cd crates/bench_measure && rt run > /dev/null)
 bench/replay.sh crates/hole/out/hole
 folder=$(mktemp -d)
 trap 'rm -rf "$folder"' EXIT
 bench/files.py "$folder"
-crates/measure/out/measure menu "$folder/menu"
-crates/measure/out/measure text "$folder/text"
-crates/measure/out/measure settings examples/hole.toml
-crates/measure/out/measure site "$folder/site"
-crates/measure/out/measure replies "$folder/site"
+cc -O2 -o "$folder/splits" bench/splits.c
+for file in menu reply text; do
+    kind=${file/reply/menu}
+    crates/bench_measure/out/bench_measure "$kind" "$folder/$file"
+    "$folder/splits" "$kind" "$folder/$file"
+done
+crates/bench_measure/out/bench_measure settings examples/hole.toml
+crates/bench_measure/out/bench_measure site "$folder/site"
+crates/bench_measure/out/bench_measure replies "$folder/site"
 bench/pages.py "$folder/pages"
-crates/measure/out/measure search "$folder/pages"
+crates/bench_measure/out/bench_measure search "$folder/pages"
 bench/pages.py "$folder/crawled" 16384
-crates/measure/out/measure crawl "$folder/crawled"
+crates/bench_measure/out/bench_measure crawl "$folder/crawled"
 cc -O2 -o "$folder/postings" bench/postings.c
 echo "the plain C program:"
 "$folder/postings" "$folder/pages"

@@ -15,7 +15,8 @@ use Rattle.gopher_page.specs.Query.{TermData, matches}
 use Rattle.gopher_index.specs.declared.hit.Hit.{Hit}
 use Rattle.gopher_index.specs.Answer.{rank_cmp, hit_of, hits_among, ranked, answer_of}
 use Rattle.gopher_catalogue.specs.FinalAnswer.{hit_at, IsHitAmong, IsAnswerAmong}
-use Rattle.gopher_catalogue.proofs.SortedLists.{contains_here, contains_none, contains_cases, sorted_inserts, All-inserts, contains_inserts, sorted_one}
+use Rattle.gopher_page.proofs.SortedInserts.{sorted_inserts}
+use Rattle.gopher_catalogue.proofs.SortedLists.{contains_here, contains_none, contains_cases, All-inserts, contains_inserts, sorted_one}
 
 -- ---- the order
 

@@ -1,5 +1,5 @@
 -- The pages that a record holds, after one more event, how many they are, and that an index takes all.
-use Rattle.std.proofs.Common.{◌≡◌, ℕ, suc, zero, ◌≤◌, ◌<◌, List, [], ◌∷◌, ◌++◌, length, take, inl, inr, refl, sym, ◌∙◌, ap, arith}
+use Rattle.std.proofs.Common.{◌≡◌, ℕ, suc, zero, ◌≤◌, ◌<◌, List, [], ◌∷◌, ◌++◌, length, take, append_assoc, inl, inr, refl, sym, ◌∙◌, ap, arith}
 use Rattle.std.specs.Arc.{arc_value}
 use Rattle.std.specs.List.{flat_map}
 use Rattle.std.specs.declared.sync.Arc.{Arc}
@@ -8,7 +8,10 @@ use Rattle.std.proofs.lemmas.Bool.{cases_lt}
 use Rattle.std.proofs.lemmas.Grind.{flat_map-append}
 use Rattle.std.proofs.lemmas.List.{append-nil, length_push, length-take, take_all, take_at}
 use Rattle.std.proofs.lemmas.List.Concat.{flat_map-cons}
+use mathlib.Core.List.{IsPrefix}
 use Rattle.gopher_page.specs.Page.{PageData}
+use Rattle.gopher_segment.specs.Segment.{SegmentData}
+use Rattle.gopher_index.specs.Index.{StandsIn}
 use Rattle.gopher_catalogue.specs.declared.event.Event.{Event}
 use Rattle.gopher_catalogue.specs.declared.event.Event.TheVariants.{Opened as OpenedEvent, Claimed as ClaimedEvent, Found as FoundEvent, Failed as FailedEvent}
 use Rattle.gopher_catalogue.specs.EventOf.{event_data}
@@ -33,6 +36,25 @@ unfolding pages_found
 pages-push events event =
     flat_map-append page_of_event events (event ∷ [])
     ∙ ap (λ l. flat_map page_of_event events ++ l) (flat_map-cons page_of_event event [] ∙ append-nil (page_of_event event))
+
+pages-append : (events more : List EventData) → pages_found (events ++ more) ≡ pages_found events ++ pages_found more
+unfolding pages_found
+pages-append events more = flat_map-append page_of_event events more
+
+-- pages that stand among those of a record stand among those of each record that begins with it
+pub stands_on : (run : SegmentData) (events more : List EventData) → IsPrefix events more → StandsIn run (pages_found events) → StandsIn run (pages_found more)
+stands_on run events more grows stands =
+    let rest : List PageData = pages_found grows.0 in
+    let all : pages_found events ++ rest ≡ pages_found more = sym (pages-append events grows.0) ∙ ap pages_found grows.1 in
+    record {
+      before = stands.before;
+      after = stands.after ++ rest;
+      at =
+          sym all ∙ ap (λ l. l ++ rest) stands.at
+          ∙ append_assoc stands.before (run.pages ++ stands.after) rest
+          ∙ ap (λ l. stands.before ++ l) (append_assoc run.pages stands.after rest);
+      number = stands.number;
+    }
 
 -- what an index takes of pages and more of them
 take-more : {X : Type 0} (n : ℕ) (xs ys : List X) → take n (xs ++ ys) ≡ take n (take n xs ++ ys)

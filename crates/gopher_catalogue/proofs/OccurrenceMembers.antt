@@ -16,7 +16,8 @@ use Rattle.gopher_page.specs.Page.{PageData}
 use Rattle.gopher_page.specs.Counts.{count_meant}
 use Rattle.gopher_index.specs.Answer.{occurrence_of, occurrences_among, occurrences_of, occurrence_cmp, AreOccurrences}
 use Rattle.gopher_catalogue.specs.FinalAnswer.{IsOccurrenceAmong, AreOccurrencesAmong}
-use Rattle.gopher_catalogue.proofs.SortedLists.{contains_here, contains_none, contains_cases, sorted_inserts, All-inserts, contains_inserts, sorted_one}
+use Rattle.gopher_page.proofs.SortedInserts.{sorted_inserts}
+use Rattle.gopher_catalogue.proofs.SortedLists.{contains_here, contains_none, contains_cases, All-inserts, contains_inserts, sorted_one}
 use Rattle.gopher_catalogue.proofs.AnswerMembers.{IsOnePerPlace, place_tied}
 
 abbrev Occurrence : Type 0

@@ -1,9 +1,10 @@
--- Lists in strict order: putting elements in one after another, and when two such lists are one.
+-- Lists in strict order: the members of one that elements were put into one after another, and when two
+-- such lists are one.
 use Rattle.std.proofs.Common.{◌≡◌, ◌⊎◌, ℕ, zero, suc, ◌<◌, List, [], ◌∷◌, length, inl, inr, refl, sym, ◌∙◌, ap, subst, arith}
 use Rattle.std.specs.Prelude.{slice_index_or}
-use Rattle.std.specs.List.{fold, All, AllByRecursion, Contains}
+use Rattle.std.specs.List.{fold, All, Contains}
 use Rattle.std.specs.List.Sorted.{IsStrictlySortedBy}
-use Rattle.std.specs.Ordering.{match_ordering, is_eq, ordering_reverse}
+use Rattle.std.specs.Ordering.{match_ordering, is_eq}
 use Rattle.std.specs.declared.cmp.Ordering.{Ordering}
 use Rattle.std.specs.declared.cmp.Ordering.TheVariants.{Less, Equal, Greater}
 use Rattle.std.specs.BTreeSet.{insert_key}
@@ -32,47 +33,7 @@ at_cases y xs x (suc k) within is = inr (k, omega arith, is)
 pub contains_cases : {X : Type 0} (y : X) (xs : List X) (x : X) → Contains (y ∷ xs) x → (y ≡ x) ⊎ Contains xs x
 contains_cases y xs x has = at_cases y xs x has.0 has.1 has.2
 
--- ---- the order stays
-
 module _ {K : Type 0} {R : K → K → Ordering} (o : IsTotalOrder R) where
-  flipped : (a b : K) → R a b ≡ Greater → R b a ≡ Less
-  flipped a b e = o.antisymm b a ∙ ap ordering_reverse e
-
-  all_after : (a b : K) (xs : List K) → R a b ≡ Less → AllByRecursion (λ y. R b y ≡ Less) xs → AllByRecursion (λ y. R a y ≡ Less) xs
-  all_after a b [] less all = tt
-  all_after a b (x ∷ xs) less all = (o.trans a b x less all.0, all_after a b xs less all.1)
-
-  all_with : (a k : K) (xs : List K) → R a k ≡ Less → AllByRecursion (λ y. R a y ≡ Less) xs → AllByRecursion (λ y. R a y ≡ Less) (insert_key R xs k)
-  all_with a k [] less all = (less, tt)
-  all_with a k (x ∷ xs) less all = by (R k x) (all_with a k xs less all.1)
-    where
-      by : (r : Ordering) → AllByRecursion (λ y. R a y ≡ Less) (insert_key R xs k) → AllByRecursion (λ y. R a y ≡ Less) (match_ordering r (k ∷ x ∷ xs) (x ∷ xs) (x ∷ insert_key R xs k))
-      by Less rest = (less, all)
-      by Equal rest = all
-      by Greater rest = (all.0, rest)
-
-  sorted_with : (xs : List K) (k : K) → IsStrictlySortedBy R xs → IsStrictlySortedBy R (insert_key R xs k)
-  unfolding IsStrictlySortedBy
-  sorted_with [] k sorted = (tt, tt)
-  sorted_with (x ∷ xs) k sorted = by (R k x) refl (sorted_with xs k sorted.1)
-    where
-      by : (r : Ordering) → R k x ≡ r → IsStrictlySortedBy R (insert_key R xs k) → IsStrictlySortedBy R (match_ordering r (k ∷ x ∷ xs) (x ∷ xs) (x ∷ insert_key R xs k))
-      by Less e rest = ((e, all_after k x xs e sorted.0), sorted)
-      by Equal e rest = sorted
-      by Greater e rest = (all_with x k xs (flipped k x e) sorted.0, rest)
-
-  sorted_along : (held xs : List K) → IsStrictlySortedBy R held → IsStrictlySortedBy R (fold (insert_key R) held xs)
-  sorted_along held [] sorted = sorted
-  sorted_along held (x ∷ xs) sorted = sorted_along (insert_key R held x) xs (sorted_with held x sorted)
-
-  sorted_none : IsStrictlySortedBy R []
-  unfolding IsStrictlySortedBy
-  sorted_none = tt
-
-  -- what was put in one after another is sorted
-  pub sorted_inserts : (xs : List K) → IsStrictlySortedBy R (fold (insert_key R) [] xs)
-  sorted_inserts xs = sorted_along [] xs sorted_none
-
   -- ---- the members stay
 
   inserted_old : (xs : List K) (k x : K) → Contains xs x → Contains (insert_key R xs k) x

@@ -1,7 +1,8 @@
 //! The record of a crawl with the index of its pages.
 
-ghost use Rattle.std.specs.Prelude.{◌≡◌, ◌+◌, ◌<◌, ◌≤◌, [], ◌∷◌, ◌++◌, length, map, IfOk, IfErr, OnOk, OnErr};
+ghost use Rattle.std.specs.Prelude.{◌≡◌, ◌+◌, ◌<◌, ◌≤◌, [], ◌∷◌, ◌++◌, length, map, IfOk, IfErr, IfSome, OnOk, OnErr};
 ghost use Rattle.std.specs.Arc.{arc_value};
+ghost use Rattle.gopher_index.specs.Index.{StandsIn};
 ghost use Rattle.gopher_catalogue.specs.Event.{Opened, Found};
 ghost use Rattle.gopher_catalogue.specs.EventOf.{event_data};
 ghost use Rattle.gopher_catalogue.specs.Pages.{page_of_event, pages_indexed, with_page_of};
@@ -10,7 +11,7 @@ ghost use Rattle.gopher_catalogue.specs.History.{Grown, IsOpened, opening_in};
 use crate::event::Event;
 use crate::history::History;
 use crate::opening::Opening;
-use gopher_index::Index;
+use gopher_index::{Due, Index};
 use gopher_item::NoMemory;
 use gopher_page::Page;
 use std::alloc::Global;
@@ -122,6 +123,31 @@ impl Archive {
         ensures { result.now ≡ pages_indexed self.now.events }
     {
         &self.index
+    }
+
+    /// Pages that are due to be merged, as `Index::due` has it. Refused only where memory is (90).
+    pub fn due(&mut self) -> Result<Option<Due>, NoMemory>
+        ensures same { self.new ≡ self.old }
+        ensures stands { IfOk result (λ due.
+            IfSome due (λ run. StandsIn run (pages_indexed self.old.events))) }
+    {
+        self.index.due()
+    }
+
+    /// Puts the segment of pages that were due in their place, as `Index::install` does.
+    pub fn install(&mut self, due: Due) -> Option<Due>
+        requires { StandsIn due (pages_indexed self.old.events) }
+        ensures same { self.new ≡ self.old }
+        ensures back { IfSome result (λ back. back ≡ due) }
+    {
+        self.index.install(due)
+    }
+
+    /// Merges what is due, as `Index::settle` does.
+    pub fn settle(&mut self)
+        ensures { self.new ≡ self.old }
+    {
+        self.index.settle();
     }
 
     /// Makes room for `additional` more events. A refusal (90) keeps the room that there was.

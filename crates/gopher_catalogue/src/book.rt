@@ -52,7 +52,9 @@ impl Book {
     {
         let event = event.again()?;
         self.archive.reserve(1)?;
-        self.archive.add(event)
+        self.archive.add(event)?;
+        self.archive.settle();
+        Ok(())
     }
 
     /// A second book with the same events. Refused only where memory is (90).

@@ -1,8 +1,9 @@
 //! The catalogue of a crawl: its steps, and the search of its pages.
 
-ghost use Rattle.std.specs.Prelude.{◌≡◌, ℕ, true, false, None, Some, [], ◌∷◌, ◌++◌, map, not, position, slice_get, IfOk, IfErr, OnOk, OnErr};
+ghost use Rattle.std.specs.Prelude.{◌≡◌, ℕ, true, false, None, Some, [], ◌∷◌, ◌++◌, map, not, position, slice_get, IfOk, IfErr, IfSome, OnOk, OnErr};
 ghost use Rattle.std.specs.Arc.{arc_value};
 ghost use Rattle.gopher_scope.specs.Scope.{allows};
+ghost use Rattle.gopher_index.specs.Index.{StandsIn};
 ghost use Rattle.gopher_catalogue.specs.Event.{EventData, Opened, Claimed, Found, Failed};
 ghost use Rattle.gopher_catalogue.specs.EventOf.{event_data};
 ghost use Rattle.gopher_catalogue.specs.Fault.{HasOpenFault, HasFoundFault};
@@ -19,7 +20,7 @@ use crate::event::{Event, Why};
 use crate::fault::{FailRefused, FoundFault, FoundRefused, OpenFault, OpenRefused};
 use crate::opening::Opening;
 use gopher_frontier::{Added, Frontier, Status};
-use gopher_index::{Hit, Index};
+use gopher_index::{Due, Hit, Index};
 use gopher_item::{NoMemory, Place};
 use gopher_page::{Page, Query};
 use gopher_scope::Scope;
@@ -216,6 +217,38 @@ impl Catalogue {
         self.frontier.fail(number, standing, tries);
         self.archive.push(Event::Failed(number, why));
         Ok(())
+    }
+
+    /// Pages found that are due to be merged into one segment of the index, unless none are. They can be
+    /// merged (`Due::merge`) while the catalogue goes on. Refused only where memory is (90).
+    pub fn due(&mut self) -> Result<Option<Due>, NoMemory>
+        ensures same { self.new ≡ self.old }
+        ensures stands { IfOk result (λ due.
+            IfSome due (λ run. StandsIn run (pages_found self.old))) }
+        ensures legal { IsLegal self.old }
+    {
+        self.archive.due()
+    }
+
+    /// Puts the segment of pages that were due in their place in the index, or leaves them to be due
+    /// again where they weren't merged. The record stays, and so does what searches find.
+    ///
+    /// Merged pages come back where some before them still stand in no segment: they are put in their
+    /// place once those are.
+    pub fn install(&mut self, due: Due) -> Option<Due>
+        requires { StandsIn due (pages_found self.old) }
+        ensures same { self.new ≡ self.old }
+        ensures back { IfSome result (λ back. back ≡ due) }
+    {
+        self.archive.install(due)
+    }
+
+    /// Merges the pages that are due, unless memory is refused: whoever has nobody to merge them calls
+    /// it after `found`. The record stays, and so does what searches find.
+    pub fn settle(&mut self)
+        ensures { self.new ≡ self.old }
+    {
+        self.archive.settle();
     }
 
     /// The sizes of the frontier. Takes no memory.

@@ -27,5 +27,5 @@ pub use catalogue::Catalogue;
 pub use event::{Event, EventData, Why};
 pub use fault::{FailRefused, FoundFault, FoundRefused, OpenFault, OpenRefused};
 pub use gopher_frontier::{Added, Status};
-pub use gopher_index::Hit;
+pub use gopher_index::{Due, Hit};
 pub use opening::Opening;

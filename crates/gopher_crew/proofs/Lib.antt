@@ -3,3 +3,5 @@ pub mod Adding
 pub mod Publishing
 pub mod Records
 pub mod Keeping
+pub mod Errands
+pub mod Versions

@@ -21,7 +21,7 @@ use gopher_catalogue::{Added, Catalogue, FailRefused, FoundRefused, Opening, Sta
 use gopher_item::NoMemory;
 use gopher_page::Page;
 use std::alloc::Global;
-use std::sync::{Arc, Condvar, Mutex, Wait};
+use std::sync::{Arc, Condvar, Mutex, MutexGuard, Wait};
 
 /// A catalogue that a crew of workers crawls together, while passes search what is published of it.
 #[derive(Drop)]
@@ -107,7 +107,7 @@ fn start<C: Crew, R: Wait + Drop>(
     cut(whole, events, shares, list);
     let journal = Journal::new(alloc, head, front, shelf);
     Desk {
-        kept: Mutex::new(Kept::new(catalogue, book, journal)),
+        kept: Mutex::new(Kept::new(alloc, catalogue, book, journal)),
         outcomes: Condvar::new(),
     }
 }
@@ -228,19 +228,40 @@ impl<C: Crew, R: Wait + Drop> Desk<C, R> {
         self.kept.lock(rt).opening()
     }
 
-    /// Claims the first place that waits; where some are out, it waits for their outcomes first.
-    pub(crate) fn next<W: Wait>(&self, rt: &W, share: &mut Share<C>) -> Result<Turn, NoMemory>
+    // Takes the lock once no pages are due to be merged, and merges those that are while it holds none.
+    fn settled<W: Wait>(&self, rt: &W, alloc: Global) -> MutexGuard<'_, Kept<C, R>> {
+        let mut kept = self.kept.lock(rt);
+        for _round in rt.forever() {
+            let Some(mut errand) = kept.errand() else {
+                return kept;
+            };
+            let lock = MutexGuard::unlock(kept);
+            errand.run(alloc);
+            kept = lock.lock(rt);
+            kept.install(errand);
+        }
+        unreachable!()
+    }
+
+    /// Merges what is due to be merged, and claims the first place that waits; where some are out, it
+    /// waits for their outcomes first.
+    pub(crate) fn next<W: Wait>(
+        &self,
+        rt: &W,
+        alloc: Global,
+        share: &mut Share<C>,
+    ) -> Result<Turn, NoMemory>
         ensures share { IfOk result (λ turn. RisesAt (turn_data turn) share.old share.new) }
         ensures parts { share.new.parts ≡ share.old.parts }
         ensures err { OnErr result (share.new ≡ share.old) }
     {
-        let mut kept = self.kept.lock(rt);
         for _round in rt.forever() {
+            let mut kept = self.settled(rt, alloc);
             let (turn, _note) = kept.claim(share)?;
             let Turn::Idle = turn else {
                 return Ok(turn);
             };
-            kept = self.outcomes.wait(rt, kept);
+            let _kept = self.outcomes.wait(rt, kept);
         }
         unreachable!()
     }

@@ -1,6 +1,6 @@
 //! The history of a crew as far as it was entered, and the version that is published.
 
-ghost use Rattle.std.specs.Prelude.{◌≡◌, ◌≢◌, ◌<◌, ◌^◌, length, map, MatchOption, MatchBool};
+ghost use Rattle.std.specs.Prelude.{◌≡◌, ◌≢◌, ◌<◌, ◌^◌, length, map, IfSome, MatchOption, MatchBool};
 ghost use mathlib.Core.List.{IsPrefix};
 ghost use Rattle.gopher_catalogue.specs.EventOf.{event_data};
 ghost use Rattle.gopher_catalogue.specs.Legal.{IsLegal};
@@ -12,7 +12,6 @@ use crate::crew::Crew;
 use crate::history::{Beginning, Head};
 use crate::note::Note;
 use crate::shelf::{Shelf, VersionReader};
-use crate::version::Version;
 use gopher_catalogue::{Catalogue, Event};
 use gopher_index::Index;
 use std::alloc::Global;
@@ -106,7 +105,8 @@ impl<C: Crew, R: Wait + Drop> Journal<C, R> {
         if self.shelf.len() == self.front.len() {
             return true;
         }
-        let Ok(version) = Version::of(self.alloc, index, &self.front) else {
+        let before = self.shelf.published();
+        let Ok(version) = before.after(self.alloc, index, &self.front) else {
             return false;
         };
         self.shelf.publish(version)
@@ -129,5 +129,20 @@ impl<C: Crew, R: Wait + Drop> Journal<C, R> {
             return None;
         }
         Some(Note::of(&self.front))
+    }
+
+    #[tactic(auto, using(crate::proofs::Beginnings::grows))]
+    /// The record of the catalogue as a beginning of the history, where all of it can be entered.
+    pub fn entered(&mut self, catalogue: &Catalogue) -> Option<Beginning>
+        requires begun { IsPrefix self.old.entered catalogue.now }
+        ensures begun { IsPrefix self.new.entered catalogue.now }
+        ensures published { self.new.published ≡ self.old.published }
+        ensures history { IfSome result (λ front. front.history ≡ C.history) }
+        ensures events { IfSome result (λ front. front.events ≡ catalogue.now) }
+    {
+        if !enter_all(&mut self.front, &self.head, catalogue) {
+            return None;
+        }
+        Some(self.front.again())
     }
 }

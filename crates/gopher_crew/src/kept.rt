@@ -11,13 +11,16 @@ ghost use Rattle.gopher_crew.specs.Desk.{events_of, parts_of, HasAll};
 ghost use Rattle.gopher_crew.specs.Kept.{IsNoted, IsTurned, RisesAt, IsFindFault, IsOpeningOf, rise_of, NotesTurn, NotesFind, NotesFailure};
 
 use crate::crew::Crew;
+use crate::errand::Errand;
 use crate::gathering::join;
+use crate::history::Beginning;
 use crate::journal::Journal;
 use crate::note::Note;
 use crate::share::Share;
 use gopher_catalogue::{Added, Catalogue, FailRefused, FoundRefused, Opening, Status, Turn, Why};
 use gopher_item::NoMemory;
 use gopher_page::Page;
+use std::alloc::Global;
 use std::marker::Model;
 use std::sync::ledger::Book;
 use std::sync::{Arc, Wait};
@@ -29,6 +32,7 @@ pub struct Kept<C: Crew, R: Wait + Drop> {
     catalogue: Catalogue,
     book: Book<C>,
     journal: Journal<C, R>,
+    early: Vec<Errand<C>>,
 }
 
 impl<C: Crew, R: Wait + Drop> Model for Kept<C, R> {
@@ -59,7 +63,12 @@ fn count<C: Crew>(turn: &Turn, share: &mut Share<C>, book: &mut Book<C>)
 
 impl<C: Crew, R: Wait + Drop> Kept<C, R> {
     /// What a desk keeps of a catalogue of which all was entered and is published.
-    pub(crate) fn new(catalogue: Catalogue, book: Book<C>, journal: Journal<C, R>) -> Kept<C, R>
+    pub(crate) fn new(
+        alloc: Global,
+        catalogue: Catalogue,
+        book: Book<C>,
+        journal: Journal<C, R>,
+    ) -> Kept<C, R>
         requires entered { journal.entered ≡ catalogue }
         requires published { journal.published ≡ catalogue }
         requires legal { IsLegal catalogue }
@@ -71,6 +80,7 @@ impl<C: Crew, R: Wait + Drop> Kept<C, R> {
             catalogue,
             book,
             journal,
+            early: Vec::new(alloc),
         }
     }
 
@@ -156,6 +166,63 @@ impl<C: Crew, R: Wait + Drop> Kept<C, R> {
         Ok(self.journal.follow(&self.catalogue))
     }
 
+    /// Pages that are due to be merged, unless none are, memory is refused, or a part of the record can't
+    /// be entered into the history.
+    pub(crate) fn errand(&mut self) -> Option<Errand<C>>
+        ensures { self.new ≡ self.old }
+    {
+        let front = self.journal.entered(&self.catalogue)?;
+        let Ok(Some(due)) = self.catalogue.due() else {
+            return None;
+        };
+        Some(Errand::new(due, front))
+    }
+
+    // Puts what the first of the errands that came early merged in its place in the index. Where it still
+    // is too early, the errand waits on, behind the others.
+    fn put_first(&mut self, front: &Beginning)
+        requires history { front.now.history ≡ C.history }
+        requires events { front.now.events ≡ self.old.events }
+        ensures { self.new ≡ self.old }
+    {
+        if self.early.is_empty() {
+            return;
+        }
+        let errand = self.early.remove(0);
+        let Some(due) = errand.due_in(front) else {
+            return;
+        };
+        let Some(due) = self.catalogue.install(due) else {
+            return;
+        };
+        let _pushed = self.early.push(Errand::new(due, front.again()));
+    }
+
+    // Puts what those errands merged in its place, as far as it isn't too early, in whatever order they
+    // came.
+    fn put_early(&mut self, front: &Beginning)
+        requires history { front.now.history ≡ C.history }
+        requires events { front.now.events ≡ self.old.events }
+        ensures { self.new ≡ self.old }
+    {
+        let count = self.early.len();
+        for _errand in 0..count.saturating_mul(count) {
+            self.put_first(front);
+        }
+    }
+
+    /// Puts what an errand merged in its place in the index, and what others did that came too early for
+    /// theirs. It is published with the next event.
+    pub(crate) fn install(&mut self, errand: Errand<C>)
+        ensures { self.new ≡ self.old }
+    {
+        let Some(front) = self.journal.entered(&self.catalogue) else {
+            return;
+        };
+        let _pushed = self.early.push(errand);
+        self.put_early(&front);
+    }
+
     /// How many events the record has after the first. Takes no memory.
     pub(crate) fn events(&self) -> u64
         ensures { length self.now.events ≡ result + 1 }
@@ -200,6 +267,7 @@ impl<C: Crew, R: Wait + Drop> Kept<C, R> {
             catalogue,
             book: _book,
             journal: _journal,
+            early: _early,
         } = self;
         catalogue
     }

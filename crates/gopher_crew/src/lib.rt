@@ -5,6 +5,7 @@ mod blank;
 mod crawling;
 mod crew;
 mod desk;
+mod errand;
 mod fault;
 mod fetch;
 mod gathering;

@@ -48,8 +48,11 @@ impl<C: Crew, R: Wait + Drop> Drop for Shelf<C, R> {
 
 // Publishes all versions that were appended, of which the last is seen.
 fn publish_last<C: Crew, R: Wait>(writer: VersionWriter<C>, rt: &R) -> (VersionWriter<C>, bool)
-    requires { GoesOn C.history writer.desk.shown.value (last_of writer.desk.shown.value (drop writer.behind writer.log.items)) }
-    ensures { MatchBool result.1 (result.0.desk.shown.value ≡ last_of writer.desk.shown.value (drop writer.behind writer.log.items)) (result.0.desk.shown.value ≡ writer.desk.shown.value) }
+    requires { GoesOn C.history writer.desk.shown.value
+        (last_of writer.desk.shown.value (drop writer.behind writer.log.items)) }
+    ensures { MatchBool result.1 (result.0.desk.shown.value
+        ≡ last_of writer.desk.shown.value (drop writer.behind writer.log.items))
+        (result.0.desk.shown.value ≡ writer.desk.shown.value) }
 {
     let (writer, published) = writer.publish_as::<Sees<C>, R>(rt);
     (writer, published.is_ok())
@@ -81,6 +84,13 @@ impl<C: Crew, R: Wait + Drop> Shelf<C, R> {
         ensures legal { IsLegal self.now }
     {
         self.writer.published().front().len()
+    }
+
+    /// The version that is published.
+    pub fn published(&self) -> &Version
+        ensures { result.now.events ≡ self.now }
+    {
+        self.writer.published()
     }
 
     /// A reader that has seen nothing yet. None where no place for a reader was found.

@@ -1,6 +1,7 @@
 //! The version of the catalogue that a desk publishes.
 
 ghost use Rattle.std.specs.Prelude.{◌≡◌, length, IfOk};
+ghost use mathlib.Core.List.{IsPrefix};
 ghost use Rattle.gopher_catalogue.specs.Legal.{IsLegal};
 ghost use Rattle.gopher_catalogue.specs.Pages.{pages_found};
 ghost use Rattle.gopher_crew.specs.Crew.{hits_of};
@@ -48,6 +49,29 @@ impl Version {
     {
         Ok(Version {
             index: Arc::new(alloc, index.again(alloc)?)?,
+            front: front.again(),
+        })
+    }
+
+    /// The version of a record that goes on from this version's, and has these pages. Where they are as
+    /// many as this version has, as after a claim or a failure, it shares their index. Refused only where
+    /// memory is (90).
+    pub fn after(
+        &self,
+        alloc: Global,
+        index: &Index,
+        front: &Beginning,
+    ) -> Result<Version, NoMemory>
+        requires begins { IsPrefix self.now.events front.now.events }
+        requires pages { index.now ≡ pages_found front.now.events }
+        requires legal { IsLegal front.now.events }
+        ensures { IfOk result (λ version. version ≡ front.now) }
+    {
+        if self.index.len() != index.len() {
+            return Version::of(alloc, index, front);
+        }
+        Ok(Version {
+            index: self.index.clone()?,
             front: front.again(),
         })
     }

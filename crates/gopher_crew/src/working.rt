@@ -153,7 +153,7 @@ pub fn work<C: Crew, R: Wait + Drop, W: Wait, F: Fetch<W> + Drop>(
         return worker;
     };
     for _round in rt.forever() {
-        match desk.next(rt, &mut worker.share) {
+        match desk.next(rt, alloc, &mut worker.share) {
             Ok(Turn::Take(claim)) => {
                 let outcome = serve(rt, alloc, desk, opening.scope(), &claim, &mut worker);
                 count(outcome, &mut worker);

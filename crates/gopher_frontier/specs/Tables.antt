@@ -1,15 +1,24 @@
 -- The tables of a crawl: the known places, the queue of those that wait, and the frontier of both.
-use Rattle.std.specs.Prelude.{◌≡◌, ℕ, ◌+◌, ◌-◌, ◌≤◌, Bool, true, false, ◌&&◌, ◌||◌, not, List, [], ◌∷◌, ◌++◌, length, replicate, drop, slice_get, slice_set, nat_lt, nat_le, if◌then◌else◌}
+use Rattle.std.specs.Prelude.{◌≡◌, ℕ, ◌+◌, ◌-◌, ◌≤◌, Bool, true, false, ◌&&◌, ◌||◌, not, List, [], ◌∷◌, ◌++◌, Some, length, map, filter, replicate, drop, slice_get, slice_set, nat_lt, nat_le, if◌then◌else◌}
 use Rattle.std.specs.List.{range_with_len}
 use Rattle.std.specs.Option.{option_map_or}
-use Rattle.gopher_item.specs.Place.{PlaceData, is_among}
+use Rattle.std.specs.Arc.{arc_value}
+use Rattle.std.specs.declared.sync.Arc.{Arc}
+use Rattle.std.specs.Vec.{vec_capacity, vec_len}
+use Rattle.std.specs.declared.vec.Vec.{Vec}
+use Rattle.gopher_item.specs.Place.{PlaceData, same_place, is_among}
 use Rattle.gopher_scope.specs.Scope.{ScopeData, allows}
 use Rattle.gopher_frontier.specs.declared.known.Standing.{Standing}
+use Rattle.gopher_frontier.specs.declared.sizes.Added.{Added}
+use Rattle.gopher_frontier.specs.declared.sizes.Status.{Status}
 
 -- the known places, and how each stands
 pub record KnownData : Type 0 where
   pub places : List PlaceData
   pub standings : List Standing
+
+abbrev pub known_with : List PlaceData → List Standing → KnownData
+known_with places standings = record { places = places; standings = standings }
 
 -- a place that was never claimed
 abbrev pub unclaimed : Standing
@@ -20,6 +29,13 @@ pub record Extends (old new : KnownData) : Type 0 where
   pub more : List PlaceData
   pub places : new.places ≡ old.places ++ more
   pub standings : new.standings ≡ old.standings ++ replicate (length more) unclaimed
+
+-- one more place is known, and it was never claimed
+abbrev pub IsWithPlace : KnownData → KnownData → PlaceData → Type 0
+IsWithPlace old new place = new.places ≡ old.places ++ place ∷ []
+
+abbrev pub IsWithUnclaimed : KnownData → KnownData → Type 0
+IsWithUnclaimed old new = new.standings ≡ old.standings ++ unclaimed ∷ []
 
 -- a mention of a place that isn't among the known ones once these are as many as the limit
 abbrev pub is_dropped : ℕ → List PlaceData → PlaceData → Bool
@@ -45,12 +61,49 @@ after_link scope limit places link = if allows scope link then after_mention lim
 abbrev pub is_dropped_link : ScopeData → ℕ → List PlaceData → PlaceData → Bool
 is_dropped_link scope limit places link = allows scope link && is_dropped limit places link
 
+-- the links that the scope allows
+abbrev pub allowed : {Z : Type 0} → ScopeData → List (Arc PlaceData Z) → List PlaceData
+allowed scope links = filter (allows scope) (map arc_value links)
+
+-- a place is mentioned, and whether that mention is dropped
+abbrev pub Mentions : ℕ → KnownData → KnownData → PlaceData → Type 0
+Mentions limit old new place = new.places ≡ after_mention limit old.places place
+
+abbrev pub IsDropped : ℕ → KnownData → PlaceData → Bool → Type 0
+IsDropped limit old place dropped = dropped ≡ is_dropped limit old.places place
+
+-- a link is met, and whether its mention is dropped
+abbrev pub Links : {Z : Type 0} → ScopeData → ℕ → KnownData → KnownData → Arc PlaceData Z → Type 0
+Links scope limit old new link = new.places ≡ after_link scope limit old.places (arc_value link)
+
+abbrev pub IsDroppedLink : {Z : Type 0} → ScopeData → ℕ → KnownData → Arc PlaceData Z → Bool → Type 0
+IsDroppedLink scope limit old link dropped = dropped ≡ is_dropped_link scope limit old.places (arc_value link)
+
+-- places are mentioned, and how many of these mentions are dropped
+abbrev pub MentionsAll : ℕ → KnownData → KnownData → List PlaceData → Type 0
+MentionsAll limit old new mentions = new.places ≡ after_mentions limit old.places mentions
+
+-- and so are the links that the scope allows
+abbrev pub LinksAll : {Z : Type 0} → ScopeData → ℕ → KnownData → KnownData → List (Arc PlaceData Z) → Type 0
+LinksAll scope limit old new links = MentionsAll limit old new (allowed scope links)
+
+abbrev pub AreDropped : ℕ → KnownData → List PlaceData → ℕ → Type 0
+AreDropped limit old mentions dropped = dropped ≡ drops limit old.places mentions
+
 -- ---- the queue
 
 -- the numbers that wait, and how many more the queue takes without memory
 pub record QueueData : Type 0 where
   pub waiting : List ℕ
   pub room : ℕ
+
+-- the queue of which this is the list of entries, and so many of them were taken
+abbrev pub queue_with : {Z : Type 0} → Vec ℕ Z → ℕ → QueueData
+queue_with entries taken = record { waiting = drop taken entries.items; room = vec_capacity entries - vec_len entries }
+
+-- the numbers from `first` up to `end` wait behind the others
+abbrev pub with_range : List ℕ → ℕ → ℕ → List ℕ
+with_range waiting first end = waiting ++ range_with_len first (end - first)
 
 -- ---- the frontier
 
@@ -63,6 +116,18 @@ pub record FrontierData : Type 0 where
   pub out : ℕ
   pub done : ℕ
   pub dropped : ℕ
+
+abbrev pub frontier_with : KnownData → QueueData → ℕ → ℕ → ℕ → FrontierData
+frontier_with known queue out done dropped =
+    record {
+      places = known.places;
+      standings = known.standings;
+      waiting = queue.waiting;
+      room = queue.room;
+      out = out;
+      done = done;
+      dropped = dropped;
+    }
 
 abbrev pub known_part : FrontierData → KnownData
 known_part frontier = record { places = frontier.places; standings = frontier.standings }
@@ -88,9 +153,46 @@ pub record Learned (limit : ℕ) (mentions : List PlaceData) (before after : Fro
   pub keeps : KeepsCounts before after
   pub drops_are : dropped ≡ drops limit before.places mentions
 
+-- a frontier may learn so many links under this limit on the places
+pub record MayLearn (limit links : ℕ) (frontier : FrontierData) : Type 0 where
+  pub few_links : links ≤ 1048576
+  pub limit_fits : limit ≤ 65536
+  pub few_places : length frontier.places ≤ limit
+  pub few_out : frontier.out ≤ 65536
+
+-- the frontier learned these mentions, which added so much: at most so many were dropped, and there is
+-- room in the queue for the fresh places and for each outcome that is due
+pub record Learns (limit : ℕ) (mentions : List PlaceData) (before after : FrontierData) (added : Added) : Type 0 where
+  pub learned : Learned limit mentions before after added.dropped
+  pub fresh : added.fresh + length before.places ≡ length after.places
+  pub few : added.dropped ≤ 1048576
+  pub room : added.fresh + before.out ≤ after.room
+
+-- the sizes of a frontier
+abbrev pub status_of : FrontierData → Status
+status_of frontier =
+    record {
+      known = length frontier.places;
+      waiting = length frontier.waiting;
+      out = frontier.out;
+      done = frontier.done;
+      dropped = frontier.dropped;
+    }
+
+-- whether the place of a number is this one
+abbrev pub is_place_at : List PlaceData → ℕ → PlaceData → Bool
+is_place_at places number place = option_map_or (λ other. same_place other place) (slice_get places number) false
+
 -- whether a number is out
 abbrev pub is_out_at : List Standing → ℕ → Bool
 is_out_at standings number = option_map_or (λ standing. standing.is_out) (slice_get standings number) false
+
+abbrev pub IsNotOut : FrontierData → ℕ → Type 0
+IsNotOut frontier number = is_out_at frontier.standings number ≡ false
+
+-- a number is out, and stands so
+abbrev pub IsOutAs : FrontierData → ℕ → Standing → Type 0
+IsOutAs frontier number standing = (slice_get frontier.standings number ≡ Some standing) × (standing.is_out ≡ true)
 
 -- the frontier of a crawl that begins
 pub record Begins (limit : ℕ) (seeds : List PlaceData) (frontier : FrontierData) : Type 0 where
@@ -109,6 +211,14 @@ after_claim frontier number standing =
       standings = slice_set frontier.standings number (record { claims = standing.claims + 1; is_out = true });
       waiting = drop 1 frontier.waiting;
       out = frontier.out + 1;
+    }
+
+-- a number that is out, and stood so, is out no more
+abbrev pub after_outcome : FrontierData → ℕ → Standing → FrontierData
+after_outcome frontier number standing =
+    record frontier {
+      standings = slice_set frontier.standings number (record { claims = standing.claims; is_out = false });
+      out = frontier.out - 1;
     }
 
 -- a number that is out, and stood so, was found: the known places after the first `before` are new

@@ -1,11 +1,8 @@
 //! The frontier of a crawl: what is known, what waits, and how much of each.
 
-ghost use Rattle.std.specs.Prelude.{◌≡◌, ◌+◌, ◌-◌, ◌*◌, ◌^◌, ◌<◌, ◌≤◌, [], ◌∷◌, ◌++◌, true, false, length, map, filter, take, slice_get, slice_set, MatchOption, IfOk, OnOk, OnErr};
-ghost use Rattle.std.specs.Option.{option_map, option_map_or};
+ghost use Rattle.std.specs.Prelude.{◌≡◌, ◌+◌, ◌-◌, ◌^◌, ◌<◌, ◌≤◌, length, map, take, slice_get, MatchOption, Some, IfOk, OnOk, OnErr};
 ghost use Rattle.std.specs.Arc.{arc_value};
-ghost use Rattle.gopher_item.specs.Place.{same_place};
-ghost use Rattle.gopher_scope.specs.Scope.{allows};
-ghost use Rattle.gopher_frontier.specs.Tables.{FrontierData, Begins, KeepsCounts, KeepsFrontier, Extends, known_part, after_mentions, drops, Learned, is_out_at, after_claim, after_find, after_failure};
+ghost use Rattle.gopher_frontier.specs.Tables.{FrontierData, Begins, KeepsCounts, KeepsFrontier, Extends, known_part, MayLearn, Learns, allowed, IsNotOut, IsOutAs, is_place_at, status_of, after_claim, after_outcome, after_find, after_failure};
 
 use crate::known::{KnownPlaces, Standing};
 use crate::queue::Queue;
@@ -31,11 +28,11 @@ pub struct Frontier {
 }
 
 impl Model for Frontier {
-    ghost use Rattle.gopher_frontier.specs.Tables.{FrontierData};
+    ghost use Rattle.gopher_frontier.specs.Tables.{FrontierData, frontier_with};
 
     ghost Value = { FrontierData };
 
-    ghost view = { λ f. record { places = f.known.places; standings = f.known.standings; waiting = f.queue.waiting; room = f.queue.room; out = f.out; done = f.done; dropped = f.dropped } };
+    ghost view = { λ f. frontier_with f.known f.queue f.out f.done f.dropped };
 }
 
 impl Frontier {
@@ -105,7 +102,7 @@ impl Frontier {
 
     /// How the place of this number stands, if it is out. Takes no memory.
     pub fn out_standing(&self, number: u32) -> Option<Standing>
-        ensures { MatchOption result (is_out_at self.now.standings number ≡ false) (λ standing. (slice_get self.now.standings number ≡ Some standing) × (standing.is_out ≡ true)) }
+        ensures { MatchOption result (IsNotOut self.now number) (IsOutAs self.now number) }
     {
         let standing = self.standing(number)?;
         if standing.is_out {
@@ -117,7 +114,7 @@ impl Frontier {
 
     /// Whether this is the place of this number. Takes no memory.
     pub fn has_place(&self, number: u32, place: &Place) -> bool
-        ensures { result ≡ option_map_or (λ other. same_place other place.now) (slice_get self.now.places number) false }
+        ensures { result ≡ is_place_at self.now.places number place.now }
     {
         match self.known.as_slice().get(number as usize) {
             Some(other) => **other == *place,
@@ -129,7 +126,7 @@ impl Frontier {
     pub fn status(&self) -> Status
         requires known { length self.now.places < 2 ^ 32 }
         requires waiting { length self.now.waiting < 2 ^ 32 }
-        ensures { result ≡ record { known = length self.now.places; waiting = length self.now.waiting; out = self.now.out; done = self.now.done; dropped = self.now.dropped } }
+        ensures { result ≡ status_of self.now }
     {
         Status {
             known: self.known.len() as u32,
@@ -156,14 +153,8 @@ impl Frontier {
         limit: u32,
         links: &[Arc<Place>],
     ) -> Result<Added, NoMemory>
-        requires few_links { length links.now ≤ 1048576 }
-        requires limit { limit ≤ 65536 }
-        requires few_places { length self.old.places ≤ limit }
-        requires few_out { self.old.out ≤ 65536 }
-        ensures learned { IfOk result (λ added. Learned limit (filter (allows scope.now) (map arc_value links.now)) self.old self.new added.dropped) }
-        ensures fresh { IfOk result (λ added. added.fresh + length self.old.places ≡ length self.new.places) }
-        ensures few { IfOk result (λ added. added.dropped ≤ 1048576) }
-        ensures room { IfOk result (λ added. added.fresh + self.old.out ≤ self.new.room) }
+        requires { MayLearn limit (length links.now) self.old }
+        ensures ok { IfOk result (Learns limit (allowed scope.now links.now) self.old self.new) }
         ensures err { OnErr result (KeepsFrontier self.old self.new) }
     {
         let before = self.known.len();
@@ -181,14 +172,8 @@ impl Frontier {
         limit: u32,
         links: &[Arc<Place>],
     ) -> Result<Added, NoMemory>
-        requires few_links { length links.now ≤ 1048576 }
-        requires limit { limit ≤ 65536 }
-        requires few_places { length self.old.places ≤ limit }
-        requires few_out { self.old.out ≤ 65536 }
-        ensures learned { IfOk result (λ added. Learned limit (filter (allows scope.now) (map arc_value links.now)) self.old self.new added.dropped) }
-        ensures fresh { IfOk result (λ added. added.fresh + length self.old.places ≡ length self.new.places) }
-        ensures few { IfOk result (λ added. added.dropped ≤ 1048576) }
-        ensures room { IfOk result (λ added. added.fresh + self.old.out ≤ self.new.room) }
+        requires { MayLearn limit (length links.now) self.old }
+        ensures ok { IfOk result (Learns limit (allowed scope.now links.now) self.old self.new) }
         ensures grows { Extends (known_part self.old) (known_part self.new) }
         ensures keeps { KeepsCounts self.old self.new }
         ensures more_room { self.old.room ≤ self.new.room }
@@ -239,7 +224,7 @@ impl Frontier {
     fn settle(&mut self, number: u32, standing: Standing)
         requires standing { slice_get self.old.standings number ≡ Some standing }
         requires some_out { 0 < self.old.out }
-        ensures { self.new ≡ record self.old { standings = slice_set self.old.standings number (record { claims = standing.claims; is_out = false }); out = self.old.out - 1 } }
+        ensures { self.new ≡ after_outcome self.old number standing }
     {
         let claims = standing.claims;
         self.known.set_standing(

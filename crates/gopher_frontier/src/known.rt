@@ -1,10 +1,9 @@
 //! The places that a crawl knows, and how each of them stands.
 
-ghost use Rattle.std.specs.Prelude.{◌≡◌, ◌<◌, [], ◌∷◌, ◌++◌, ◌≤◌, false, length, map, filter, take, slice_get, slice_set, IfOk, OnOk, OnErr};
+ghost use Rattle.std.specs.Prelude.{◌≡◌, ◌<◌, [], ◌≤◌, false, length, map, take, slice_get, slice_set, IfOk, OnOk, OnErr};
 ghost use Rattle.std.specs.Arc.{arc_value};
 ghost use Rattle.gopher_item.specs.Place.{is_among};
-ghost use Rattle.gopher_scope.specs.Scope.{allows};
-ghost use Rattle.gopher_frontier.specs.Tables.{KnownData, Extends, unclaimed, is_dropped, after_mention, after_mentions, drops, after_link, is_dropped_link};
+ghost use Rattle.gopher_frontier.specs.Tables.{KnownData, Extends, IsWithPlace, IsWithUnclaimed, Mentions, IsDropped, Links, IsDroppedLink, LinksAll, MentionsAll, AreDropped, allowed};
 
 use gopher_item::{NoMemory, Place};
 use gopher_scope::Scope;
@@ -42,11 +41,11 @@ impl Model for KnownPlaces {
     ghost use Rattle.std.specs.Prelude.{◌≡◌, map};
     ghost use Rattle.std.specs.Arc.{arc_value};
     ghost use Rattle.indexmap.specs.IndexMap.{keys, values};
-    ghost use Rattle.gopher_frontier.specs.Tables.{KnownData};
+    ghost use Rattle.gopher_frontier.specs.Tables.{KnownData, known_with};
 
     ghost Value = { KnownData };
 
-    ghost view = { λ k. record { places = map arc_value k.places.items; standings = values k.standings } };
+    ghost view = { λ k. known_with (map arc_value k.places.items) (values k.standings) };
 
     ghost invariant = { λ k. map arc_value (keys k.standings) ≡ map arc_value k.places.items };
 }
@@ -105,8 +104,8 @@ impl KnownPlaces {
     /// Adds a place at the end, never claimed so far. A refusal (90) leaves all as it was.
     pub fn add(&mut self, place: &Arc<Place>) -> Result<(), NoMemory>
         requires { is_among self.old.places (arc_value place.now) ≡ false }
-        ensures places { OnOk result (self.new.places ≡ self.old.places ++ arc_value place.now ∷ []) }
-        ensures standings { OnOk result (self.new.standings ≡ self.old.standings ++ unclaimed ∷ []) }
+        ensures places { OnOk result (IsWithPlace self.old self.new (arc_value place.now)) }
+        ensures standings { OnOk result (IsWithUnclaimed self.old self.new) }
         ensures err { OnErr result (self.new ≡ self.old) }
     {
         self.places.reserve(1)?;
@@ -130,8 +129,8 @@ impl KnownPlaces {
     /// Makes a place known, unless it is, or unless `limit` places are: answers whether the mention
     /// is dropped. A refusal (90) leaves all as it was.
     pub fn mention(&mut self, limit: usize, place: &Arc<Place>) -> Result<bool, NoMemory>
-        ensures places { OnOk result (self.new.places ≡ after_mention limit self.old.places (arc_value place.now)) }
-        ensures dropped { IfOk result (λ dropped. dropped ≡ is_dropped limit self.old.places (arc_value place.now)) }
+        ensures places { OnOk result (Mentions limit self.old self.new (arc_value place.now)) }
+        ensures dropped { IfOk result (IsDropped limit self.old (arc_value place.now)) }
         ensures grows { OnOk result (Extends self.old self.new) }
         ensures err { OnErr result (self.new ≡ self.old) }
     {
@@ -153,8 +152,8 @@ impl KnownPlaces {
         limit: usize,
         link: &Arc<Place>,
     ) -> Result<bool, NoMemory>
-        ensures places { OnOk result (self.new.places ≡ after_link scope.now limit self.old.places (arc_value link.now)) }
-        ensures dropped { IfOk result (λ dropped. dropped ≡ is_dropped_link scope.now limit self.old.places (arc_value link.now)) }
+        ensures places { OnOk result (Links scope.now limit self.old self.new link.now) }
+        ensures dropped { IfOk result (IsDroppedLink scope.now limit self.old link.now) }
         ensures grows { OnOk result (Extends self.old self.new) }
         ensures err { OnErr result (self.new ≡ self.old) }
     {
@@ -174,8 +173,8 @@ impl KnownPlaces {
         links: &[Arc<Place>],
     ) -> Result<u32, NoMemory>
         requires { length links.now ≤ 1048576 }
-        ensures places { OnOk result (self.new.places ≡ after_mentions limit self.old.places (filter (allows scope.now) (map arc_value links.now))) }
-        ensures dropped { IfOk result (λ dropped. dropped ≡ drops limit self.old.places (filter (allows scope.now) (map arc_value links.now))) }
+        ensures places { OnOk result (LinksAll scope.now limit self.old self.new links.now) }
+        ensures dropped { IfOk result (AreDropped limit self.old (allowed scope.now links.now)) }
         ensures few { IfOk result (λ dropped. dropped ≤ length links.now) }
         ensures grows { Extends self.old self.new }
     {
@@ -193,8 +192,8 @@ impl KnownPlaces {
         limit: usize,
         seeds: &[Place],
     ) -> Result<u64, NoMemory>
-        ensures places { OnOk result (self.new.places ≡ after_mentions limit self.old.places seeds.now) }
-        ensures dropped { IfOk result (λ dropped. dropped ≡ drops limit self.old.places seeds.now) }
+        ensures places { OnOk result (MentionsAll limit self.old self.new seeds.now) }
+        ensures dropped { IfOk result (AreDropped limit self.old seeds.now) }
         ensures few { IfOk result (λ dropped. dropped ≤ length seeds.now) }
         ensures grows { Extends self.old self.new }
     {

@@ -1,8 +1,7 @@
 //! The numbers that wait to be claimed.
 
 ghost use Rattle.std.specs.Prelude.{◌≡◌, ◌+◌, ◌-◌, ◌^◌, ◌<◌, ◌≤◌, [], ◌∷◌, ◌++◌, length, drop, slice_get, OnOk};
-ghost use Rattle.std.specs.List.{range_with_len};
-ghost use Rattle.gopher_frontier.specs.Tables.{QueueData};
+ghost use Rattle.gopher_frontier.specs.Tables.{QueueData, with_range};
 
 use gopher_item::NoMemory;
 use std::alloc::Global;
@@ -16,12 +15,12 @@ pub(crate) struct Queue {
 }
 
 impl Model for Queue {
-    ghost use Rattle.std.specs.Prelude.{◌≤◌, ◌-◌, drop, vec_len, vec_capacity};
-    ghost use Rattle.gopher_frontier.specs.Tables.{QueueData};
+    ghost use Rattle.std.specs.Prelude.{◌≤◌, vec_len};
+    ghost use Rattle.gopher_frontier.specs.Tables.{QueueData, queue_with};
 
     ghost Value = { QueueData };
 
-    ghost view = { λ q. record { waiting = drop q.taken q.entries.items; room = vec_capacity q.entries - vec_len q.entries } };
+    ghost view = { λ q. queue_with q.entries q.taken };
 
     ghost invariant = { λ q. q.taken ≤ vec_len q.entries };
 }
@@ -83,7 +82,7 @@ impl Queue {
     pub fn push_range(&mut self, first: u32, end: u32)
         requires order { first ≤ end }
         requires room { end - first ≤ self.old.room }
-        ensures waiting { self.new.waiting ≡ self.old.waiting ++ range_with_len first (end - first) }
+        ensures waiting { self.new.waiting ≡ with_range self.old.waiting first end }
         ensures room { self.new.room + (end - first) ≡ self.old.room }
     {
         for number in first..end {

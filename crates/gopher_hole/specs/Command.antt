@@ -33,7 +33,7 @@ kind_in field = None
 -- why a place could not be fetched: its number, in one digit
 abbrev pub why_of : ℕ → Option Why
 why_of digit =
-    if digit == 49 then Some Connect else (if digit == 50 then Some Read else (if digit == 51 then Some Write else (if digit == 52 then Some TooLong else (if digit == 53 then Some NoMemory else None))))
+    if digit == 49 then Some Connect else if digit == 50 then Some Read else if digit == 51 then Some Write else if digit == 52 then Some TooLong else if digit == 53 then Some NoMemory else None
 
 abbrev pub why_in : List ℕ → Option Why
 why_in (digit ∷ []) = why_of digit
@@ -98,15 +98,15 @@ is_name field name = pointwise nat_eq field name
 abbrev pub named : List ℕ → List (List ℕ) → Option Command
 named name fields =
     if is_name name (codes "allow") then option_map Allow (rule_in fields)
-    else (if is_name name (codes "deny") then option_map Deny (rule_in fields)
-    else (if is_name name (codes "seed") then option_map Seed (place_in fields)
-    else (if is_name name (codes "start") then start_in fields
-    else (if is_name name (codes "claim") then alone Claim fields
-    else (if is_name name (codes "found") then found_in fields
-    else (if is_name name (codes "fail") then fail_in fields
-    else (if is_name name (codes "search") then search_in fields
-    else (if is_name name (codes "occurs") then occurs_in fields
-    else (if is_name name (codes "status") then alone Status fields else None)))))))))
+    else if is_name name (codes "deny") then option_map Deny (rule_in fields)
+    else if is_name name (codes "seed") then option_map Seed (place_in fields)
+    else if is_name name (codes "start") then start_in fields
+    else if is_name name (codes "claim") then alone Claim fields
+    else if is_name name (codes "found") then found_in fields
+    else if is_name name (codes "fail") then fail_in fields
+    else if is_name name (codes "search") then search_in fields
+    else if is_name name (codes "occurs") then occurs_in fields
+    else if is_name name (codes "status") then alone Status fields else None
 
 abbrev pub command_in : List (List ℕ) → Option Command
 command_in [] = None

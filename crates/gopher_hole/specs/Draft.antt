@@ -8,3 +8,6 @@ pub record DraftData : Type 0 where
   pub allow : List RuleData
   pub deny : List RuleData
   pub seeds : List PlaceData
+
+abbrev pub draft_with : List RuleData → List RuleData → List PlaceData → DraftData
+draft_with allow deny seeds = record { allow = allow; deny = deny; seeds = seeds }

@@ -1,5 +1,5 @@
 -- Rules and places of the parts that a script states.
-use Rattle.std.specs.Prelude.{Option}
+use Rattle.std.specs.Prelude.{ℕ, List, Option}
 use Rattle.gopher_item.specs.Place.{PlaceData, place_fault, place_of}
 use Rattle.gopher_item.specs.declared.fault.ItemFault.{ItemFault}
 use Rattle.gopher_scope.specs.Rule.{RuleData, rule_fault, rule_of}
@@ -15,3 +15,6 @@ fault_of_place place = place_fault place.kind place.selector place.host place.po
 
 abbrev pub made_place : PlaceData → PlaceData
 made_place place = place_of place.kind place.selector place.host place.port
+
+abbrev pub place_with : ℕ → List ℕ → ℕ → List ℕ → PlaceData
+place_with kind host port selector = record { host = host; port = port; selector = selector; kind = kind }

@@ -6,10 +6,10 @@ ghost use Rattle.gopher_catalogue.specs.Step.{turn_of, after_turn};
 ghost use Rattle.gopher_page.specs.Page.{page_of};
 ghost use Rattle.gopher_hole.specs.Stage.{turn_line, scope_in, page_line, after_page, found_line, after_found, fail_line, after_fail, search_lines, occurs_lines};
 
-use crate::answer::{
+use crate::command::{PlaceParts, QueryText};
+use crate::lines::{
     added_line, finished_line, idle_line, ok_line, refusal, refused_line, take_line,
 };
-use crate::command::{PlaceParts, QueryText};
 use crate::listing::{hits_lines, places_lines};
 use gopher_catalogue::{Catalogue, FoundFault, Turn, Why};
 use gopher_item::{NoMemory, Place};
@@ -76,7 +76,10 @@ fn hand_in(
     ensures record { OnOk result (catalogue.new ≡ after_page catalogue.old number page) }
 {
     match catalogue.found(number, page) {
-        Ok(added) => added_line(alloc, added),
+        Ok(added) => {
+            catalogue.settle();
+            added_line(alloc, added)
+        }
         Err(refused) => {
             let fault = refused.fault;
             if fault == FoundFault::NoMemory {

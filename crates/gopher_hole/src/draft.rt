@@ -5,8 +5,8 @@ ghost use Rattle.gopher_hole.specs.Draft.{DraftData};
 ghost use Rattle.gopher_hole.specs.Parts.{fault_of_rule, fault_of_place};
 ghost use Rattle.gopher_hole.specs.Stage.{taken_line, with_rule, with_seed};
 
-use crate::answer::refusal;
 use crate::command::{PlaceParts, RuleParts};
+use crate::lines::refusal;
 use gopher_item::{NoMemory, Place};
 use gopher_scope::{Rule, Scope};
 use std::alloc::Global;
@@ -21,11 +21,11 @@ pub struct Draft {
 }
 
 impl Model for Draft {
-    ghost use Rattle.gopher_hole.specs.Draft.{DraftData};
+    ghost use Rattle.gopher_hole.specs.Draft.{DraftData, draft_with};
 
     ghost Value = { DraftData };
 
-    ghost view = { λ d. record { allow = d.allow.items; deny = d.deny.items; seeds = d.seeds.items } };
+    ghost view = { λ d. draft_with d.allow.items d.deny.items d.seeds.items };
 }
 
 impl Draft {

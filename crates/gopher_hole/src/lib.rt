@@ -5,17 +5,18 @@
 //! The crate above rests on one promise: what `replay` writes is the output of the script.
 #![tactic(auto)]
 
-mod answer;
 mod command;
 mod crawl;
 mod draft;
 mod fault;
 mod fields;
+mod lines;
 mod listing;
+mod reading;
 mod replaying;
 mod script;
 mod stage;
 
-pub use answer::status_line;
 pub use fault::ReplayFault;
+pub use lines::status_line;
 pub use replaying::{replay, send_all};

@@ -4,7 +4,7 @@ ghost use Rattle.std.specs.Prelude.{◌≡◌, ◌++◌, IfOk, OnOk};
 ghost use Rattle.std.specs.List.{flat_map};
 ghost use Rattle.gopher_hole.specs.Answer.{hit_line, hits_lines, at_line, places_lines};
 
-use crate::answer::push_place;
+use crate::lines::push_place;
 use gopher_catalogue::Hit;
 use gopher_item::{NoMemory, Place};
 use std::alloc::Global;

@@ -5,7 +5,8 @@ ghost use Rattle.gopher_item.specs.Lines.{lines_of};
 ghost use Rattle.gopher_hole.specs.Statement.{StatementData};
 ghost use Rattle.gopher_hole.specs.Script.{begins_block, block_of, reply_of, reply_after, takes_block, statements_of, statements_after, statements_in};
 
-use crate::command::{Command, read_command};
+use crate::command::Command;
+use crate::reading::read_command;
 use gopher_item::{NoMemory, first_line};
 use std::alloc::Global;
 use std::marker::Model;

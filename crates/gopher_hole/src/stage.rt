@@ -5,10 +5,10 @@ ghost use Rattle.gopher_catalogue.specs.Fault.{open_fault_code};
 ghost use Rattle.gopher_hole.specs.Answer.{refused_line};
 ghost use Rattle.gopher_hole.specs.Stage.{answer_before, after_before, answer_in, after_in, answer_of, after, draft_of, start_line, fault_of_start, after_start, IsPerformed};
 
-use crate::answer::{ok_line, refused_line, status_line};
 use crate::command::Command;
 use crate::crawl::{claim, fail, found, occurs, search};
 use crate::draft::{Draft, add_rule, add_seed};
+use crate::lines::{ok_line, refused_line, status_line};
 use gopher_catalogue::{Catalogue, OpenFault, OpenRefused};
 use gopher_item::NoMemory;
 use gopher_scope::Scope;

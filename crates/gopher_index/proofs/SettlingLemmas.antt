@@ -1,8 +1,11 @@
--- Segments one after another, and one made of the last of them.
-use Rattle.std.proofs.Common.{◌≡◌, ℕ, ◌+◌, ◌-◌, ◌<◌, ◌≤◌, List, [], ◌∷◌, ◌++◌, length, map, take, drop, get_or, refl, sym, ap, subst, ◌∙◌, append_assoc, arith}
-use Rattle.std.proofs.lemmas.List.{length-append, append-nil, map-append, take-append-drop, drop_more}
+-- Segments one after another, and one in the place of some of them.
+use Rattle.std.proofs.Common.{◌≡◌, ℕ, ◌+◌, ◌≤◌, List, [], ◌∷◌, ◌++◌, length, min, take, drop, refl, sym, ap, subst, ◌∙◌, append_assoc, arith}
+use Rattle.std.proofs.lemmas.List.{length-append, length-take, length-drop, append-nil, take-append-drop}
+use Rattle.std.proofs.Math.Seq.{drop-append_seam}
+use Rattle.gopher_page.specs.Page.{PageData}
 use Rattle.gopher_segment.specs.Segment.{SegmentData, pages_of}
 use Rattle.gopher_segment.specs.SegmentRows.{AreConsecutive}
+use Rattle.gopher_index.specs.Index.{IsIndex, IsRun, run_data, StandsIn}
 
 pub pages_of-append : (a b : List SegmentData) → pages_of (a ++ b) ≡ pages_of a ++ pages_of b
 pages_of-append [] b = refl
@@ -28,54 +31,143 @@ pub consecutive_front : (first : ℕ) (a b : List SegmentData) → AreConsecutiv
 consecutive_front first [] b all = tt
 consecutive_front first (segment ∷ a) b all = (all.0, consecutive_front (first + length segment.pages) a b all.1)
 
-module _ {X : Type 0} (f : X → SegmentData) (xs : List X) where
-  split_at : (n : ℕ) → map f xs ≡ map f (take n xs) ++ map f (drop n xs)
-  split_at n = ap (map f) (sym (take-append-drop n xs)) ∙ map-append f (take n xs) (drop n xs)
+-- where a list is cut at the same length in two ways, both parts are the same
+pub cut_same : {X : Type 0} (a b c d : List X) → a ++ b ≡ c ++ d → length a ≡ length c → (a ≡ c) × (b ≡ d)
+cut_same [] b [] d same long = (refl, same)
+cut_same [] b (y ∷ c) d same long = absurd (omega arith)
+cut_same (x ∷ a) b [] d same long = absurd (omega arith)
+cut_same (x ∷ a) b (y ∷ c) d same long =
+    let rest = cut_same a b c d (cc same) (omega arith) in
+    (cc (same, rest.0), rest.1)
 
-  lengths_at : (n : ℕ) → length (pages_of (map f xs)) ≡ length (pages_of (map f (take n xs))) + length (pages_of (map f (drop n xs)))
-  lengths_at n =
-      ap (λ l. length (pages_of l)) (split_at n) ∙ ap length (pages_of-append (map f (take n xs)) (map f (drop n xs)))
-      ∙ length-append (pages_of (map f (take n xs))) (pages_of (map f (drop n xs)))
+pages_at : (segments : List SegmentData) (n : ℕ) → pages_of segments ≡ pages_of (take n segments) ++ pages_of (drop n segments)
+pages_at segments n = ap pages_of (sym (take-append-drop n segments)) ∙ pages_of-append (take n segments) (drop n segments)
 
-  -- one more segment that is due
-  pub due_step : (start settled first : ℕ) (d : X) → 0 < start → start ≤ length xs → settled ≡ length (pages_of (map f xs)) → first + length (pages_of (map f (drop start xs))) ≡ settled
-      → (length (f (get_or xs (start - 1) d)).pages ≤ first) × (first - length (f (get_or xs (start - 1) d)).pages + length (pages_of (map f (drop (start - 1) xs))) ≡ settled)
-  due_step start settled first d some within settled_is rest =
-      let x = get_or xs (start - 1) d in
-      let inside : start - 1 < length xs = omega arith in
-      let next : start - 1 + 1 ≡ start = omega arith in
-      let here : pages_of (map f (drop (start - 1) xs)) ≡ (f x).pages ++ pages_of (map f (drop start xs)) =
-      ap (λ l. pages_of (map f l)) (drop_more xs (start - 1) d inside) ∙ ap (λ n. (f x).pages ++ pages_of (map f (drop n xs))) next in
-      let long : length (pages_of (map f (drop (start - 1) xs))) ≡ length (f x).pages + length (pages_of (map f (drop start xs))) = ap length here ∙ length-append (f x).pages (pages_of (map f (drop start xs))) in
-      let whole = lengths_at (start - 1) in
-      (omega (arith, whole, long), omega (arith, whole, long))
+module _ (segments : List SegmentData) (start end : ℕ) (merged : SegmentData) where
+  module _ (here : length (pages_of (take start segments)) ≡ merged.first) (there : length (pages_of (take end segments)) ≡ merged.first + length merged.pages) where
+    -- a segment stands in the place of those from one index to another
+    pub put_consecutive : AreConsecutive 0 segments → AreConsecutive 0 (take start segments ++ merged ∷ drop end segments)
+    put_consecutive consecutive =
+        let front = consecutive_front 0 (take start segments) (drop start segments) (subst (AreConsecutive 0) (sym (take-append-drop start segments)) consecutive) in
+        let back = consecutive_rest 0 (take end segments) (drop end segments) (subst (AreConsecutive 0) (sym (take-append-drop end segments)) consecutive) in
+        let from : merged.first ≡ 0 + length (pages_of (take start segments)) = omega (arith, here) in
+        let on : 0 + length (pages_of (take end segments)) ≡ 0 + length (pages_of (take start segments)) + length merged.pages = omega (arith, here, there) in
+        consecutive_append 0 (take start segments) (merged ∷ drop end segments) front (from, subst (λ n. AreConsecutive n (drop end segments)) on back)
 
-  module _ (start first settled : ℕ) (consecutive : AreConsecutive 0 (map f xs)) (settled_is : settled ≡ length (pages_of (map f xs))) (rest : first + length (pages_of (map f (drop start xs))) ≡ settled) where
-    first_is : first ≡ length (pages_of (map f (take start xs)))
-    first_is = omega (arith, lengths_at start)
+    pub put_pages : (loose : List PageData) → StandsIn merged (pages_of segments ++ loose) → pages_of (take start segments ++ merged ∷ drop end segments) ≡ pages_of segments
+    put_pages loose stands =
+        let first = pages_of (take start segments) in
+        let last = pages_of (drop end segments) in
+        let fore = cut_same first (pages_of (drop start segments) ++ loose) stands.before (merged.pages ++ stands.after)
+        (sym (append_assoc first (pages_of (drop start segments)) loose) ∙ ap (λ l. l ++ loose) (sym (pages_at segments start)) ∙ stands.at) (here ∙ sym stands.number) in
+        let long : length (pages_of (take end segments)) ≡ length (stands.before ++ merged.pages) = omega (arith, there, stands.number, length-append stands.before merged.pages) in
+        let through = cut_same (pages_of (take end segments)) (last ++ loose) (stands.before ++ merged.pages) stands.after
+        (sym (append_assoc (pages_of (take end segments)) last loose) ∙ ap (λ l. l ++ loose) (sym (pages_at segments end)) ∙ stands.at ∙ sym (append_assoc stands.before merged.pages stands.after)) long in
+        pages_of-append (take start segments) (merged ∷ drop end segments)
+        ∙ sym (append_assoc first merged.pages last)
+        ∙ ap (λ l. (l ++ merged.pages) ++ last) fore.0
+        ∙ ap (λ l. l ++ last) (sym through.0)
+        ∙ sym (pages_at segments end)
 
-    -- the segments that are due and the next one follow one another
-    pub due_consecutive : (next : SegmentData) → next.first ≡ settled → AreConsecutive first (map f (drop start xs) ++ next ∷ [])
-    due_consecutive next is =
-        let all : AreConsecutive 0 (map f (take start xs) ++ map f (drop start xs)) = subst (AreConsecutive 0) (split_at start) consecutive in
-        let from : 0 + length (pages_of (map f (take start xs))) ≡ first = omega (arith, first_is) in
-        let due : AreConsecutive first (map f (drop start xs)) = subst (λ n. AreConsecutive n (map f (drop start xs))) from (consecutive_rest 0 (map f (take start xs)) (map f (drop start xs)) all) in
-        consecutive_append first (map f (drop start xs)) (next ∷ []) due (is ∙ sym rest, tt)
+-- a segment of the first loose pages stands behind the segments
+module _ (segments : List SegmentData) (loose : List PageData) (merged : SegmentData) (here : merged.first ≡ length (pages_of segments)) where
+  pub push_consecutive : AreConsecutive 0 segments → AreConsecutive 0 (segments ++ merged ∷ [])
+  push_consecutive consecutive =
+      let from : merged.first ≡ 0 + length (pages_of segments) = omega (arith, here) in
+      consecutive_append 0 segments (merged ∷ []) consecutive (from, tt)
 
-    -- and so do those that stay and the one made of them
-    pub stay_consecutive : (merged : SegmentData) → merged.first ≡ first → AreConsecutive 0 (map f (take start xs) ++ merged ∷ [])
-    stay_consecutive merged is =
-        let all : AreConsecutive 0 (map f (take start xs) ++ map f (drop start xs)) = subst (AreConsecutive 0) (split_at start) consecutive in
-        let from : merged.first ≡ 0 + length (pages_of (map f (take start xs))) = omega (arith, is, first_is) in
-        consecutive_append 0 (map f (take start xs)) (merged ∷ []) (consecutive_front 0 (map f (take start xs)) (map f (drop start xs)) all) (from, tt)
+  pub push_pages : StandsIn merged (pages_of segments ++ loose) → pages_of (segments ++ merged ∷ []) ++ drop (length merged.pages) loose ≡ pages_of segments ++ loose
+  push_pages stands =
+      let cut = cut_same (pages_of segments) loose stands.before (merged.pages ++ stands.after) stands.at (sym here ∙ sym stands.number) in
+      let rest : drop (length merged.pages) loose ≡ stands.after = ap (drop (length merged.pages)) cut.1 ∙ drop-append_seam merged.pages stands.after in
+      ap (λ l. l ++ drop (length merged.pages) loose) (pages_of-append segments (merged ∷ []) ∙ ap (λ l. pages_of segments ++ l) (append-nil merged.pages))
+      ∙ append_assoc (pages_of segments) merged.pages (drop (length merged.pages) loose)
+      ∙ ap (λ l. pages_of segments ++ (merged.pages ++ l)) rest
+      ∙ ap (λ l. pages_of segments ++ l) (sym cut.1)
 
-    pub stay_pages : (merged next : SegmentData) → merged.pages ≡ pages_of (map f (drop start xs) ++ next ∷ []) → pages_of (map f (take start xs) ++ merged ∷ []) ≡ pages_of (map f xs) ++ next.pages
-    stay_pages merged next is =
-        let front = pages_of (map f (take start xs)) in
-        let back = pages_of (map f (drop start xs)) in
-        let made : merged.pages ≡ back ++ next.pages = is ∙ pages_of-append (map f (drop start xs)) (next ∷ []) ∙ ap (λ l. back ++ l) (append-nil next.pages) in
-        let whole : pages_of (map f xs) ≡ front ++ back = ap pages_of (split_at start) ∙ pages_of-append (map f (take start xs)) (map f (drop start xs)) in
-        pages_of-append (map f (take start xs)) (merged ∷ [])
-        ∙ ap (λ l. front ++ l) (append-nil merged.pages ∙ made)
-        ∙ sym (append_assoc front back next.pages)
-        ∙ ap (λ l. l ++ next.pages) (sym whole)
+-- ---- how many pages
+
+pub counted : (n pages count : ℕ) → count ≡ min n 18446744073709551615 → count ≡ pages → pages ≤ 65536 → n ≡ pages
+counted n pages count is same few = omega (arith, is, same, few)
+
+pub counted_all : (n count : ℕ) → count ≡ min n 18446744073709551615 → n ≤ 65536 → count ≡ n
+counted_all n count is few = omega (arith, is, few)
+
+-- ---- runs that are due
+
+-- so many segments from an index on are a run, and stand in the pages
+module _ (segments : List SegmentData) (loose : List PageData) (settled start count : ℕ) (index : IsIndex segments loose settled) where
+  rest_at : (n : ℕ) → length (pages_of segments) ≡ length (pages_of (take n segments)) + length (pages_of (drop n segments))
+  rest_at n = ap length (pages_at segments n) ∙ length-append (pages_of (take n segments)) (pages_of (drop n segments))
+
+  pub pages_at_most : length (pages_of (take start segments)) ≤ 65536
+  pages_at_most = omega (arith, index.settled_is, index.bound, rest_at start)
+
+  pub part_run : IsRun (length (pages_of (take start segments))) (take count (drop start segments)) []
+  part_run =
+      let rest : List SegmentData = drop start segments in
+      let back = consecutive_rest 0 (take start segments) rest (subst (AreConsecutive 0) (sym (take-append-drop start segments)) index.consecutive) in
+      let from : 0 + length (pages_of (take start segments)) ≡ length (pages_of (take start segments)) = omega arith in
+      let on : AreConsecutive (length (pages_of (take start segments))) rest = subst (λ n. AreConsecutive n rest) from back in
+      let long : length (pages_of rest) ≡ length (pages_of (take count rest)) + length (pages_of (drop count rest)) =
+      ap length (pages_at rest count) ∙ length-append (pages_of (take count rest)) (pages_of (drop count rest)) in
+      record {
+        consecutive = consecutive_front (length (pages_of (take start segments))) (take count rest) (drop count rest) (subst (AreConsecutive (length (pages_of (take start segments)))) (sym (take-append-drop count rest)) on);
+        bound = omega (arith, index.settled_is, index.bound, rest_at start, long);
+      }
+
+  pub part_stands : StandsIn (run_data (length (pages_of (take start segments))) (take count (drop start segments)) []) (pages_of segments ++ loose)
+  part_stands =
+      let rest : List SegmentData = drop start segments in
+      let first = pages_of (take start segments) in
+      let run = pages_of (take count rest) in
+      let last = pages_of (drop count rest) in
+      record {
+        before = first;
+        after = last ++ loose;
+        at =
+            ap (λ l. l ++ loose) (pages_at segments start ∙ ap (λ l. first ++ l) (pages_at rest count))
+            ∙ append_assoc first (run ++ last) loose
+            ∙ ap (λ l. first ++ l) (append_assoc run last loose ∙ ap (λ l. l ++ (last ++ loose)) (sym (append-nil run)));
+        number = refl;
+      }
+
+  -- and so are so many loose pages from an index on
+  pub loose_run : start ≤ length loose → IsRun (settled + start) [] (take count (drop start loose))
+  loose_run few = record {
+    consecutive = tt;
+    bound = omega (arith, few, index.bound, length-take count (drop start loose), length-drop start loose);
+  }
+
+  pub loose_stands : start ≤ length loose → StandsIn (run_data (settled + start) [] (take count (drop start loose))) (pages_of segments ++ loose)
+  loose_stands few =
+      let first = take start loose in
+      let rest : List PageData = drop start loose in
+      record {
+        before = pages_of segments ++ first;
+        after = drop count rest;
+        at =
+            ap (λ l. pages_of segments ++ l) (sym (take-append-drop start loose) ∙ ap (λ l. first ++ l) (sym (take-append-drop count rest)))
+            ∙ sym (append_assoc (pages_of segments) first (take count rest ++ drop count rest));
+        number = omega (arith, few, length-append (pages_of segments) first, length-take start loose, index.settled_is);
+      }
+
+-- ---- other segments and loose pages of the same pages
+
+module _ (segments segments' : List SegmentData) (loose loose' : List PageData) (settled : ℕ) (index : IsIndex segments loose settled) (consecutive : AreConsecutive 0 segments') where
+  pub loose_index : (settled' : ℕ) → settled' ≡ min (length (pages_of segments')) 18446744073709551615 → pages_of segments' ++ loose' ≡ pages_of segments ++ loose → IsIndex segments' loose' settled'
+  loose_index settled' count same =
+      let long : length (pages_of segments') + length loose' ≡ length (pages_of segments) + length loose = sym (length-append (pages_of segments') loose') ∙ ap length same ∙ length-append (pages_of segments) loose in
+      let is : settled' ≡ length (pages_of segments') = counted_all (length (pages_of segments')) settled' count (omega (arith, long, index.settled_is, index.bound)) in
+      record {
+        consecutive = consecutive;
+        settled_is = is;
+        bound = omega (arith, is, long, index.settled_is, index.bound);
+      }
+
+  pub segments_index : pages_of segments' ≡ pages_of segments → IsIndex segments' loose settled
+  segments_index same = record {
+    consecutive = consecutive;
+    settled_is = index.settled_is ∙ sym (ap length same);
+    bound = index.bound;
+  }

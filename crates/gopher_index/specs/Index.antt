@@ -1,13 +1,36 @@
 -- Pages in segments and, behind them, in none yet.
-use Rattle.std.specs.Prelude.{ℕ, ◌+◌, ◌≤◌, ◌≡◌, List, length}
+use Rattle.std.specs.Prelude.{ℕ, ◌+◌, ◌≤◌, ◌≡◌, List, ◌++◌, length, take}
 use Rattle.gopher_page.specs.Page.{PageData}
 use Rattle.gopher_segment.specs.Segment.{SegmentData, pages_of}
 use Rattle.gopher_segment.specs.SegmentRows.{AreConsecutive}
 
--- an index of segments and loose pages: the first page of the first segment is number 0, at most 8
--- pages are loose, and all of them are at most 65,536
+-- an index of segments and loose pages: the first page of the first segment is number 0, and all of
+-- them are at most 65,536
 pub record IsIndex (segments : List SegmentData) (loose : List PageData) (settled : ℕ) : Type 0 where
   pub consecutive : AreConsecutive 0 segments
   pub settled_is : settled ≡ length (pages_of segments)
-  pub few : length loose ≤ 8
   pub bound : settled + length loose ≤ 65536
+
+-- consecutive segments from a number on, and loose pages behind them
+pub record IsRun (first : ℕ) (segments : List SegmentData) (loose : List PageData) : Type 0 where
+  pub consecutive : AreConsecutive first segments
+  pub bound : first + length (pages_of segments) + length loose ≤ 65536
+
+-- a run of pages, and the number of the first
+abbrev pub run_data : ℕ → List SegmentData → List PageData → SegmentData
+run_data first segments loose = record { first = first; pages = pages_of segments ++ loose }
+
+-- these pages stand next to each other among others, the first of them at its number
+pub record StandsIn (run : SegmentData) (pages : List PageData) : Type 0 where
+  pub before : List PageData
+  pub after : List PageData
+  pub at : pages ≡ before ++ (run.pages ++ after)
+  pub number : length before ≡ run.first
+
+-- before the segment at an index stand so many pages
+abbrev pub IsBorder : List SegmentData → ℕ → ℕ → Type 0
+IsBorder segments pages at = (at ≤ length segments) × (length (pages_of (take at segments)) ≡ pages)
+
+-- from one place of a list of so many to a later one
+abbrev pub IsSpan : ℕ → ℕ × ℕ → Type 0
+IsSpan count span = (span.0 ≤ span.1) × (span.1 ≤ count)

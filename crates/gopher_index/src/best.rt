@@ -45,7 +45,8 @@ fn is_behind(best: &[Ranked], index: usize, candidate: &Ranked) -> bool
 // How many of the best, which stand in their order, come before the candidate: these are the first.
 fn count_before(best: &[Ranked], candidate: &Ranked) -> usize
     ensures within { result ≤ length best.now }
-    ensures before { AreRanked best.now → (k : ℕ) → k < result → is_behind_at candidate.now best.now k true ≡ true }
+    ensures before { AreRanked best.now → (k : ℕ) → k < result
+        → is_behind_at candidate.now best.now k true ≡ true }
     ensures here { is_behind_at candidate.now best.now result false ≡ false }
 {
     let mut low = 0;
@@ -88,7 +89,9 @@ fn put<'a>(best: &mut Vec<Ranked<'a>>, candidate: Ranked<'a>) -> Result<(), NoMe
 // Takes a candidate in among the first 50 of the hits so far, in their order; what is past the first
 // 50 goes.
 fn take_ranked_in<'a>(best: &mut Vec<Ranked<'a>>, candidate: Ranked<'a>) -> Result<(), NoMemory>
-    ensures { (hits : List Hit) → map ranked_hit best.old.items ≡ take 50 (ranked hits) → OnOk result (map ranked_hit best.new.items ≡ take 50 (ranked (hits ++ ranked_hit candidate.entry ∷ []))) }
+    ensures { (hits : List Hit) → map ranked_hit best.old.items ≡ take 50 (ranked hits)
+        → OnOk result (map ranked_hit best.new.items
+        ≡ take 50 (ranked (hits ++ ranked_hit candidate.entry ∷ []))) }
 {
     if is_behind(best, MOST_HITS - 1, &candidate) {
         return Ok(());
@@ -159,7 +162,10 @@ impl<'a> Best<'a> {
     /// Takes in a page with its score, unless that is below the least. Refused only where memory is (90).
     pub fn take_in(&mut self, score: u64, page: &'a Page) -> Result<(), NoMemory>
         ensures least { self.new.least ≡ self.old.least }
-        ensures hits { (hits : List Hit) → self.old.hits ≡ take 50 (ranked (filter (reaches self.old.least) hits)) → OnOk result (self.new.hits ≡ take 50 (ranked (filter (reaches self.old.least) (hits ++ hit_with score page.now ∷ [])))) }
+        ensures hits { (hits : List Hit) → self.old.hits
+            ≡ take 50 (ranked (filter (reaches self.old.least) hits)) → OnOk result (self.new.hits
+            ≡ take 50 (ranked (filter (reaches self.old.least)
+            (hits ++ hit_with score page.now ∷ [])))) }
     {
         if score < self.least {
             return Ok(());

@@ -26,7 +26,8 @@ pub(crate) struct Cells {
 
 fn join_truths(operator: Operator, truths: &mut [bool], counts: &[u32])
     requires { length truths.old ≡ length counts.now }
-    ensures { truths.new ≡ zipped (λ truth count. joined operator truth (nat_lt 0 count)) truths.old counts.now }
+    ensures { truths.new ≡ zipped (λ truth count.
+        joined operator truth (nat_lt 0 count)) truths.old counts.now }
 {
     for (index, count) in counts.iter().enumerate() {
         truths[index] = operator.join(truths[index], *count > 0);
@@ -106,8 +107,10 @@ fn join_counted(
     requires truths { length truths.old ≡ length segment.now.pages }
     requires scores { length scores.old ≡ length segment.now.pages }
     requires room { All (λ score. score ≤ 2 ^ 31) scores.old }
-    ensures cells { (terms : List TermData) → AreCells terms segment.now.pages truths.old scores.old → AreCells (terms ++ term.now ∷ []) segment.now.pages truths.new scores.new }
-    ensures few { (bound : ℕ) → All (λ score. score ≤ bound) scores.old → All (λ score. score ≤ bound + 1048576) scores.new }
+    ensures cells { (terms : List TermData) → AreCells terms segment.now.pages truths.old scores.old
+        → AreCells (terms ++ term.now ∷ []) segment.now.pages truths.new scores.new }
+    ensures few { (bound : ℕ) → All (λ score. score ≤ bound) scores.old
+        → All (λ score. score ≤ bound + 1048576) scores.new }
 {
     spread_term(segment, term, counts);
     join_truths(term.operator(), truths, counts);
@@ -128,8 +131,10 @@ fn join_term(
     requires truths { length truths.old ≡ length segment.now.pages }
     requires scores { length scores.old ≡ length segment.now.pages }
     requires room { All (λ score. score ≤ 2 ^ 31) scores.old }
-    ensures cells { (terms : List TermData) → AreCells terms segment.now.pages truths.old scores.old → AreCells (terms ++ term.now ∷ []) segment.now.pages truths.new scores.new }
-    ensures few { (bound : ℕ) → All (λ score. score ≤ bound) scores.old → All (λ score. score ≤ bound + 1048576) scores.new }
+    ensures cells { (terms : List TermData) → AreCells terms segment.now.pages truths.old scores.old
+        → AreCells (terms ++ term.now ∷ []) segment.now.pages truths.new scores.new }
+    ensures few { (bound : ℕ) → All (λ score. score ≤ bound) scores.old
+        → All (λ score. score ≤ bound + 1048576) scores.new }
 {
     if term.operator().is_not() && !term.is_prefix() {
         leave_word_out(segment, term.word(), truths);
@@ -163,7 +168,8 @@ fn join_more(
     requires truths { length truths.old ≡ length segment.now.pages }
     requires scores { length scores.old ≡ length segment.now.pages }
     requires room { All (λ score. score ≤ 1048576) scores.old }
-    ensures { (before : List TermData) → AreCells before segment.now.pages truths.old scores.old → AreCells (before ++ terms.now) segment.now.pages truths.new scores.new }
+    ensures { (before : List TermData) → AreCells before segment.now.pages truths.old scores.old
+        → AreCells (before ++ terms.now) segment.now.pages truths.new scores.new }
 {
     for term in terms {
         join_term(segment, term, counts, truths, scores);
@@ -207,7 +213,8 @@ impl Cells {
     /// memory is (90).
     pub fn fill(&mut self, segment: &Segment, terms: &[Term]) -> Result<(), NoMemory>
         requires { length terms.now ≤ 1024 }
-        ensures { OnOk result (AreCells terms.now segment.now.pages self.new.truths.items self.new.scores.items) }
+        ensures { OnOk result
+            (AreCells terms.now segment.now.pages self.new.truths.items self.new.scores.items) }
     {
         let size = segment.pages().len();
         self.counts.resize(size, 0)?;

@@ -8,13 +8,17 @@
 
 mod best;
 mod cells;
+mod due;
 mod hit;
 mod index;
+mod installing;
 mod likely;
+mod merging;
 mod occurrences;
 mod one_term;
+mod picking;
 mod search;
-mod settling;
 
+pub use due::Due;
 pub use hit::Hit;
 pub use index::Index;

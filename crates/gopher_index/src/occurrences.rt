@@ -13,7 +13,8 @@ use std::sync::Arc;
 
 // Adds a page in which the word stands so often, unless it doesn't stand there.
 fn push_page(page: &Page, count: u32, found: &mut Vec<(Place, u32)>) -> Result<(), NoMemory>
-    ensures { OnOk result (found.new.items ≡ found.old.items ++ (if nat_lt 0 count then (page.now.place, count) ∷ [] else [])) }
+    ensures { OnOk result (found.new.items
+        ≡ found.old.items ++ (if nat_lt 0 count then (page.now.place, count) ∷ [] else [])) }
 {
     if count > 0 {
         found.push((page.place().clone()?, count))?;
@@ -27,7 +28,9 @@ fn push_counted(
     found: &mut Vec<(Place, u32)>,
 ) -> Result<(), NoMemory>
     requires { length counts.now ≡ length pages.now }
-    ensures { (word : List ℕ) → counts.now ≡ meant_counts false word (map arc_value pages.now) → OnOk result (found.new.items ≡ found.old.items ++ occurrences_among word (map arc_value pages.now)) }
+    ensures { (word : List ℕ) → counts.now ≡ meant_counts false word (map arc_value pages.now)
+        → OnOk result (found.new.items
+        ≡ found.old.items ++ occurrences_among word (map arc_value pages.now)) }
 {
     for (index, page) in pages.iter().enumerate() {
         push_page(page, counts[index], found)?;
@@ -41,7 +44,8 @@ fn push_segment(
     word: &[u8],
     found: &mut Vec<(Place, u32)>,
 ) -> Result<(), NoMemory>
-    ensures { OnOk result (found.new.items ≡ found.old.items ++ occurrences_among word.now segment.now.pages) }
+    ensures { OnOk result (found.new.items
+        ≡ found.old.items ++ occurrences_among word.now segment.now.pages) }
 {
     let pages = segment.pages();
     let mut counts = vec![in alloc; 0; pages.len()]?;
@@ -55,7 +59,8 @@ fn push_segments(
     word: &[u8],
     found: &mut Vec<(Place, u32)>,
 ) -> Result<(), NoMemory>
-    ensures { OnOk result (found.new.items ≡ found.old.items ++ occurrences_among word.now (pages_of (map arc_value segments.now))) }
+    ensures { OnOk result (found.new.items
+        ≡ found.old.items ++ occurrences_among word.now (pages_of (map arc_value segments.now))) }
 {
     for segment in segments {
         push_segment(alloc, segment, word, found)?;
@@ -68,7 +73,8 @@ fn push_loose(
     word: &[u8],
     found: &mut Vec<(Place, u32)>,
 ) -> Result<(), NoMemory>
-    ensures { OnOk result (found.new.items ≡ found.old.items ++ occurrences_among word.now (map arc_value pages.now)) }
+    ensures { OnOk result (found.new.items
+        ≡ found.old.items ++ occurrences_among word.now (map arc_value pages.now)) }
 {
     for page in pages {
         push_page(page, page.count(word), found)?;
@@ -84,7 +90,8 @@ pub(crate) fn occurrences(
     loose: &[Arc<Page>],
     word: &[u8],
 ) -> Result<Vec<(Place, u32)>, NoMemory>
-    ensures { IfOk result (λ list. AreOccurrences (pages_of (map arc_value segments.now) ++ map arc_value loose.now) word.now list.items) }
+    ensures { IfOk result (λ list. AreOccurrences (pages_of (map arc_value segments.now)
+        ++ map arc_value loose.now) word.now list.items) }
 {
     let mut found = Vec::new(alloc);
     push_segments(alloc, segments, word, &mut found)?;

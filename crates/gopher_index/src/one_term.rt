@@ -40,7 +40,8 @@ fn is_again(numbers: &[u16], index: usize) -> bool
 
 // How often the word stands in a page, by its first posting: one that counts 255 may be of several.
 fn whole_count(page: &Page, term: &Term, count: u8) -> u32
-    ensures { count ≡ min (count_of_term page.now.counts term.now) 255 → result ≡ count_of_term page.now.counts term.now }
+    ensures { count ≡ min (count_of_term page.now.counts term.now) 255
+        → result ≡ count_of_term page.now.counts term.now }
 {
     if count < u8::MAX {
         return u32::from(count);
@@ -56,7 +57,8 @@ fn take_posting_in<'a>(
     best: &mut Best<'a>,
 ) -> Result<(), NoMemory>
     requires { term.now.operator ≡ And }
-    ensures { 0 < count → count ≡ min (count_of_term page.now.counts term.now) 255 → OnOk result (TakesIn (term.now ∷ []) (page.now ∷ []) best.old best.new) }
+    ensures { 0 < count → count ≡ min (count_of_term page.now.counts term.now) 255
+        → OnOk result (TakesIn (term.now ∷ []) (page.now ∷ []) best.old best.new) }
 {
     let score = u64::from(whole_count(page, term, count));
     best.take_in(score, page)
@@ -84,7 +86,11 @@ fn take_postings_in<'a>(
     requires run { ArePostingsOf term.now (map arc_value pages.now) postings.now }
     requires forward { start ≤ end }
     requires within { end ≤ length postings.now.numbers.now }
-    ensures { (old : BestData) → Walk term.now postings.now.first (map arc_value pages.now) postings.now.numbers.now postings.now.counts.now old best.old start → OnOk result (Walk term.now postings.now.first (map arc_value pages.now) postings.now.numbers.now postings.now.counts.now old best.new end) }
+    ensures { (old : BestData)
+        → Walk term.now postings.now.first (map arc_value pages.now)
+        postings.now.numbers.now postings.now.counts.now old best.old start
+        → OnOk result (Walk term.now postings.now.first (map arc_value pages.now)
+        postings.now.numbers.now postings.now.counts.now old best.new end) }
 {
     for index in start..end {
         if !is_again(postings.numbers, index) {

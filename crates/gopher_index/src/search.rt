@@ -46,7 +46,9 @@ fn take_block_in<'a>(
 ) -> Result<(), NoMemory>
     requires truths { length truths.now ≡ length pages.now }
     requires scores { length scores.now ≡ length pages.now }
-    ensures { (terms : List TermData) → AreCells terms (map arc_value pages.now) truths.now scores.now → OnOk result (TakesIn terms (map arc_value pages.now) best.old best.new) }
+    ensures { (terms : List TermData)
+        → AreCells terms (map arc_value pages.now) truths.now scores.now
+        → OnOk result (TakesIn terms (map arc_value pages.now) best.old best.new) }
 {
     let mut lowest = best.lowest_score();
     for (index, page) in pages.iter().enumerate() {
@@ -68,7 +70,9 @@ fn take_cells_in<'a>(
 ) -> Result<(), NoMemory>
     requires truths { length truths.now ≡ length pages.now }
     requires scores { length scores.now ≡ length pages.now }
-    ensures { (terms : List TermData) → AreCells terms (map arc_value pages.now) truths.now scores.now → OnOk result (TakesIn terms (map arc_value pages.now) best.old best.new) }
+    ensures { (terms : List TermData)
+        → AreCells terms (map arc_value pages.now) truths.now scores.now
+        → OnOk result (TakesIn terms (map arc_value pages.now) best.old best.new) }
 {
     let mut start = 0;
     while start < pages.len() {
@@ -107,7 +111,8 @@ fn take_segments_in<'a>(
     best: &mut Best<'a>,
 ) -> Result<(), NoMemory>
     requires { length terms.now ≤ 1024 }
-    ensures { OnOk result (TakesIn terms.now (pages_of (map arc_value segments.now)) best.old best.new) }
+    ensures { OnOk result
+        (TakesIn terms.now (pages_of (map arc_value segments.now)) best.old best.new) }
 {
     for segment in segments {
         take_segment_in(segment, terms, cells, best)?;
@@ -146,7 +151,8 @@ fn best_of_terms<'a>(
     is_guessed: bool,
 ) -> Result<Best<'a>, NoMemory>
     requires { length terms.now ≤ 1024 }
-    ensures best { IfOk result (λ best. IsBestOf terms.now (pages_of (map arc_value segments.now)) best) }
+    ensures best { IfOk result (λ best.
+        IsBestOf terms.now (pages_of (map arc_value segments.now)) best) }
     ensures plain { is_guessed ≡ false → IfOk result (λ best. best.least ≡ 0) }
 {
     let Some((first, rest)) = segments.split_first() else {
@@ -203,7 +209,8 @@ fn take_words_in<'a>(
     requires and { term.now.operator ≡ And }
     requires word { term.now.is_prefix ≡ false }
     requires found { ArePostings term.now.word (map arc_value segments.now) found.now }
-    ensures { OnOk result (TakesIn (term.now ∷ []) (pages_of (map arc_value segments.now)) best.old best.new) }
+    ensures { OnOk result (TakesIn (term.now ∷ [])
+        (pages_of (map arc_value segments.now)) best.old best.new) }
 {
     for (index, segment) in segments.iter().enumerate() {
         take_word_in(segment, term, &found[index], best)?;
@@ -220,7 +227,8 @@ fn best_of_word<'a>(
 ) -> Result<Best<'a>, NoMemory>
     requires and { term.now.operator ≡ And }
     requires word { term.now.is_prefix ≡ false }
-    ensures best { IfOk result (λ best. IsBestOf (term.now ∷ []) (pages_of (map arc_value segments.now)) best) }
+    ensures best { IfOk result (λ best.
+        IsBestOf (term.now ∷ []) (pages_of (map arc_value segments.now)) best) }
     ensures plain { is_guessed ≡ false → IfOk result (λ best. best.least ≡ 0) }
 {
     let found = postings_of(alloc, segments, term.word())?;
@@ -238,7 +246,8 @@ fn best_of_segments<'a>(
     is_guessed: bool,
 ) -> Result<Best<'a>, NoMemory>
     requires { IsQuery terms.now }
-    ensures best { IfOk result (λ best. IsBestOf terms.now (pages_of (map arc_value segments.now)) best) }
+    ensures best { IfOk result (λ best.
+        IsBestOf terms.now (pages_of (map arc_value segments.now)) best) }
     ensures plain { is_guessed ≡ false → IfOk result (λ best. best.least ≡ 0) }
 {
     match terms {
@@ -277,7 +286,8 @@ fn best_of_all<'a>(
     query: &Query,
     is_guessed: bool,
 ) -> Result<Best<'a>, NoMemory>
-    ensures best { IfOk result (λ best. IsBestOf query.now (pages_of (map arc_value segments.now) ++ map arc_value loose.now) best) }
+    ensures best { IfOk result (λ best. IsBestOf query.now (pages_of (map arc_value segments.now)
+        ++ map arc_value loose.now) best) }
     ensures plain { is_guessed ≡ false → IfOk result (λ best. best.least ≡ 0) }
 {
     let mut best = best_of_segments(alloc, segments, query.terms(), is_guessed)?;
@@ -293,7 +303,8 @@ pub(crate) fn search(
     loose: &[Arc<Page>],
     query: &Query,
 ) -> Result<Vec<Hit>, NoMemory>
-    ensures { IfOk result (λ hits. hits.items ≡ answer_of (pages_of (map arc_value segments.now) ++ map arc_value loose.now) query.now) }
+    ensures { IfOk result (λ hits. hits.items
+        ≡ answer_of (pages_of (map arc_value segments.now) ++ map arc_value loose.now) query.now) }
 {
     let best = best_of_all(alloc, segments, loose, query, true)?;
     if best.is_whole() {

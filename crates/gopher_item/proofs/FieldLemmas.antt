@@ -1,10 +1,11 @@
 -- The fields of a line that holds no LF, no CR and no NUL hold no special byte.
-use Rattle.std.proofs.Common.{◌≡◌, ℕ, ◌-◌, ◌<◌, Bool, true, false, ◌&&◌, ◌||◌, not, eqb, List, [], ◌∷◌, length, get_or, take, drop, refl, sym, ap, ◌∙◌, arith}
+use Rattle.std.proofs.Common.{◌≡◌, ℕ, ◌-◌, ◌<◌, Bool, true, false, ◌&&◌, ◌||◌, not, eqb, List, [], ◌∷◌, ◌++◌, length, get_or, take, drop, refl, sym, ap, ◌∙◌, arith}
 use Rattle.std.specs.List.{list_any, list_all, onto_first}
 use Rattle.std.proofs.lemmas.List.Splits.{slice_split-cons_yes, slice_split-cons_no}
 use Rattle.std.proofs.lemmas.List.{take_all}
 use Rattle.gopher_item.specs.Bytes.{is_special, has_special}
-use Rattle.gopher_item.specs.Menu.{fields_of}
+use Rattle.gopher_item.specs.Menu.{BeginsWithField, HasFields, HasFirstField, fields_of}
+use Rattle.gopher_item.proofs.MenuLines.{joined-append}
 
 abbrev is_plain : List ℕ → Bool
 is_plain field = not (has_special field)
@@ -56,6 +57,29 @@ pub plain_parts : (field : List ℕ) → 0 < length field → has_special field 
     → (is_special (get_or field 0 0) ≡ false) × (has_special (take (length field - 1) (drop 1 field)) ≡ false)
 plain_parts [] some h = absurd (omega arith)
 plain_parts (b ∷ bs) some h =
-    let parts = first_of_none _ _ h in
+    let parts : (is_special b ≡ false) × (has_special bs ≡ false) = first_of_none _ _ h in
     let whole : take (length (b ∷ bs) - 1) bs ≡ bs = take_all _ bs (omega arith) in
     (parts.0, ap has_special whole ∙ parts.1)
+
+pub whole_field : (field : List ℕ) → 0 < length field → field ≡ get_or field 0 0 ∷ take (length field - 1) (drop 1 field)
+whole_field [] some = absurd (omega arith)
+whole_field (b ∷ bs) some = ap (λ (l : List ℕ). b ∷ l) (sym (take_all (length (b ∷ bs) - 1) bs (omega arith)))
+
+-- three fields, each before a TAB, and a fourth
+pub four_fields : (line first r1 selector r2 host r3 port : List ℕ) → BeginsWithField line first r1 → BeginsWithField r1 selector r2
+    → BeginsWithField r2 host r3 → HasFirstField r3 port → HasFields line first selector host port
+four_fields line first r1 selector r2 host r3 port one two three four = record {
+  plain = one.plain ∙ two.plain ∙ three.plain ∙ four.plain;
+  more = four.more;
+  fields =
+      one.fields
+      ∙ ap (λ (l : List (List ℕ)). first ∷ l) (two.fields
+      ∙ ap (λ (l : List (List ℕ)). selector ∷ l) (three.fields
+      ∙ ap (λ (l : List (List ℕ)). host ∷ l) four.fields));
+  stands = (
+    9 ∷ r3,
+    one.whole
+        ∙ ap (λ l. first ++ 9 ∷ l) (two.whole ∙ ap (λ l. selector ++ 9 ∷ l) three.whole)
+        ∙ sym (joined-append first selector host (9 ∷ r3)),
+  );
+}

@@ -1,5 +1,8 @@
 -- What one more line gives to a menu.
-use Rattle.std.proofs.Common.{◌≡◌, ℕ, true, false, not, eqb, List, ◌∷◌, length, take, one-add, map, filter, refl, ap, ◌∙◌}
+use Rattle.std.proofs.Common.{◌≡◌, ℕ, ◌-◌, true, false, not, eqb, List, ◌∷◌, ◌++◌, length, take, drop, one-add, map, filter, refl, sym, ap, ◌∙◌, append_assoc, arith, length-append}
+use Rattle.std.proofs.lemmas.List.{drop_at}
+use Rattle.gopher_item.specs.Lines.{IsAround}
+use Rattle.gopher_item.specs.MenuLine.{StandsAt}
 use Rattle.gopher_item.specs.Menu.{entry_of, entries_of, is_last_line, any_last_line, lines_before_last}
 
 -- a line that isn't the last one stays
@@ -16,3 +19,22 @@ entries_of-line line lines other some =
 pub entries_of-empty : (line : List ℕ) (lines : List (List ℕ)) → is_last_line line ≡ false → eqb (length line) 0 ≡ true → entries_of (line ∷ lines) ≡ entries_of lines
 entries_of-empty line lines other none =
     ap (λ l. map entry_of (filter (λ x. not (eqb (length x) 0)) l)) (before_last-line line lines other) ∙ rw none refl
+
+-- what is left of the bytes after one more line is left of all
+pub still_left : (bytes seen rest line after : List ℕ) → bytes ≡ seen ++ rest → IsAround rest line after → (more : List ℕ) × (bytes ≡ more ++ after)
+still_left bytes seen rest line after left around = (
+  seen ++ (line ++ around.0),
+  left
+      ∙ ap (λ l. seen ++ l) (around.1 ∙ sym (append_assoc line around.0 after))
+      ∙ sym (append_assoc seen (line ++ around.0) after),
+)
+
+-- a line of what is left stands in the bytes
+pub stands_in_rest : (text bytes seen rest line after : List ℕ) → text ≡ bytes → bytes ≡ seen ++ rest → IsAround rest line after
+    → StandsAt text (length bytes - length rest) line
+stands_in_rest text bytes seen rest line after same left around = (
+  around.0 ++ after,
+  ap (drop (length bytes - length rest)) (same ∙ left)
+      ∙ drop_at seen rest (length bytes - length rest) (omega (arith, ap length left, length-append seen rest))
+      ∙ around.1,
+)

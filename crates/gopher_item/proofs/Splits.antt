@@ -1,14 +1,16 @@
 -- Bytes that are cut at the first of one byte, and the lines that come of it.
-use Rattle.std.proofs.Common.{◌≡◌, ℕ, zero, suc, ◌<◌, ◌≤◌, Bool, true, false, ◌||◌, eqb, cond, List, [], ◌∷◌, length, get_or, take, drop, Option, None, Some, is_some, refl, sym, ap, ◌∙◌, arith}
+use Rattle.std.proofs.Common.{◌≡◌, ℕ, zero, suc, ◌+◌, ◌-◌, ◌<◌, ◌≤◌, Bool, true, false, ◌||◌, eqb, cond, List, [], ◌∷◌, ◌++◌, add-one, append_assoc, length, get_or, take, drop, Option, None, Some, is_some, refl, sym, ap, ◌∙◌, arith}
 use Rattle.std.specs.List.{list_any, slice_split}
-use Rattle.std.proofs.lemmas.List.{take_all}
+use Rattle.std.proofs.lemmas.Bool.{eqb-true}
+use Rattle.std.proofs.lemmas.List.{append-nil, length-drop, take_all}
+use Rattle.std.proofs.Math.Seq.{split_at}
 use Rattle.std.proofs.lemmas.List.Folds.{list_any_at}
 use Rattle.std.specs.Io.BufRead.{drop_through}
 use Rattle.std.specs.Str.Lines.{lines_of_parts, strip_carriage_return}
 use Rattle.std.proofs.lemmas.List.Splits.{slice_split-cons_yes, slice_split-cons_no}
 use Rattle.std.proofs.lemmas.Bool.Decides.{nat_tests}
 use Rattle.memchr.specs.Find.{Nowhere, Passes, IsFirstByte, is_byte}
-use Rattle.gopher_item.specs.Lines.{lines_of}
+use Rattle.gopher_item.specs.Lines.{IsAround, lines_of}
 
 -- the test of a byte that a search of memchr makes
 abbrev is_cut : ℕ → ℕ → Bool
@@ -100,3 +102,25 @@ lines_of_one [] some e = absurd (omega arith)
 lines_of_one (b ∷ bs) some e =
     let one : eqb (length (b ∷ bs)) 0 ≡ false = grind (arith, nat_tests) in
     ap lines_of_parts e ∙ ap (λ t. cond t [] ((b ∷ bs) ∷ [])) one
+
+-- what stands after a cut, as the code has it
+pub after_cut : (bytes : List ℕ) (end : ℕ) → take (length bytes - (end + 1)) (drop (end + 1) bytes) ≡ drop (suc end) bytes
+after_cut bytes end = take_all _ _ (omega (arith, length-drop (end + 1) bytes)) ∙ ap (λ k. drop k bytes) (add-one end)
+
+-- the bytes before a c, it, and those after it are all
+pub cut_whole : (c : ℕ) (bytes : List ℕ) (end : ℕ) → end < length bytes → eqb (get_or bytes end 0) c ≡ true
+    → bytes ≡ take end bytes ++ c ∷ take (length bytes - (end + 1)) (drop (end + 1) bytes)
+cut_whole c bytes end within here =
+    split_at bytes end 0 within
+    ∙ ap (λ b. take end bytes ++ b ∷ drop (suc end) bytes) (eqb-true _ _ here)
+    ∙ ap (λ tail. take end bytes ++ c ∷ tail) (sym (after_cut bytes end))
+
+-- a line without its CR, and what follows its LF
+pub around_feed : (bytes line front rest : List ℕ) → bytes ≡ line ++ 10 ∷ rest → IsAround line front [] → IsAround bytes front rest
+around_feed bytes line front rest whole stripped = (
+  stripped.0 ++ 10 ∷ [],
+  whole
+      ∙ ap (λ l. l ++ 10 ∷ rest) (stripped.1 ∙ ap (λ l. front ++ l) (append-nil stripped.0))
+      ∙ append_assoc front stripped.0 (10 ∷ rest)
+      ∙ ap (λ l. front ++ l) (sym (append_assoc stripped.0 (10 ∷ []) rest)),
+)

@@ -2,7 +2,7 @@
 use Rattle.std.proofs.Common.{◌≡◌, ℕ, ◌≤◌, Bool, true, false, cond, eqb, ◌||◌, List, [], ◌∷◌, ◌++◌, length, refl, sym, ap, ◌∙◌, arith}
 use Rattle.std.specs.Prelude.{reverse}
 use Rattle.std.specs.List.{list_any}
-use Rattle.std.proofs.lemmas.List.{reverse-append, reverse-reverse, length-append}
+use Rattle.std.proofs.lemmas.List.{reverse-append, reverse-reverse, length-append, length-reverse}
 use Rattle.std.proofs.lemmas.List.Folds.{list_any-append}
 use Rattle.gopher_item.specs.MenuLine.{trim_front, trim_spaces}
 
@@ -87,3 +87,34 @@ trim_spaces-trim_spaces xs =
     ap (λ l. reverse (trim_front (reverse l))) no_space
     ∙ ap (λ l. reverse (trim_front l)) (reverse-reverse back)
     ∙ ap reverse (trim_front-trim_front (reverse front))
+
+none_left : (taken kept all : List ℕ) → all ≡ taken ++ kept → length kept ≡ length all → kept ≡ all
+none_left [] kept all e size = sym e
+none_left (x ∷ taken) kept all e size = absurd (omega (arith, ap length e, length-append (x ∷ taken) kept))
+
+-- a trim that leaves as many bytes leaves them all
+pub trim_spaces-same_length : (xs : List ℕ) → length (trim_spaces xs) ≡ length xs → trim_spaces xs ≡ xs
+trim_spaces-same_length xs size =
+    let front = trim_front xs in
+    let back = trim_front (reverse front) in
+    let first = trim_front_rest xs in
+    let last = trim_front_rest (reverse front) in
+    let front_size : length front ≡ length xs = omega (
+      arith,
+      size,
+      length-reverse back,
+      length-reverse front,
+      trim_front-length xs,
+      trim_front-length (reverse front),
+    ) in
+    let back_size : length back ≡ length (reverse front) = omega (
+      arith,
+      size,
+      length-reverse back,
+      length-reverse front,
+      trim_front-length xs,
+      trim_front-length (reverse front),
+    ) in
+    ap reverse (none_left last.0 back (reverse front) last.1 back_size)
+    ∙ reverse-reverse front
+    ∙ none_left first.0 front xs first.1 front_size

@@ -1,6 +1,7 @@
 pub mod Bytes
 pub mod Fault
 pub mod Lines
+pub mod Parts
 pub mod Number
 pub mod Place
 pub mod MenuLine

@@ -1,11 +1,11 @@
 -- A menu, read from bytes (RFC 1436, section 2 and the appendix; odd lines are this profile's).
-use Rattle.std.specs.Prelude.{◌≡◌, ℕ, Bool, ◌||◌, not, List, [], ◌∷◌, length, map, filter, Option, None, ◌==◌, nat_eq, if◌then◌else◌}
+use Rattle.std.specs.Prelude.{◌≡◌, ℕ, Bool, false, ◌||◌, not, List, [], ◌∷◌, ◌++◌, length, map, filter, Option, None, ◌==◌, nat_eq, if◌then◌else◌}
 use Rattle.std.specs.List.{before_first, list_any, slice_split}
 use Rattle.std.specs.Option.{option_map, option_map_or}
 use Rattle.std.specs.Cmp.Lexicographic.{pointwise}
 use Rattle.gopher_item.specs.Lines.{lines_of}
 use Rattle.gopher_item.specs.Number.{number_of}
-use Rattle.gopher_item.specs.MenuLine.{MenuLineData, trim_spaces}
+use Rattle.gopher_item.specs.MenuLine.{MenuLineData, StandsAt, joined, menu_line_of, trim_spaces}
 use Rattle.gopher_item.specs.declared.menu.Entry.{Entry}
 use Rattle.gopher_item.specs.declared.menu.Entry.TheVariants.{Item, Odd}
 
@@ -29,16 +29,49 @@ fields_of line = slice_split (λ byte. byte == 9) line
 abbrev pub item_of_fields : List ℕ → List ℕ → List ℕ → List ℕ → Option MenuLineData
 item_of_fields [] selector host port = None
 item_of_fields (kind ∷ display) selector host port =
-    option_map (λ number. record { kind = kind; display = display; selector = selector; host = trim_spaces host; port = number }) (number_of 65535 (trim_spaces port))
+    option_map (λ number. menu_line_of kind display selector (trim_spaces host) number)
+    (number_of 65535 (trim_spaces port))
+
+-- what is read of these four fields
+abbrev pub IsItemOf : List ℕ → List ℕ → List ℕ → List ℕ → Option MenuLineData → Type 0
+IsItemOf first selector host port item = item ≡ item_of_fields first selector host port
 
 -- fields after the fourth count for nothing
 abbrev pub item_of_list : List (List ℕ) → Option MenuLineData
-item_of_list (kind_and_display ∷ selector ∷ host ∷ port ∷ more) = item_of_fields kind_and_display selector host port
+item_of_list (first ∷ selector ∷ host ∷ port ∷ more) = item_of_fields first selector host port
 item_of_list _ = None
+
+-- whether a CR or a NUL is among the bytes
+abbrev pub has_return_or_nul : List ℕ → Bool
+has_return_or_nul line = list_any (λ byte. (byte == 13) || (byte == 0)) line
 
 -- the item that a line is, if it is one; a line that holds a CR or a NUL is none
 abbrev pub item_of : List ℕ → Option MenuLineData
-item_of line = if list_any (λ byte. (byte == 13) || (byte == 0)) line then None else item_of_list (fields_of line)
+item_of line = if has_return_or_nul line then None else item_of_list (fields_of line)
+
+-- the bytes are one field, and then a TAB and the rest; no CR and no NUL stands in the field
+pub record BeginsWithField (bytes first rest : List ℕ) : Type 0 where
+  pub whole : bytes ≡ first ++ 9 ∷ rest
+  pub fields : fields_of bytes ≡ first ∷ fields_of rest
+  pub plain : has_return_or_nul bytes ≡ has_return_or_nul rest
+
+-- the bytes are one field, with no CR and no NUL
+pub record IsLastField (bytes first : List ℕ) : Type 0 where
+  pub fields : fields_of bytes ≡ first ∷ []
+  pub plain : has_return_or_nul bytes ≡ false
+
+-- the first of the fields, of which there may be more; no CR and no NUL stands in any
+pub record HasFirstField (bytes first : List ℕ) : Type 0 where
+  pub more : List (List ℕ)
+  pub fields : fields_of bytes ≡ first ∷ more
+  pub plain : has_return_or_nul bytes ≡ false
+
+-- the first four fields of a line that holds no CR and no NUL
+pub record HasFields (line first selector host port : List ℕ) : Type 0 where
+  pub plain : has_return_or_nul line ≡ false
+  pub more : List (List ℕ)
+  pub fields : fields_of line ≡ first ∷ selector ∷ host ∷ port ∷ more
+  pub stands : StandsAt line 0 (joined first selector host)
 
 -- the first field of a line: its bytes before its first TAB
 abbrev pub first_field : List (List ℕ) → List ℕ

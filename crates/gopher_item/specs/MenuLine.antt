@@ -1,7 +1,11 @@
 -- One item of a menu: what RFC 1436, section 2 and its appendix call a DirEntity.
-use Rattle.std.specs.Prelude.{◌≡◌, ℕ, ◌^◌, ◌<◌, false, ◌||◌, not, List, [], ◌∷◌, ◌++◌, reverse, Option, None, Some, is_some, ◌==◌, if◌then◌else◌}
+use Rattle.std.specs.Prelude.{◌≡◌, ℕ, ◌+◌, ◌^◌, ◌<◌, ◌≤◌, Bool, false, ◌||◌, ◌&&◌, not, nat_eq, List, [], ◌∷◌, ◌++◌, length, drop, reverse, slice_range, Option, None, Some, is_some, ◌==◌, if◌then◌else◌}
 use Rattle.std.specs.List.{flat_map}
 use Rattle.std.specs.Fmt.{decimal}
+use Rattle.std.specs.Cmp.{IsEquivalence}
+use Rattle.std.specs.Cmp.Rules.{comparing}
+use Rattle.std.specs.Cmp.Lexicographic.{pointwise}
+use Rattle.std.proofs.Common.{rules}
 use Rattle.gopher_item.specs.Bytes.{is_special, is_control, has_special}
 use Rattle.gopher_item.specs.Place.{PlaceData, is_host, is_selector, place_fault, place_of}
 use Rattle.gopher_item.specs.declared.fault.ItemFault.{ItemFault}
@@ -15,6 +19,20 @@ pub record MenuLineData : Type 0 where
   pub host : List ℕ
   pub port : ℕ
 
+-- the menu line of these five parts
+abbrev pub menu_line_of : ℕ → List ℕ → List ℕ → List ℕ → ℕ → MenuLineData
+menu_line_of kind display selector host port =
+    record { kind = kind; display = display; selector = selector; host = host; port = port }
+
+-- whether two menu lines have the same parts
+abbrev pub same_line : MenuLineData → MenuLineData → Bool
+same_line a b =
+    (a.kind == b.kind) && pointwise nat_eq a.display b.display
+    && pointwise nat_eq a.selector b.selector && pointwise nat_eq a.host b.host && (a.port == b.port)
+
+pub same_line_equiv : IsEquivalence same_line
+same_line_equiv = search (comparing, rules)
+
 -- the bytes without the spaces (32) at their front, and at both their ends
 abbrev pub trim_front : List ℕ → List ℕ
 trim_front [] = []
@@ -23,7 +41,8 @@ trim_front (byte ∷ bytes) = if byte == 32 then trim_front bytes else byte ∷ 
 abbrev pub trim_spaces : List ℕ → List ℕ
 trim_spaces bytes = reverse (trim_front (reverse (trim_front bytes)))
 
--- what every menu line is, read or made: no field holds a special byte, and the host has no space at its ends
+-- what every menu line is, read or made: no field holds a special byte, and the host has no space at
+-- its ends
 pub record IsMenuLine (line : MenuLineData) : Type 0 where
   pub kind : is_special line.kind ≡ false
   pub display : has_special line.display ≡ false
@@ -32,13 +51,63 @@ pub record IsMenuLine (line : MenuLineData) : Type 0 where
   pub host_trimmed : trim_spaces line.host ≡ line.host
   pub port : line.port < 2 ^ 16
 
+-- where the fields of a menu line stand in a text: the display string, the selector and the host, one
+-- byte apart
+pub record Cuts : Type 0 where
+  pub start : ℕ
+  pub display_end : ℕ
+  pub selector_end : ℕ
+  pub end : ℕ
+
+abbrev pub cuts_at : ℕ → ℕ → ℕ → ℕ → Cuts
+cuts_at start display_end selector_end end =
+    record { start = start; display_end = display_end; selector_end = selector_end; end = end }
+
+-- each field ends at its start or behind it, and the last one in the text
+pub record AreCuts (cuts : Cuts) (text : List ℕ) : Type 0 where
+  pub display : cuts.start ≤ cuts.display_end
+  pub selector : cuts.display_end + 1 ≤ cuts.selector_end
+  pub host : cuts.selector_end + 1 ≤ cuts.end
+  pub within : cuts.end ≤ length text
+
+-- the menu line whose fields stand there
+abbrev pub line_in : ℕ → ℕ → Cuts → List ℕ → MenuLineData
+line_in kind port cuts text = record {
+  kind = kind;
+  display = slice_range text cuts.start cuts.display_end;
+  selector = slice_range text (cuts.display_end + 1) cuts.selector_end;
+  host = slice_range text (cuts.selector_end + 1) cuts.end;
+  port = port;
+}
+
+-- the fields stand there, and are those of a menu line
+abbrev pub StandsIn : ℕ → ℕ → Cuts → List ℕ → Type 0
+StandsIn kind port cuts text = AreCuts cuts text × IsMenuLine (line_in kind port cuts text)
+
+-- the bytes stand in the text from `start` on
+abbrev pub StandsAt : List ℕ → ℕ → List ℕ → Type 0
+StandsAt text start bytes = (after : List ℕ) × (drop start text ≡ bytes ++ after)
+
+-- three fields with a TAB between them
+abbrev pub joined : List ℕ → List ℕ → List ℕ → List ℕ
+joined display selector host = display ++ 9 ∷ (selector ++ 9 ∷ host)
+
+-- a type, and three fields with a TAB between them
+abbrev pub joined_after : ℕ → List ℕ → List ℕ → List ℕ → List ℕ
+joined_after kind display selector host = joined (kind ∷ display) selector host
+
 -- the bytes of a menu line: type, display, TAB, selector, TAB, host, TAB, port, CR LF
 abbrev pub menu_line_bytes : MenuLineData → List ℕ
-menu_line_bytes line = line.kind ∷ line.display ++ 9 ∷ line.selector ++ 9 ∷ line.host ++ 9 ∷ decimal line.port ++ 13 ∷ 10 ∷ []
+menu_line_bytes line =
+    line.kind ∷ line.display ++ 9 ∷ line.selector ++ 9 ∷ line.host ++ 9 ∷ decimal line.port ++ 13 ∷ 10 ∷ []
 
 -- the bytes of a menu: its lines, and a period alone
 abbrev pub menu_bytes : List MenuLineData → List ℕ
 menu_bytes lines = flat_map menu_line_bytes lines ++ 46 ∷ 13 ∷ 10 ∷ []
+
+-- a type that no line has that is made: a control byte, a space or a period
+abbrev pub is_bad_type : ℕ → Bool
+is_bad_type kind = is_control kind || (kind == 32) || (kind == 46)
 
 -- the first fault of the parts of a line that is made, if there is one; a port of 0 is none
 abbrev pub menu_line_fault : ℕ → List ℕ → List ℕ → List ℕ → Option ItemFault
@@ -46,9 +115,10 @@ menu_line_fault kind display selector host =
     if not (is_selector selector) then Some BadSelector else
     (if not (is_host host) then Some BadHost else
     (if has_special display then Some BadDisplay else
-    (if is_control kind || (kind == 32) || (kind == 46) then Some BadType else None)))
+    (if is_bad_type kind then Some BadType else None)))
 
 -- the place that a menu line names, where it names one
 abbrev pub place_named : MenuLineData → Option PlaceData
 place_named line =
-    if is_some (place_fault line.kind line.selector line.host line.port) then None else Some (place_of line.kind line.selector line.host line.port)
+    if is_some (place_fault line.kind line.selector line.host line.port) then None else
+    Some (place_of line.kind line.selector line.host line.port)

@@ -10,4 +10,5 @@ is_number digits = nat_lt 0 (length digits) && list_all is_ascii_digit digits
 
 -- the number that the digits write, where it is at most `limit`
 abbrev pub number_of : ℕ → List ℕ → Option ℕ
-number_of limit digits = if is_number digits && nat_le (digits_value 10 digits) limit then Some (digits_value 10 digits) else None
+number_of limit digits =
+    if is_number digits && nat_le (digits_value 10 digits) limit then Some (digits_value 10 digits) else None

@@ -33,7 +33,9 @@ is_selector selector = nat_le (length selector) 255 && not (has_special selector
 
 -- a host: 1 to 255 bytes, none of them a space or a control byte
 abbrev pub is_host : List ℕ → Bool
-is_host host = nat_lt 0 (length host) && nat_le (length host) 255 && not (list_any (λ byte. (byte == 32) || is_control byte) host)
+is_host host =
+    nat_lt 0 (length host) && nat_le (length host) 255
+    && not (list_any (λ byte. (byte == 32) || is_control byte) host)
 
 -- an ASCII letter in lower case, and any other byte as it is
 abbrev pub lower_case : ℕ → ℕ
@@ -41,20 +43,26 @@ lower_case byte = if nat_le 65 byte && nat_le byte 90 then byte + 32 else byte
 
 -- the first fault of the parts of a server's address, if there is one
 abbrev pub address_fault : List ℕ → ℕ → Option ItemFault
-address_fault host port = if not (is_host host) then Some BadHost else (if port == 0 then Some BadPort else None)
+address_fault host port =
+    if not (is_host host) then Some BadHost else
+    (if port == 0 then Some BadPort else None)
 
 -- the first fault of the parts of a place, if there is one
 abbrev pub place_fault : ℕ → List ℕ → List ℕ → ℕ → Option ItemFault
 place_fault kind selector host port =
-    if not (is_place_kind kind) then Some BadKind else (if not (is_selector selector) then Some BadSelector else address_fault host port)
+    if not (is_place_kind kind) then Some BadKind else
+    (if not (is_selector selector) then Some BadSelector else address_fault host port)
 
 -- the place of these parts: its host in lower case
 abbrev pub place_of : ℕ → List ℕ → List ℕ → ℕ → PlaceData
-place_of kind selector host port = record { host = map lower_case host; port = port; selector = selector; kind = kind }
+place_of kind selector host port =
+    record { host = map lower_case host; port = port; selector = selector; kind = kind }
 
 -- whether two places have the same parts
 abbrev pub same_place : PlaceData → PlaceData → Bool
-same_place a b = pointwise nat_eq a.host b.host && (a.port == b.port) && pointwise nat_eq a.selector b.selector && (a.kind == b.kind)
+same_place a b =
+    pointwise nat_eq a.host b.host && (a.port == b.port)
+    && pointwise nat_eq a.selector b.selector && (a.kind == b.kind)
 
 -- whether the place is among these
 abbrev pub is_among : List PlaceData → PlaceData → Bool
@@ -70,7 +78,12 @@ same_place_equiv = search (comparing, rules)
 
 -- place order: by the host's bytes, the port as a number, the selector's bytes, the type
 abbrev pub place_cmp : PlaceData → PlaceData → Ordering
-place_cmp = then_cmp (then_cmp (then_cmp (on (λ p. p.host) (slice_cmp nat_cmp)) (on (λ p. p.port) nat_cmp)) (on (λ p. p.selector) (slice_cmp nat_cmp))) (on (λ p. p.kind) nat_cmp)
+place_cmp =
+    then_cmp (then_cmp (then_cmp
+    (on (λ p. p.host) (slice_cmp nat_cmp))
+    (on (λ p. p.port) nat_cmp))
+    (on (λ p. p.selector) (slice_cmp nat_cmp)))
+    (on (λ p. p.kind) nat_cmp)
 
 pub place_cmp_total : IsTotalOrder place_cmp
 place_cmp_total = search (comparing, rules)

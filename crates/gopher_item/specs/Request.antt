@@ -9,11 +9,13 @@ use Rattle.gopher_item.specs.declared.request.Request.{Request}
 -- the first fault of a line, if there is one
 abbrev pub request_fault : List ℕ → Option RequestFault
 request_fault line =
-    if nat_lt 1024 (length line) then Some LineTooLong else (if not (is_selector (first_field (fields_of line))) then Some BadSelector else None)
+    if nat_lt 1024 (length line) then Some LineTooLong else
+    (if not (is_selector (first_field (fields_of line))) then Some BadSelector else None)
 
 -- the first field is the selector, and the second, if there is one, the search string
 abbrev pub request_of : List ℕ → Request
-request_of line = record { selector = first_field (fields_of line); search = slice_get (fields_of line) 1 }
+request_of line =
+    record { selector = first_field (fields_of line); search = slice_get (fields_of line) 1 }
 
 abbrev pub answers : Option RequestFault → Request → Result Request RequestFault → Type 0
 answers (Some fault) request result = result ≡ Err fault

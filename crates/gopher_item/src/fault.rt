@@ -101,3 +101,23 @@ impl RequestFault {
         }
     }
 }
+
+impl From<NoMemory> for ItemFault {
+    ghost use Rattle.gopher_item.specs.declared.fault.ItemFault.{ItemFault};
+
+    ghost from_gives = { λ _ fault. fault ≡ ItemFault.NoMemory };
+
+    fn from(_refused: NoMemory) -> ItemFault {
+        ItemFault::NoMemory
+    }
+}
+
+impl From<NoMemory> for RequestFault {
+    ghost use Rattle.gopher_item.specs.declared.fault.RequestFault.{RequestFault};
+
+    ghost from_gives = { λ _ fault. fault ≡ RequestFault.NoMemory };
+
+    fn from(_refused: NoMemory) -> RequestFault {
+        RequestFault::NoMemory
+    }
+}

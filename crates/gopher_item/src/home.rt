@@ -4,9 +4,9 @@ ghost use Rattle.std.specs.Prelude.{◌≡◌, IfOk};
 ghost use Rattle.gopher_item.specs.Fault.{Makes};
 ghost use Rattle.gopher_item.specs.Place.{HomeData, address_fault};
 
-use crate::byte_string::ByteString;
+use crate::bytes::ByteString;
 use crate::fault::ItemFault;
-use crate::place::address_fault;
+use crate::fields::address_fault;
 use std::alloc::Global;
 use std::marker::Model;
 
@@ -31,14 +31,13 @@ impl Home {
     /// Refused, in this order: `BadHost` (3) where the host is empty, over 255 bytes, or holds a space
     /// or a control byte; `BadPort` (4) where the port is 0; `NoMemory` (90).
     pub fn new(alloc: Global, host: &[u8], port: u16) -> Result<Home, ItemFault>
-        ensures { Makes (address_fault host.now port) (record { host = host.now; port = port }) result }
+        ensures { Makes (address_fault host.now port)
+            (record { host = host.now; port = port }) result }
     {
         if let Some(fault) = address_fault(host, port) {
             return Err(fault);
         }
-        let Ok(host) = ByteString::from_slice(alloc, host) else {
-            return Err(ItemFault::NoMemory);
-        };
+        let host = ByteString::from_slice(alloc, host)?;
         Ok(Home { host, port })
     }
 

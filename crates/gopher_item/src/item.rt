@@ -1,32 +1,33 @@
 //! Reading one line of a menu.
 
-ghost use Rattle.std.specs.Prelude.{◌≡◌, ℕ, ◌<◌, ◌==◌, ◌||◌, false, List, [], ◌∷◌, length, IfOk, MatchOption};
-ghost use Rattle.std.specs.List.{list_any};
+ghost use Rattle.std.specs.Prelude.{◌≡◌, false, true, [], ◌∷◌, None, IfOk, MatchOption};
+ghost use Rattle.std.specs.Arc.{arc_value};
 ghost use Rattle.gopher_item.specs.Bytes.{has_special};
-ghost use Rattle.gopher_item.specs.Menu.{fields_of, item_of, item_of_fields, entry_of};
+ghost use Rattle.gopher_item.specs.Lines.{has_feed};
+ghost use Rattle.gopher_item.specs.Menu.{BeginsWithField, HasFields, HasFirstField, IsItemOf, IsLastField, entry_of, fields_of, has_return_or_nul, item_of};
+ghost use Rattle.gopher_item.specs.MenuLine.{StandsAt, joined};
 
-use crate::byte_string::ByteString;
+use crate::bytes::{ByteString, read_number, split_once, trim_spaces};
 use crate::fault::NoMemory;
 use crate::menu::Entry;
 use crate::menu_line::MenuLine;
-use crate::number::read_number;
-use crate::split::split_once;
-use crate::trim::trim_spaces;
-use memchr::memchr2;
+use memchr::{memchr2, memchr3};
 use std::alloc::Global;
+use std::sync::Arc;
 
 const TAB: u8 = b'\t';
 
 // Whether a CR or a NUL is among the bytes.
 fn has_return_or_nul(line: &[u8]) -> bool
-    ensures { result ≡ list_any (λ byte. (byte == 13) || (byte == 0)) line.now }
+    ensures { result ≡ has_return_or_nul line.now }
 {
     memchr2(b'\r', 0, line).is_some()
 }
 
 // The bytes before the first TAB, or all where there is none, and what stands after it.
 pub(crate) fn field(bytes: &[u8]) -> (&[u8], Option<&[u8]>)
-    ensures { MatchOption result.1 (fields_of bytes.now ≡ result.0.now ∷ []) (λ rest. fields_of bytes.now ≡ result.0.now ∷ fields_of rest.now) }
+    ensures { MatchOption result.1 (fields_of bytes.now ≡ result.0.now ∷ [])
+        (λ rest. fields_of bytes.now ≡ result.0.now ∷ fields_of rest.now) }
 {
     match split_once(TAB, bytes) {
         Some((first, rest)) => (first, Some(rest)),
@@ -34,36 +35,72 @@ pub(crate) fn field(bytes: &[u8]) -> (&[u8], Option<&[u8]>)
     }
 }
 
-// The first four fields, where there are as many.
-fn four_fields(line: &[u8]) -> Option<(&[u8], &[u8], &[u8], &[u8])>
-    ensures { MatchOption result (length (fields_of line.now) < 4)
-        (λ f. (more : List (List ℕ)) × (fields_of line.now ≡ f.0.now ∷ f.1.now ∷ f.2.now ∷ f.3.now ∷ more)) }
+// The bytes before the first TAB, or all where there is none, and what stands after it; or `None`
+// where a CR or a NUL comes before it.
+fn plain_field(bytes: &[u8]) -> Option<(&[u8], Option<&[u8]>)>
+    ensures { MatchOption result (has_return_or_nul bytes.now ≡ true)
+        (λ cut. MatchOption cut.1 (IsLastField bytes.now cut.0.now)
+        (λ rest. BeginsWithField bytes.now cut.0.now rest.now)) }
 {
-    let (first, Some(rest)) = field(line) else {
+    let Some(end) = memchr3(TAB, b'\r', 0, bytes) else {
+        return Some((bytes, None));
+    };
+    if bytes[end] == TAB {
+        Some((&bytes[..end], Some(&bytes[end + 1..])))
+    } else {
+        None
+    }
+}
+
+// The first four fields, where there are as many and no CR and no NUL.
+fn four_fields(line: &[u8]) -> Option<(&[u8], &[u8], &[u8], &[u8])>
+    ensures { MatchOption result (item_of line.now ≡ None)
+        (λ f. HasFields line.now f.0.now f.1.now f.2.now f.3.now) }
+{
+    let (first, Some(rest)) = plain_field(line)? else {
         return None;
     };
-    let (second, Some(rest)) = field(rest) else {
+    let (second, Some(rest)) = plain_field(rest)? else {
         return None;
     };
-    let (third, Some(rest)) = field(rest) else {
+    let (third, Some(rest)) = plain_field(rest)? else {
         return None;
     };
-    let (fourth, _) = field(rest);
+    let fourth = last_field(rest)?;
     Some((first, second, third, fourth))
 }
 
-// The item of four fields that hold no special byte.
+// The first field, where no CR and no NUL is among the bytes.
+fn last_field(bytes: &[u8]) -> Option<&[u8]>
+    ensures { MatchOption result (has_return_or_nul bytes.now ≡ true)
+        (λ first. HasFirstField bytes.now first.now) }
+{
+    let (first, rest) = plain_field(bytes)?;
+    let Some(rest) = rest else {
+        return Some(first);
+    };
+    if has_return_or_nul(rest) {
+        return None;
+    }
+    Some(first)
+}
+
+// The item of four fields that hold no special byte. The first three stand in the text from `start`
+// on, with a TAB between them.
 fn item_of_fields(
     alloc: Global,
+    text: &Arc<ByteString>,
+    start: usize,
     first: &[u8],
     selector: &[u8],
     host: &[u8],
     port: &[u8],
 ) -> Result<Option<MenuLine>, NoMemory>
+    requires stands { StandsAt (arc_value text.now) start (joined first.now selector.now host.now) }
     requires first { has_special first.now ≡ false }
     requires selector { has_special selector.now ≡ false }
     requires host { has_special host.now ≡ false }
-    ensures { IfOk result (λ item. item ≡ item_of_fields first.now selector.now host.now port.now) }
+    ensures { IfOk result (λ item. IsItemOf first.now selector.now host.now port.now item) }
 {
     let [kind, display @ ..] = first else {
         return Ok(None);
@@ -71,33 +108,47 @@ fn item_of_fields(
     let Some(port) = read_number(65535, trim_spaces(port)) else {
         return Ok(None);
     };
-    let host = trim_spaces(host);
-    let line = MenuLine::of_fields(alloc, *kind, display, selector, host, port as u16)?;
-    Ok(Some(line))
+    let trimmed = trim_spaces(host);
+    if trimmed.len() == host.len() {
+        let line = MenuLine::in_text(text, start, *kind, display, selector, host, port as u16)?;
+        Ok(Some(line))
+    } else {
+        let line = MenuLine::of_fields(alloc, *kind, display, selector, trimmed, port as u16)?;
+        Ok(Some(line))
+    }
 }
 
-// The item that a line is, if it is one.
-fn item_of(alloc: Global, line: &[u8]) -> Result<Option<MenuLine>, NoMemory>
-    requires { list_any (λ byte. byte == 10) line.now ≡ false }
+// The item that a line of the text is, if it is one.
+fn item_of(
+    alloc: Global,
+    text: &Arc<ByteString>,
+    start: usize,
+    line: &[u8],
+) -> Result<Option<MenuLine>, NoMemory>
+    requires stands { StandsAt (arc_value text.now) start line.now }
+    requires one { has_feed line.now ≡ false }
     ensures { IfOk result (λ item. item ≡ item_of line.now) }
 {
-    if has_return_or_nul(line) {
-        return Ok(None);
-    }
     match four_fields(line) {
         Some((first, selector, host, port)) => {
-            item_of_fields(alloc, first, selector, host, port)
+            item_of_fields(alloc, text, start, first, selector, host, port)
         }
         None => Ok(None),
     }
 }
 
-// The entry of a line.
-pub(crate) fn entry_of(alloc: Global, line: &[u8]) -> Result<Entry, NoMemory>
-    requires { list_any (λ byte. byte == 10) line.now ≡ false }
+// The entry of a line of the text, which stands there from `start` on.
+pub(crate) fn entry_of(
+    alloc: Global,
+    text: &Arc<ByteString>,
+    start: usize,
+    line: &[u8],
+) -> Result<Entry, NoMemory>
+    requires stands { StandsAt (arc_value text.now) start line.now }
+    requires one { has_feed line.now ≡ false }
     ensures { IfOk result (λ entry. entry ≡ entry_of line.now) }
 {
-    match item_of(alloc, line)? {
+    match item_of(alloc, text, start, line)? {
         Some(item) => Ok(Entry::Item(item)),
         None => {
             let (first, _) = field(line);

@@ -5,31 +5,26 @@
 //! written is read back as its lines, and a place is what its refusals say.
 #![tactic(auto)]
 
-mod byte_string;
 mod bytes;
 mod fault;
+mod fields;
 mod home;
 mod item;
-mod line;
 mod menu;
 mod menu_line;
-mod number;
 mod place;
 mod request;
-mod split;
-mod trim;
 mod writing;
 
-pub use byte_string::ByteString;
-pub use bytes::{has_special, is_control, is_host, is_selector};
+pub use bytes::{
+    ByteString, ByteStrings, EachLine, first_line, has_special, is_control, is_last_line, lines,
+    read_number, split_once, trim_spaces,
+};
 pub use fault::{ItemFault, NoMemory, RequestFault};
+pub use fields::{address_fault, is_host, is_selector, lowered_host};
 pub use home::Home;
-pub use line::{first_line, lines};
 pub use menu::{Entry, Menu, read_menu};
-pub use menu_line::MenuLine;
-pub use number::read_number;
-pub use place::{Place, address_fault};
+pub use menu_line::{MenuLine, is_bad_type};
+pub use place::Place;
 pub use request::{Request, read_request};
-pub use split::split_once;
-pub use trim::trim_spaces;
-pub use writing::write_menu;
+pub use writing::{push_front, push_last_line, push_menu_line, push_server, write_menu};

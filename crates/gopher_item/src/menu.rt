@@ -1,17 +1,20 @@
 //! Menus.
 
 ghost use Rattle.std.specs.Prelude.{◌≡◌, ◌==◌, IfOk};
-ghost use Rattle.gopher_item.specs.Menu.{ReadsMenu, is_last_line};
+ghost use Rattle.gopher_item.specs.Menu.{ReadsMenu};
 
-use crate::byte_string::ByteString;
+use crate::bytes::{ByteString, first_line, is_last_line};
 use crate::fault::NoMemory;
 use crate::item::entry_of;
-use crate::line::first_line;
 use crate::menu_line::MenuLine;
-use std::alloc::Global;
+use std::alloc::{AllocError, Global};
+use std::sync::Arc;
+
+// How long a line of a menu is at least, mostly: room for the lines is made once.
+const BYTES_OF_A_LINE: usize = 64;
 
 /// A line of a menu that was read.
-#[derive(Debug, Drop)]
+#[derive(Debug, Drop, PartialEq, Eq)]
 pub enum Entry {
     /// A line that has the form of an item.
     Item(MenuLine),
@@ -20,7 +23,7 @@ pub enum Entry {
 }
 
 /// A menu that was read.
-#[derive(Debug, Drop)]
+#[derive(Debug, Drop, PartialEq, Eq)]
 pub struct Menu {
     /// The items and the odd lines, in their order.
     pub entries: Vec<Entry>,
@@ -28,10 +31,27 @@ pub struct Menu {
     pub ended: bool,
 }
 
-fn is_last_line(line: &[u8]) -> bool
-    ensures { result ≡ is_last_line line.now }
-{
-    matches!(line, [b'.'])
+impl Clone for Entry {
+    ghost is_clone = { λ entry copy. copy ≡ entry };
+
+    fn clone(&self) -> Result<Entry, AllocError> {
+        match self {
+            Entry::Item(line) => Ok(Entry::Item(line.clone()?)),
+            Entry::Odd(bytes) => Ok(Entry::Odd(bytes.clone()?)),
+        }
+    }
+}
+
+impl Clone for Menu {
+    ghost is_clone = { λ menu copy.
+        (copy.entries.items ≡ menu.entries.items) × (copy.ended ≡ menu.ended) };
+
+    fn clone(&self) -> Result<Menu, AllocError> {
+        Ok(Menu {
+            entries: self.entries.clone()?,
+            ended: self.ended,
+        })
+    }
 }
 
 /// Reads a menu (RFC 1436, section 2 and the appendix), whatever the bytes are.
@@ -44,7 +64,8 @@ fn is_last_line(line: &[u8]) -> bool
 pub fn read_menu(alloc: Global, bytes: &[u8]) -> Result<Menu, NoMemory>
     ensures { IfOk result (λ menu. ReadsMenu bytes.now menu.entries.items menu.ended) }
 {
-    let mut entries = Vec::new(alloc);
+    let text = Arc::new(alloc, ByteString::from_slice(alloc, bytes)?)?;
+    let mut entries = Vec::with_capacity(alloc, bytes.len() / BYTES_OF_A_LINE)?;
     let mut rest = bytes;
     while let Some((line, after)) = first_line(rest) {
         if is_last_line(line) {
@@ -54,7 +75,8 @@ pub fn read_menu(alloc: Global, bytes: &[u8]) -> Result<Menu, NoMemory>
             });
         }
         if !line.is_empty() {
-            entries.push(entry_of(alloc, line)?)?;
+            let start = bytes.len() - rest.len();
+            entries.push(entry_of(alloc, &text, start, line)?)?;
         }
         rest = after;
     }

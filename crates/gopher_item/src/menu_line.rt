@@ -1,73 +1,89 @@
 //! The lines of a menu.
 
-ghost use Rattle.std.specs.Prelude.{◌≡◌, ℕ, ◌==◌, ◌||◌, ◌<◌, ◌^◌, ◌++◌, IfOk, IfNone};
+ghost use Rattle.std.specs.Prelude.{◌≡◌, ℕ, ◌==◌, ◌||◌, ◌<◌, ◌^◌, IfOk, IfNone};
+ghost use Rattle.std.specs.Arc.{arc_value};
+ghost use Rattle.std.specs.Cmp;
 ghost use Rattle.gopher_item.specs.Bytes.{is_control};
 ghost use Rattle.gopher_item.specs.Fault.{Makes};
 ghost use Rattle.gopher_item.specs.Place.{place_fault, place_of};
-ghost use Rattle.gopher_item.specs.MenuLine.{MenuLineData, IsMenuLine, menu_line_fault};
+ghost use Rattle.gopher_item.specs.MenuLine.{IsMenuLine, StandsAt, is_bad_type, joined_after, menu_line_fault, menu_line_of, same_line, same_line_equiv};
 
-use crate::byte_string::ByteString;
-use crate::bytes::{has_special, is_control, is_host, is_selector};
+use crate::bytes::{ByteString, has_special, is_control};
 use crate::fault::{ItemFault, NoMemory};
+use crate::fields::{is_host, is_selector};
 use crate::place::Place;
 use std::alloc::{AllocError, Global};
+use std::fmt;
 use std::marker::Model;
+use std::sync::Arc;
 
 /// An item of a menu (RFC 1436, section 2), read or made.
 ///
 /// Its type is any byte but TAB, CR, LF and NUL; no field holds one of these, and the host has no
-/// space at its ends. A line that was read may have an empty host.
-#[derive(Debug, Drop)]
+/// space at its ends. A line that was read may have an empty host. The lines of a menu that was read
+/// share its bytes, which are kept as long as one of them is.
+#[derive(Drop)]
 pub struct MenuLine {
     kind: u8,
     port: u16,
+    // Where the display string, the selector and the host stand in the text, one byte apart.
+    start: usize,
     display_end: usize,
     selector_end: usize,
-    // The display string, the selector and the host, one after another: one allocation for a line.
-    text: ByteString,
+    end: usize,
+    text: Arc<ByteString>,
 }
 
 impl Model for MenuLine {
-    ghost use Rattle.std.specs.Prelude.{◌≤◌, ◌-◌, length, take, drop};
-    ghost use Rattle.gopher_item.specs.MenuLine.{MenuLineData, IsMenuLine};
+    ghost use Rattle.std.specs.Arc.{arc_value};
+    ghost use Rattle.gopher_item.specs.MenuLine.{MenuLineData, StandsIn, cuts_at, line_in};
 
     ghost Value = { MenuLineData };
 
-    ghost view = { λ m. record { kind = m.kind; display = take m.display_end m.text; selector = take (m.selector_end - m.display_end) (drop m.display_end m.text); host = drop m.selector_end m.text; port = m.port } };
+    ghost view = { λ m. line_in m.kind m.port
+        (cuts_at m.start m.display_end m.selector_end m.end) (arc_value m.text) };
 
-    ghost invariant = { λ m. (m.display_end ≤ m.selector_end) × (m.selector_end ≤ length m.text) × IsMenuLine (record { kind = m.kind; display = take m.display_end m.text; selector = take (m.selector_end - m.display_end) (drop m.display_end m.text); host = drop m.selector_end m.text; port = m.port }) };
+    ghost invariant = { λ m. StandsIn m.kind m.port
+        (cuts_at m.start m.display_end m.selector_end m.end) (arc_value m.text) };
 }
 
-// The three texts, one after another.
+// The type and the three texts, one after another, with a TAB between the texts.
 fn joined(
     alloc: Global,
+    kind: u8,
     display: &[u8],
     selector: &[u8],
     host: &[u8],
 ) -> Result<Vec<u8>, AllocError>
-    ensures { IfOk result (λ text. text.items ≡ display.now ++ (selector.now ++ host.now)) }
+    ensures { IfOk result (λ text.
+        text.items ≡ joined_after kind display.now selector.now host.now) }
 {
     let length = display
         .len()
         .saturating_add(selector.len())
-        .saturating_add(host.len());
+        .saturating_add(host.len())
+        .saturating_add(3);
     let mut text = Vec::with_capacity(alloc, length)?;
+    text.push(kind)?;
     text.extend_from_slice(display)?;
+    text.push(b'\t')?;
     text.extend_from_slice(selector)?;
+    text.push(b'\t')?;
     text.extend_from_slice(host)?;
     Ok(text)
 }
 
-// Whether no line that is made has the type.
-fn is_bad_type(kind: u8) -> bool
-    ensures { result ≡ (is_control kind || (kind == 32) || (kind == 46)) }
+/// Whether no line that is made has the type: a control byte, a space or a period. Takes no memory.
+pub fn is_bad_type(kind: u8) -> bool
+    ensures { result ≡ is_bad_type kind }
 {
     is_control(kind) || kind == b' ' || kind == b'.'
 }
 
 fn menu_line_fault(kind: u8, display: &[u8], selector: &[u8], host: &[u8]) -> Option<ItemFault>
     ensures fault { result ≡ menu_line_fault kind display.now selector.now host.now }
-    ensures plain { IfNone result ((port : ℕ) → port < 2 ^ 16 → IsMenuLine (record { kind = kind; display = display.now; selector = selector.now; host = host.now; port = port })) }
+    ensures plain { IfNone result ((port : ℕ) → port < 2 ^ 16
+        → IsMenuLine (menu_line_of kind display.now selector.now host.now port)) }
 {
     if !is_selector(selector) {
         Some(ItemFault::BadSelector)
@@ -83,7 +99,40 @@ fn menu_line_fault(kind: u8, display: &[u8], selector: &[u8], host: &[u8]) -> Op
 }
 
 impl MenuLine {
-    // The line of fields that were tested.
+    // The line of fields that were tested. They stand in the text, the type at `start`.
+    pub(crate) fn in_text(
+        text: &Arc<ByteString>,
+        start: usize,
+        kind: u8,
+        display: &[u8],
+        selector: &[u8],
+        host: &[u8],
+        port: u16,
+    ) -> Result<MenuLine, NoMemory>
+        requires fields { IsMenuLine (menu_line_of kind display.now selector.now host.now port) }
+        requires stands { StandsAt (arc_value text.now) start
+            (joined_after kind display.now selector.now host.now) }
+        ensures { IfOk result (λ line.
+            line ≡ menu_line_of kind display.now selector.now host.now port) }
+    {
+        // The text's length fits a `usize`, and so does each place in it.
+        let _length = text.as_slice().len();
+        let display_start = start + 1;
+        let display_end = display_start + display.len();
+        let selector_end = display_end + 1 + selector.len();
+        let text = Arc::try_clone(text)?;
+        Ok(MenuLine {
+            kind,
+            port,
+            start: display_start,
+            display_end,
+            selector_end,
+            end: selector_end + 1 + host.len(),
+            text,
+        })
+    }
+
+    // The line of fields that were tested, in a text of its own.
     pub(crate) fn of_fields(
         alloc: Global,
         kind: u8,
@@ -92,17 +141,13 @@ impl MenuLine {
         host: &[u8],
         port: u16,
     ) -> Result<MenuLine, NoMemory>
-        requires { IsMenuLine (record { kind = kind; display = display.now; selector = selector.now; host = host.now; port = port }) }
-        ensures { IfOk result (λ line. line ≡ record { kind = kind; display = display.now; selector = selector.now; host = host.now; port = port }) }
+        requires { IsMenuLine (menu_line_of kind display.now selector.now host.now port) }
+        ensures { IfOk result (λ line.
+            line ≡ menu_line_of kind display.now selector.now host.now port) }
     {
-        let text = joined(alloc, display, selector, host)?;
-        Ok(MenuLine {
-            kind,
-            port,
-            display_end: display.len(),
-            selector_end: display.len() + selector.len(),
-            text: ByteString::from(text),
-        })
+        let text = ByteString::from(joined(alloc, kind, display, selector, host)?);
+        let text = Arc::new(alloc, text)?;
+        MenuLine::in_text(&text, 0, kind, display, selector, host, port)
     }
 
     /// A line of these parts.
@@ -120,15 +165,13 @@ impl MenuLine {
         host: &[u8],
         port: u16,
     ) -> Result<MenuLine, ItemFault>
-        ensures { Makes (menu_line_fault kind display.now selector.now host.now) (record { kind = kind; display = display.now; selector = selector.now; host = host.now; port = port }) result }
+        ensures { Makes (menu_line_fault kind display.now selector.now host.now)
+            (menu_line_of kind display.now selector.now host.now port) result }
     {
         if let Some(fault) = menu_line_fault(kind, display, selector, host) {
             return Err(fault);
         }
-        let Ok(line) = MenuLine::of_fields(alloc, kind, display, selector, host, port) else {
-            return Err(ItemFault::NoMemory);
-        };
-        Ok(line)
+        Ok(MenuLine::of_fields(alloc, kind, display, selector, host, port)?)
     }
 
     /// The type (RFC 1436, section 3.8).
@@ -143,21 +186,21 @@ impl MenuLine {
     pub fn display(&self) -> &[u8]
         ensures { result.now ≡ self.now.display }
     {
-        &self.text.as_slice()[..self.display_end]
+        &self.text.as_slice()[self.start..self.display_end]
     }
 
     /// The selector: what a client sends to the host.
     pub fn selector(&self) -> &[u8]
         ensures { result.now ≡ self.now.selector }
     {
-        &self.text.as_slice()[self.display_end..self.selector_end]
+        &self.text.as_slice()[self.display_end + 1..self.selector_end]
     }
 
     /// The host, as it was written.
     pub fn host(&self) -> &[u8]
         ensures { result.now ≡ self.now.host }
     {
-        &self.text.as_slice()[self.selector_end..]
+        &self.text.as_slice()[self.selector_end + 1..self.end]
     }
 
     /// The port; 0 stands in lines that name no server.
@@ -169,7 +212,8 @@ impl MenuLine {
 
     /// The place that the line names, refused as `Place::new` refuses these parts.
     pub fn place(&self, alloc: Global) -> Result<Place, ItemFault>
-        ensures { Makes (place_fault self.now.kind self.now.selector self.now.host self.now.port) (place_of self.now.kind self.now.selector self.now.host self.now.port) result }
+        ensures { Makes (place_fault self.now.kind self.now.selector self.now.host self.now.port)
+            (place_of self.now.kind self.now.selector self.now.host self.now.port) result }
     {
         Place::new(
             alloc,
@@ -178,5 +222,51 @@ impl MenuLine {
             self.host(),
             self.port(),
         )
+    }
+}
+
+impl fmt::Debug for MenuLine {
+    fn fmt<W: fmt::Write>(&self, f: &mut fmt::Formatter<W>) -> fmt::Result {
+        f.debug_struct("MenuLine")
+            .field("kind", &self.kind())
+            .field("display", &self.display())
+            .field("selector", &self.selector())
+            .field("host", &self.host())
+            .field("port", &self.port())
+            .finish()
+    }
+}
+
+impl PartialEq for MenuLine {
+    ghost eq = { same_line };
+
+    ghost laws = { Cmp.partial_equiv_from_equiv same_line_equiv };
+
+    fn eq(&self, other: &MenuLine) -> bool {
+        self.kind() == other.kind()
+            && self.display() == other.display()
+            && self.selector() == other.selector()
+            && self.host() == other.host()
+            && self.port() == other.port()
+    }
+}
+
+impl Eq for MenuLine {
+    ghost laws = { same_line_equiv };
+}
+
+impl Clone for MenuLine {
+    ghost is_clone = { λ line copy. copy ≡ line };
+
+    fn clone(&self) -> Result<MenuLine, AllocError> {
+        Ok(MenuLine {
+            kind: self.kind,
+            port: self.port,
+            start: self.start,
+            display_end: self.display_end,
+            selector_end: self.selector_end,
+            end: self.end,
+            text: Arc::try_clone(&self.text)?,
+        })
     }
 }

@@ -4,11 +4,11 @@ ghost use Rattle.std.specs.Prelude.{◌≡◌, refl, IfOk};
 ghost use Rattle.std.specs.Cmp;
 ghost use Rattle.std.specs.Ordering.{as_partial_cmp};
 ghost use Rattle.gopher_item.specs.Fault.{Makes};
-ghost use Rattle.gopher_item.specs.Place.{PlaceData, address_fault, place_fault, place_of, same_place, same_place_equiv, place_cmp, place_cmp_total, same_place_ties};
+ghost use Rattle.gopher_item.specs.Place.{PlaceData, place_fault, place_of, same_place, same_place_equiv, place_cmp, place_cmp_total, same_place_ties};
 
-use crate::byte_string::ByteString;
-use crate::bytes::{is_host, is_selector};
+use crate::bytes::ByteString;
 use crate::fault::{ItemFault, NoMemory};
+use crate::fields::{is_selector, lowered_host};
 use std::alloc::Global;
 use std::cmp::Ordering;
 use std::marker::Model;
@@ -29,34 +29,11 @@ impl Model for Place {
 
     ghost Value = { PlaceData };
 
-    ghost view = { λ p. record { host = p.host; port = p.port; selector = p.selector; kind = p.kind } };
+    ghost view = { λ p.
+        record { host = p.host; port = p.port; selector = p.selector; kind = p.kind } };
 
-    ghost inverse = { λ d. record { host = d.host; port = d.port; selector = d.selector; kind = d.kind } };
-}
-
-/// The first fault of a server's address: `BadHost` (3) or `BadPort` (4).
-pub fn address_fault(host: &[u8], port: u16) -> Option<ItemFault>
-    ensures { result ≡ address_fault host.now port }
-{
-    if !is_host(host) {
-        Some(ItemFault::BadHost)
-    } else if port == 0 {
-        Some(ItemFault::BadPort)
-    } else {
-        None
-    }
-}
-
-fn place_fault(kind: u8, selector: &[u8], host: &[u8], port: u16) -> Option<ItemFault>
-    ensures { result ≡ place_fault kind selector.now host.now port }
-{
-    if !matches!(kind, b'0' | b'1') {
-        Some(ItemFault::BadKind)
-    } else if !is_selector(selector) {
-        Some(ItemFault::BadSelector)
-    } else {
-        address_fault(host, port)
-    }
+    ghost inverse = { λ d.
+        record { host = d.host; port = d.port; selector = d.selector; kind = d.kind } };
 }
 
 impl Place {
@@ -73,17 +50,17 @@ impl Place {
         host: &[u8],
         port: u16,
     ) -> Result<Place, ItemFault>
-        ensures { Makes (place_fault kind selector.now host.now port) (place_of kind selector.now host.now port) result }
+        ensures { Makes (place_fault kind selector.now host.now port)
+            (place_of kind selector.now host.now port) result }
     {
-        if let Some(fault) = place_fault(kind, selector, host, port) {
-            return Err(fault);
+        if !matches!(kind, b'0' | b'1') {
+            return Err(ItemFault::BadKind);
         }
-        let Ok(host) = ByteString::lower_cased(alloc, host) else {
-            return Err(ItemFault::NoMemory);
-        };
-        let Ok(selector) = ByteString::from_slice(alloc, selector) else {
-            return Err(ItemFault::NoMemory);
-        };
+        if !is_selector(selector) {
+            return Err(ItemFault::BadSelector);
+        }
+        let host = lowered_host(alloc, host, port)?;
+        let selector = ByteString::from_slice(alloc, selector)?;
         Ok(Place {
             host,
             port,
@@ -149,7 +126,8 @@ impl PartialEq for Place {
 impl PartialOrd for Place {
     ghost partial_cmp = { as_partial_cmp place_cmp };
 
-    ghost laws = { Cmp.partial_order_from_own_ties (Cmp.partial_order_from_total place_cmp_total) same_place_ties };
+    ghost laws = { Cmp.partial_order_from_own_ties (Cmp.partial_order_from_total place_cmp_total)
+        same_place_ties };
 
     fn partial_cmp(&self, other: &Place) -> Option<Ordering> {
         Some(self.cmp(other))

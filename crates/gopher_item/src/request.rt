@@ -3,19 +3,30 @@
 ghost use Rattle.std.specs.Prelude.{◌≡◌};
 ghost use Rattle.gopher_item.specs.Request.{ReadsRequest};
 
-use crate::byte_string::ByteString;
-use crate::bytes::is_selector;
+use crate::bytes::ByteString;
 use crate::fault::RequestFault;
+use crate::fields::is_selector;
 use crate::item::field;
-use std::alloc::Global;
+use std::alloc::{AllocError, Global};
 
 /// A request (RFC 1436, sections 2 and 3.7).
-#[derive(Debug, Drop)]
+#[derive(Debug, Drop, PartialEq, Eq)]
 pub struct Request {
     /// What is asked for; empty for the top menu.
     pub selector: ByteString,
     /// What is searched for, where the line has a TAB.
     pub search: Option<ByteString>,
+}
+
+impl Clone for Request {
+    ghost is_clone = { λ request copy. copy ≡ request };
+
+    fn clone(&self) -> Result<Request, AllocError> {
+        Ok(Request {
+            selector: self.selector.clone()?,
+            search: self.search.clone()?,
+        })
+    }
 }
 
 /// Reads a request line, given without its end.
@@ -34,9 +45,7 @@ pub fn read_request(alloc: Global, line: &[u8]) -> Result<Request, RequestFault>
     if !is_selector(selector) {
         return Err(RequestFault::BadSelector);
     }
-    let Ok(selector) = ByteString::from_slice(alloc, selector) else {
-        return Err(RequestFault::NoMemory);
-    };
+    let selector = ByteString::from_slice(alloc, selector)?;
     let Some(rest) = rest else {
         return Ok(Request {
             selector,
@@ -44,9 +53,7 @@ pub fn read_request(alloc: Global, line: &[u8]) -> Result<Request, RequestFault>
         });
     };
     let (search, _) = field(rest);
-    let Ok(search) = ByteString::from_slice(alloc, search) else {
-        return Err(RequestFault::NoMemory);
-    };
+    let search = ByteString::from_slice(alloc, search)?;
     Ok(Request {
         selector,
         search: Some(search),

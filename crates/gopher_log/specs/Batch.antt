@@ -34,3 +34,6 @@ dropped_line dropped = codes "# dropped " ++ decimal dropped ++ codes "\n"
 -- the lines, and behind them that of the dropped requests, if any were dropped
 abbrev pub all_told : BatchData → List ℕ
 all_told batch = if batch.dropped == 0 then batch.written else batch.written ++ dropped_line batch.dropped
+
+abbrev pub with_told : BatchData → BatchData
+with_told batch = record { written = all_told batch; dropped = 0 }

@@ -1,5 +1,5 @@
 -- Moments of Coordinated Universal Time, and how they are written (RFC 3339, section 5.6).
-use Rattle.std.specs.Prelude.{◌≡◌, ℕ, ◌+◌, ◌/◌, ◌%◌, pos, unsigned_abs, List, [], ◌∷◌, ◌++◌, codes}
+use Rattle.std.specs.Prelude.{◌≡◌, ◌<◌, ℕ, ◌+◌, ◌/◌, ◌%◌, pos, unsigned_abs, List, [], ◌∷◌, ◌++◌, codes}
 use Rattle.jiff_core.specs.declared.civil.date.Date.{Date}
 use Rattle.jiff_core.specs.Date.{epoch_day}
 use Rattle.gopher_log.specs.declared.moment.Moment.{Moment}
@@ -10,6 +10,10 @@ pub record IsMomentAt (micros : ℕ) (moment : Moment) : Type 0 where
   pub day : epoch_day moment.date ≡ pos (micros / 86_400_000_000)
   pub second : moment.second ≡ micros / 1_000_000 % 86_400
   pub micro : moment.micro ≡ micros % 1_000_000
+
+-- the day is past the last one of the year 9999
+abbrev pub IsPastLastDay : ℕ → Type 0
+IsPastLastDay micros = 2_932_896 < micros / 86_400_000_000
 
 -- the last two digits of a number
 abbrev pub pair : ℕ → List ℕ

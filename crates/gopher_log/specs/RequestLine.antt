@@ -14,6 +14,9 @@ pub record RequestData : Type 0 where
   pub sent : ℕ
   pub micros : ℕ
 
+abbrev pub request_with : Moment → List ℕ → List ℕ → ℕ → ℕ → RequestData
+request_with ended peer asked sent micros = record { ended = ended; peer = peer; asked = asked; sent = sent; micros = micros }
+
 -- what stands before the first TAB of a line
 abbrev pub selector_of : List ℕ → List ℕ
 selector_of asked = first_field (fields_of asked)

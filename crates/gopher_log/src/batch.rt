@@ -1,7 +1,7 @@
 //! Lines gathered before they are written.
 
 ghost use Rattle.std.specs.Prelude.{◌≡◌, OnOk, OnErr};
-ghost use Rattle.gopher_log.specs.Batch.{is_full, is_empty, with_line, with_dropped, with_request, all_told, no_lines};
+ghost use Rattle.gopher_log.specs.Batch.{is_full, is_empty, with_line, with_dropped, with_request, with_told, no_lines};
 
 use crate::request_line::{RequestLine, push_request};
 use gopher_item::NoMemory;
@@ -96,7 +96,7 @@ impl Batch {
     ///
     /// Refused only where memory is (90); the batch is as it was.
     pub fn tell_dropped(&mut self) -> Result<(), NoMemory>
-        ensures told { OnOk result (self.new ≡ record { written = all_told self.old; dropped = 0 }) }
+        ensures told { OnOk result (self.new ≡ with_told self.old) }
         ensures refused { OnErr result (self.new ≡ self.old) }
     {
         if self.dropped == 0 {

@@ -1,7 +1,7 @@
 //! Moments, and how the log writes them.
 
-ghost use Rattle.std.specs.Prelude.{◌≡◌, ◌++◌, ◌<◌, ◌/◌, OnOk, MatchOption};
-ghost use Rattle.gopher_log.specs.Moment.{IsMomentAt, pair, moment_bytes, day_bytes, clock_bytes, fraction_bytes};
+ghost use Rattle.std.specs.Prelude.{◌≡◌, ◌++◌, OnOk, MatchOption};
+ghost use Rattle.gopher_log.specs.Moment.{IsMomentAt, IsPastLastDay, pair, moment_bytes, day_bytes, clock_bytes, fraction_bytes};
 
 use jiff_core::civil::Date;
 use std::alloc::AllocError;
@@ -23,7 +23,7 @@ pub struct Moment {
 impl Moment {
     /// The moment so many microseconds after the beginning of 1970. None after the year 9999.
     pub fn at(micros: u64) -> Option<Moment>
-        ensures { MatchOption result (2_932_896 < micros / 86_400_000_000) (λ moment. IsMomentAt micros moment) }
+        ensures { MatchOption result (IsPastLastDay micros) (IsMomentAt micros) }
     {
         let Ok(date) = Date::from_unix_epoch_day((micros / DAY) as i64) else {
             return None;

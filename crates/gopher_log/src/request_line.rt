@@ -27,11 +27,11 @@ pub struct RequestLine<'a> {
 }
 
 impl<'a> Model for RequestLine<'a> {
-    ghost use Rattle.gopher_log.specs.RequestLine.{RequestData};
+    ghost use Rattle.gopher_log.specs.RequestLine.{RequestData, request_with};
 
     ghost Value = { RequestData };
 
-    ghost view = { λ r. record { ended = r.ended; peer = r.peer.now; asked = r.asked.now; sent = r.sent; micros = r.micros } };
+    ghost view = { λ r. request_with r.ended r.peer.now r.asked.now r.sent r.micros };
 }
 
 // The selector of a line.

@@ -1,14 +1,15 @@
 -- The first bytes of words as numbers are in the order of the words.
-use Rattle.std.proofs.Common.{◌≡◌, ◌⊎◌, ℕ, zero, suc, ◌+◌, ◌*◌, ◌^◌, ◌<◌, ◌≤◌, List, [], ◌∷◌, length, drop, get_or, refl, sym, ap, ◌∙◌, inl, inr, arith}
+use Rattle.std.proofs.Common.{◌≡◌, ◌⊎◌, ℕ, zero, suc, ◌+◌, ◌*◌, ◌^◌, ◌<◌, ◌≤◌, ◌==◌, Bool, List, [], ◌∷◌, length, drop, get_or, refl, sym, ap, ◌∙◌, inl, inr, arith}
 use Rattle.std.proofs.lemmas.Bool.{lt-ltb, le-ltb, eq-eqb, ne_eqb, cases_order}
 use Rattle.std.proofs.lemmas.List.{at_drop_more, at_drop_all, get_or_past}
 use Rattle.std.proofs.Math.Nat.{pow-suc, one-le-pow, add-mul, mul_assoc, mul_comm, mul-le-mul_right}
-use Rattle.std.specs.Ordering.{nat_cmp, ordering_then, ordering_reverse}
-use Rattle.std.specs.Cmp.Lexicographic.{nat_list_cmp_total}
+use Rattle.std.specs.Ordering.{nat_cmp, is_eq, ordering_then, ordering_reverse}
+use Rattle.std.specs.Cmp.Lexicographic.{nat_list_cmp_total, texts_ties}
 use Rattle.std.specs.declared.cmp.Ordering.{Ordering}
-use Rattle.std.specs.declared.cmp.Ordering.TheVariants.{Less, Equal}
+use Rattle.std.specs.declared.cmp.Ordering.TheVariants.{Less, Equal, Greater}
 use Rattle.gopher_page.specs.Numbered.{leading, AreBytes}
-use Rattle.gopher_page.proofs.Tallies.{compare}
+use Rattle.gopher_page.specs.Words.{same_word}
+use Rattle.gopher_page.proofs.AddedWords.{compare, not_same}
 
 -- ---- the number, byte by byte
 
@@ -45,7 +46,7 @@ leading_more number byte i count word where_it_is is =
 
 -- ---- the order
 
-leading_below : (count : ℕ) (word : List ℕ) → AreBytes word → leading count word < 256 ^ count
+pub leading_below : (count : ℕ) (word : List ℕ) → AreBytes word → leading count word < 256 ^ count
 unfolding leading
 leading_below zero word bytes = omega arith
 leading_below (suc count) [] bytes = omega (arith, one-le-pow (suc count) 256 (omega arith))
@@ -80,3 +81,66 @@ ordered_by_number r m n count a b p q is_m is_n is apart = by (cases_order m n)
     by (inr (inl below)) = (is ∙ rw (lt-ltb m n below)) ∙ sym (leading_less count a b p q (omega (arith, is_m, is_n)))
     by (inr (inr above)) =
         (is ∙ rw (le-ltb m n (omega arith), ne_eqb m n (λ same. omega arith))) ∙ sym (nat_list_cmp_total.antisymm a b ∙ ap ordering_reverse (leading_less count b a q p (omega (arith, is_m, is_n))))
+
+-- ---- two words that have one number
+
+less_number : (m n : ℕ) → m < n → nat_cmp m n ≡ Less
+less_number m n below = rw (lt-ltb m n below)
+
+same_number : (m n : ℕ) → m ≡ n → nat_cmp m n ≡ Equal
+same_number m n same = rw (le-ltb m n (omega arith), eq-eqb m n same)
+
+more_number : (m n : ℕ) → n < m → nat_cmp m n ≡ Greater
+more_number m n above = rw (le-ltb m n (omega arith), ne_eqb m n (λ same. omega arith))
+
+next_numbers : (m n : ℕ) → nat_cmp m n ≡ nat_cmp (suc m) (suc n)
+next_numbers m n = by (cases_order m n)
+  where
+    by : (m ≡ n) ⊎ ((m < n) ⊎ (n < m)) → nat_cmp m n ≡ nat_cmp (suc m) (suc n)
+    by (inl same) = same_number m n same ∙ sym (same_number (suc m) (suc n) (omega arith))
+    by (inr (inl below)) = less_number m n below ∙ sym (less_number (suc m) (suc n) (omega arith))
+    by (inr (inr above)) = more_number m n above ∙ sym (more_number (suc m) (suc n) (omega arith))
+
+-- come as their lengths do, where the number is of all their bytes
+pub tied_order : (count : ℕ) (a b : List ℕ) → AreBytes a → AreBytes b → length a ≤ count → length b ≤ count → leading count a ≡ leading count b → compare a b ≡ nat_cmp (length a) (length b)
+unfolding leading
+tied_order count [] [] p q s t e = sym (same_number 0 0 refl)
+tied_order count [] (y ∷ b) p q s t e = sym (less_number 0 (suc (length b)) (omega arith))
+tied_order count (x ∷ a) [] p q s t e = sym (more_number (suc (length a)) 0 (omega arith))
+tied_order zero (x ∷ a) (y ∷ b) p q s t e = absurd (omega (arith, s))
+tied_order (suc count) (x ∷ a) (y ∷ b) p q s t e = by (cases_order x y) (tied_order count a b (λ i. p (suc i)) (λ i. q (suc i)) (omega (arith, s)) (omega (arith, t)))
+  where
+    by : (x ≡ y) ⊎ ((x < y) ⊎ (y < x)) → (leading count a ≡ leading count b → compare a b ≡ nat_cmp (length a) (length b)) → ordering_then (nat_cmp x y) (compare a b) ≡ nat_cmp (suc (length a)) (suc (length b))
+    by (inl same) rest =
+        let products : x * 256 ^ count ≡ y * 256 ^ count = ap (λ z. z * 256 ^ count) same in
+        ap (λ o. ordering_then o (compare a b)) (same_number x y same) ∙ rest (omega (arith, e, products)) ∙ next_numbers (length a) (length b)
+    by (inr (inl below)) rest =
+        let more : suc x ≤ y = omega arith in
+        absurd (omega (arith, e, mul-le-mul_right {m = suc x} {n = y} (256 ^ count) more, add-mul x 1 (256 ^ count), leading_below count a (λ i. p (suc i))))
+    by (inr (inr above)) rest =
+        let more : suc y ≤ x = omega arith in
+        absurd (omega (arith, e, mul-le-mul_right {m = suc y} {n = x} (256 ^ count) more, add-mul y 1 (256 ^ count), leading_below count b (λ i. q (suc i))))
+
+-- and so are the same just where they are as long
+pub tied_same : (b : Bool) (word other : List ℕ) → AreBytes word → AreBytes other → length word ≤ 8 → length other ≤ 8 → leading 8 word ≡ leading 8 other → b ≡ (length word == length other) → b ≡ same_word word other
+tied_same b word other p q s t e is = is ∙ by (cases_order (length word) (length other))
+  where
+    order : compare word other ≡ nat_cmp (length word) (length other)
+    order = tied_order 8 word other p q s t e
+
+    by : (length word ≡ length other) ⊎ ((length word < length other) ⊎ (length other < length word)) → (length word == length other) ≡ same_word word other
+    by (inl same) = eq-eqb (length word) (length other) same ∙ sym (texts_ties word other ∙ ap is_eq (order ∙ same_number (length word) (length other) same))
+    by (inr (inl below)) = ne_eqb (length word) (length other) (λ same. omega arith) ∙ sym (not_same word other Less (order ∙ less_number (length word) (length other) below) refl)
+    by (inr (inr above)) = ne_eqb (length word) (length other) (λ same. omega arith) ∙ sym (not_same word other Greater (order ∙ more_number (length word) (length other) above) refl)
+
+pub equal_numbers : (m n : ℕ) → nat_cmp m n ≡ Equal → m ≡ n
+equal_numbers m n e = by (cases_order m n)
+  where
+    by : (m ≡ n) ⊎ ((m < n) ⊎ (n < m)) → m ≡ n
+    by (inl same) = same
+    by (inr (inl below)) =
+        let both : Less ≡ Equal = sym (less_number m n below) ∙ e in
+        absurd cc
+    by (inr (inr above)) =
+        let both : Greater ≡ Equal = sym (more_number m n above) ∙ e in
+        absurd cc

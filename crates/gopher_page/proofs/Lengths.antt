@@ -10,11 +10,12 @@ use denote.Ref.{Bor}
 use Rattle.std.specs.Ordering.{is_lt}
 use Rattle.std.specs.declared.cmp.Ordering.{Ordering}
 use Rattle.std.specs.declared.cmp.Ordering.TheVariants.{Less, Equal, Greater}
-use Rattle.std.specs.Cmp.Lexicographic.{bytes_decides}
+use Rattle.std.specs.Cmp.Lexicographic.{bytes_decides, nat_list_cmp_total}
 use Rattle.gopher_page.specs.Words.{same_word}
 use Rattle.gopher_page.specs.Counts.{counts_of, sorted_words, joined_run, run_lengths}
 use Rattle.gopher_page.specs.Packed.{AreCounts}
-use Rattle.gopher_page.proofs.Tallies.{compare, equal_words, flipped, not_same, all_after, sorted_from, sorted_nil, absent_along, with_values, positive_counts}
+use Rattle.gopher_page.proofs.SortedInserts.{flipped, all_after, sorted_inserts}
+use Rattle.gopher_page.proofs.AddedWords.{compare, equal_words, not_same, absent_along, with_values, positive_counts}
 
 -- ---- runs
 
@@ -110,7 +111,7 @@ less_from a b rises apart = by (compare b a) refl rises
     by : (r : Ordering) → compare b a ≡ r → is_lt r ≡ false → compare a b ≡ Less
     by Less e g = absurd (both_ways _ g refl)
     by Equal e g = absurd (both_ways _ apart (subst (λ w. same_word a w ≡ true) (sym (equal_words b a e)) (itself a)))
-    by Greater e g = flipped b a e
+    by Greater e g = flipped nat_list_cmp_total b a e
 
 ordered_with : (word next : List ℕ) (n m : ℕ) (more : List (List ℕ × ℕ)) → is_lt (compare next word) ≡ false → IsStrictlySortedBy compare (keys ((next, m) ∷ more)) → IsStrictlySortedBy compare (keys (joined_run word n ((next, m) ∷ more)))
 unfolding IsStrictlySortedBy
@@ -120,14 +121,14 @@ ordered_with word next n m more rises sorted = by (same_word word next) refl
     by true e = subst (λ w. IsStrictlySortedBy compare (w ∷ keys more)) (sym ((bytes_decides word next).0 e)) sorted
     by false e =
         let less : compare word next ≡ Less = less_from word next rises e in
-        ((less, all_after word next (keys more) less sorted.0), sorted)
+        ((less, all_after nat_list_cmp_total word next (keys more) less sorted.0), sorted)
 
 ordered_one : (word : List ℕ) (n : ℕ) → IsStrictlySortedBy compare (keys ((word, n) ∷ []))
 unfolding IsStrictlySortedBy
 ordered_one word n = (tt, tt)
 
 pub ordered_lengths : (words : List (List ℕ)) → Rise words → IsStrictlySortedBy compare (keys (run_lengths words))
-ordered_lengths [] rise = sorted_nil
+ordered_lengths [] rise = sorted_inserts nat_list_cmp_total []
 ordered_lengths (word ∷ []) rise = ordered_one word 1
 ordered_lengths (word ∷ next ∷ words) rise =
     let first = first_run next 1 (run_lengths words) in
@@ -226,7 +227,7 @@ amount_values sought value (word ∷ words) sorted = amount-cons sought (word, v
 
 amount_counts : (sought : List ℕ) (words : List (List ℕ)) → amount sought (counts_of words) ≡ count_by (same_word sought) words
 unfolding counts_of
-amount_counts sought words = amount_values sought (λ word. count_by (same_word word) words) (sorted_words words) (sorted_from [] words sorted_nil) ∙ by (list_any (same_word sought) (sorted_words words)) refl
+amount_counts sought words = amount_values sought (λ word. count_by (same_word word) words) (sorted_words words) (sorted_inserts nat_list_cmp_total words) ∙ by (list_any (same_word sought) (sorted_words words)) refl
   where
     by : (t : Bool) → list_any (same_word sought) (sorted_words words) ≡ t → cond t (count_by (same_word sought) words) 0 ≡ count_by (same_word sought) words
     by true e = refl
@@ -235,7 +236,7 @@ amount_counts sought words = amount_values sought (λ word. count_by (same_word 
 -- ---- such lists are equal where they count alike
 
 absent_first : (first run : List ℕ × ℕ) (runs : List (List ℕ × ℕ)) → compare first.0 run.0 ≡ Less → AllByRecursion (λ y. compare run.0 y ≡ Less) (keys runs) → amount first.0 (run ∷ runs) ≡ 0
-absent_first first run runs less after = amount_after first.0 (run ∷ runs) (less, all_after first.0 run.0 (keys runs) less after)
+absent_first first run runs less after = amount_after first.0 (run ∷ runs) (less, all_after nat_list_cmp_total first.0 run.0 (keys runs) less after)
 
 present_first : (run : List ℕ × ℕ) (runs : List (List ℕ × ℕ)) → amount run.0 (run ∷ runs) ≡ run.1 + amount run.0 runs
 present_first run runs = amount-cons run.0 run runs ∙ ap (λ t. cond t run.1 0 + amount run.0 runs) (itself run.0)
@@ -250,7 +251,7 @@ counted_alike (first ∷ left) (run ∷ right) a b p q same = by (compare first.
   where
     by : (r : Ordering) → compare first.0 run.0 ≡ r → (((sought : List ℕ) → amount sought left ≡ amount sought right) → left ≡ right) → first ∷ left ≡ run ∷ right
     by Less e rest = absurd (omega (arith, same first.0, present_first first left, absent_first first run right e b.0, p.0))
-    by Greater e rest = absurd (omega (arith, same run.0, present_first run right, absent_first run first left (flipped first.0 run.0 e) a.0, q.0))
+    by Greater e rest = absurd (omega (arith, same run.0, present_first run right, absent_first run first left (flipped nat_list_cmp_total first.0 run.0 e) a.0, q.0))
     by Equal e rest =
         let word : first.0 ≡ run.0 = equal_words first.0 run.0 e in
         let moved : amount first.0 (run ∷ right) ≡ amount run.0 (run ∷ right) = ap (λ w. amount w (run ∷ right)) word in
@@ -275,7 +276,7 @@ counted_in_order sorted words rise same =
     key_of value (word ∷ some) = ap (λ l. word ∷ l) (key_of value some)
 
     ordered : IsStrictlySortedBy compare (keys (counts_of words))
-    ordered = subst (IsStrictlySortedBy compare) (sym (key_of (λ word. count_by (same_word word) words) (sorted_words words))) (sorted_from [] words sorted_nil)
+    ordered = subst (IsStrictlySortedBy compare) (sym (key_of (λ word. count_by (same_word word) words) (sorted_words words))) (sorted_inserts nat_list_cmp_total words)
 
 -- ---- words that were sorted
 

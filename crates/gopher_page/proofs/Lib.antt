@@ -6,10 +6,12 @@ mod Tokens
 mod Packing
 mod Joining
 pub mod Order
+pub mod Sought
 mod Search
-mod Tallies
+pub mod SortedInserts
+mod AddedWords
 mod Lengths
-mod Leading
+pub mod Leading
 pub mod Terms
 pub mod OneMoreTerm
 mod Short

@@ -1,6 +1,6 @@
 -- The words of lines are those that stand in the joined lines in lower case; how many there are, and their bytes.
-use Rattle.std.proofs.Common.{◌≡◌, ℕ, suc, ◌+◌, ◌<◌, ◌≤◌, Bool, true, false, cond, ◌&&◌, ◌||◌, leb, ltb, List, [], ◌∷◌, ◌++◌, length, map, filter, sum_by, refl, sym, ap, ◌∙◌, append_assoc, arith}
-use Rattle.std.proofs.lemmas.Bool.{le-leb, leb-true, ltb-true, both_ways}
+use Rattle.std.proofs.Common.{◌≡◌, ℕ, ◌+◌, ◌≤◌, Bool, true, false, cond, ◌&&◌, leb, ltb, List, [], ◌∷◌, ◌++◌, length, map, filter, sum_by, refl, sym, ap, ◌∙◌, append_assoc, arith}
+use Rattle.std.proofs.lemmas.Bool.{ltb-true}
 use Rattle.std.proofs.lemmas.Bool.Decides.{nat_tests}
 use Rattle.std.proofs.lemmas.List.{length-append, length-map, map-append}
 use Rattle.std.proofs.lemmas.List.Elements.{filter-append}
@@ -8,7 +8,7 @@ use Rattle.std.proofs.lemmas.List.Sums.{sum_by-cons, sum_by-append}
 use Rattle.std.specs.List.{slice_split, onto_first, flat_map}
 use Rattle.gopher_item.proofs.Splits.{some_part}
 use Rattle.gopher_item.specs.Place.{lower_case}
-use Rattle.gopher_page.specs.Words.{is_gap, is_word, is_word_byte, bare_words, words_of}
+use Rattle.gopher_page.specs.Words.{is_gap, is_word, bare_words, words_of}
 use Rattle.gopher_page.proofs.Short.{split_size, filter_size, map_size}
 
 -- ---- lower case

@@ -3,39 +3,20 @@ use Rattle.std.proofs.Common.{◌≡◌, ◌⊎◌, ℕ, zero, suc, ◌+◌, ◌
 use Rattle.std.proofs.lemmas.Bool.{cases_lt}
 use Rattle.std.proofs.lemmas.List.{length-map, take_all}
 use Rattle.std.proofs.lemmas.List.Sums.{sum_by-cons, sum_by_more, sum_by_more_le_part, sum_by-take-drop}
-use Rattle.std.proofs.lemmas.Map.Keys.{Less-from_sorted}
-use Rattle.std.specs.Ordering.{nat_cmp, is_lt}
-use Rattle.std.specs.Cmp.Lexicographic.{slice_cmp}
-use Rattle.gopher_page.specs.Counts.{is_before, is_meant, word_at, count_where, count_meant}
+use Rattle.gopher_page.specs.Counts.{is_before, is_meant, word_at, AreBefore, NoneBefore, count_where, count_meant}
 use Rattle.gopher_page.specs.Packed.{AreCounts}
-use Rattle.gopher_page.proofs.Order.{before-trans, not_before-trans, meant_before, meant_past}
+use Rattle.gopher_page.proofs.Order.{meant_before, meant_past}
+use Rattle.gopher_page.proofs.Sought.{in_order, all_before as before_all, none_before_from as before_none}
 
-pub in_order : (counts : List (List ℕ × ℕ)) (i j : ℕ) → AreCounts counts → i < j → j < length counts → is_before (word_at counts i) (word_at counts j) ≡ true
-in_order counts i j sound less within =
-    let inside : j < length (map (λ entry. entry.0) counts) = omega (arith, length-map counts (λ entry. entry.0)) in
-    ap is_lt (Less-from_sorted (slice_cmp nat_cmp) (map (λ entry. entry.0) counts) i j [] sound.ordered less inside)
+abbrev words_in : List (List ℕ × ℕ) → List (List ℕ)
+words_in counts = map (λ entry. entry.0) counts
 
--- where one word comes before what is sought, so does each up to it
-pub all_before : (counts : List (List ℕ × ℕ)) (sought : List ℕ) (middle : ℕ) → AreCounts counts → middle < length counts → is_before (word_at counts middle) sought ≡ true
-    → (k : ℕ) → k < middle + 1 → is_before (word_at counts k) sought ≡ true
-all_before counts sought middle sound within here k below = by (cases_lt k middle)
-  where
-    by : (k < middle) ⊎ (middle ≤ k) → is_before (word_at counts k) sought ≡ true
-    by (inl less) = before-trans (word_at counts k) (word_at counts middle) sought (in_order counts k middle sound less within) here
-    by (inr past) =
-        let same : middle ≡ k = omega arith in
-        subst (λ i. is_before (word_at counts i) sought ≡ true) same here
+pub all_before : (counts : List (List ℕ × ℕ)) (sought : List ℕ) (middle : ℕ) → AreCounts counts → middle < length counts → is_before (word_at counts middle) sought ≡ true → AreBefore counts (middle + 1) sought
+all_before counts sought middle sound within = before_all (words_in counts) sound.ordered sought middle (omega (arith, within, length-map counts (λ entry. entry.0)))
 
--- and where one doesn't, nor does any from it on
-pub none_before_from : (counts : List (List ℕ × ℕ)) (sought : List ℕ) (middle : ℕ) → AreCounts counts → is_before (word_at counts middle) sought ≡ false
-    → (k : ℕ) → middle ≤ k → k < length counts → is_before (word_at counts k) sought ≡ false
-none_before_from counts sought middle sound here k from within = by (cases_lt middle k)
-  where
-    by : (middle < k) ⊎ (k ≤ middle) → is_before (word_at counts k) sought ≡ false
-    by (inl less) = not_before-trans (word_at counts middle) (word_at counts k) sought here (in_order counts middle k sound less within)
-    by (inr past) =
-        let same : middle ≡ k = omega arith in
-        subst (λ i. is_before (word_at counts i) sought ≡ false) same here
+pub none_before_from : (counts : List (List ℕ × ℕ)) (sought : List ℕ) (middle : ℕ) → AreCounts counts → is_before (word_at counts middle) sought ≡ false → NoneBefore counts middle sought
+none_before_from counts sought middle sound here k from within =
+    before_none (words_in counts) sound.ordered sought middle here k from (omega (arith, within, length-map counts (λ entry. entry.0)))
 
 -- ---- sums
 
@@ -66,7 +47,7 @@ entry_at (first ∷ counts) (suc i) entry d e =
     (omega (arith, rest.0), rest.1, rest.2)
 
 module _ (is_prefix : Bool) (sought : List ℕ) (counts : List (List ℕ × ℕ)) (start : ℕ) (sound : AreCounts counts)
-    (before : (k : ℕ) → k < start → is_before (word_at counts k) sought ≡ true) (after : (k : ℕ) → start ≤ k → k < length counts → is_before (word_at counts k) sought ≡ false) where
+    (before : AreBefore counts start sought) (after : NoneBefore counts start sought) where
   -- no word before the start is meant
   pub meant_none : 0 ≡ count_where (is_meant is_prefix sought) (take start counts)
   meant_none = sym (nothing_before (is_meant is_prefix sought) start counts (λ k below within. meant_before is_prefix sought (word_at counts k) (before k below)))
@@ -83,7 +64,7 @@ module _ (is_prefix : Bool) (sought : List ℕ) (counts : List (List ℕ × ℕ)
     where
       later_at : (k : ℕ) → i ≤ k → k < length counts → (i < k) ⊎ (k ≤ i) → is_meant is_prefix sought (word_at counts i) ≡ false → i < length counts → is_meant is_prefix sought (word_at counts k) ≡ false
       later_at k past within (inl less) here inside =
-          meant_past is_prefix sought (word_at counts i) (word_at counts k) (after i from inside) here (in_order counts i k sound less within)
+          meant_past is_prefix sought (word_at counts i) (word_at counts k) (after i from inside) here (in_order (words_in counts) sound.ordered i k less (omega (arith, within, length-map counts (λ entry. entry.0))))
       later_at k past within (inr same) here inside =
           let equal : i ≡ k = omega arith in
           subst (λ j. is_meant is_prefix sought (word_at counts j) ≡ false) equal here

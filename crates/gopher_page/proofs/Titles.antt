@@ -1,8 +1,8 @@
 -- The blank bytes at both ends of a line, before they are turned into spaces.
-use Rattle.std.proofs.Common.{◌≡◌, ℕ, true, false, cond, eqb, List, [], ◌∷◌, ◌++◌, map, take, refl, sym, ap, ◌∙◌}
+use Rattle.std.proofs.Common.{◌≡◌, ℕ, true, false, cond, eqb, List, [], ◌∷◌, ◌++◌, map, take, sym, ap, ◌∙◌}
 use Rattle.std.specs.Prelude.{reverse}
 use Rattle.std.proofs.lemmas.List.{take-map, map-append, reverse-append, reverse-reverse}
-use Rattle.gopher_item.specs.MenuLine.{trim_front, trim_spaces}
+use Rattle.gopher_item.specs.MenuLine.{trim_front}
 use Rattle.gopher_page.specs.Page.{plain_byte, title_text}
 
 -- a byte that is no blank stays in front, and a blank goes

@@ -1,5 +1,5 @@
 -- How often words stand in a page.
-use Rattle.std.specs.Prelude.{◌≡◌, ℕ, ◌+◌, ◌-◌, Bool, List, [], ◌∷◌, map, drop, nat_eq, slice_index_or, count_by, if◌then◌else◌}
+use Rattle.std.specs.Prelude.{◌≡◌, ℕ, ◌+◌, ◌-◌, ◌<◌, ◌≤◌, Bool, true, false, List, [], ◌∷◌, length, map, drop, nat_eq, slice_index_or, count_by, if◌then◌else◌}
 use Rattle.std.specs.List.{fold, sum_by, starts_with}
 use Rattle.std.specs.Ordering.{nat_cmp, is_lt}
 use Rattle.std.specs.BTreeSet.{insert_key}
@@ -47,3 +47,11 @@ is_before a b = is_lt (slice_cmp nat_cmp a b)
 -- the word at an index, or none past the end
 abbrev pub word_at : List (List ℕ × ℕ) → ℕ → List ℕ
 word_at counts index = slice_index_or (map (λ entry. entry.0) counts) index []
+
+-- the words up to this index come before the one that is sought
+abbrev pub AreBefore : List (List ℕ × ℕ) → ℕ → List ℕ → Type 0
+AreBefore counts end sought = (k : ℕ) → k < end → is_before (word_at counts k) sought ≡ true
+
+-- none of the words from this index on comes before the one that is sought
+abbrev pub NoneBefore : List (List ℕ × ℕ) → ℕ → List ℕ → Type 0
+NoneBefore counts start sought = (k : ℕ) → start ≤ k → k < length counts → is_before (word_at counts k) sought ≡ false

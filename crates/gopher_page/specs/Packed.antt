@@ -1,6 +1,6 @@
 -- Words with their counts, packed: the words' bytes one after another, where each word ends, and how
 -- often each was counted.
-use Rattle.std.specs.Prelude.{ℕ, zero, suc, ◌≡◌, ◌+◌, ◌-◌, ◌*◌, ◌<◌, ◌≤◌, List, [], ◌∷◌, length, take, drop, map}
+use Rattle.std.specs.Prelude.{ℕ, zero, suc, ◌≡◌, ◌+◌, ◌-◌, ◌*◌, ◌<◌, ◌≤◌, List, [], ◌∷◌, Option, length, take, drop, map, slice_get}
 use Rattle.std.specs.List.{sum_by, AllByRecursion}
 use Rattle.std.specs.List.Sorted.{IsStrictlySortedBy}
 use Rattle.std.specs.Ordering.{nat_cmp}
@@ -17,6 +17,10 @@ abbrev pub unpack : List ℕ → ℕ → List ℕ → List ℕ → List (List �
 unpack bytes start [] counts = []
 unpack bytes start (end ∷ ends) [] = []
 unpack bytes start (end ∷ ends) (count ∷ counts) = (take (end - start) (drop start bytes), count) ∷ unpack bytes end ends counts
+
+-- the word at an index, with its count
+abbrev pub part_at : List ℕ → List ℕ → List ℕ → ℕ → Option (List ℕ × ℕ)
+part_at bytes ends counts index = slice_get (unpack bytes 0 ends counts) index
 
 -- where the word at an index starts
 abbrev pub start_at : ℕ → List ℕ → ℕ → ℕ

@@ -1,11 +1,11 @@
 -- A page: what a catalogue keeps of a reply.
-use Rattle.std.specs.Prelude.{ℕ, Bool, List, [], length, take, map, filter, Option, None, ◌==◌, nat_lt, if◌then◌else◌}
+use Rattle.std.specs.Prelude.{◌≡◌, ℕ, Bool, List, [], ◌∷◌, length, take, reverse, map, filter, Option, None, ◌==◌, nat_lt, if◌then◌else◌}
 use Rattle.std.specs.List.{filter_map, find, flat_map}
 use Rattle.std.specs.Option.{option_map_or}
 use Rattle.gopher_item.specs.Bytes.{is_control}
 use Rattle.gopher_item.specs.Lines.{lines_of}
-use Rattle.gopher_item.specs.Place.{PlaceData, distinct}
-use Rattle.gopher_item.specs.MenuLine.{place_named, trim_spaces}
+use Rattle.gopher_item.specs.Place.{PlaceData, same_place, distinct}
+use Rattle.gopher_item.specs.MenuLine.{place_named, trim_front, trim_spaces}
 use Rattle.gopher_item.specs.Menu.{entries_of}
 use Rattle.gopher_item.specs.declared.menu.Entry.{Entry}
 use Rattle.gopher_item.specs.declared.menu.Entry.TheVariants.{Item, Odd}
@@ -13,6 +13,7 @@ use Rattle.gopher_scope.specs.Scope.{ScopeData, allows}
 use Rattle.gopher_page.specs.Words.{words_of}
 use Rattle.gopher_page.specs.Counts.{counts_of}
 use Rattle.gopher_text.specs.Text.{text_lines}
+use Rattle.indexmap.specs.IndexSet.{insert_all}
 
 -- a page as data
 pub record PageData : Type 0 where
@@ -21,14 +22,29 @@ pub record PageData : Type 0 where
   pub links : List PlaceData
   pub counts : List (List ℕ × ℕ)
 
+abbrev pub page_with : PlaceData → List ℕ → List PlaceData → List (List ℕ × ℕ) → PageData
+page_with place title links counts = record { place = place; title = title; links = links; counts = counts }
+
 -- the place that an entry of a menu names, where it names one
 abbrev pub place_of_entry : Entry → Option PlaceData
 place_of_entry (Item line) = place_named line
 place_of_entry (Odd bytes) = None
 
+-- the allowed places that entries name
+abbrev pub allowed_places : ScopeData → List Entry → List PlaceData
+allowed_places scope entries = filter (allows scope) (filter_map place_of_entry entries)
+
+-- the links after one more entry
+abbrev pub with_entry : ScopeData → List PlaceData → Entry → List PlaceData
+with_entry scope links entry = insert_all same_place links (allowed_places scope (entry ∷ []))
+
+-- the links of entries: each allowed place once, in the order of first mention
+abbrev pub links_in : ScopeData → List Entry → List PlaceData
+links_in scope entries = distinct (allowed_places scope entries)
+
 -- the links of a menu: the allowed places that it names, each once, in the order of first mention
 abbrev pub menu_links : ScopeData → List ℕ → List PlaceData
-menu_links scope bytes = distinct (filter (allows scope) (filter_map place_of_entry (entries_of (lines_of bytes))))
+menu_links scope bytes = links_in scope (entries_of (lines_of bytes))
 
 -- a directory (type `1`, 49) has the links of its menu, and a file none
 abbrev pub links_of : ScopeData → PlaceData → List ℕ → List PlaceData
@@ -59,6 +75,10 @@ plain_byte byte = if is_control byte then 32 else byte
 abbrev pub title_text : List ℕ → List ℕ
 title_text bytes = take 69 (trim_spaces (map plain_byte bytes))
 
+-- bytes without the spaces at their end
+abbrev pub trim_back : List ℕ → List ℕ
+trim_back bytes = reverse (trim_front (reverse bytes))
+
 abbrev pub has_word : List ℕ → Bool
 has_word line = nat_lt 0 (length (words_of line))
 
@@ -72,13 +92,17 @@ title_of place lines = option_map_or title_text (find has_word lines) (place_tit
 
 -- the page of a place that has these lines and links; a word counts as often as it stands in all lines
 abbrev pub page_of_lines : PlaceData → List (List ℕ) → List PlaceData → PageData
-page_of_lines place lines links =
-    record {
-      place = place;
-      title = title_of place lines;
-      links = links;
-      counts = counts_of (flat_map words_of lines);
-    }
+page_of_lines place lines links = page_with place (title_of place lines) links (counts_of (flat_map words_of lines))
+
+abbrev pub IsPageOfLines : PlaceData → List (List ℕ) → List PlaceData → PageData → Type 0
+IsPageOfLines place lines links page = page ≡ page_of_lines place lines links
+
+-- the page of a directory, and that of a file
+abbrev pub page_of_menu : ScopeData → PlaceData → List ℕ → PageData
+page_of_menu scope place bytes = page_of_lines place (menu_page_lines bytes) (menu_links scope bytes)
+
+abbrev pub page_of_text : PlaceData → List ℕ → PageData
+page_of_text place bytes = page_of_lines place (text_lines bytes) []
 
 -- the page of a reply depends on the scope, the place and the bytes alone
 unfoldable pub page_of : ScopeData → PlaceData → List ℕ → PageData

@@ -1,8 +1,8 @@
 -- Queries: which pages they match, and how high these score.
-use Rattle.std.specs.Prelude.{◌≡◌, ◌≤◌, ℕ, Bool, IsTrue, true, false, ◌&&◌, ◌||◌, not, List, [], ◌∷◌, length, filter, nat_lt, Option, None, Some, Result, Ok, Err, if◌then◌else◌}
+use Rattle.std.specs.Prelude.{◌≡◌, ◌+◌, ◌≤◌, ℕ, Bool, IsTrue, true, false, ◌&&◌, ◌||◌, not, List, [], ◌∷◌, length, filter, slice_get, nat_lt, Option, None, Some, Result, Ok, Err, if◌then◌else◌}
 use Rattle.std.specs.List.{fold, sum_by, list_any}
-use Rattle.std.specs.Option.{option_map_or}
-use Rattle.gopher_page.specs.Words.{Token, same_word, tokens_of}
+use Rattle.std.specs.Option.{option_map, option_map_or}
+use Rattle.gopher_page.specs.Words.{Token, same_word, token_of, tokens_of}
 use Rattle.gopher_page.specs.Counts.{count_meant}
 use Rattle.gopher_page.specs.declared.fault.QueryFault.{QueryFault}
 use Rattle.gopher_page.specs.declared.fault.QueryFault.TheVariants.{NoWords, NoMemory}
@@ -42,6 +42,18 @@ terms_of (token ∷ tokens) = term_of And token ∷ terms_after And tokens
 unfoldable pub query_of : List ℕ → List TermData
 query_of text = terms_of (tokens_of text)
 
+-- the terms of a text that follows a term
+abbrev pub later_terms : List ℕ → List TermData
+later_terms text = terms_after And (tokens_of text)
+
+-- the terms where this word is the first token, and the text after it holds the others
+abbrev pub terms_from : List ℕ → Bool → List ℕ → List TermData
+terms_from word is_prefix after = terms_of (token_of (word, is_prefix) ∷ tokens_of after)
+
+-- no more terms are added than the text has bytes
+abbrev pub AddsFewTerms : {A : Type 0} → List ℕ → List A → List A → Type 0
+AddsFewTerms text old new = length new ≤ length old + length text
+
 -- how often the words that a term speaks of stand in a page with these counts
 unfoldable pub count_of_term : List (List ℕ × ℕ) → TermData → ℕ
 count_of_term counts term = count_meant term.is_prefix term.word counts
@@ -63,6 +75,13 @@ is_not operator = false
 -- the terms that `not` doesn't introduce
 unfoldable pub wanted : List TermData → List TermData
 wanted terms = filter (λ term. not (is_not term.operator)) terms
+
+-- the word of a wanted term by its index among these, and whether it is a prefix
+abbrev pub wanted_word : List TermData → ℕ → Option (List ℕ)
+wanted_word terms index = option_map (λ term. term.word) (slice_get (wanted terms) index)
+
+abbrev pub wanted_prefix : List TermData → ℕ → Option Bool
+wanted_prefix terms index = option_map (λ term. term.is_prefix) (slice_get (wanted terms) index)
 
 -- the score of a page with these counts: a word in two terms counts twice
 unfoldable pub score : List TermData → List (List ℕ × ℕ) → ℕ

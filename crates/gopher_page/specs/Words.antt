@@ -1,8 +1,17 @@
 -- The words of bytes, and the tokens of a query's text.
-use Rattle.std.specs.Prelude.{ℕ, Bool, false, ◌&&◌, ◌||◌, not, List, [], ◌∷◌, ◌++◌, length, map, filter, nat_eq, nat_lt, nat_le, ◌==◌}
-use Rattle.std.specs.List.{slice_split, zip}
+use Rattle.std.specs.Prelude.{◌≡◌, ◌+◌, ◌<◌, ◌≤◌, ℕ, Bool, false, ◌&&◌, ◌||◌, not, List, [], ◌∷◌, ◌++◌, length, map, filter, nat_eq, nat_lt, nat_le, ◌==◌}
+use Rattle.std.specs.Borrow.{Bor}
+use Rattle.std.specs.List.{flat_map, slice_split, zip}
 use Rattle.std.specs.Cmp.Lexicographic.{pointwise}
 use Rattle.gopher_item.specs.Place.{lower_case}
+
+-- the bytes of each of these lines or words
+abbrev pub texts : List (Bor (List ℕ)) → List (List ℕ)
+texts parts = map (λ part. part.now) parts
+
+-- the lines as one text, a LF (10) behind each
+abbrev pub joined_lines : List (List ℕ) → List ℕ
+joined_lines lines = flat_map (λ line. line ++ 10 ∷ []) lines
 
 -- an ASCII letter, an ASCII digit, or a byte past ASCII
 abbrev pub is_word_byte : ℕ → Bool
@@ -43,3 +52,28 @@ token_of run = record { word = map lower_case run.0; is_prefix = run.1 }
 -- the tokens of a query's text, in order: its words, each a prefix where a `*` directly follows it
 unfoldable pub tokens_of : List ℕ → List Token
 tokens_of text = map token_of (filter (λ run. is_word run.0) (runs_of text))
+
+-- ---- cuts
+
+-- bytes without a gap are one run
+abbrev pub IsOneRun : List ℕ → Type 0
+IsOneRun bytes = runs_of bytes ≡ (bytes, false) ∷ []
+
+-- what stands before the first gap of the bytes, that gap and what stands after it
+abbrev pub IsCutAtGap : List ℕ → Bor (List ℕ) × ℕ × Bor (List ℕ) → Type 0
+IsCutAtGap bytes cut = runs_of bytes ≡ (cut.0.now, cut.1 == 42) ∷ runs_of cut.2.now
+
+-- the first word of a query's text, whether a `*` directly follows it, and the text after it
+abbrev pub IsFirstToken : List ℕ → Bor (List ℕ) × Bool × Bor (List ℕ) → Type 0
+IsFirstToken text found = tokens_of text ≡ token_of (found.0.now, found.1) ∷ tokens_of found.2.now
+
+-- the first word of bytes as it stands there, and the bytes after it
+abbrev pub IsFirstWord : List ℕ → Bor (List ℕ) × Bool × Bor (List ℕ) → Type 0
+IsFirstWord bytes found = bare_words bytes ≡ found.0.now ∷ bare_words found.2.now
+
+-- both parts of a cut together are shorter than the bytes, or no longer
+abbrev pub LeavesLess : List ℕ → Bor (List ℕ) × ℕ × Bor (List ℕ) → Type 0
+LeavesLess bytes cut = length cut.0.now + length cut.2.now < length bytes
+
+abbrev pub LeavesNoMore : List ℕ → Bor (List ℕ) × Bool × Bor (List ℕ) → Type 0
+LeavesNoMore bytes found = length found.0.now + length found.2.now ≤ length bytes

@@ -1,13 +1,13 @@
 //! The words of a page with their counts, packed.
 
-ghost use Rattle.std.specs.Prelude.{◌≡◌, true, false, ℕ, ◌<◌, ◌≤◌, List, Some, ◌-◌, length, map, take, drop, slice_get, IfOk};
+ghost use Rattle.std.specs.Prelude.{◌≡◌, ◌<◌, ◌≤◌, List, Some, ◌-◌, length, take, drop, slice_get, IfOk};
 ghost use Rattle.std.specs.List.{sum_by};
 ghost use Rattle.std.specs.List.Sorted.{IsSorted};
 ghost use Rattle.std.specs.Ordering.{nat_cmp};
 ghost use Rattle.std.specs.Cmp.Lexicographic.{slice_cmp};
-ghost use Rattle.gopher_page.specs.Words.{same_word};
-ghost use Rattle.gopher_page.specs.Counts.{is_meant, count_meant, counts_of, is_before, word_at, IsRun};
-ghost use Rattle.gopher_page.specs.Packed.{AreCounts, IsChain, start_at, unpack};
+ghost use Rattle.gopher_page.specs.Words.{texts, same_word};
+ghost use Rattle.gopher_page.specs.Counts.{is_meant, count_meant, counts_of, is_before, word_at, AreBefore, NoneBefore, IsRun};
+ghost use Rattle.gopher_page.specs.Packed.{AreCounts, IsChain, start_at, part_at};
 
 use crate::ends::Ends;
 use crate::repeats::Repeats;
@@ -15,7 +15,8 @@ use gopher_item::NoMemory;
 use std::alloc::Global;
 use std::marker::Model;
 
-fn is_meant(is_prefix: bool, sought: &[u8], word: &[u8]) -> bool
+/// Whether a word is the one that is sought, or begins with it where that is a prefix. Takes no memory.
+pub fn is_meant(is_prefix: bool, sought: &[u8], word: &[u8]) -> bool
     ensures { result ≡ is_meant is_prefix sought.now word.now }
 {
     if is_prefix {
@@ -71,7 +72,7 @@ fn part_at<'a>(bytes: &'a [u8], ends: &Ends, counts: &Repeats, index: usize) -> 
     requires within { index < length ends.now }
     requires same { length counts.now ≡ length ends.now }
     requires chain { IsChain 0 ends.now (length bytes.now) }
-    ensures { slice_get (unpack bytes.now 0 ends.now counts.now) index ≡ Some (result.0.now, result.1) }
+    ensures { part_at bytes.now ends.now counts.now index ≡ Some (result.0.now, result.1) }
 {
     let word = between(bytes, start_of(ends, index), ends.get(index) as usize);
     (word, counts.get(index))
@@ -88,7 +89,7 @@ fn end_of_run(words: &[&[u8]], start: usize) -> usize
     requires { start < length words.now }
     ensures after { start < result }
     ensures within { result ≤ length words.now }
-    ensures run { IsRun (map (λ word. word.now) words.now) start result }
+    ensures run { IsRun (texts words.now) start result }
 {
     let word = words[start];
     let mut end = start + 1;
@@ -127,9 +128,9 @@ impl Counts {
     /// and their bytes together are at most 1,048,576. Refused only where memory is (90).
     pub fn packed(alloc: Global, words: &[&[u8]]) -> Result<Counts, NoMemory>
         requires sorted { IsSorted (λ a b. slice_cmp nat_cmp a.now b.now) words.now }
-        requires short { sum_by length (map (λ word. word.now) words.now) ≤ 1048576 }
+        requires short { sum_by length (texts words.now) ≤ 1048576 }
         requires few { length words.now ≤ 1048576 }
-        ensures { IfOk result (λ counts. counts ≡ counts_of (map (λ word. word.now) words.now)) }
+        ensures { IfOk result (λ counts. counts ≡ counts_of (texts words.now)) }
     {
         let room = room_of(words);
         let mut bytes = Vec::with_capacity(alloc, room.bytes)?;
@@ -181,8 +182,8 @@ impl Counts {
     // How many words come before `sought`: these are the first.
     fn words_before(&self, sought: &[u8]) -> usize
         ensures within { result ≤ length self.now }
-        ensures before { (k : ℕ) → k < result → is_before (word_at self.now k) sought.now ≡ true }
-        ensures after { (k : ℕ) → result ≤ k → k < length self.now → is_before (word_at self.now k) sought.now ≡ false }
+        ensures before { AreBefore self.now result sought.now }
+        ensures after { NoneBefore self.now result sought.now }
     {
         let mut low = 0;
         let mut high = self.len();

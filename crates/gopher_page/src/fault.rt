@@ -3,6 +3,7 @@
 ghost use Rattle.std.specs.Prelude.{◌≡◌};
 ghost use Rattle.gopher_page.specs.Query.{query_fault_code};
 
+use gopher_item::NoMemory;
 use thiserror::Error;
 
 /// What is wrong with the text of a query.
@@ -25,5 +26,15 @@ impl QueryFault {
             QueryFault::NoWords => 40,
             QueryFault::NoMemory => 90,
         }
+    }
+}
+
+impl From<NoMemory> for QueryFault {
+    ghost use Rattle.gopher_page.specs.declared.fault.QueryFault.{QueryFault};
+
+    ghost from_gives = { λ _ fault. fault ≡ QueryFault.NoMemory };
+
+    fn from(_refused: NoMemory) -> QueryFault {
+        QueryFault::NoMemory
     }
 }

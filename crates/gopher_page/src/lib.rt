@@ -20,7 +20,7 @@ mod tally;
 mod title;
 mod word;
 
-pub use counts::Counts;
+pub use counts::{Counts, is_meant};
 pub use fault::QueryFault;
 pub use numbered::Numbered;
 pub use page::Page;

@@ -1,6 +1,7 @@
 //! The lines of a page.
 
 ghost use Rattle.std.specs.Prelude.{◌≡◌, map, IfOk};
+ghost use Rattle.gopher_page.specs.Words.{texts};
 ghost use Rattle.gopher_page.specs.Page.{line_of_entry};
 ghost use Rattle.gopher_text.specs.Text.{text_lines};
 
@@ -20,7 +21,7 @@ fn line_of_entry(entry: &Entry) -> &[u8]
 /// One line for each entry of a menu: an item's display string, or an odd line's bytes. Refused only
 /// where memory is.
 pub fn entry_lines(alloc: Global, entries: &[Entry]) -> Result<Vec<&[u8]>, AllocError>
-    ensures { IfOk result (λ lines. map (λ line. line.now) lines.items ≡ map line_of_entry entries.now) }
+    ensures { IfOk result (λ lines. texts lines.items ≡ map line_of_entry entries.now) }
 {
     let mut lines = Vec::with_capacity(alloc, entries.len())?;
     for entry in entries {
@@ -31,7 +32,7 @@ pub fn entry_lines(alloc: Global, entries: &[Entry]) -> Result<Vec<&[u8]>, Alloc
 
 /// The lines of a text. Refused only where memory is (90).
 pub fn text_lines(alloc: Global, bytes: &[u8]) -> Result<Vec<&[u8]>, NoMemory>
-    ensures { IfOk result (λ lines. map (λ line. line.now) lines.items ≡ text_lines bytes.now) }
+    ensures { IfOk result (λ lines. texts lines.items ≡ text_lines bytes.now) }
 {
     let mut lines = Vec::new(alloc);
     let mut rest = bytes;

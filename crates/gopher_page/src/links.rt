@@ -1,12 +1,8 @@
 //! The links of a menu.
 
-ghost use Rattle.std.specs.Prelude.{◌≡◌, [], ◌∷◌, map, filter, IfOk, OnOk};
+ghost use Rattle.std.specs.Prelude.{◌≡◌, map, IfOk, OnOk};
 ghost use Rattle.std.specs.Arc.{arc_value};
-ghost use Rattle.std.specs.List.{filter_map};
-ghost use Rattle.gopher_item.specs.Place.{same_place, distinct};
-ghost use Rattle.gopher_scope.specs.Scope.{allows};
-ghost use Rattle.gopher_page.specs.Page.{place_of_entry};
-ghost use Rattle.indexmap.specs.IndexSet.{insert_all};
+ghost use Rattle.gopher_page.specs.Page.{place_of_entry, links_in, with_entry};
 
 use gopher_item::{Entry, ItemFault, NoMemory, Place};
 use gopher_scope::Scope;
@@ -35,7 +31,7 @@ fn add_link(
     entry: &Entry,
     links: &mut IndexSet<Place>,
 ) -> Result<(), NoMemory>
-    ensures { OnOk result (links.new.keys ≡ insert_all same_place links.old.keys (filter (allows scope.now) (filter_map place_of_entry (entry.now ∷ [])))) }
+    ensures { OnOk result (links.new.keys ≡ with_entry scope.now links.old.keys entry.now) }
 {
     if let Some(place) = place_of_entry(alloc, entry)?
         && scope.allows(&place)
@@ -46,7 +42,7 @@ fn add_link(
 }
 
 fn links_among(alloc: Global, scope: &Scope, entries: &[Entry]) -> Result<IndexSet<Place>, NoMemory>
-    ensures { IfOk result (λ links. links.keys ≡ distinct (filter (allows scope.now) (filter_map place_of_entry entries.now))) }
+    ensures { IfOk result (λ links. links.keys ≡ links_in scope.now entries.now) }
 {
     let mut links = IndexSet::new(alloc);
     for entry in entries {
@@ -72,7 +68,7 @@ pub fn links_of_entries(
     scope: &Scope,
     entries: &[Entry],
 ) -> Result<Vec<Arc<Place>>, NoMemory>
-    ensures { IfOk result (λ links. map arc_value links.items ≡ distinct (filter (allows scope.now) (filter_map place_of_entry entries.now))) }
+    ensures { IfOk result (λ links. map arc_value links.items ≡ links_in scope.now entries.now) }
 {
     let places = links_among(alloc, scope, entries)?;
     shared(alloc, places)

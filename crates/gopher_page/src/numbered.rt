@@ -4,7 +4,7 @@ ghost use Rattle.std.specs.Prelude.{◌≡◌, Some, map, nat_eq, IfOk, refl};
 ghost use Rattle.std.specs.Ordering.{nat_cmp};
 ghost use Rattle.std.specs.Cmp;
 ghost use Rattle.std.specs.Cmp.Lexicographic.{pointwise, slice_cmp, nat_list_eq_equiv, nat_list_cmp_total, texts_ties, texts_po};
-ghost use Rattle.gopher_page.specs.Numbered.{leading};
+ghost use Rattle.gopher_page.specs.Numbered.{leading, AreBytes, IsNumbered};
 
 use gopher_item::NoMemory;
 use std::alloc::Global;
@@ -21,6 +21,35 @@ fn leading_number(word: &[u8]) -> u64
         number = number * 256 + u64::from(byte);
     }
     number
+}
+
+// Whether two words that have one number are the same: only bytes past the eighth tell two apart that
+// are as long.
+fn is_same_tied(word: &[u8], other: &[u8]) -> bool
+    requires word { AreBytes word.now }
+    requires other { AreBytes other.now }
+    requires tied { leading 8 word.now ≡ leading 8 other.now }
+    ensures { result ≡ pointwise nat_eq word.now other.now }
+{
+    if word.len() <= 8 && other.len() <= 8 {
+        word.len() == other.len()
+    } else {
+        word == other
+    }
+}
+
+// The order of two words that have one number: of words of at most eight bytes the shorter comes first.
+fn cmp_tied(word: &[u8], other: &[u8]) -> Ordering
+    requires word { AreBytes word.now }
+    requires other { AreBytes other.now }
+    requires tied { leading 8 word.now ≡ leading 8 other.now }
+    ensures { result ≡ slice_cmp nat_cmp word.now other.now }
+{
+    if word.len() <= 8 && other.len() <= 8 {
+        word.len().cmp(&other.len())
+    } else {
+        word.cmp(other)
+    }
 }
 
 /// A word, and its first eight bytes as one number.
@@ -65,6 +94,13 @@ impl<'a> Numbered<'a> {
         }
     }
 
+    /// The first eight bytes of the word as one number. Takes no memory.
+    pub fn number(&self) -> u64
+        ensures { IsNumbered result self.now }
+    {
+        self.number
+    }
+
     /// The word. Takes no memory.
     pub fn word(&self) -> &'a [u8]
         ensures { result.now ≡ self.now }
@@ -79,7 +115,7 @@ impl<'a> PartialEq for Numbered<'a> {
     ghost laws = { Cmp.partial_equiv_from_equiv nat_list_eq_equiv };
 
     fn eq(&self, other: &Numbered<'a>) -> bool {
-        self.number == other.number && self.word == other.word
+        self.number == other.number && is_same_tied(self.word, other.word)
     }
 }
 
@@ -108,7 +144,7 @@ impl<'a> Ord for Numbered<'a> {
 
     fn cmp(&self, other: &Numbered<'a>) -> Ordering {
         match self.number.cmp(&other.number) {
-            Ordering::Equal => self.word.cmp(other.word),
+            Ordering::Equal => cmp_tied(self.word, other.word),
             order => order,
         }
     }

@@ -1,16 +1,16 @@
 //! Pages.
 
-ghost use Rattle.std.specs.Prelude.{◌≡◌, ◌≤◌, false, [], length, map, IfOk};
+ghost use Rattle.std.specs.Prelude.{◌≡◌, ◌≤◌, false, length, map, IfOk};
 ghost use Rattle.std.specs.Arc.{arc_value};
 ghost use Rattle.std.specs.List.{sum_by};
+ghost use Rattle.gopher_page.specs.Words.{texts};
 ghost use Rattle.gopher_page.specs.Counts.{count_meant};
-ghost use Rattle.gopher_page.specs.Page.{menu_links, menu_page_lines, page_of, page_of_lines};
-ghost use Rattle.gopher_text.specs.Text.{text_lines};
+ghost use Rattle.gopher_page.specs.Page.{IsPageOfLines, page_of, page_of_menu, page_of_text};
 
 use crate::counts::Counts;
 use crate::line::{entry_lines, text_lines};
 use crate::links::links_of_entries;
-use crate::tally::tally;
+use crate::tally::count_words;
 use crate::title::title_of;
 use gopher_item::{ByteString, NoMemory, Place, read_menu};
 use gopher_scope::Scope;
@@ -30,11 +30,11 @@ struct Parts {
 impl Model for Parts {
     ghost use Rattle.std.specs.Prelude.{◌≤◌, length, map};
     ghost use Rattle.std.specs.Arc.{arc_value};
-    ghost use Rattle.gopher_page.specs.Page.{PageData};
+    ghost use Rattle.gopher_page.specs.Page.{PageData, page_with};
 
     ghost Value = { PageData };
 
-    ghost view = { λ p. record { place = p.place; title = p.title; links = map arc_value p.links.items; counts = p.counts } };
+    ghost view = { λ p. page_with p.place p.title (map arc_value p.links.items) p.counts };
 
     ghost invariant = { λ p. length p.links.items ≤ 1048576 };
 }
@@ -64,26 +64,25 @@ fn page_of_lines(
     lines: &[&[u8]],
     links: Vec<Arc<Place>>,
 ) -> Result<Page, NoMemory>
-    requires short { sum_by length (map (λ line. line.now) lines.now) ≤ 1048576 }
+    requires short { sum_by length (texts lines.now) ≤ 1048576 }
     requires few { length links.items ≤ 1048576 }
-    ensures { IfOk result (λ page. page ≡ page_of_lines place.now (map (λ line. line.now) lines.now) (map arc_value links.items)) }
+    ensures { IfOk result (IsPageOfLines place.now (texts lines.now) (map arc_value links.items)) }
 {
-    let counts = tally(alloc, lines)?;
+    let counts = count_words(alloc, lines)?;
     let parts = Parts {
         place: place.clone()?,
         title: title_of(alloc, place, lines)?,
         links,
         counts,
     };
-    let Ok(parts) = Arc::new(alloc, parts) else {
-        return Err(NoMemory);
-    };
-    Ok(Page { parts })
+    Ok(Page {
+        parts: Arc::new(alloc, parts)?,
+    })
 }
 
 fn page_of_menu(alloc: Global, scope: &Scope, place: &Place, bytes: &[u8]) -> Result<Page, NoMemory>
     requires small { length bytes.now ≤ 1048576 }
-    ensures { IfOk result (λ page. page ≡ page_of_lines place.now (menu_page_lines bytes.now) (menu_links scope.now bytes.now)) }
+    ensures { IfOk result (λ page. page ≡ page_of_menu scope.now place.now bytes.now) }
 {
     let menu = read_menu(alloc, bytes)?;
     let links = links_of_entries(alloc, scope, &menu.entries)?;
@@ -93,7 +92,7 @@ fn page_of_menu(alloc: Global, scope: &Scope, place: &Place, bytes: &[u8]) -> Re
 
 fn page_of_text(alloc: Global, place: &Place, bytes: &[u8]) -> Result<Page, NoMemory>
     requires small { length bytes.now ≤ 1048576 }
-    ensures { IfOk result (λ page. page ≡ page_of_lines place.now (text_lines bytes.now) []) }
+    ensures { IfOk result (λ page. page ≡ page_of_text place.now bytes.now) }
 {
     let lines = text_lines(alloc, bytes)?;
     page_of_lines(alloc, place, &lines, Vec::new(alloc))

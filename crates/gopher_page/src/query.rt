@@ -1,10 +1,7 @@
 //! Queries: which pages they match, and how high these score.
 
-ghost use Rattle.std.specs.Prelude.{◌≡◌, ◌+◌, ◌<◌, ◌≤◌, ◌∷◌, ◌++◌, IsTrue, not, Some, length, map, slice_get, IfOk, OnOk};
-ghost use Rattle.std.specs.Option.{option_map};
-ghost use Rattle.gopher_page.specs.Words.{tokens_of};
-ghost use Rattle.gopher_page.specs.Query.{operator_of, terms_after, terms_of, query_of, count_of_term, joined, matches, is_not, wanted, score, ReadsQuery, IsQuery, HasWanted};
-ghost use Rattle.gopher_item.specs.Place.{lower_case};
+ghost use Rattle.std.specs.Prelude.{◌≡◌, ◌+◌, ◌<◌, ◌≤◌, ◌++◌, IsTrue, not, Some, length, slice_get, IfOk, OnOk};
+ghost use Rattle.gopher_page.specs.Query.{operator_of, later_terms, terms_from, AddsFewTerms, query_of, count_of_term, joined, matches, is_not, wanted, wanted_word, wanted_prefix, score, ReadsQuery, IsQuery, HasWanted};
 
 use crate::fault::QueryFault;
 use crate::page::Page;
@@ -109,8 +106,8 @@ fn operator_of(word: &[u8], is_prefix: bool) -> Option<Operator>
 
 // Adds the terms of a text that follows a term.
 fn add_terms(alloc: Global, text: &[u8], terms: &mut Vec<Term>) -> Result<(), NoMemory>
-    ensures terms { OnOk result (terms.new.items ≡ terms.old.items ++ terms_after Operator.And (tokens_of text.now)) }
-    ensures few { OnOk result (length terms.new.items ≤ length terms.old.items + length text.now) }
+    ensures terms { OnOk result (terms.new.items ≡ terms.old.items ++ later_terms text.now) }
+    ensures few { OnOk result (AddsFewTerms text.now terms.old.items terms.new.items) }
 {
     let mut operator = Operator::And;
     let mut rest = text;
@@ -138,7 +135,7 @@ fn terms_from(
     is_prefix: bool,
     after: &[u8],
 ) -> Result<Vec<Term>, NoMemory>
-    ensures terms { IfOk result (λ terms. terms.items ≡ terms_of (record { word = map lower_case token.now; is_prefix = is_prefix } ∷ tokens_of after.now)) }
+    ensures terms { IfOk result (λ all. all.items ≡ terms_from token.now is_prefix after.now) }
     ensures few { IfOk result (λ terms. length terms.items ≤ length after.now + 1) }
 {
     let mut terms = Vec::new(alloc);
@@ -190,10 +187,9 @@ impl Query {
         let Some((token, is_prefix, after)) = next_token(text) else {
             return Err(QueryFault::NoWords);
         };
-        let Ok(terms) = terms_from(alloc, token, is_prefix, after) else {
-            return Err(QueryFault::NoMemory);
-        };
-        Ok(Query { terms })
+        Ok(Query {
+            terms: terms_from(alloc, token, is_prefix, after)?,
+        })
     }
 
     /// The terms, in their order; the first is joined by `And`. There are at most 1,024.
@@ -260,7 +256,7 @@ impl Query {
     /// The word of a term that `not` doesn't introduce, by an index below `wants`. Takes no memory.
     pub fn want(&self, index: usize) -> &[u8]
         requires { index < length (wanted self.now) }
-        ensures { option_map (λ term. term.word) (slice_get (wanted self.now) index) ≡ Some result.now }
+        ensures { wanted_word self.now index ≡ Some result.now }
     {
         self.wanted_term(index).word()
     }
@@ -268,7 +264,7 @@ impl Query {
     /// Whether that word stands for every word that begins with it. Takes no memory.
     pub fn want_is_prefix(&self, index: usize) -> bool
         requires { index < length (wanted self.now) }
-        ensures { option_map (λ term. term.is_prefix) (slice_get (wanted self.now) index) ≡ Some result }
+        ensures { wanted_prefix self.now index ≡ Some result }
     {
         self.wanted_term(index).is_prefix()
     }

@@ -1,8 +1,8 @@
 //! Counting the words of lines.
 
-ghost use Rattle.std.specs.Prelude.{◌≡◌, ◌≤◌, [], ◌∷◌, ◌++◌, length, map, IfOk};
+ghost use Rattle.std.specs.Prelude.{◌≡◌, ◌≤◌, length, IfOk};
 ghost use Rattle.std.specs.List.{flat_map, sum_by};
-ghost use Rattle.gopher_page.specs.Words.{bare_words, words_of};
+ghost use Rattle.gopher_page.specs.Words.{texts, joined_lines, bare_words, words_of};
 ghost use Rattle.gopher_page.specs.Counts.{counts_of};
 
 use crate::counts::Counts;
@@ -13,7 +13,7 @@ use std::alloc::Global;
 
 // The lines, an LF behind each.
 fn joined(alloc: Global, lines: &[&[u8]]) -> Result<Vec<u8>, NoMemory>
-    ensures { IfOk result (λ text. text.items ≡ flat_map (λ line. line ++ 10 ∷ []) (map (λ line. line.now) lines.now)) }
+    ensures { IfOk result (λ text. text.items ≡ joined_lines (texts lines.now)) }
 {
     let mut text = Vec::new(alloc);
     for line in lines {
@@ -38,9 +38,9 @@ fn words_in(alloc: Global, text: &[u8]) -> Result<Vec<Numbered<'_>>, NoMemory>
 
 /// The words of the lines, in the order of their bytes, each with how often it stands in them. The
 /// lines have at most 1,048,576 bytes together. Refused only where memory is (90).
-pub fn tally(alloc: Global, lines: &[&[u8]]) -> Result<Counts, NoMemory>
-    requires { sum_by length (map (λ line. line.now) lines.now) ≤ 1048576 }
-    ensures { IfOk result (λ counts. counts ≡ counts_of (flat_map words_of (map (λ line. line.now) lines.now))) }
+pub fn count_words(alloc: Global, lines: &[&[u8]]) -> Result<Counts, NoMemory>
+    requires { sum_by length (texts lines.now) ≤ 1048576 }
+    ensures { IfOk result (λ counts. counts ≡ counts_of (flat_map words_of (texts lines.now))) }
 {
     let text = joined(alloc, lines)?;
     let lowered = ByteString::lower_cased(alloc, &text)?;

@@ -1,10 +1,11 @@
 //! The title of a page.
 
-ghost use Rattle.std.specs.Prelude.{◌≡◌, ◌==◌, map, reverse, take, IfOk};
+ghost use Rattle.std.specs.Prelude.{◌≡◌, ◌==◌, map, take, IfOk};
 ghost use Rattle.std.specs.List.{find};
 ghost use Rattle.std.specs.Option.{option_map};
 ghost use Rattle.gopher_item.specs.MenuLine.{trim_front};
-ghost use Rattle.gopher_page.specs.Page.{plain_byte, title_text, has_word, place_title, title_of};
+ghost use Rattle.gopher_page.specs.Words.{texts};
+ghost use Rattle.gopher_page.specs.Page.{plain_byte, trim_back, title_text, has_word, place_title, title_of};
 
 use crate::word::next_token;
 use gopher_item::{ByteString, NoMemory, Place, is_control};
@@ -48,7 +49,7 @@ fn without_front(bytes: &[u8]) -> &[u8]
 
 #[tactic(auto, using(crate::proofs::Titles::backs))]
 fn without_back(bytes: &[u8]) -> &[u8]
-    ensures { map plain_byte result.now ≡ reverse (trim_front (reverse (map plain_byte bytes.now))) }
+    ensures { map plain_byte result.now ≡ trim_back (map plain_byte bytes.now) }
 {
     let mut rest = bytes;
     while let [before @ .., last] = rest {
@@ -81,7 +82,7 @@ fn has_word(line: &[u8]) -> bool
 }
 
 fn first_with_word<'a>(lines: &[&'a [u8]]) -> Option<&'a [u8]>
-    ensures { option_map (λ line. line.now) result ≡ find has_word (map (λ line. line.now) lines.now) }
+    ensures { option_map (λ line. line.now) result ≡ find has_word (texts lines.now) }
 {
     for line in lines {
         if has_word(line) {
@@ -104,7 +105,7 @@ fn place_title(alloc: Global, place: &Place) -> Result<ByteString, NoMemory>
 
 /// The title of the page of a place, which has these lines. Refused only where memory is (90).
 pub fn title_of(alloc: Global, place: &Place, lines: &[&[u8]]) -> Result<ByteString, NoMemory>
-    ensures { IfOk result (λ title. title ≡ title_of place.now (map (λ line. line.now) lines.now)) }
+    ensures { IfOk result (λ title. title ≡ title_of place.now (texts lines.now)) }
 {
     match first_with_word(lines) {
         Some(line) => title_text(alloc, line),

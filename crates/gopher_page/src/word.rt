@@ -1,8 +1,7 @@
 //! Words: the runs of letters, digits and bytes past ASCII.
 
-ghost use Rattle.std.specs.Prelude.{◌≡◌, ◌==◌, ◌+◌, ◌<◌, ◌≤◌, false, [], ◌∷◌, length, map, position, IfOk, IfSome, MatchOption};
-ghost use Rattle.gopher_item.specs.Place.{lower_case};
-ghost use Rattle.gopher_page.specs.Words.{is_gap, is_word_byte, is_word, bare_words, words_of, runs_of, tokens_of};
+ghost use Rattle.std.specs.Prelude.{◌≡◌, ◌<◌, [], length, position, IfOk, IfSome, MatchOption};
+ghost use Rattle.gopher_page.specs.Words.{is_gap, is_word_byte, is_word, bare_words, words_of, tokens_of, IsOneRun, IsCutAtGap, IsFirstToken, IsFirstWord, LeavesLess, LeavesNoMore};
 
 use gopher_item::{ByteString, NoMemory};
 use std::alloc::Global;
@@ -27,8 +26,8 @@ fn first_gap(bytes: &[u8]) -> Option<usize>
 
 // What stands before the first gap, that gap and what stands after it, or `None` without a gap.
 fn split_at_gap(bytes: &[u8]) -> Option<(&[u8], u8, &[u8])>
-    ensures runs { MatchOption result (runs_of bytes.now ≡ (bytes.now, false) ∷ []) (λ cut. runs_of bytes.now ≡ (cut.0.now, cut.1 == 42) ∷ runs_of cut.2.now) }
-    ensures shorter { IfSome result (λ cut. length cut.0.now + length cut.2.now < length bytes.now) }
+    ensures runs { MatchOption result (IsOneRun bytes.now) (IsCutAtGap bytes.now) }
+    ensures shorter { IfSome result (LeavesLess bytes.now) }
 {
     let end = first_gap(bytes)?;
     Some((&bytes[..end], bytes[end], &bytes[end + 1..]))
@@ -37,11 +36,10 @@ fn split_at_gap(bytes: &[u8]) -> Option<(&[u8], u8, &[u8])>
 /// The first word of a query's text as it stands there, whether a `*` directly follows it, and the
 /// text after it; or `None` where there is no word. Takes no memory.
 pub fn next_token(text: &[u8]) -> Option<(&[u8], bool, &[u8])>
-    ensures tokens { MatchOption result (tokens_of text.now ≡ [])
-        (λ found. tokens_of text.now ≡ record { word = map lower_case found.0.now; is_prefix = found.1 } ∷ tokens_of found.2.now) }
-    ensures bare { MatchOption result (bare_words text.now ≡ []) (λ found. bare_words text.now ≡ found.0.now ∷ bare_words found.2.now) }
+    ensures tokens { MatchOption result (tokens_of text.now ≡ []) (IsFirstToken text.now) }
+    ensures bare { MatchOption result (bare_words text.now ≡ []) (IsFirstWord text.now) }
     ensures some { IfSome result (λ found. 0 < length found.0.now) }
-    ensures shorter { IfSome result (λ found. length found.0.now + length found.2.now ≤ length text.now) }
+    ensures shorter { IfSome result (LeavesNoMore text.now) }
 {
     let mut rest = text;
     while let Some((run, gap, after)) = split_at_gap(rest) {

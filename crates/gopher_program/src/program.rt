@@ -13,7 +13,7 @@ use crate::checking::check_site;
 use crate::crewing::serve;
 use crate::fault::ProgramFault;
 use crate::log_writer::OpenLog;
-use crate::words::{Asked, read_words};
+use crate::words::{Asked, Text, read_words};
 use gopher_crew::Blank;
 use gopher_hole::{ReplayFault, replay, send_all};
 use gopher_text::Watched;
@@ -105,6 +105,26 @@ fn tell_end<E: Write>(error: &mut Watched<E>, end: Result<(), ProgramFault>) -> 
     }
 }
 
+// Tells a text that answers the words, and gives the status.
+fn tell_text<W: Write, E: Write>(text: &Text, output: &mut Watched<W>, error: &mut Watched<E>) -> u8
+    ensures well { result ≡ 0 → error.new ≡ error.old }
+    ensures told { result ≡ 1 → SaysFault (E.contents error.old.device)
+        (E.contents error.new.device) error.old.failures error.new.failures }
+    ensures refused { result ≡ 2 → output.new ≡ output.old }
+    ensures status { result ≤ 2 }
+{
+    match text {
+        Text::Shown(shown) => {
+            let end = send_text(output, shown.as_bytes());
+            tell_end(error, end)
+        }
+        Text::Refusal(refusal) => {
+            let _ = send_all(error, refusal.as_bytes());
+            2
+        }
+    }
+}
+
 /// The program `hole` on its words, without its own name. Gives its status.
 ///
 /// - The word `replay` alone replays the script that `input` holds, writes its output to `output`
@@ -176,14 +196,7 @@ pub fn run<
             let end = check_site(rt, rt.alloc(), settings, output);
             tell_end(error, end)
         }
-        Ok(Asked::Shown(text)) => {
-            let end = send_text(output, text.as_bytes());
-            tell_end(error, end)
-        }
-        Ok(Asked::Refused(text)) => {
-            let _ = send_all(error, text.as_bytes());
-            2
-        }
+        Ok(Asked::Told(text)) => tell_text(&text, output, error),
         Err(_refused) => tell_fault(error, ProgramFault::NoMemory),
     }
 }

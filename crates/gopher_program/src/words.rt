@@ -16,10 +16,17 @@ pub enum Asked<'a> {
     Serve(Serving<'a>),
     /// `check`: the settings at this path are checked, and their folder.
     Check(&'a str),
-    /// `--help` or `--version`: this text is shown.
+    /// Words that a text answers.
+    Told(Text),
+}
+
+/// A text that answers words.
+#[derive(Drop)]
+pub enum Text {
+    /// That of `--help` or `--version`.
     Shown(String),
-    /// Words that are refused, with a text that says why.
-    Refused(String),
+    /// Says why the words are refused.
+    Refusal(String),
 }
 
 /// What a server is started with.
@@ -93,12 +100,12 @@ fn program_words<'a>(alloc: Global) -> Result<Command<'a>, AllocError> {
 }
 
 // What clap shows in place of matches.
-fn shown<'a>(alloc: Global, error: &Error) -> Result<Asked<'a>, NoMemory> {
+fn shown(alloc: Global, error: &Error) -> Result<Text, NoMemory> {
     let text = format!(in alloc; "{error}")?;
     if error.use_stderr() {
-        Ok(Asked::Refused(text))
+        Ok(Text::Refusal(text))
     } else {
-        Ok(Asked::Shown(text))
+        Ok(Text::Shown(text))
     }
 }
 
@@ -109,7 +116,7 @@ pub fn read_words<'a>(alloc: Global, words: &'a [String]) -> Result<Asked<'a>, N
     };
     let matches = match command.try_get_matches_from(words) {
         Ok(matches) => matches,
-        Err(error) => return shown(alloc, &error),
+        Err(error) => return Ok(Asked::Told(shown(alloc, &error)?)),
     };
     if let Some(check) = matches.subcommand_matches("check") {
         return match check.get_str("SETTINGS") {

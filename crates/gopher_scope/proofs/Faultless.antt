@@ -1,6 +1,6 @@
 -- What holds at each key where nothing is wrong with a table.
-use Rattle.std.proofs.Common.{◌≡◌, ℕ, zero, suc, ℤ, pos, negsuc, ◌<◌, ◌≤◌, ◌==◌, Bool, true, false, not, List, [], ◌∷◌, length, get_or, Option, Some, None, Err, refl, arith}
-use Rattle.std.specs.Prelude.{unwrap_or, nat_eq, codes}
+use Rattle.std.proofs.Common.{◌≡◌, ℕ, zero, suc, ℤ, pos, negsuc, ◌<◌, ◌≤◌, ◌==◌, Bool, true, false, not, List, [], ◌∷◌, length, get_or, Option, Some, None, Result, Ok, Err, IfOk, refl, sym, subst, arith}
+use Rattle.std.specs.Prelude.{unwrap_or, nat_eq, codes, IsSomeAnd, MatchOption, IfSome}
 use Rattle.std.specs.Cmp.Lexicographic.{pointwise}
 use Rattle.std.specs.Option.{option_map, option_map_or}
 use Rattle.std.specs.Bool.{if◌then◌else◌}
@@ -12,9 +12,12 @@ use Rattle.gopher_item.specs.Place.{is_host, is_place_kind, address_fault, place
 use Rattle.gopher_item.specs.declared.fault.ItemFault.{ItemFault}
 use Rattle.gopher_item.specs.declared.fault.ItemFault.TheVariants.{BadKind, BadSelector, BadHost, BadPort, NoMemory}
 use Rattle.gopher_item.specs.Fault.{Makes}
-use Rattle.gopher_scope.specs.Rows.{all_keys, key_form, fields_of, is_in_range}
+use Rattle.gopher_scope.specs.Rows.{all_keys, key_name, key_form, fields_of, is_in_range}
 use Rattle.gopher_scope.specs.Reading.{elements, first_of, field_value, field_problem, integer_problem, number_read, text_problem, scalar_problem, table_problem, integer_read, text_read, element_problem, array_problem, tables_problem, values_read, form_problem}
-use Rattle.gopher_scope.specs.Settings.{key_value, key_fault, settings_have_unknown, settings_fault, integer_at, text_at, field_integer, field_text, kind_read}
+use Rattle.gopher_scope.specs.Settings.{key_value, key_fault, settings_have_unknown, settings_fault, settings_read, settings_data, integer_in, integer_at, text_at, field_integer, field_text, kind_read, Answers, IsUpTo, AreInRange, IsNumberAt, StandsIn, SettingsData}
+use Rattle.gopher_scope.specs.declared.settings.Settings.{Settings}
+use Rattle.gopher_scope.specs.declared.fault.SettingsFault.{SettingsFault}
+use Rattle.gopher_scope.specs.declared.settings.form.Form.TheVariants.{Scalar as One}
 use Rattle.gopher_scope.specs.declared.settings.key.Key.{Key}
 use Rattle.gopher_scope.specs.declared.settings.key.Key.TheVariants as key
 use Rattle.gopher_scope.specs.declared.settings.form.Element.{Element}
@@ -149,3 +152,82 @@ home_fault-none table none =
     let good_host = text_read-in_range Host (key_value table key.Host) (form_problem-none table key.Host none) in
     let good_port = integer_read-positive 70 65535 (key_value table key.Port) (omega arith) (form_problem-none table key.Port none) in
     address_fault-none (text_at table key.Host) (integer_at table key.Port) good_host good_port
+
+integer_in_range : (table : Members) (at : Key) (absent most : ℕ) → key_form at ≡ One (Integer absent most) → 1 ≤ absent → absent ≤ most → settings_fault table ≡ None → IsUpTo most (integer_at table at)
+integer_in_range table at absent most form positive small none =
+    subst (λ f. form_problem f (key_value table at) ≡ None → IsUpTo most (integer_in f (key_value table at))) (sym form)
+    (λ good. (integer_read-positive absent most (key_value table at) positive good, integer_read-most absent most (key_value table at) small good))
+    (form_problem-none table at none)
+
+not_empty : (text : List ℕ) → is_in_range Path text ≡ true → 0 < length text
+not_empty [] good = absurd cc
+not_empty (byte ∷ text) good = omega arith
+
+-- what is read of a table with which nothing is wrong is in its ranges
+pub settings_in_range : (table : Members) → settings_fault table ≡ None → AreInRange (settings_read table)
+settings_in_range table none = record {
+  port = integer_in_range table key.Port 70 65535 refl (omega arith) (omega arith) none;
+  root = not_empty (text_at table key.Root) (text_read-in_range Path (key_value table key.Root) (form_problem-none table key.Root none));
+  places = integer_in_range table key.Places 4096 65536 refl (omega arith) (omega arith) none;
+  workers = integer_in_range table key.Workers 4 16 refl (omega arith) (omega arith) none;
+  threads = integer_in_range table key.Threads 2 8 refl (omega arith) (omega arith) none;
+  tries = integer_in_range table key.Tries 1 5 refl (omega arith) (omega arith) none;
+}
+
+-- an integer with which nothing is wrong is the one that stands there
+number_stands : (most : ℕ) (number : Option ℤ) → integer_problem most number ≡ None → number ≡ Some (pos (number_read number))
+number_stands most None none = absurd cc
+number_stands most (Some (pos number)) none = refl
+number_stands most (Some (negsuc number)) none = absurd cc
+
+integer_stands : (absent most : ℕ) (value : Option Data) → scalar_problem (Integer absent most) value ≡ None → MatchOption value (integer_read (Integer absent most) value ≡ absent) (λ v. as_integer v ≡ Some (pos (integer_read (Integer absent most) value)))
+integer_stands absent most None none = refl
+integer_stands absent most (Some value) none = number_stands most (as_integer value) none
+
+integer_at-stands : (table : Members) (at : Key) (absent most : ℕ) → key_form at ≡ One (Integer absent most) → settings_fault table ≡ None → IsNumberAt table (key_name at) absent (integer_at table at)
+integer_at-stands table at absent most form none =
+    subst (λ f. form_problem f (key_value table at) ≡ None → MatchOption (key_value table at) (integer_in f (key_value table at) ≡ absent) (λ v. as_integer v ≡ Some (pos (integer_in f (key_value table at))))) (sym form)
+    (integer_stands absent most (key_value table at)) (form_problem-none table at none)
+
+text_stands : (kind : TextKind) (text : Option (List ℕ)) → text_problem kind text ≡ None → text ≡ Some (unwrap_or text [])
+text_stands kind None none = absurd cc
+text_stands kind (Some text) none = refl
+
+host_stands : (value : Option Data) → scalar_problem (Text Host) value ≡ None → IsSomeAnd value (λ v. as_str v ≡ Some (text_read (Text Host) value))
+host_stands None none = absurd cc
+host_stands (Some value) none = text_stands Host (as_str value) none
+
+path_stands : (value : Option Data) → scalar_problem (Text Path) value ≡ None → IsSomeAnd value (λ v. as_str v ≡ Some (text_read (Text Path) value))
+path_stands None none = absurd cc
+path_stands (Some value) none = text_stands Path (as_str value) none
+
+-- what is read of a table with which nothing is wrong stands in it
+pub settings_stand : (table : Members) → settings_fault table ≡ None → StandsIn table (settings_read table)
+settings_stand table none = record {
+  host = host_stands (key_value table key.Host) (form_problem-none table key.Host none);
+  port = integer_at-stands table key.Port 70 65535 refl none;
+  root = path_stands (key_value table key.Root) (form_problem-none table key.Root none);
+  places = integer_at-stands table key.Places 4096 65536 refl none;
+  workers = integer_at-stands table key.Workers 4 16 refl none;
+  threads = integer_at-stands table key.Threads 2 8 refl none;
+  tries = integer_at-stands table key.Tries 1 5 refl none;
+}
+
+-- what a table answers
+answers_with : (P : SettingsData → Type 0) (table : Members) (result : Result Settings SettingsFault) → (settings_fault table ≡ None → P (settings_read table)) → Answers (settings_fault table) (settings_read table) result
+    → IfOk result (λ settings. P (settings_data settings))
+answers_with P table (Err found) holds answers = tt
+answers_with P table (Ok made) holds answers = by (settings_fault table) refl answers
+  where
+    by : (fault : Option SettingsFault) → settings_fault table ≡ fault → Answers fault (settings_read table) (Ok made) → P (settings_data made)
+    by None none same = subst P (sym same) (holds none)
+    by (Some fault) none same = absurd cc
+
+pub answers_in_range : (table : Members) (result : Result Settings SettingsFault) → Answers (settings_fault table) (settings_read table) result → IfOk result (λ settings. AreInRange (settings_data settings))
+answers_in_range table result answers = answers_with AreInRange table result (settings_in_range table) answers
+
+pub answers_stand : (text : Option Members) (table : Members) (result : Result Settings SettingsFault) → text ≡ Some table → Answers (settings_fault table) (settings_read table) result
+    → IfOk result (λ settings. IfSome text (λ read. StandsIn read (settings_data settings)))
+answers_stand text table result is answers =
+    subst (λ t. IfOk result (λ settings. IfSome t (λ read. StandsIn read (settings_data settings)))) (sym is)
+    (answers_with (StandsIn table) table result (settings_stand table) answers)

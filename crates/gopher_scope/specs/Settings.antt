@@ -1,9 +1,9 @@
 -- Settings, and how they are read.
-use Rattle.std.specs.Prelude.{◌≡◌, ℕ, Bool, ◌||◌, List, [], map, Option, None, Some, Result, Ok, Err, nat_eq, codes, string_bytes, if◌then◌else◌}
+use Rattle.std.specs.Prelude.{◌≡◌, ℕ, pos, ◌<◌, ◌≤◌, Bool, ◌||◌, List, [], length, map, Option, None, Some, IsSomeAnd, MatchOption, Result, Ok, Err, nat_eq, codes, string_bytes, if◌then◌else◌}
 use Rattle.std.specs.List.{list_any, filter_map}
 use Rattle.std.specs.Option.{option_map}
 use Rattle.std.specs.Cmp.Lexicographic.{pointwise}
-use Rattle.toml.specs.Data.{Data, Members, get_member, as_table}
+use Rattle.toml.specs.Data.{Data, Members, get_member, as_integer, as_str, as_table}
 use Rattle.gopher_item.specs.Place.{PlaceData, HomeData, place_of}
 use Rattle.gopher_scope.specs.Rule.{RuleData, rule_of}
 use Rattle.gopher_scope.specs.Scope.{ScopeData}
@@ -34,6 +34,37 @@ pub record SettingsData : Type 0 where
 
 abbrev pub settings_data : Settings → SettingsData
 settings_data s = record { home = s.home; root = string_bytes s.root; seeds = s.seeds.items; scope = s.scope; places = s.places; workers = s.workers; threads = s.threads; tries = s.tries }
+
+-- a number from 1 to `most`
+abbrev pub IsUpTo : ℕ → ℕ → Type 0
+IsUpTo most number = (1 ≤ number) × (number ≤ most)
+
+-- numbers within their limits, and a folder that is named
+pub record AreInRange (settings : SettingsData) : Type 0 where
+  pub port : IsUpTo 65535 settings.home.port
+  pub root : 0 < length settings.root
+  pub places : IsUpTo 65536 settings.places
+  pub workers : IsUpTo 16 settings.workers
+  pub threads : IsUpTo 8 settings.threads
+  pub tries : IsUpTo 5 settings.tries
+
+-- a number is the one that stands at a name, or this one where nothing stands there
+abbrev pub IsNumberAt : Members → List ℕ → ℕ → ℕ → Type 0
+IsNumberAt table name absent number = MatchOption (get_member name table) (number ≡ absent) (λ value. as_integer value ≡ Some (pos number))
+
+-- a text is the one that stands at a name
+abbrev pub IsTextAt : Members → List ℕ → List ℕ → Type 0
+IsTextAt table name text = IsSomeAnd (get_member name table) (λ value. as_str value ≡ Some text)
+
+-- numbers and texts as a table has them, by their names
+pub record StandsIn (table : Members) (settings : SettingsData) : Type 0 where
+  pub host : IsTextAt table (codes "host") settings.home.host
+  pub port : IsNumberAt table (codes "port") 70 settings.home.port
+  pub root : IsTextAt table (codes "root") settings.root
+  pub places : IsNumberAt table (codes "places") 4096 settings.places
+  pub workers : IsNumberAt table (codes "workers") 4 settings.workers
+  pub threads : IsNumberAt table (codes "threads") 2 settings.threads
+  pub tries : IsNumberAt table (codes "tries") 1 settings.tries
 
 abbrev pub settings_fault_code : SettingsFault → ℕ
 settings_fault_code fault.NotToml = 30

@@ -5,7 +5,7 @@ ghost use Rattle.gopher_item.specs.Fault.{Makes};
 ghost use Rattle.gopher_item.specs.Place.{PlaceData};
 ghost use Rattle.gopher_scope.specs.Rule.{RuleData, rule_fault, rule_of, covers};
 
-use gopher_item::{ByteString, ItemFault, Place, address_fault, is_selector};
+use gopher_item::{ByteString, ItemFault, Place, is_selector, lowered_host};
 use std::alloc::Global;
 use std::marker::Model;
 
@@ -27,16 +27,6 @@ impl Model for Rule {
     ghost inverse = { λ d. record { host = d.host; port = d.port; prefix = d.prefix } };
 }
 
-fn rule_fault(host: &[u8], port: u16, prefix: &[u8]) -> Option<ItemFault>
-    ensures { result ≡ rule_fault host.now port prefix.now }
-{
-    if is_selector(prefix) {
-        address_fault(host, port)
-    } else {
-        Some(ItemFault::BadSelector)
-    }
-}
-
 impl Rule {
     /// The rule of these parts; letters of the host are lower-cased.
     ///
@@ -44,17 +34,14 @@ impl Rule {
     /// CR, LF or NUL; `BadHost` (3) where the host is empty, over 255 bytes, or holds a space or a
     /// control byte; `BadPort` (4) where the port is 0; `NoMemory` (90).
     pub fn new(alloc: Global, host: &[u8], port: u16, prefix: &[u8]) -> Result<Rule, ItemFault>
-        ensures { Makes (rule_fault host.now port prefix.now) (rule_of host.now port prefix.now) result }
+        ensures { Makes (rule_fault host.now port prefix.now)
+            (rule_of host.now port prefix.now) result }
     {
-        if let Some(fault) = rule_fault(host, port, prefix) {
-            return Err(fault);
+        if !is_selector(prefix) {
+            return Err(ItemFault::BadSelector);
         }
-        let Ok(host) = ByteString::lower_cased(alloc, host) else {
-            return Err(ItemFault::NoMemory);
-        };
-        let Ok(prefix) = ByteString::from_slice(alloc, prefix) else {
-            return Err(ItemFault::NoMemory);
-        };
+        let host = lowered_host(alloc, host, port)?;
+        let prefix = ByteString::from_slice(alloc, prefix)?;
         Ok(Rule { host, port, prefix })
     }
 

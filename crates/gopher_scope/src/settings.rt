@@ -1,9 +1,9 @@
 //! Settings: how they are read.
 
-ghost use Rattle.std.specs.Prelude.{◌≡◌, ◌≢◌, map, Ok, Err, Some, None, IfOk, IfErr};
+ghost use Rattle.std.specs.Prelude.{◌≡◌, ◌≢◌, map, Ok, Err, Some, None, IfOk, IfErr, IfSome};
 ghost use Rattle.toml.specs.Parse.{parse_document};
 ghost use Rattle.toml.specs.View.{table_view};
-ghost use Rattle.gopher_scope.specs.Settings.{settings_data, settings_fault, settings_read, settings_of, integer_at, text_at, tables_at, seed_read, rule_read, Answers};
+ghost use Rattle.gopher_scope.specs.Settings.{settings_data, settings_fault, settings_read, settings_of, integer_at, text_at, tables_at, seed_read, rule_read, Answers, AreInRange, StandsIn};
 
 mod check;
 mod field;
@@ -84,15 +84,18 @@ fn home(alloc: Global, table: &Table) -> Result<Home, NoMemory>
 
 fn seeds_at(alloc: Global, table: &Table) -> Result<Vec<Place>, NoMemory>
     requires { settings_fault (table_view table.now) ≡ None }
-    ensures { IfOk result (λ seeds. seeds.items ≡ map seed_read (tables_at (table_view table.now) Key.Seeds)) }
+    ensures { IfOk result (λ seeds.
+        seeds.items ≡ map seed_read (tables_at (table_view table.now) Key.Seeds)) }
 {
     seeds(alloc, values_at(table, Key::Seeds.name()))
 }
 
 fn scope_at(alloc: Global, table: &Table) -> Result<Scope, NoMemory>
     requires { settings_fault (table_view table.now) ≡ None }
-    ensures allow { IfOk result (λ scope. scope.allow ≡ map rule_read (tables_at (table_view table.now) Key.Allow)) }
-    ensures deny { IfOk result (λ scope. scope.deny ≡ map rule_read (tables_at (table_view table.now) Key.Deny)) }
+    ensures allow { IfOk result (λ scope.
+        scope.allow ≡ map rule_read (tables_at (table_view table.now) Key.Allow)) }
+    ensures deny { IfOk result (λ scope.
+        scope.deny ≡ map rule_read (tables_at (table_view table.now) Key.Deny)) }
 {
     let allow = rules(alloc, values_at(table, Key::Allow.name()))?;
     let deny = rules(alloc, values_at(table, Key::Deny.name()))?;
@@ -101,7 +104,8 @@ fn scope_at(alloc: Global, table: &Table) -> Result<Scope, NoMemory>
 
 fn settings_read(alloc: Global, table: &Table) -> Result<Settings, NoMemory>
     requires { settings_fault (table_view table.now) ≡ None }
-    ensures { IfOk result (λ settings. settings_data settings ≡ settings_read (table_view table.now)) }
+    ensures { IfOk result (λ settings.
+        settings_data settings ≡ settings_read (table_view table.now)) }
 {
     Ok(Settings {
         home: home(alloc, table)?,
@@ -116,7 +120,8 @@ fn settings_read(alloc: Global, table: &Table) -> Result<Settings, NoMemory>
 }
 
 fn settings_of(alloc: Global, table: &Table) -> Result<Settings, SettingsFault>
-    ensures { Answers (settings_fault (table_view table.now)) (settings_read (table_view table.now)) result }
+    ensures { Answers (settings_fault (table_view table.now))
+        (settings_read (table_view table.now)) result }
 {
     if let Some(fault) = settings_fault(table) {
         return Err(fault);
@@ -138,8 +143,13 @@ impl Settings {
     /// text was read as TOML. A fault inside an array names the array's key: the array's kind and its
     /// length come first, then its elements in their order, and in each of them its keys.
     pub fn read(alloc: Global, text: &str) -> Result<Settings, SettingsFault>
-        ensures read { IfOk result (λ settings. settings_of (parse_document text.now) ≡ Ok (settings_data settings)) }
-        ensures refused { IfErr result (λ fault. fault ≢ SettingsFault.NoMemory → settings_of (parse_document text.now) ≡ Err fault) }
+        ensures read { IfOk result (λ settings.
+            settings_of (parse_document text.now) ≡ Ok (settings_data settings)) }
+        ensures ranges { IfOk result (λ settings. AreInRange (settings_data settings)) }
+        ensures table { IfOk result (λ settings.
+            IfSome (parse_document text.now) (λ table. StandsIn table (settings_data settings))) }
+        ensures refused { IfErr result (λ fault. fault ≢ SettingsFault.NoMemory
+            → settings_of (parse_document text.now) ≡ Err fault) }
     {
         match toml::table_from_str(alloc, text) {
             Ok(table) => settings_of(alloc, &table),

@@ -4,7 +4,9 @@ pub mod RunLemmas
 mod RowLemmas
 mod RowSearch
 mod WordOrder
+mod NumberLemmas
 mod MergeLemmas
+mod JoinLemmas
 mod SegmentLemmas
 pub mod Pieces
 mod WordPostings

@@ -1,8 +1,8 @@
 -- What rows count, row by row.
-use Rattle.std.proofs.Common.{◌≡◌, ℕ, Bool, true, false, zero, suc, ◌+◌, ◌≤◌, List, [], ◌∷◌, ◌++◌, cond, length, map, take, drop, slice_get, Some, refl, ap, ◌∙◌, arith}
+use Rattle.std.proofs.Common.{◌≡◌, ℕ, Bool, true, false, zero, suc, ◌+◌, ◌≤◌, List, [], ◌∷◌, ◌++◌, cond, length, take, drop, slice_get, Some, refl, ap, ◌∙◌, arith}
 use Rattle.std.specs.List.{zip}
-use Rattle.gopher_segment.specs.Postings.{count_in, pieces}
-use Rattle.gopher_segment.specs.Rows.{words_of_rows, runs_of_rows, rows_count, page_rows, first_word, first_run}
+use Rattle.gopher_segment.specs.Postings.{count_in}
+use Rattle.gopher_segment.specs.Rows.{words_of_rows, runs_of_rows, rows_count, first_word, first_run}
 
 pub rows_count-append : (test : List ℕ → Bool) (page : ℕ) (a b : List (List ℕ × List (ℕ × ℕ))) → rows_count test page (a ++ b) ≡ rows_count test page a + rows_count test page b
 rows_count-append test page [] b = omega arith
@@ -31,22 +31,18 @@ runs_of_zip [] (run ∷ runs) same = absurd (omega arith)
 runs_of_zip (word ∷ words) [] same = absurd (omega arith)
 runs_of_zip (word ∷ words) (run ∷ runs) same = ap (λ l. run ∷ l) (runs_of_zip words runs (omega arith))
 
-pub zip_page_rows : (number : ℕ) (counts : List (List ℕ × ℕ)) → zip (map (λ entry. entry.0) counts) (map (λ entry. pieces number entry.1) counts) ≡ page_rows number counts
-zip_page_rows number [] = refl
-zip_page_rows number (entry ∷ counts) = ap (λ l. (entry.0, pieces number entry.1) ∷ l) (zip_page_rows number counts)
-
--- one more of the words of a page
-pub map_step : {X : Type 0} (f : List ℕ × ℕ → X) (counts : List (List ℕ × ℕ)) (i : ℕ) (entry : List ℕ × ℕ) → slice_get counts i ≡ Some entry → map f (take (i + 1) counts) ≡ map f (take i counts) ++ f entry ∷ []
-map_step f counts i entry at =
+-- one more of a list
+pub take_step : {A : Type 0} (xs : List A) (i : ℕ) (x : A) → slice_get xs i ≡ Some x → take (i + 1) xs ≡ take i xs ++ x ∷ []
+take_step {A = A} xs i x at =
     let next : i + 1 ≡ suc i = omega arith in
-    ap (λ n. map f (take n counts)) next ∙ by counts i at
+    ap (λ n. take n xs) next ∙ by xs i at
   where
-    by : (counts : List (List ℕ × ℕ)) (i : ℕ) → slice_get counts i ≡ Some entry → map f (take (suc i) counts) ≡ map f (take i counts) ++ f entry ∷ []
-    by [] i at_entry = absurd cc
-    by (first ∷ counts) zero at_entry =
-        let same : first ≡ entry = cc in
-        ap (λ e. f e ∷ []) same
-    by (first ∷ counts) (suc i) at_entry = ap (λ l. f first ∷ l) (by counts i at_entry)
+    by : (xs : List A) (i : ℕ) → slice_get xs i ≡ Some x → take (suc i) xs ≡ take i xs ++ x ∷ []
+    by [] i at_x = absurd cc
+    by (first ∷ xs) zero at_x =
+        let same : first ≡ x = cc in
+        ap (λ y. y ∷ []) same
+    by (first ∷ xs) (suc i) at_x = ap (λ l. first ∷ l) (by xs i at_x)
 
 -- ---- the rows from one on
 

@@ -41,6 +41,13 @@ zip-drop [] (y ∷ b) (suc n) same = absurd (omega arith)
 zip-drop (x ∷ a) [] (suc n) same = absurd (omega arith)
 zip-drop (x ∷ a) (y ∷ b) (suc n) same = zip-drop a b n (omega arith)
 
+pub one_posting : (pages counts : List ℕ) → length counts ≡ length pages → length pages ≡ 1 → zip pages counts ≡ (get_or pages 0 0, get_or counts 0 0) ∷ []
+one_posting [] counts same one = absurd (omega (arith, one))
+one_posting (page ∷ other ∷ pages) counts same one = absurd (omega (arith, one))
+one_posting (page ∷ []) [] same one = absurd (omega (arith, same))
+one_posting (page ∷ []) (count ∷ other ∷ counts) same one = absurd (omega (arith, same))
+one_posting (page ∷ []) (count ∷ []) same one = refl
+
 -- ---- runs
 
 -- the run at an index

@@ -4,18 +4,16 @@ use Rattle.std.proofs.lemmas.Bool.{eq-eqb, ne_eqb, cases_eq}
 use Rattle.std.proofs.lemmas.List.{map-append, length-map}
 use Rattle.std.proofs.lemmas.List.Sums.{sum_by-cons}
 use Rattle.std.specs.List.{sum_by, flat_map}
-use Rattle.std.specs.List.Sorted.{IsStrictlySortedBy}
-use Rattle.std.specs.Ordering.{nat_cmp}
-use Rattle.std.specs.Cmp.Lexicographic.{slice_cmp}
 use Rattle.gopher_page.specs.Counts.{count_where, count_meant}
 use Rattle.gopher_page.specs.Packed.{AreCounts}
 use Rattle.gopher_page.specs.Page.{PageData}
 use Rattle.gopher_segment.specs.Postings.{count_in, pieces, run_of}
-use Rattle.gopher_segment.specs.Rows.{words_of_rows, rows_count, postings_of, page_rows, AreAllInOrder, tables_count}
+use Rattle.gopher_segment.specs.Rows.{AreInOrder, rows_count, postings_of, page_rows, TellAlike, AreAllInOrder, tables_count}
 use Rattle.gopher_segment.specs.Segment.{SegmentData, pages_of, meant_counts}
-use Rattle.gopher_segment.specs.SegmentRows.{count_at, AreSmall, AreRowsOf, IsSegment, AreConsecutive, AreTablesOf}
+use Rattle.gopher_segment.specs.SegmentRows.{count_at, AreSmall, Tell, AreRowsOf, AreConsecutive, AreTablesOf}
 use Rattle.gopher_segment.proofs.PostingLemmas.{count_in-pieces}
-use Rattle.gopher_segment.proofs.WordPostings.{page_postings, run_of-append}
+use Rattle.gopher_segment.proofs.RowLemmas.{rows_count-append}
+use Rattle.gopher_segment.proofs.WordPostings.{postings_of-append, page_postings, run_of-append}
 
 -- ---- pages from a number on
 
@@ -68,10 +66,6 @@ count_at_few test number first (page ∷ pages) small = by (cases_eq first numbe
 
 -- ---- one page
 
-words_of_page_rows : (number : ℕ) (counts : List (List ℕ × ℕ)) → words_of_rows (page_rows number counts) ≡ map (λ entry. entry.0) counts
-words_of_page_rows number [] = refl
-words_of_page_rows number (entry ∷ counts) = ap (λ l. entry.0 ∷ l) (words_of_page_rows number counts)
-
 page_rows_count : (test : List ℕ → Bool) (other number : ℕ) (counts : List (List ℕ × ℕ)) → rows_count test other (page_rows number counts) ≡ cond (number == other) (count_where test counts) 0
 page_rows_count test other number [] = sym (by (number == other) (count_where test []) refl)
   where
@@ -88,22 +82,54 @@ page_rows_count test other number (entry ∷ counts) =
     by false true postings rest counted all first later whole = omega arith
     by false false postings rest counted all first later whole = omega arith
 
-pub page_segment : (number : ℕ) (page : PageData) → AreCounts page.counts → IsSegment number (page ∷ []) (page_rows number page.counts)
-page_segment number page sound =
-    let P : List (List ℕ) → Type 0 = IsStrictlySortedBy (slice_cmp nat_cmp) in
-    record {
-      table = record {
-        order = subst P (sym (words_of_page_rows number page.counts)) sound.ordered;
-        counts = λ test other. omega (arith, page_rows_count test other number page.counts);
-        runs = λ word. page_postings number word page.counts sound;
-      };
-      small = (sound.few, tt);
-    }
+page_tells : (number : ℕ) (page : PageData) → AreCounts page.counts → Tell number (page ∷ []) (page_rows number page.counts)
+page_tells number page sound = record {
+  counts = λ test other. omega (arith, page_rows_count test other number page.counts);
+  runs = λ word. page_postings number word page.counts sound;
+}
 
--- ---- segments
+-- ---- pages behind others
 
 counts-append : (word : List ℕ) (a b : List PageData) → meant_counts false word (a ++ b) ≡ meant_counts false word a ++ meant_counts false word b
 counts-append word a b = map-append (λ (page : PageData). count_meant false word page.counts) a b
+
+tell_both : (first : ℕ) (pages more : List PageData) (rows others : List (List ℕ × List (ℕ × ℕ))) → Tell first pages rows → Tell (first + length pages) more others → Tell first (pages ++ more) (rows ++ others)
+tell_both first pages more rows others here there = record {
+  counts = λ test number. omega (arith, rows_count-append test number rows others, here.counts test number, there.counts test number, count_at-append test number first pages more);
+  runs = λ word.
+      let size : length pages ≡ length (meant_counts false word pages) = sym (length-map pages (λ (page : PageData). count_meant false word page.counts)) in
+      postings_of-append word rows others
+      ∙ (λ i. here.runs word i ++ there.runs word i)
+      ∙ ap (λ n. run_of first (meant_counts false word pages) ++ run_of (first + n) (meant_counts false word more)) size
+      ∙ sym (run_of-append first (meant_counts false word pages) (meant_counts false word more))
+      ∙ ap (run_of first) (sym (counts-append word pages more));
+}
+
+pub tell_nothing : (first : ℕ) → Tell first [] []
+tell_nothing first = record { counts = λ test number. refl; runs = λ word. refl }
+
+-- the page behind them
+pub page_behind : (first : ℕ) (pages : List PageData) (page : PageData) (at : ℕ) (rows newer : List (List ℕ × List (ℕ × ℕ))) → Tell first pages rows → AreCounts page.counts → at ≡ first + length pages → newer ≡ rows ++ page_rows at page.counts → Tell first (pages ++ page ∷ []) newer
+page_behind first pages page at rows newer told sound here is =
+    subst (Tell first (pages ++ page ∷ [])) (sym is)
+    (tell_both first pages (page ∷ []) rows (page_rows at page.counts) told (subst (λ n. Tell n (page ∷ []) (page_rows at page.counts)) here (page_tells at page sound)))
+
+-- ---- tables of rows
+
+pub rows_of_both : (first : ℕ) (pages : List PageData) (rows table : List (List ℕ × List (ℕ × ℕ))) → Tell first pages rows → AreInOrder table → TellAlike rows table → AreRowsOf first pages table
+rows_of_both first pages rows table told order alike = record {
+  order = order;
+  tell = record {
+    counts = λ test number. alike.counts test number ∙ told.counts test number;
+    runs = λ word. alike.runs word ∙ told.runs word;
+  };
+}
+
+pub small_both : (a b : List PageData) → AreSmall a → AreSmall b → AreSmall (a ++ b)
+small_both [] b front back = back
+small_both (page ∷ a) b front back = (front.0, small_both a b front.1 back)
+
+-- ---- segments
 
 module _ (word : List ℕ) where
   pub tables_runs : (first : ℕ) (segments : List SegmentData) (tables : List (List (List ℕ × List (ℕ × ℕ)))) → AreConsecutive first segments → AreTablesOf segments tables
@@ -112,7 +138,7 @@ module _ (word : List ℕ) where
   tables_runs first [] (rows ∷ tables) consecutive are = absurd are
   tables_runs first (segment ∷ segments) [] consecutive are = absurd are
   tables_runs first (segment ∷ segments) (rows ∷ tables) consecutive are =
-      let here : postings_of word rows ≡ run_of first (meant_counts false word segment.pages) = are.0.runs word ∙ ap (λ n. run_of n (meant_counts false word segment.pages)) consecutive.0 in
+      let here : postings_of word rows ≡ run_of first (meant_counts false word segment.pages) = are.0.tell.runs word ∙ ap (λ n. run_of n (meant_counts false word segment.pages)) consecutive.0 in
       let rest = tables_runs (first + length segment.pages) segments tables consecutive.1 are.1 in
       let size : length segment.pages ≡ length (meant_counts false word segment.pages) = sym (length-map segment.pages (λ (page : PageData). count_meant false word page.counts)) in
       (λ i. here i ++ rest i)
@@ -126,7 +152,7 @@ tables_counts test number first [] [] consecutive are = refl
 tables_counts test number first [] (rows ∷ tables) consecutive are = absurd are
 tables_counts test number first (segment ∷ segments) [] consecutive are = absurd are
 tables_counts test number first (segment ∷ segments) (rows ∷ tables) consecutive are =
-    let here : rows_count test number rows ≡ count_at test number first segment.pages = are.0.counts test number ∙ ap (λ n. count_at test number n segment.pages) consecutive.0 in
+    let here : rows_count test number rows ≡ count_at test number first segment.pages = are.0.tell.counts test number ∙ ap (λ n. count_at test number n segment.pages) consecutive.0 in
     omega (arith, tables_counts test number (first + length segment.pages) segments tables consecutive.1 are.1, count_at-append test number first segment.pages (pages_of segments))
 
 pub tables_order : (segments : List SegmentData) (tables : List (List (List ℕ × List (ℕ × ℕ)))) → AreTablesOf segments tables → AreAllInOrder tables

@@ -1,5 +1,5 @@
 -- Rows: words, each with its postings.
-use Rattle.std.specs.Prelude.{ℕ, ◌+◌, ◌≡◌, ◌<◌, ◌≤◌, Bool, true, false, List, [], ◌∷◌, ◌++◌, map, Option, Some, None, length, slice_index_or, if◌then◌else◌}
+use Rattle.std.specs.Prelude.{ℕ, ◌+◌, ◌-◌, ◌^◌, ◌≡◌, ◌<◌, ◌≤◌, Bool, true, false, List, [], ◌∷◌, ◌++◌, map, drop, Option, Some, None, length, slice_index_or, if◌then◌else◌}
 use Rattle.std.specs.List.{AllByRecursion}
 use Rattle.std.specs.List.Sorted.{IsStrictlySortedBy}
 use Rattle.std.specs.Ordering.{nat_cmp}
@@ -7,6 +7,7 @@ use Rattle.std.specs.Cmp.Lexicographic.{slice_cmp}
 use Rattle.std.specs.declared.cmp.Ordering.TheVariants.{Less}
 use Rattle.gopher_page.specs.Words.{same_word}
 use Rattle.gopher_page.specs.Counts.{is_before, is_meant}
+use Rattle.gopher_page.specs.Numbered.{IsNumbered}
 use Rattle.gopher_segment.specs.Postings.{count_in, pieces}
 
 abbrev pub words_of_rows : List (List ℕ × List (ℕ × ℕ)) → List (List ℕ)
@@ -54,6 +55,17 @@ page_rows number counts = map (λ entry. (entry.0, pieces number entry.1)) count
 abbrev pub first_word : List (List ℕ × List (ℕ × ℕ)) → Option (List ℕ)
 first_word [] = None
 first_word (row ∷ rows) = Some row.0
+
+-- a number is that of a word's first eight bytes, and the last of all where there is no word
+abbrev pub IsNumberOf : ℕ → Option (List ℕ) → Type 0
+IsNumberOf number None = number ≡ 2 ^ 64 - 1
+IsNumberOf number (Some word) = IsNumbered number word
+
+-- a cursor stands at a row of a table or past all, beside the word of that row and its number
+pub record IsCursor (rows : List (List ℕ × List (ℕ × ℕ))) (at number : ℕ) (word : Option (List ℕ)) : Type 0 where
+  pub within : at ≤ length rows
+  pub word_is : word ≡ first_word (drop at rows)
+  pub number_is : IsNumberOf number (first_word (drop at rows))
 
 abbrev pub first_run : List (List ℕ × List (ℕ × ℕ)) → List (ℕ × ℕ)
 first_run [] = []
@@ -110,3 +122,24 @@ AreBefore words (Some word) = AllBefore words word
 abbrev pub ComeBefore : List (List ℕ) → List (List (List ℕ × List (ℕ × ℕ))) → Type 0
 ComeBefore words [] = Unit {0}
 ComeBefore words (rows ∷ tables) = AreBefore words (first_word rows) × ComeBefore words tables
+
+-- ---- rows of one table after another, which are joined
+
+-- rows count for each page, and each test of words, what others do, and have the postings that others
+-- have of each word
+pub record TellAlike (rows others : List (List ℕ × List (ℕ × ℕ))) : Type 0 where
+  pub counts : (test : List ℕ → Bool) (page : ℕ) → rows_count test page others ≡ rows_count test page rows
+  pub runs : (word : List ℕ) → postings_of word others ≡ postings_of word rows
+
+-- a row and those behind it, of which those that stand side by side and have one word are joined
+abbrev pub joined_from : List ℕ × List (ℕ × ℕ) → List (List ℕ × List (ℕ × ℕ)) → List (List ℕ × List (ℕ × ℕ))
+joined_from row [] = row ∷ []
+joined_from row (next ∷ rows) = if same_word next.0 row.0 then joined_from (row.0, row.1 ++ next.1) rows else row ∷ joined_from next rows
+
+abbrev pub joined_rows : List (List ℕ × List (ℕ × ℕ)) → List (List ℕ × List (ℕ × ℕ))
+joined_rows [] = []
+joined_rows (row ∷ rows) = joined_from row rows
+
+-- the rows from `start` up to `end` have one word, and together these postings
+abbrev pub IsJoined : List (List ℕ × List (ℕ × ℕ)) → ℕ → ℕ → List (ℕ × ℕ) → Type 0
+IsJoined rows start end postings = joined_rows (drop start rows) ≡ (slice_index_or (words_of_rows rows) start [], postings) ∷ joined_rows (drop end rows)

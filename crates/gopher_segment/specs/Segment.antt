@@ -1,6 +1,6 @@
 -- Pages in segments.
-use Rattle.std.specs.Prelude.{ℕ, Bool, List, map}
-use Rattle.std.specs.List.{flat_map}
+use Rattle.std.specs.Prelude.{ℕ, Bool, List, map, length}
+use Rattle.std.specs.List.{flat_map, sum_by}
 use Rattle.gopher_page.specs.Counts.{count_meant}
 use Rattle.gopher_page.specs.Page.{PageData}
 
@@ -16,3 +16,7 @@ pages_of segments = flat_map (λ segment. segment.pages) segments
 -- how often the words that are meant stand in each page
 abbrev pub meant_counts : Bool → List ℕ → List PageData → List ℕ
 meant_counts is_prefix sought pages = map (λ page. count_meant is_prefix sought page.counts) pages
+
+-- how many words pages have, each as often as there are pages in which it stands
+abbrev pub words_count : List PageData → ℕ
+words_count pages = sum_by (λ page. length page.counts) pages

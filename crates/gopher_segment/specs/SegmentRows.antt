@@ -16,12 +16,15 @@ count_at test number first (page ∷ pages) = (if first == number then count_whe
 abbrev pub AreSmall : List PageData → Type 0
 AreSmall pages = AllByRecursion (λ page. sum_by (λ entry. entry.1) page.counts ≤ 1048576) pages
 
--- for each number and each test of words, the rows count what the page of that number does, and for
--- each word they have its postings in the pages, in the order of these
-pub record AreRowsOf (first : ℕ) (pages : List PageData) (rows : List (List ℕ × List (ℕ × ℕ))) : Type 0 where
-  pub order : AreInOrder rows
+-- for each number and each test of words, rows count what the page of that number does, and for each
+-- word they have its postings in the pages, in the order of these
+pub record Tell (first : ℕ) (pages : List PageData) (rows : List (List ℕ × List (ℕ × ℕ))) : Type 0 where
   pub counts : (test : List ℕ → Bool) (number : ℕ) → rows_count test number rows ≡ count_at test number first pages
   pub runs : (word : List ℕ) → postings_of word rows ≡ run_of first (meant_counts false word pages)
+
+pub record AreRowsOf (first : ℕ) (pages : List PageData) (rows : List (List ℕ × List (ℕ × ℕ))) : Type 0 where
+  pub order : AreInOrder rows
+  pub tell : Tell first pages rows
 
 pub record IsSegment (first : ℕ) (pages : List PageData) (rows : List (List ℕ × List (ℕ × ℕ))) : Type 0 where
   pub table : AreRowsOf first pages rows

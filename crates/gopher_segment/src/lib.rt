@@ -6,15 +6,21 @@
 //! of them, and what it says of a word, or of all words that begin with one, is what these pages say.
 #![tactic(auto)]
 
+mod gathering;
+mod joining;
 mod merging;
 mod parts;
 mod postings;
+mod row;
 mod runs;
 mod segment;
+mod sharing;
 mod size;
 mod table;
 mod words;
 
+pub use gathering::words_len;
 pub use postings::Postings;
 pub use segment::{Segment, pages_len};
+pub use sharing::{share, shared};
 pub use size::Size;

@@ -3,7 +3,7 @@
 ghost use Rattle.std.specs.Prelude.{◌≡◌, ℕ, Bool, ◌<◌, List, None, ◌++◌, length, map, drop, IfOk, OnOk};
 ghost use Rattle.std.specs.List.{flat_map};
 ghost use Rattle.std.specs.Option.{option_copied};
-ghost use Rattle.gopher_segment.specs.Rows.{AreInOrder, rows_count, postings_of, first_word, first_run, is_at, passed, taken, lower, lowest_from, AreAllInOrder, tables_count};
+ghost use Rattle.gopher_segment.specs.Rows.{AreInOrder, rows_count, postings_of, first_word, first_run, IsNumberOf, is_at, passed, taken, lower, lowest_from, AreAllInOrder, tables_count};
 
 use crate::runs::{Run, Runs};
 use crate::table::Table;
@@ -24,25 +24,37 @@ fn word_at<'a>(table: &'a Table, at: usize) -> Option<Numbered<'a>>
     }
 }
 
+// The number of a word, and the last number of all where there is no word.
+fn number_of(word: &Option<Numbered<'_>>) -> u64
+    ensures { IsNumberOf result word.now }
+{
+    match word {
+        Some(word) => word.number(),
+        None => u64::MAX,
+    }
+}
+
 /// The rows of a table that are left to merge.
 ///
-/// The word of the first of them is kept, since it is compared many times.
+/// The word of the first of them is kept, since it is compared many times, and its number beside it,
+/// which decides most of these.
 #[derive(Debug, Drop)]
 pub(crate) struct Cursor<'a> {
     table: &'a Table,
     at: usize,
+    number: u64,
     word: Option<Numbered<'a>>,
 }
 
 impl<'a> Model for Cursor<'a> {
-    ghost use Rattle.std.specs.Prelude.{ℕ, ◌≡◌, ◌≤◌, List, length, drop};
-    ghost use Rattle.gopher_segment.specs.Rows.{first_word};
+    ghost use Rattle.std.specs.Prelude.{ℕ, List, drop};
+    ghost use Rattle.gopher_segment.specs.Rows.{IsCursor};
 
     ghost Value = { List (List ℕ × List (ℕ × ℕ)) };
 
     ghost view = { λ c. drop c.at c.table.now };
 
-    ghost invariant = { λ c. (c.at ≤ length c.table.now) × (c.word ≡ first_word (drop c.at c.table.now)) };
+    ghost invariant = { λ c. IsCursor c.table.now c.at c.number c.word };
 }
 
 impl<'a> Cursor<'a> {
@@ -50,11 +62,20 @@ impl<'a> Cursor<'a> {
     pub fn new(table: &'a Table) -> Cursor<'a>
         ensures { result ≡ table.now }
     {
+        let word = word_at(table, 0);
         Cursor {
             table,
             at: 0,
-            word: word_at(table, 0),
+            number: number_of(&word),
+            word,
         }
+    }
+
+    // The number of the first row's word, and the last number of all where there is no row.
+    fn number(&self) -> u64
+        ensures { IsNumberOf result (first_word self.now) }
+    {
+        self.number
     }
 
     // The word of the first row, where there is a row.
@@ -68,6 +89,9 @@ impl<'a> Cursor<'a> {
     fn is_at(&self, word: &Numbered<'_>) -> bool
         ensures { result ≡ is_at word.now self.now }
     {
+        if self.number() != word.number() {
+            return false;
+        }
         match self.word() {
             Some(own) => own == word,
             None => false,
@@ -89,6 +113,7 @@ impl<'a> Cursor<'a> {
         if self.at < self.table.len() {
             self.at += 1;
             self.word = word_at(self.table, self.at);
+            self.number = number_of(&self.word);
         }
     }
 }
@@ -111,8 +136,13 @@ fn lowest_word<'a>(cursors: &[Cursor<'a>]) -> Option<Numbered<'a>>
     ensures { result ≡ lowest_from None cursors.now }
 {
     let mut lowest: Option<&Numbered<'a>> = None;
+    let mut number = u64::MAX;
     for cursor in cursors {
-        lowest = lower(lowest, cursor.word());
+        let own = cursor.number();
+        if own <= number {
+            lowest = lower(lowest, cursor.word());
+            number = own;
+        }
     }
     match lowest {
         Some(word) => Some(word.again()),
@@ -142,7 +172,8 @@ fn take_runs(
 ) -> Result<(), NoMemory>
     ensures cursors { OnOk result (cursors.new ≡ map (passed word.now) cursors.old) }
     ensures whole { runs.new.whole ≡ runs.old.whole }
-    ensures begun { OnOk result (runs.new.begun ≡ runs.old.begun ++ flat_map (taken word.now) cursors.old) }
+    ensures begun { OnOk result (runs.new.begun
+        ≡ runs.old.begun ++ flat_map (taken word.now) cursors.old) }
 {
     for index in 0..cursors.len() {
         take_run(word, &mut cursors[index], runs)?;
@@ -150,24 +181,41 @@ fn take_runs(
     Ok(())
 }
 
-// How many postings the tables have.
-fn postings_len(cursors: &[Cursor<'_>]) -> usize {
-    let mut postings = 0_usize;
+// What tables take, and so one of their rows at most.
+#[derive(Clone, Copy)]
+struct Room {
+    rows: usize,
+    bytes: usize,
+    postings: usize,
+}
+
+fn room_of(cursors: &[Cursor<'_>]) -> Room {
+    let mut room = Room {
+        rows: 0,
+        bytes: 0,
+        postings: 0,
+    };
     for cursor in cursors {
-        postings = postings.saturating_add(cursor.table.postings_len());
+        let table = cursor.table;
+        room.rows = room.rows.saturating_add(table.len());
+        room.bytes = room.bytes.saturating_add(table.bytes_len());
+        room.postings = room.postings.saturating_add(table.postings_len());
     }
-    postings
+    room
 }
 
 /// One table of the rows of several, whose words are in order. Refused only where memory is (90).
 pub(crate) fn merge(alloc: Global, cursors: &mut [Cursor<'_>]) -> Result<Table, NoMemory>
     requires { AreAllInOrder cursors.old }
     ensures order { IfOk result (λ table. AreInOrder table) }
-    ensures counts { IfOk result (λ table. (test : List ℕ → Bool) (page : ℕ) → rows_count test page table ≡ tables_count test page cursors.old) }
-    ensures runs { IfOk result (λ table. (word : List ℕ) → postings_of word table ≡ flat_map (postings_of word) cursors.old) }
+    ensures counts { IfOk result (λ table. (test : List ℕ → Bool) (page : ℕ)
+        → rows_count test page table ≡ tables_count test page cursors.old) }
+    ensures runs { IfOk result (λ table.
+        (word : List ℕ) → postings_of word table ≡ flat_map (postings_of word) cursors.old) }
 {
-    let mut words = Words::with_capacity(alloc, 0, 0)?;
-    let mut runs = Runs::with_capacity(alloc, 0, postings_len(cursors))?;
+    let room = room_of(cursors);
+    let mut words = Words::with_capacity(alloc, room.rows, room.bytes)?;
+    let mut runs = Runs::with_capacity(alloc, room.rows, room.postings)?;
     while let Some(word) = lowest_word(cursors) {
         words.push(word.word())?;
         take_runs(&word, cursors, &mut runs)?;

@@ -34,8 +34,10 @@ impl<'a> Model for Run<'a> {
 fn add_count(cells: &mut [u32], first: usize, page: usize, count: u32)
     requires from { first ≤ page }
     requires within { page < first + length cells.old }
-    requires room { (k : ℕ) → k < length cells.old → slice_index cells.old k + (if page == first + k then count else 0) < 2 ^ 32 }
-    ensures { (k : ℕ) → k < length cells.old → slice_index cells.new k ≡ slice_index cells.old k + (if page == first + k then count else 0) }
+    requires room { (k : ℕ) → k < length cells.old
+        → slice_index cells.old k + (if page == first + k then count else 0) < 2 ^ 32 }
+    ensures { (k : ℕ) → k < length cells.old → slice_index cells.new k
+        ≡ slice_index cells.old k + (if page == first + k then count else 0) }
 {
     cells[page - first] += count;
 }
@@ -62,8 +64,10 @@ impl<'a> Run<'a> {
     /// Adds the counts to the cells of their pages, of which the first is that of page `first`.
     pub fn add_to(&self, first: usize, cells: &mut [u32])
         requires within { AreWithin first (length cells.old) self.now }
-        requires room { (k : ℕ) → k < length cells.old → slice_index cells.old k + count_in (first + k) self.now < 2 ^ 32 }
-        ensures { (k : ℕ) → k < length cells.old → slice_index cells.new k ≡ slice_index cells.old k + count_in (first + k) self.now }
+        requires room { (k : ℕ) → k < length cells.old
+            → slice_index cells.old k + count_in (first + k) self.now < 2 ^ 32 }
+        ensures { (k : ℕ) → k < length cells.old → slice_index cells.new k
+            ≡ slice_index cells.old k + count_in (first + k) self.now }
     {
         for (index, page) in self.pages.iter().enumerate() {
             add_count(
@@ -93,7 +97,10 @@ impl Model for Runs {
 
     ghost use Rattle.gopher_segment.specs.Parts.{parts, last_end, ArePackedRuns};
 
-    ghost view = { λ r. record { whole = parts (zip r.pages.items r.counts.items) 0 r.ends.items; begun = drop (last_end 0 r.ends.items) (zip r.pages.items r.counts.items) } };
+    ghost view = { λ r. record {
+      whole = parts (zip r.pages.items r.counts.items) 0 r.ends.items;
+      begun = drop (last_end 0 r.ends.items) (zip r.pages.items r.counts.items);
+    } };
 
     ghost invariant = { λ r. ArePackedRuns r.pages.items r.counts.items r.ends.items };
 }
@@ -155,9 +162,8 @@ impl Runs {
         ensures whole { self.new.whole ≡ self.old.whole }
         ensures begun { OnOk result (self.new.begun ≡ self.old.begun ++ (page, count) ∷ []) }
     {
-        self.pages.reserve(1)?;
         self.counts.reserve(1)?;
-        self.pages.push_reserved(page);
+        self.pages.push(page)?;
         self.counts.push_reserved(count);
         Ok(())
     }
@@ -181,6 +187,9 @@ impl Runs {
         ensures whole { self.new.whole ≡ self.old.whole }
         ensures begun { OnOk result (self.new.begun ≡ self.old.begun ++ run.now) }
     {
+        if run.pages.len() == 1 {
+            return self.push(run.pages[0], run.counts[0]);
+        }
         self.pages.reserve(run.pages.len())?;
         self.counts.reserve(run.counts.len())?;
         self.pages.extend_from_slice(run.pages)?;

@@ -1,6 +1,6 @@
 //! Consecutive pages with the table of their words.
 
-ghost use Rattle.std.specs.Prelude.{◌≡◌, ◌<◌, ◌≤◌, ◌-◌, ◌^◌, false, [], ◌∷◌, ◌++◌, length, map, min, replicate, IfOk, OnOk};
+ghost use Rattle.std.specs.Prelude.{◌≡◌, ◌+◌, ◌≤◌, ◌-◌, ◌^◌, false, ◌++◌, length, map, min, replicate, IfOk, OnOk};
 ghost use Rattle.std.specs.Arc.{arc_value};
 ghost use Rattle.std.specs.List.{All, zip};
 ghost use Rattle.gopher_page.specs.Counts.{count_meant};
@@ -8,8 +8,11 @@ ghost use Rattle.gopher_segment.specs.Postings.{run_of};
 ghost use Rattle.gopher_segment.specs.Segment.{pages_of, meant_counts};
 ghost use Rattle.gopher_segment.specs.SegmentRows.{AreSmall, AreRowsOf, AreConsecutive, AreTablesOf};
 
+use crate::gathering::rows_of;
+use crate::joining::join;
 use crate::merging::{Cursor, merge};
 use crate::postings::Postings;
+use crate::sharing::{share, shared};
 use crate::table::Table;
 use gopher_item::NoMemory;
 use gopher_page::Page;
@@ -40,19 +43,19 @@ impl Model for Segment {
 }
 
 impl Segment {
-    /// The segment of one page, of which this is the number. Refused only where memory is (90).
-    pub fn of_page(alloc: Global, number: usize, page: &Arc<Page>) -> Result<Segment, NoMemory>
-        requires { number < 65536 }
-        ensures first { IfOk result (λ segment. segment.first ≡ number) }
-        ensures pages { IfOk result (λ segment. segment.pages ≡ arc_value page.now ∷ []) }
+    /// The segment of pages, of which the first has this number. Refused only where memory is (90).
+    ///
+    /// It takes a list of their words, with 32 bytes or twice as many for each word of each page.
+    pub fn of_pages(alloc: Global, first: usize, pages: &[Arc<Page>]) -> Result<Segment, NoMemory>
+        requires { first + length pages.now ≤ 65536 }
+        ensures first { IfOk result (λ segment. segment.first ≡ first) }
+        ensures pages { IfOk result (λ segment. segment.pages ≡ map arc_value pages.now) }
     {
-        let counts = page.counts();
-        let _words = counts.len();
-        let table = Table::of_page(alloc, number as u16, counts)?;
-        let mut pages = Vec::with_capacity(alloc, 1)?;
-        pages.push(page.clone()?)?;
+        let rows = rows_of(alloc, first, pages)?;
+        let table = join(alloc, rows)?;
+        let pages = shared(alloc, pages)?;
         Ok(Segment {
-            first: number,
+            first,
             pages,
             table,
         })
@@ -67,7 +70,8 @@ impl Segment {
     ) -> Result<Segment, NoMemory>
         requires { AreConsecutive first (map arc_value segments.now) }
         ensures first { IfOk result (λ segment. segment.first ≡ first) }
-        ensures pages { IfOk result (λ segment. segment.pages ≡ pages_of (map arc_value segments.now)) }
+        ensures pages { IfOk result (λ segment.
+            segment.pages ≡ pages_of (map arc_value segments.now)) }
     {
         let mut cursors = cursors_of(alloc, segments)?;
         let table = merge(alloc, &mut cursors)?;
@@ -99,7 +103,8 @@ impl Segment {
     /// begin with it where it is a prefix.
     pub fn spread(&self, is_prefix: bool, sought: &[u8], cells: &mut [u32])
         requires { cells.old ≡ replicate (length self.now.pages) 0 }
-        ensures counts { cells.new ≡ map (λ page. count_meant is_prefix sought.now page.counts) self.now.pages }
+        ensures counts { cells.new
+            ≡ map (λ page. count_meant is_prefix sought.now page.counts) self.now.pages }
         ensures few { All (λ count. count ≤ 1048576) cells.new }
     {
         self.table.spread(is_prefix, sought, self.first, cells);
@@ -107,7 +112,8 @@ impl Segment {
 
     /// The postings of a word.
     pub fn postings(&self, word: &[u8]) -> Postings<'_>
-        ensures run { zip result.numbers.now result.counts.now ≡ run_of result.first (meant_counts false word.now self.now.pages) }
+        ensures run { zip result.numbers.now result.counts.now
+            ≡ run_of result.first (meant_counts false word.now self.now.pages) }
         ensures beside { length result.counts.now ≡ length result.numbers.now }
     {
         let (numbers, counts) = self.table.find(word).parts();
@@ -129,18 +135,6 @@ fn cursors_of<'a>(alloc: Global, segments: &'a [Arc<Segment>]) -> Result<Vec<Cur
     Ok(cursors)
 }
 
-// Adds the pages of a segment.
-fn add_pages(segment: &Segment, pages: &mut Vec<Arc<Page>>) -> Result<(), NoMemory>
-    ensures pages { OnOk result (map arc_value pages.new.items ≡ map arc_value pages.old.items ++ segment.now.pages) }
-    ensures small { AreSmall segment.now.pages }
-{
-    let own = segment.pages();
-    for page in own {
-        pages.push(page.clone()?)?;
-    }
-    Ok(())
-}
-
 /// How many pages segments have, up to the last value of a `usize`. Takes no memory.
 pub fn pages_len(segments: &[Arc<Segment>]) -> usize
     ensures { result ≡ min (length (pages_of (map arc_value segments.now))) (2 ^ 64 - 1) }
@@ -153,12 +147,13 @@ pub fn pages_len(segments: &[Arc<Segment>]) -> usize
 }
 
 fn shared_pages(alloc: Global, segments: &[Arc<Segment>]) -> Result<Vec<Arc<Page>>, NoMemory>
-    ensures pages { IfOk result (λ pages. map arc_value pages.items ≡ pages_of (map arc_value segments.now)) }
+    ensures pages { IfOk result (λ pages.
+        map arc_value pages.items ≡ pages_of (map arc_value segments.now)) }
     ensures small { IfOk result (λ pages. AreSmall (map arc_value pages.items)) }
 {
     let mut pages = Vec::with_capacity(alloc, pages_len(segments))?;
     for segment in segments {
-        add_pages(segment, &mut pages)?;
+        share(segment.pages(), &mut pages)?;
     }
     Ok(pages)
 }

@@ -1,16 +1,13 @@
 //! Words with their postings.
 
-ghost use Rattle.std.specs.Prelude.{◌≡◌, true, false, ℕ, ◌+◌, ◌^◌, ◌<◌, ◌≤◌, List, Some, length, slice_get, slice_index, IfOk};
+ghost use Rattle.std.specs.Prelude.{◌≡◌, true, false, ℕ, ◌+◌, ◌^◌, ◌<◌, ◌≤◌, List, Some, length, slice_get, slice_index};
 ghost use Rattle.std.specs.List.{zip};
 ghost use Rattle.gopher_page.specs.Counts.{is_meant};
 ghost use Rattle.gopher_segment.specs.Postings.{AreWithin};
-ghost use Rattle.gopher_segment.specs.Rows.{words_of_rows, runs_of_rows, is_before_at, is_meant_at, AreInOrder, AreMeant, rows_count, postings_of, page_rows};
+ghost use Rattle.gopher_segment.specs.Rows.{words_of_rows, runs_of_rows, is_before_at, is_meant_at, AreInOrder, AreMeant, rows_count, postings_of};
 
 use crate::runs::{Run, Runs};
 use crate::words::Words;
-use gopher_item::NoMemory;
-use gopher_page::Counts;
-use std::alloc::Global;
 use std::marker::Model;
 
 fn is_meant(is_prefix: bool, sought: &[u8], word: &[u8]) -> bool
@@ -42,15 +39,7 @@ impl Model for Table {
 }
 
 impl Table {
-    /// The table of words and as many runs.
-    pub fn of(words: Words, runs: Runs) -> Table
-        requires { length runs.whole ≡ length words }
-        ensures { result ≡ zip words runs.whole }
-    {
-        Table { words, runs }
-    }
-
-    /// The same, without memory that nothing takes.
+    /// The table of words and as many runs, without memory that nothing takes.
     pub fn packed(mut words: Words, mut runs: Runs) -> Table
         requires { length runs.whole ≡ length words }
         ensures { result ≡ zip words runs.whole }
@@ -58,21 +47,6 @@ impl Table {
         words.shrink_to_fit();
         runs.shrink_to_fit();
         Table { words, runs }
-    }
-
-    /// The rows of a page. Refused only where memory is (90).
-    pub fn of_page(alloc: Global, number: u16, counts: &Counts) -> Result<Table, NoMemory>
-        ensures { IfOk result (λ table. table ≡ page_rows number counts.now) }
-    {
-        let mut words = Words::with_capacity(alloc, counts.len(), 0)?;
-        let mut runs = Runs::with_capacity(alloc, counts.len(), counts.len())?;
-        for index in 0..counts.len() {
-            let (word, count) = counts.get(index);
-            words.push(word)?;
-            runs.push_count(number, count)?;
-            runs.end_run()?;
-        }
-        Ok(Table::of(words, runs))
     }
 
     /// How many rows there are.
@@ -120,7 +94,8 @@ impl Table {
         requires { AreInOrder self.now }
         ensures within { result ≤ length self.now }
         ensures before { (k : ℕ) → k < result → is_before_at self.now sought.now k ≡ true }
-        ensures after { (k : ℕ) → result ≤ k → k < length self.now → is_before_at self.now sought.now k ≡ false }
+        ensures after { (k : ℕ) → result ≤ k → k < length self.now
+            → is_before_at self.now sought.now k ≡ false }
     {
         let mut low = 0;
         let mut high = self.len();
@@ -158,7 +133,8 @@ impl Table {
     fn words_meant(&self, is_prefix: bool, sought: &[u8], start: usize) -> usize
         requires order { AreInOrder self.now }
         requires start { start ≤ length self.now }
-        requires from { (k : ℕ) → start ≤ k → k < length self.now → is_before_at self.now sought.now k ≡ false }
+        requires from { (k : ℕ) → start ≤ k → k < length self.now
+            → is_before_at self.now sought.now k ≡ false }
         ensures { AreMeant self.now is_prefix sought.now start result }
     {
         let mut low = start;
@@ -178,9 +154,13 @@ impl Table {
     /// `sought` stands in each, or all words that begin with it where it is a prefix.
     pub fn spread(&self, is_prefix: bool, sought: &[u8], first: usize, cells: &mut [u32])
         requires order { AreInOrder self.now }
-        requires within { (word : List ℕ) → AreWithin first (length cells.old) (postings_of word self.now) }
-        requires fits { (k : ℕ) → k < length cells.old → slice_index cells.old k + rows_count (λ word. true) (first + k) self.now < 2 ^ 32 }
-        ensures { (k : ℕ) → k < length cells.old → slice_index cells.new k ≡ slice_index cells.old k + rows_count (is_meant is_prefix sought.now) (first + k) self.now }
+        requires within { (word : List ℕ)
+            → AreWithin first (length cells.old) (postings_of word self.now) }
+        requires fits { (k : ℕ) → k < length cells.old
+            → slice_index cells.old k + rows_count (λ word. true) (first + k) self.now < 2 ^ 32 }
+        ensures { (k : ℕ) → k < length cells.old → slice_index cells.new k
+            ≡ slice_index cells.old k + rows_count (is_meant is_prefix sought.now)
+            (first + k) self.now }
     {
         let start = self.words_before(sought);
         let end = self.words_meant(is_prefix, sought, start);

@@ -77,7 +77,6 @@ impl Words {
             return Err(NoMemory);
         }
         let end = self.bytes.len() + word.len();
-        self.bytes.reserve(word.len())?;
         self.ends.reserve(1)?;
         self.bytes.extend_from_slice(word)?;
         self.ends.push_reserved(end as u32);

@@ -161,18 +161,23 @@ later given more ended taken sent LacksMemory wider stands = stands
 later given more ended taken sent (Responds line reply count) wider stands =
     record { asked_is = stands.asked_is; line_is = stands.line_is; given_is = wider _ _ stands.given_is; sent_is = stands.sent_is }
 
--- what was given stays given
-pub talks_later : (given more : List ℕ → List ℕ → Type 0) (first left w0 w1 : Option (List ℕ)) (talk : Talk) → ((line reply : List ℕ) → given line reply → more line reply)
-    → Talks given first left w0 w1 talk → Talks more first left w0 w1 talk
-talks_later given more first left w0 w1 talk wider so_far = record {
+-- the same bytes came in and went out, and the conversation stands so
+stands_else : (given more : List ℕ → List ℕ → Type 0) (first left w0 w1 : Option (List ℕ)) (talk next : Talk) (so_far : Talks given first left w0 w1 talk)
+    → Stands more so_far.ended so_far.taken so_far.sent next → Talks more first left w0 w1 next
+stands_else given more first left w0 w1 talk next so_far stands = record {
   taken = so_far.taken;
   sent = so_far.sent;
   ended = so_far.ended;
   consumed = so_far.consumed;
   appended = so_far.appended;
   all_taken = so_far.all_taken;
-  stands = later given more so_far.ended so_far.taken so_far.sent talk wider so_far.stands;
+  stands = stands;
 }
+
+-- what was given stays given
+pub talks_later : (given more : List ℕ → List ℕ → Type 0) (first left w0 w1 : Option (List ℕ)) (talk : Talk) → ((line reply : List ℕ) → given line reply → more line reply)
+    → Talks given first left w0 w1 talk → Talks more first left w0 w1 talk
+talks_later given more first left w0 w1 talk wider so_far = stands_else given more first left w0 w1 talk talk so_far (later given more so_far.ended so_far.taken so_far.sent talk wider so_far.stands)
 
 pub given_later : {A : Type 0} (leads_to : A → A → Type 0) (gives : A → A → List ℕ → List ℕ → Type 0) (start seen now : A) (line reply : List ℕ)
     → ((a b c : A) → leads_to a b → leads_to b c → leads_to a c) → leads_to seen now → IsGiven leads_to gives start seen line reply → IsGiven leads_to gives start now line reply
@@ -183,15 +188,8 @@ given_later leads_to gives start seen now line reply joins leads given =
 replied : {A : Type 0} (leads_to : A → A → Type 0) (gives : A → A → List ℕ → List ℕ → Type 0) (start a b : A) (first left w0 w1 : Option (List ℕ)) (line : List ℕ) (next : Talk)
     → leads_to start a → leads_to b b → IsReplied gives a b line next → Talks (IsGiven leads_to gives start a) first left w0 w1 (Asks line)
     → Talks (IsGiven leads_to gives start b) first left w0 w1 next
-replied leads_to gives start a b first left w0 w1 line next leads stays is so_far = record {
-  taken = so_far.taken;
-  sent = so_far.sent;
-  ended = so_far.ended;
-  consumed = so_far.consumed;
-  appended = so_far.appended;
-  all_taken = so_far.all_taken;
-  stands = subst (Stands (IsGiven leads_to gives start b) so_far.ended so_far.taken so_far.sent) (sym is.is) answered;
-}
+replied leads_to gives start a b first left w0 w1 line next leads stays is so_far =
+    stands_else (IsGiven leads_to gives start a) (IsGiven leads_to gives start b) first left w0 w1 (Asks line) next so_far (subst (Stands (IsGiven leads_to gives start b) so_far.ended so_far.taken so_far.sent) (sym is.is) answered)
   where
     answered : StandsAnswered (IsGiven leads_to gives start b) so_far.ended so_far.taken so_far.sent line is.reply 0
     answered = record {
@@ -208,15 +206,7 @@ answered leads_to gives start a b first left w0 w1 line next Done leads stays ne
 answered leads_to gives start a b first left w0 w1 line next Paused leads stays is so_far = replied leads_to gives start a b first left w0 w1 line next leads stays is so_far
 answered leads_to gives start a b first left w0 w1 line next Waits leads stays never so_far = absurd never
 answered leads_to gives start a b first left w0 w1 line next (Failed fault) leads stays (why, same) so_far =
-    subst (λ (t : Talk). Talks (IsGiven leads_to gives start b) first left w0 w1 t) (sym same) (record {
-      taken = so_far.taken;
-      sent = so_far.sent;
-      ended = so_far.ended;
-      consumed = so_far.consumed;
-      appended = so_far.appended;
-      all_taken = so_far.all_taken;
-      stands = so_far.stands;
-    })
+    subst (λ (t : Talk). Talks (IsGiven leads_to gives start b) first left w0 w1 t) (sym same) (stands_else (IsGiven leads_to gives start a) (IsGiven leads_to gives start b) first left w0 w1 (Asks line) (Asks line) so_far so_far.stands)
 
 -- ---- one step
 

@@ -1,7 +1,7 @@
 -- A conversation as it hears and says more.
 use Rattle.std.proofs.Common.{◌≡◌, ℕ, ◌+◌, ◌-◌, ◌≤◌, true, false, List, [], ◌++◌, length, take, drop, refl, sym, ap, ◌∙◌, subst, arith, length-drop}
 use Rattle.std.specs.Io.BufRead.{first_line}
-use Rattle.gopher_tree.specs.Kept.{reply_bytes}
+use Rattle.gopher_replies.specs.Kept.{reply_bytes}
 use Rattle.gopher_serve.specs.Talk.{Talk, Gathers, Asks, IsTooLong, LacksMemory, Responds, heard, is_known, known_line, reply_of_talk, said, unsent_of}
 use Rattle.gopher_serve.specs.TalkOf.{reply_in, talk_in}
 use Rattle.gopher_serve.specs.declared.conversation.Phase.{Phase}

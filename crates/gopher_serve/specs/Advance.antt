@@ -3,6 +3,7 @@ use Rattle.std.specs.Prelude.{◌≡◌, ℕ, ◌<◌, ◌≤◌, ◌⊎◌, Boo
 use Rattle.std.specs.Io.BufRead.{first_line}
 use Rattle.std.specs.Io.KnownBytes.{Appends, Consumes, IsAtEnd, Keeps}
 use Rattle.gopher_text.specs.Watched.{CountsFailure}
+use Rattle.gopher_serve.specs.Leads.{Leads}
 use Rattle.gopher_serve.specs.Serve.{StreamData}
 use Rattle.gopher_serve.specs.Talk.{Talk, Gathers, Asks, IsTooLong, LacksMemory, Responds, Hears, heard, said, talk_of, unsent_of}
 use Rattle.gopher_serve.specs.declared.fault.ServeFault.{ServeFault}
@@ -131,3 +132,7 @@ pub record Advances {A : Type 0} (leads_to : A → A → Type 0) (gives : A → 
     (talk next : Talk) (before after : A) (left later new newer : Option (List ℕ)) : Type 0 where
   pub goes : (start seen : A) (had old : Option (List ℕ)) → leads_to start seen → leads_to seen before
       → Talks (IsGiven leads_to gives start seen) had left old new talk → Talks (IsGiven leads_to gives start after) had later old newer next
+
+-- the same, where the answers may take any number of steps
+abbrev pub GoesOn : {A : Type 0} → (A → A → Type 0) → (A → A → List ℕ → List ℕ → Type 0) → Talk → Talk → A → A → Option (List ℕ) → Option (List ℕ) → Option (List ℕ) → Option (List ℕ) → Type 0
+GoesOn leads_to gives talk next before after left later new newer = Advances (Leads leads_to) gives talk next before after left later new newer

@@ -1,8 +1,9 @@
 -- The reply to a request line: a function of the tree's files, the server's address, the line, and how its search ended.
 use Rattle.std.specs.Prelude.{◌≡◌, ℕ, Bool, nat_eq, List, [], ◌∷◌, map, Option, None, Some, if◌then◌else◌}
 use Rattle.std.specs.Cmp.Lexicographic.{pointwise}
+use Rattle.std.specs.List.{flat_map}
 use mathlib.Core.List.{IsPrefix}
-use Rattle.gopher_item.specs.MenuLine.{MenuLineData, menu_bytes}
+use Rattle.gopher_item.specs.MenuLine.{MenuLineData, menu_bytes, menu_line_bytes}
 use Rattle.gopher_item.specs.Place.{HomeData}
 use Rattle.gopher_item.specs.Request.{request_fault, request_of}
 use Rattle.gopher_item.specs.declared.fault.RequestFault.{RequestFault}
@@ -11,6 +12,8 @@ use Rattle.gopher_page.specs.Query.{TermData, query_of}
 use Rattle.gopher_index.specs.declared.hit.Hit.{Hit}
 use Rattle.gopher_tree.specs.Files.{File}
 use Rattle.gopher_tree.specs.Reply.{error_bytes, tree_reply}
+use Rattle.gopher_replies.specs.Kept.{reply_bytes}
+use Rattle.gopher_replies.specs.declared.replies.Reply.{Reply}
 use Rattle.gopher_catalogue.specs.Legal.{IsLegal}
 use Rattle.gopher_crew.specs.Crew.{PassData, hits_of}
 
@@ -31,6 +34,10 @@ no_catalogue_bytes home = error_bytes (78 ∷ 111 ∷ 32 ∷ 99 ∷ 97 ∷ 116 �
 -- a hit as a line of a menu: the type, title, selector, host and port of the page that was found
 abbrev pub hit_line : Hit → MenuLineData
 hit_line hit = record { kind = hit.place.kind; display = hit.title; selector = hit.place.selector; host = hit.place.host; port = hit.place.port }
+
+-- the lines of hits
+abbrev pub hit_lines : List Hit → List ℕ
+hit_lines hits = flat_map (λ hit. menu_line_bytes (hit_line hit)) hits
 
 abbrev pub hits_bytes : List Hit → List ℕ
 hits_bytes hits = menu_bytes (map hit_line hits)
@@ -102,3 +109,7 @@ pub record AnswersLine (files : List File) (home : HomeData) (old new : PassData
   pub outcome : Option (List Hit)
   pub searched : Searches old new (terms_of_line line) outcome
   pub reply_is : reply ≡ reply_of files home line outcome
+
+-- this holds of the bytes of a reply
+abbrev pub HasBytes : (List ℕ → Type 0) → Reply → Type 0
+HasBytes P reply = P (reply_bytes reply)

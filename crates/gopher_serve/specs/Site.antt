@@ -15,6 +15,9 @@ pub record SiteData : Type 0 where
   pub home : HomeData
   pub pass : PassData
 
+abbrev pub site_with : List File → HomeData → PassData → SiteData
+site_with files home pass = record { files = files; home = home; pass = pass }
+
 -- the site is the same, but for what its pass knows more; this holds of one answer, and of any number
 pub record LeadsOn (old new : SiteData) : Type 0 where
   pub files : new.files ≡ old.files

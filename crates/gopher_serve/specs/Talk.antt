@@ -34,6 +34,10 @@ heard ended talk piece = talk
 abbrev pub Hears : Talk → List ℕ → Talk → Type 0
 Hears old piece new = (new ≡ heard false old piece) ⊎ (((bytes : List ℕ) × (old ≡ Gathers bytes)) × (new ≡ LacksMemory))
 
+-- the line that is asked, where one is, gets this reply
+abbrev pub IsAnswered : Talk → Talk → List ℕ → Type 0
+IsAnswered old new reply = (line : List ℕ) → old ≡ Asks line → new ≡ Responds line reply 0
+
 -- the line that is asked, where one is
 abbrev pub IsLine : Talk → List ℕ → Type 0
 IsLine (Asks line) bytes = bytes ≡ line

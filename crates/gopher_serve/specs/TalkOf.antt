@@ -1,8 +1,8 @@
 -- How a conversation stands, by what it holds.
-use Rattle.std.specs.Prelude.{ℕ, List, []}
+use Rattle.std.specs.Prelude.{◌≡◌, ℕ, List, []}
 use Rattle.std.specs.Io.BufRead.{first_line}
-use Rattle.gopher_tree.specs.Kept.{reply_bytes}
-use Rattle.gopher_serve.specs.Talk.{Talk}
+use Rattle.gopher_replies.specs.Kept.{reply_bytes}
+use Rattle.gopher_serve.specs.Talk.{Talk, known_line}
 use Rattle.gopher_serve.specs.Talk.{Gathers, Asks, IsTooLong, LacksMemory, Responds}
 use Rattle.gopher_serve.specs.declared.conversation.Phase.{Phase}
 use Rattle.gopher_serve.specs.declared.conversation.Phase.TheVariants as phase
@@ -18,3 +18,7 @@ talk_in gathered (phase.Answering reply) sent = Responds (first_line gathered) (
 abbrev pub reply_in : Phase → List ℕ
 reply_in (phase.Answering reply) = reply_bytes reply
 reply_in phase = []
+
+-- how far a conversation has come whose first line is known
+abbrev pub IsPhaseAt : List ℕ → Phase → Type 0
+IsPhaseAt gathered phase = (sent : ℕ) → talk_in gathered phase sent ≡ known_line (first_line gathered)

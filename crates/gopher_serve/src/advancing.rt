@@ -1,7 +1,7 @@
 //! A conversation that goes on, one call of a stream at a time.
 
 ghost use Rattle.std.specs.Prelude.{◌≡◌, ◌<◌, ℕ, List, length};
-ghost use Rattle.gopher_serve.specs.Advance.{Advances, IsTurnAfter, Listens, Replies, Says, Steps};
+ghost use Rattle.gopher_serve.specs.Advance.{GoesOn, IsTurnAfter, Listens, Replies, Says, Steps};
 ghost use Rattle.gopher_serve.specs.Leads.{Leads};
 ghost use Rattle.gopher_serve.specs.Serve.{stream_of};
 ghost use Rattle.gopher_serve.specs.Talk.{Asks};
@@ -57,8 +57,8 @@ pub fn advance<'a, A: Answers<'a>, R: Read, W: Write>(
         (stream_of R.remaining reader.old) (stream_of R.remaining reader.new)
         (stream_of W.contents writer.old) (stream_of W.contents writer.new) result }
     ensures leads { Leads A.leads_to answers.old answers.new }
-    ensures goes_on { Advances (Leads A.leads_to) A.gives conversation.old conversation.new answers.old answers.new
-        (R.remaining reader.old.device) (R.remaining reader.new.device)
+    ensures goes_on { GoesOn A.leads_to A.gives conversation.old conversation.new
+        answers.old answers.new (R.remaining reader.old.device) (R.remaining reader.new.device)
         (W.contents writer.old.device) (W.contents writer.new.device) }
 {
     match conversation.stage() {

@@ -1,13 +1,14 @@
 //! The reply to a request line.
 
 ghost use Rattle.std.specs.Prelude.{◌≡◌, ◌≤◌, IfOk, IfSome, OnErr, length};
-ghost use Rattle.gopher_tree.specs.Kept.{reply_bytes};
+ghost use Rattle.gopher_replies.specs.Kept.{reply_bytes};
 ghost use Rattle.gopher_serve.specs.Answer.{AnswersLine, AnswersRequest, SeesOn, bad_request_bytes, is_search};
 
 use crate::searching::search;
 use gopher_crew::{Crew, Pass};
 use gopher_item::{ByteString, Home, NoMemory, Request, RequestFault, read_request};
-use gopher_tree::{Replies, Reply, error_reply};
+use gopher_replies::{Replies, Reply};
+use gopher_tree::error_reply;
 use std::alloc::Global;
 
 /// The reply of a server to a request line, given without its end.

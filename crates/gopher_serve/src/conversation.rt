@@ -1,15 +1,15 @@
 //! A conversation with one client, that knows no stream.
 
-ghost use Rattle.std.specs.Prelude.{◌≡◌, ◌≤◌, [], ℕ, List, length, false, true};
+ghost use Rattle.std.specs.Prelude.{◌≡◌, ◌≤◌, [], length, false, true};
 ghost use Rattle.std.specs.Option.{option_map};
 ghost use Rattle.std.specs.Io.BufRead.{first_line, strip_last};
 ghost use Rattle.gopher_text.specs.Line.{has_feed};
-ghost use Rattle.gopher_tree.specs.Kept.{reply_bytes};
-ghost use Rattle.gopher_serve.specs.Talk.{Hears, IsLine, asked_of, heard, is_known, known_line, reply_of_talk, said, sent_of, stage_of, unsent_of};
-ghost use Rattle.gopher_serve.specs.Talk.{Asks, Responds, Gathers};
-ghost use Rattle.gopher_serve.specs.TalkOf.{talk_in, reply_in};
+ghost use Rattle.gopher_replies.specs.Kept.{reply_bytes};
+ghost use Rattle.gopher_serve.specs.Talk.{Hears, IsAnswered, IsLine, asked_of, heard, is_known, reply_of_talk, said, sent_of, stage_of, unsent_of};
+ghost use Rattle.gopher_serve.specs.Talk.{Gathers};
+ghost use Rattle.gopher_serve.specs.TalkOf.{IsPhaseAt, reply_in};
 
-use gopher_tree::Reply;
+use gopher_replies::Reply;
 use memchr::memchr;
 use std::alloc::Global;
 use std::marker::Model;
@@ -105,7 +105,7 @@ fn without_return(bytes: &[u8]) -> &[u8]
 
 // How far a conversation has come whose line is at its end, or too long.
 fn phase_of<'a>(gathered: &[u8]) -> Phase<'a>
-    ensures talk { (sent : ℕ) → talk_in gathered.now result sent ≡ known_line (first_line gathered.now) }
+    ensures talk { IsPhaseAt gathered.now result }
     ensures silent { reply_in result ≡ [] }
 {
     if first_line(gathered).len() > MOST_IN_LINE {
@@ -208,7 +208,7 @@ impl<'a> Conversation<'a> {
 
     // Takes the reply to its line.
     pub(crate) fn respond(&mut self, reply: Reply<'a>)
-        ensures { (line : List ℕ) → self.old ≡ Asks line → self.new ≡ Responds line (reply_bytes reply.entry) 0 }
+        ensures { IsAnswered self.old self.new (reply_bytes reply.entry) }
     {
         self.phase = Phase::Answering(reply);
         self.sent = 0;

@@ -1,16 +1,16 @@
 //! The reply to a search.
 
 ghost use Rattle.std.specs.Prelude.{◌≡◌, ◌<◌, ◌≤◌, ◌++◌, IfOk, IfSome, OnErr, OnOk, length};
-ghost use Rattle.std.specs.List.{flat_map};
 ghost use Rattle.gopher_item.specs.MenuLine.{menu_line_bytes};
-ghost use Rattle.gopher_tree.specs.Kept.{reply_bytes};
-ghost use Rattle.gopher_serve.specs.Answer.{AnswersTerms, SeesOn, asked, hit_line, hits_bytes, no_catalogue_bytes, no_words_bytes};
+ghost use Rattle.gopher_replies.specs.Kept.{reply_bytes};
+ghost use Rattle.gopher_serve.specs.Answer.{AnswersTerms, SeesOn, asked, hit_line, hit_lines, hits_bytes, no_catalogue_bytes, no_words_bytes};
 
 use gopher_crew::{Crew, Pass, SearchFault};
 use gopher_index::Hit;
-use gopher_item::{ByteString, Home, NoMemory};
+use gopher_item::{ByteString, Home, NoMemory, push_last_line, push_menu_line};
 use gopher_page::{Query, QueryFault};
-use gopher_tree::{Reply, error_reply, push_last_line, push_line};
+use gopher_replies::Reply;
+use gopher_tree::error_reply;
 use std::alloc::{AllocError, Global};
 
 /// The reply to a search of this string, if the line has one. It has at most 1,024 bytes.
@@ -81,7 +81,7 @@ fn hits_menu(alloc: Global, hits: &[Hit]) -> Result<Vec<u8>, NoMemory>
 
 // Appends a line for each hit.
 fn push_hits(hits: &[Hit], out: &mut Vec<u8>) -> Result<(), AllocError>
-    ensures { OnOk result (out.new.items ≡ out.old.items ++ flat_map (λ hit. menu_line_bytes (hit_line hit)) hits.now) }
+    ensures { OnOk result (out.new.items ≡ out.old.items ++ hit_lines hits.now) }
 {
     for hit in hits {
         push_hit(hit, out)?;
@@ -94,7 +94,7 @@ fn push_hit(hit: &Hit, out: &mut Vec<u8>) -> Result<(), AllocError>
     ensures { OnOk result (out.new.items ≡ out.old.items ++ menu_line_bytes (hit_line hit.now)) }
 {
     let place = &hit.place;
-    push_line(
+    push_menu_line(
         place.kind(),
         hit.title.as_slice(),
         place.selector(),

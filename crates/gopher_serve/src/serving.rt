@@ -31,15 +31,8 @@ pub fn serve_one<'a, A: Answers<'a>, R: Read, W: Write>(
     ensures unheard { IfErr result (λ fault. IsUnheard fault → answers.new ≡ answers.old) }
     ensures leads { Leads A.leads_to answers.old answers.new }
 {
-    let line = match read_line_from(alloc, reader) {
-        Ok(line) => line,
-        Err(fault) => return Err(ServeFault::from(fault)),
-    };
-    let Ok(reply) = answers.answer(alloc, &line) else {
-        return Err(ServeFault::NoMemory);
-    };
-    match send(writer, reply.as_slice()) {
-        Ok(()) => Ok(()),
-        Err(_fault) => Err(ServeFault::WriteFailed),
-    }
+    let line = read_line_from(alloc, reader)?;
+    let reply = answers.answer(alloc, &line)?;
+    send(writer, reply.as_slice())?;
+    Ok(())
 }

@@ -1,11 +1,12 @@
 //! What answers the request lines of a server.
 
 ghost use Rattle.std.specs.Prelude.{◌≡◌};
+ghost use Rattle.gopher_serve.specs.Site.{site_with};
 
 use crate::answering::answer;
 use gopher_crew::{Crew, Pass};
 use gopher_item::NoMemory;
-use gopher_tree::{Replies, Reply};
+use gopher_replies::{Replies, Reply};
 use std::alloc::Global;
 use std::marker::Model;
 
@@ -16,7 +17,7 @@ use std::marker::Model;
 /// state after alone, also where memory is refused.
 pub trait Answers<'a> {
     ghost use Rattle.std.specs.Prelude.{ℕ, List, IfOk};
-    ghost use Rattle.gopher_tree.specs.Kept.{reply_bytes};
+    ghost use Rattle.gopher_serve.specs.Answer.{HasBytes};
 
     ghost gives: { Self → Self → List ℕ → List ℕ → Type 0 };
 
@@ -24,7 +25,7 @@ pub trait Answers<'a> {
 
     /// The reply to a line, given without its end. Refused only where memory is (90).
     fn answer(&mut self, alloc: Global, line: &[u8]) -> Result<Reply<'a>, NoMemory>
-        ensures gives { IfOk result (λ reply. gives self.old self.new line.now (reply_bytes reply)) }
+        ensures gives { IfOk result (HasBytes (gives self.old self.new line.now)) }
         ensures leads { leads_to self.old self.new };
 }
 
@@ -36,17 +37,17 @@ pub struct Site<'a, C: Crew> {
 }
 
 impl<'a, C: Crew> Model for Site<'a, C> {
-    ghost use Rattle.gopher_serve.specs.Site.{SiteData};
+    ghost use Rattle.gopher_serve.specs.Site.{SiteData, site_with};
 
     ghost Value = { SiteData };
 
-    ghost view = { λ s. record { files = s.replies.now.files; home = s.replies.now.home; pass = s.pass } };
+    ghost view = { λ s. site_with s.replies.now.files s.replies.now.home s.pass };
 }
 
 impl<'a, C: Crew> Site<'a, C> {
     /// A site of these replies, whose searches are this pass's. Takes no memory.
     pub fn new(replies: &'a Replies, pass: Pass<C>) -> Site<'a, C>
-        ensures { result ≡ record { files = replies.now.files; home = replies.now.home; pass = pass } }
+        ensures { result ≡ site_with replies.now.files replies.now.home pass }
     {
         Site { replies, pass }
     }

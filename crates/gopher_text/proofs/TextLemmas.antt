@@ -1,12 +1,13 @@
 -- What one more line gives to a text, and that what was written is read back.
-use Rattle.std.proofs.Common.{◌≡◌, ℕ, ◌-◌, Bool, true, false, ◌||◌, eqb, cond, List, [], ◌∷◌, ◌++◌, length, get_or, take, map, one-add, refl, sym, ap, ◌∙◌, append_assoc, arith, length-append}
+use Rattle.std.proofs.Common.{◌≡◌, ℕ, ◌+◌, ◌-◌, ◌<◌, Bool, true, false, ◌||◌, eqb, cond, List, [], ◌∷◌, ◌++◌, length, get_or, slice_get, Some, take, map, one-add, refl, sym, ap, ◌∙◌, append_assoc, arith, length-append}
 use Rattle.std.specs.Io.{StartsWith}
 use Rattle.std.specs.List.{slice_split, flat_map, AllByRecursion}
 use Rattle.std.specs.Str.Lines.{strip_carriage_return}
 use Rattle.std.proofs.KnownBytes.{starts_with_rest}
 use Rattle.std.proofs.lemmas.Bool.Decides.{nat_tests}
-use Rattle.std.proofs.lemmas.List.{take_at}
-use Rattle.std.proofs.lemmas.List.Concat.{flat_map-cons}
+use Rattle.std.proofs.lemmas.Option.{get_or_from_slice_get}
+use Rattle.std.proofs.lemmas.List.{append-nil, take_at, take_more}
+use Rattle.std.proofs.lemmas.List.Concat.{flat_map-append, flat_map-cons}
 use Rattle.std.proofs.lemmas.List.Folds.{list_any-append}
 use Rattle.std.proofs.lemmas.List.Splits.{slice_split-cons_yes, slice_split-cons_no}
 use Rattle.std.proofs.Math.Seq.{get_or-append_seam}
@@ -27,6 +28,16 @@ pub text_bytes-line : (line : List ℕ) (lines : List (List ℕ)) → text_bytes
 text_bytes-line line lines =
     ap (λ l. l ++ 46 ∷ 13 ∷ 10 ∷ []) (flat_map-cons text_line_bytes line lines)
     ∙ append_assoc (text_line_bytes line) (flat_map text_line_bytes lines) (46 ∷ 13 ∷ 10 ∷ [])
+
+-- the lines up to an index, and the line there
+pub sent_one_more : (lines : List (List ℕ)) (index : ℕ) (line : List ℕ) → index < length lines → slice_get lines index ≡ Some line
+    → flat_map text_line_bytes (take (index + 1) lines) ≡ flat_map text_line_bytes (take index lines) ++ text_line_bytes line
+sent_one_more lines index line within here =
+    let is : get_or lines index [] ≡ line = get_or_from_slice_get lines index line [] here in
+    ap (flat_map text_line_bytes) (take_more lines index [] within)
+    ∙ flat_map-append text_line_bytes (take index lines) (get_or lines index [] ∷ [])
+    ∙ ap (λ l. flat_map text_line_bytes (take index lines) ++ l)
+    (flat_map-cons text_line_bytes (get_or lines index []) [] ∙ append-nil (text_line_bytes (get_or lines index [])) ∙ ap text_line_bytes is)
 
 -- ---- one line, read back
 

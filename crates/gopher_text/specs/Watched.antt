@@ -8,7 +8,8 @@ pub record WatchedData (D : Type 0) : Type 0 where
 
 -- one more failure was counted, but none past the last value of the count
 abbrev pub CountsFailure : ℕ → ℕ → Type 0
-CountsFailure before after = ((before < 2 ^ 64 - 1) × (after ≡ before + 1)) ⊎ ((before ≡ 2 ^ 64 - 1) × (after ≡ before))
+CountsFailure before after =
+    ((before < 2 ^ 64 - 1) × (after ≡ before + 1)) ⊎ ((before ≡ 2 ^ 64 - 1) × (after ≡ before))
 
 -- a call failed since, or the count stood at its last value already
 abbrev pub HasFailed : ℕ → ℕ → Type 0
@@ -22,5 +23,6 @@ CountsErrors before after (Err error) = CountsFailure before after
 -- a write counts as failed where it answers an error, or takes nothing of bytes that are not empty
 abbrev pub CountsWrite : {E : Type 0} → ℕ → ℕ → List ℕ → Result ℕ E → Type 0
 CountsWrite before after bytes (Ok taken) =
-    ((taken ≡ 0) × (0 < length bytes) × CountsFailure before after) ⊎ (((0 < taken) ⊎ (length bytes ≡ 0)) × (after ≡ before))
+    ((taken ≡ 0) × (0 < length bytes) × CountsFailure before after)
+    ⊎ (((0 < taken) ⊎ (length bytes ≡ 0)) × (after ≡ before))
 CountsWrite before after bytes (Err error) = CountsFailure before after

@@ -40,7 +40,8 @@ pub fn read_line_from<R: Read>(alloc: Global, reader: &mut Watched<R>) -> Result
     ensures refused { IfErr result (RefusesLine (R.remaining reader.old.device)
         (R.remaining reader.new.device) reader.old.failures reader.new.failures) }
     ensures turns { (reader.old.failures ≤ reader.new.failures)
-        × ((bytes : List ℕ) × Consumes (R.remaining reader.old.device) (R.remaining reader.new.device) bytes
+        × ((bytes : List ℕ)
+        × Consumes (R.remaining reader.old.device) (R.remaining reader.new.device) bytes
         × (reader.new.failures + length bytes ≤ reader.old.failures + 4096)) }
 {
     let mut held = [0; MOST_WITH_END];
@@ -55,7 +56,7 @@ pub fn read_line_from<R: Read>(alloc: Global, reader: &mut Watched<R>) -> Result
 fn line_of(alloc: Global, bytes: &[u8]) -> Result<Vec<u8>, LineFault>
     ensures line { IfOk result (λ line. line.items ≡ without_end bytes.now) }
     ensures short { OnOk result (length (without_end bytes.now) ≤ 1024) }
-    ensures refused { IfErr result (λ fault. RefusesLength (length (without_end bytes.now)) fault) }
+    ensures refused { IfErr result (RefusesLength (length (without_end bytes.now))) }
 {
     let line = without_end(bytes);
     if line.len() > MOST_IN_LINE {

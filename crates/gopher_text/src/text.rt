@@ -5,18 +5,21 @@ ghost use Rattle.std.specs.Io.{StartsWith};
 ghost use Rattle.std.specs.Io.BufRead.{drop_through};
 ghost use Rattle.std.specs.List.{flat_map};
 ghost use Rattle.gopher_item.specs.Lines.{lines_of};
-ghost use Rattle.gopher_item.specs.Menu.{any_last_line, is_last_line};
+ghost use Rattle.gopher_item.specs.Menu.{any_last_line};
 ghost use Rattle.gopher_text.specs.Line.{has_feed};
 ghost use Rattle.gopher_text.specs.Text.{HoldNoFeed, ReadsText, line_read, text_bytes, text_line_bytes, text_lines};
 
-use gopher_item::{ByteString, NoMemory, first_line};
-use std::alloc::{AllocError, Global};
+use gopher_item::{ByteStrings, NoMemory, first_line, is_last_line};
+use std::alloc::Global;
+
+// How long a line of a text is at least, mostly: room for where the lines end is made once.
+const BYTES_OF_A_LINE: usize = 32;
 
 /// A text that was read.
 #[derive(Debug, Drop)]
 pub struct Text {
     /// The lines, in their order, without their ends, and without the period that was put in front.
-    pub lines: Vec<ByteString>,
+    pub lines: ByteStrings,
     /// Whether a line that is a period alone ended the text.
     pub ended: bool,
 }
@@ -24,15 +27,16 @@ pub struct Text {
 /// Reads a text (RFC 1436, section 2 and the appendix), whatever the bytes are.
 ///
 /// Its lines are those up to the first that is a period alone; what follows is ignored. A line that
-/// begins with two periods loses one. Refused only where memory is (90).
+/// begins with two periods loses one. Refused (90) only where memory is, or where the lines have over
+/// 4,294,967,295 bytes together.
 pub fn read_text(alloc: Global, bytes: &[u8]) -> Result<Text, NoMemory>
-    ensures read { IfOk result (λ text. ReadsText bytes.now text.lines.items text.ended) }
-    ensures no_feed { IfOk result (λ text. HoldNoFeed text.lines.items) }
+    ensures read { IfOk result (λ text. ReadsText bytes.now text.lines text.ended) }
+    ensures no_feed { IfOk result (λ text. HoldNoFeed text.lines) }
 {
-    let mut lines = Vec::new(alloc);
+    let mut lines = ByteStrings::with_capacity(alloc, bytes.len() / BYTES_OF_A_LINE, bytes.len())?;
     let mut rest = bytes;
     while let Some((line, after)) = first_text_line(rest) {
-        lines.push(ByteString::from_slice(alloc, line)?)?;
+        lines.push(line)?;
         rest = after;
     }
     Ok(Text {
@@ -58,12 +62,6 @@ pub fn first_text_line(bytes: &[u8]) -> Option<(&[u8], &[u8])>
         return None;
     }
     Some((line_as_read(line), rest))
-}
-
-fn is_last_line(line: &[u8]) -> bool
-    ensures { result ≡ is_last_line line.now }
-{
-    matches!(line, [b'.'])
 }
 
 // A line without the period that was put in front of it.

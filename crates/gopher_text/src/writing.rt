@@ -5,7 +5,7 @@ ghost use Rattle.std.specs.Io.{StartsWith};
 ghost use Rattle.gopher_item.specs.Lines.{lines_of};
 ghost use Rattle.gopher_text.specs.Text.{HoldNoFeed, ReadsText, begins_with_period, text_bytes, text_line_bytes};
 
-use gopher_item::{ByteString, NoMemory, first_line};
+use gopher_item::{ByteStrings, NoMemory, first_line};
 use std::alloc::AllocError;
 
 // How many bytes a line has more than its own, at most: a period, and CR LF.
@@ -16,7 +16,7 @@ const MOST_MORE: usize = 3;
 ///
 /// All or nothing: refused only where memory is (90), and then `out` is as it was. What was written
 /// is read back by `read_text` as these lines, ended.
-pub fn write_text(lines: &[ByteString], out: &mut Vec<u8>) -> Result<(), NoMemory>
+pub fn write_text(lines: &ByteStrings, out: &mut Vec<u8>) -> Result<(), NoMemory>
     requires { HoldNoFeed lines.now }
     ensures written { OnOk result (out.new.items ≡ out.old.items ++ text_bytes lines.now) }
     ensures read_back { OnOk result (ReadsText (text_bytes lines.now) lines.now true) }
@@ -34,7 +34,8 @@ pub fn write_text(lines: &[ByteString], out: &mut Vec<u8>) -> Result<(), NoMemor
 ///
 /// All or nothing: refused only where memory is (90), and then `out` is as it was.
 pub fn write_text_of(bytes: &[u8], out: &mut Vec<u8>) -> Result<(), NoMemory>
-    ensures written { OnOk result (out.new.items ≡ out.old.items ++ text_bytes (lines_of bytes.now)) }
+    ensures written { OnOk result
+        (out.new.items ≡ out.old.items ++ text_bytes (lines_of bytes.now)) }
     ensures refused { OnErr result (out.new.items ≡ out.old.items) }
 {
     let length = out.len();
@@ -46,30 +47,29 @@ pub fn write_text_of(bytes: &[u8], out: &mut Vec<u8>) -> Result<(), NoMemory>
 }
 
 // As many bytes as the text of the lines has, or more.
-fn room_for(lines: &[ByteString]) -> usize {
-    let mut room = MOST_MORE;
-    for line in lines {
-        room = room
-            .saturating_add(line.as_slice().len())
-            .saturating_add(MOST_MORE);
-    }
-    room
+fn room_for(lines: &ByteStrings) -> usize {
+    lines
+        .len()
+        .saturating_mul(MOST_MORE)
+        .saturating_add(lines.bytes_len())
+        .saturating_add(MOST_MORE)
 }
 
 // Appends the bytes of the lines and of the last line.
-fn push_lines(lines: &[ByteString], out: &mut Vec<u8>) -> Result<(), AllocError>
+fn push_lines(lines: &ByteStrings, out: &mut Vec<u8>) -> Result<(), AllocError>
     ensures written { OnOk result (out.new.items ≡ out.old.items ++ text_bytes lines.now) }
     ensures kept { StartsWith out.new.items out.old.items }
 {
-    for line in lines {
-        push_line(line.as_slice(), out)?;
+    for index in 0..lines.len() {
+        push_line(lines.get(index), out)?;
     }
     out.extend_from_slice(b".\r\n")
 }
 
 // Appends the bytes of the lines that `bytes` are, and of the last line.
 fn push_lines_of(bytes: &[u8], out: &mut Vec<u8>) -> Result<(), AllocError>
-    ensures written { OnOk result (out.new.items ≡ out.old.items ++ text_bytes (lines_of bytes.now)) }
+    ensures written { OnOk result
+        (out.new.items ≡ out.old.items ++ text_bytes (lines_of bytes.now)) }
     ensures kept { StartsWith out.new.items out.old.items }
 {
     let mut rest = bytes;

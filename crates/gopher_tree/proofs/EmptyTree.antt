@@ -9,8 +9,8 @@ use Rattle.std.specs.declared.vec.Vec.{Vec}
 use Rattle.gopher_tree.specs.Files.{is_among, nodes, children}
 use Rattle.gopher_tree.specs.Index.{held_at, entry_of}
 use Rattle.gopher_tree.specs.Tree.{IsTree}
-use Rattle.gopher_tree.specs.declared.index.Entry.{Entry}
-use Rattle.gopher_tree.specs.declared.index.Entry.TheVariants as entry
+use Rattle.gopher_tree.specs.declared.tree.index.Entry.{Entry}
+use Rattle.gopher_tree.specs.declared.tree.index.Entry.TheVariants as entry
 
 -- an index without entries has nothing at any path
 pub held_at-empty : {A : Type 0} (index : BTreeMap (Vec ℕ A) Entry) → index.entries ≡ [] → (q : List ℕ) → held_at index q ≡ None
@@ -29,7 +29,7 @@ IsTree-empty index held = record {
   index = record {
     entries = λ q. held q ∙ root_entry q;
     paths = λ q. ap is_some (held q) ∙ root_node q;
-    root = refl;
+    apart = λ q folder. refl;
   };
   bytes_is = refl;
   count_is = refl;

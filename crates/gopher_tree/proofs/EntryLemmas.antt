@@ -10,8 +10,10 @@ use Rattle.gopher_tree.specs.Kind.{kind_of}
 use Rattle.gopher_tree.specs.Files.{File, Child, has_path, is_file, file_at, is_folder, child_of_rest, child_below, add_child, children}
 use Rattle.gopher_tree.specs.Fault.{is_twice}
 use Rattle.gopher_tree.specs.Index.{number_from, entry_by, entry_of, is_file_entry, children_at, with_child, folder_with, folders_after, entry_after}
-use Rattle.gopher_tree.specs.declared.index.Entry.TheVariants as entry
+use Rattle.gopher_tree.specs.declared.tree.index.Entry.TheVariants as entry
 use Rattle.std.proofs.Math.Bool.{or-true, or-false}
+use Rattle.gopher_tree.proofs.FolderLemmas.{rest_after-short}
+use Rattle.gopher_tree.proofs.AboveLemmas.{AreApart}
 use Rattle.std.proofs.lemmas.Bool.{or_parts}
 
 none_of : {A : Type 0} (o : Option A) → is_some o ≡ false → o ≡ None
@@ -28,7 +30,7 @@ number_from-some n (f ∷ files) q = by (has_path q f) (number_from-some (n + 1)
     by true h = refl
     by false h = h
 
-number_from-none : (files : List File) (q : List ℕ) → is_file files q ≡ false → number_from 0 files q ≡ None
+pub number_from-none : (files : List File) (q : List ℕ) → is_file files q ≡ false → number_from 0 files q ≡ None
 number_from-none files q h = none_of _ (number_from-some 0 files q ∙ h)
 
 number_from-other : (n : ℕ) (files : List File) (f : File) (q : List ℕ) → has_path q f ≡ false → number_from n (files ++ f ∷ []) q ≡ number_from n files q
@@ -136,12 +138,28 @@ entry_of-push files f once root q = by (pointwise eqb q f.0) refl
         ap (λ k. Some (entry.File k)) count ∙ ap (entry_by (files ++ f ∷ []) q) (sym (number_from-new 0 files f q none e))
     by false e = below (is_below q f.0) refl ∙ ap (entry_by (files ++ f ∷ []) q) (sym (number_from-other 0 files f q e))
 
-pub is_file-push : (files : List File) (f : File) → is_file files [] ≡ false → 0 < length f.0 → is_file (files ++ f ∷ []) [] ≡ false
-is_file-push files f none some = list_any-append (has_path []) files (f ∷ []) ∙ ap (λ t. t || (has_path [] f || false)) none ∙ by f.0 some
+-- no folder is a file then
+pub apart_push : (files : List File) (f : File) → AreApart files → is_twice files f.0 ≡ false → 0 < length f.0 → AreApart (files ++ f ∷ [])
+apart_push files f apart once some q folder = list_any-append (has_path q) files (f ∷ []) ∙ by (is_folder files q) refl (sym (is_folder-push files f q) ∙ folder)
   where
-    by : (path : List ℕ) → 0 < length path → (pointwise eqb [] path || false) ≡ false
-    by [] some = absurd (omega arith)
-    by (b ∷ path) some = refl
+    first : ((is_file files f.0 || is_folder files f.0) ≡ false) × (list_any (λ g. is_some (rest_after g.0 f.0)) files ≡ false)
+    first = or_parts (is_file files f.0 || is_folder files f.0) (list_any (λ g. is_some (rest_after g.0 f.0)) files) once
+
+    itself : (p : List ℕ) → 0 < length p → is_below p p ≡ false
+    itself [] none = absurd (omega arith)
+    itself (c ∷ p) more = rest_after-short (c ∷ p) (c ∷ p) (omega arith)
+
+    -- the file's own path is no folder of these, and doesn't lead to itself
+    other : (t : Bool) → has_path q f ≡ t → is_folder (files ++ f ∷ []) f.0 ≡ false → t ≡ false
+    other false e none = refl
+    other true e none = sym folder ∙ ap (is_folder (files ++ f ∷ [])) ((bytes_decides q f.0).0 e) ∙ none
+
+    own : is_folder (files ++ f ∷ []) f.0 ≡ false
+    own = is_folder-push files f f.0 ∙ ap (λ t. t || is_below f.0 f.0) (or_parts (is_file files f.0) (is_folder files f.0) first.0).1 ∙ itself f.0 some
+
+    by : (t : Bool) → is_folder files q ≡ t → (t || is_below q f.0) ≡ true → (is_file files q || (has_path q f || false)) ≡ false
+    by true e h = ap (λ t. t || (has_path q f || false)) (apart q e) ∙ ap (λ t. t || false) (other (has_path q f) refl own)
+    by false e h = ap (λ t. t || (has_path q f || false)) (no_folder_file files q f.0 h (apart [] refl) first.1) ∙ ap (λ t. t || false) (other (has_path q f) refl own)
 
 -- ---- as it is read
 

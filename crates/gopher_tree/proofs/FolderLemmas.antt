@@ -7,7 +7,7 @@ use Rattle.std.proofs.lemmas.List.{take_all, length-take, length-take-le}
 use Rattle.gopher_tree.specs.Path.{names_of, rest_after, rest_below, is_below}
 use Rattle.gopher_tree.specs.Files.{Child, child_of, child_of_rest}
 use Rattle.gopher_tree.specs.Index.{folder_with, folders_after}
-use Rattle.gopher_tree.specs.declared.index.Entry.{Entry}
+use Rattle.gopher_tree.specs.declared.tree.index.Entry.{Entry}
 
 -- an entry that was put where one was taken out
 pub put_taken : (t : Bool) (new mid old put wanted : Option Entry) → new ≡ cond t put mid → mid ≡ cond t None old → put ≡ wanted → new ≡ cond t wanted old
@@ -98,52 +98,94 @@ pub is_in-whole : (q path : List ℕ) → is_in (length path) path q ≡ is_belo
 is_in-whole [] path = refl
 is_in-whole (c ∷ q) path = is_in-cons (length path) path c q ∙ ap (λ p. is_some (rest_after (c ∷ q) p)) (take_all (length path) path (omega arith))
 
--- what stands at `q` once the folders within `n` bytes have what they have of the file
-abbrev pub folders_upto : Option Entry → ℕ → List ℕ → ℕ → List ℕ → Option Entry
-folders_upto held kind path n q = cond (is_in n path q) (folder_with held (child_of_rest kind (rest_below q path))) held
+-- what stands at `q` once the folders behind the first `n` bytes have what they have of the file
+abbrev pub folders_from : Option Entry → ℕ → List ℕ → ℕ → List ℕ → Option Entry
+folders_from held kind path n q = cond (is_in n path q) held (folders_after held kind path q)
 
-pub folders_upto-whole : (held : Option Entry) (kind : ℕ) (path q : List ℕ) → folders_upto held kind path (length path) q ≡ folders_after held kind path q
-folders_upto-whole held kind path q = ap (λ t. cond t (folder_with held (child_of_rest kind (rest_below q path))) held) (is_in-whole q path)
+pub folders_from-whole : (held : Option Entry) (kind : ℕ) (path q : List ℕ) → folders_from held kind path (length path) q ≡ held
+folders_from-whole held kind path q = ap (λ t. cond t held (folders_after held kind path q)) (is_in-whole q path) ∙ by (is_below q path)
+  where
+    by : (t : Bool) → cond t held (cond t (folder_with held (child_of_rest kind (rest_below q path))) held) ≡ held
+    by true = refl
+    by false = refl
 
-pub folders_upto-root : (h : List ℕ → Option Entry) (kind : ℕ) (path : List ℕ) (child : Option Child) → child ≡ child_of kind (names_of path)
-    → (q : List ℕ) → cond (pointwise eqb q []) (folder_with (h []) child) (h q) ≡ folders_upto (h q) kind path 1 q
-folders_upto-root h kind path child e [] = ap (folder_with (h [])) e
-folders_upto-root h kind path child e (c ∷ q) =
-    sym (ap (λ t. cond t (folder_with (h (c ∷ q)) (child_of_rest kind (rest_below (c ∷ q) path))) (h (c ∷ q))) (is_in-cons 1 path c q ∙ rest_after-short (c ∷ q) (take 1 path) (omega (arith, length_take_one path))))
+-- the folder before a slash leads to the path
+pub below-slash : (path : List ℕ) (n : ℕ) → 0 < n → n < length path → eqb (get_or path n 0) 47 ≡ true → rest_below (take n path) path ≡ Some (drop (suc n) path)
+below-slash path n some low slash =
+    let long : length (take n path) ≡ n = length-take-le n path (omega arith) in
+    rest_below-long (take n path) path (omega arith) ∙ rest_after-at path n low slash
 
-pub folders_upto-slash : (h g : List ℕ → Option Entry) (kind : ℕ) (path : List ℕ) (n : ℕ) (child : Option Child) → 0 < n → n < length path → eqb (get_or path n 0) 47 ≡ true
-    → child ≡ child_of kind (names_of (drop (suc n) path)) → ((q : List ℕ) → g q ≡ folders_upto (h q) kind path n q)
-    → (q : List ℕ) → cond (pointwise eqb q (take n path)) (folder_with (g (take n path)) child) (g q) ≡ folders_upto (h q) kind path (suc n) q
-folders_upto-slash h g kind path n child some low slash e before q = by (pointwise eqb q (take n path)) refl
+-- the folder before a slash is as it was, where only those behind it were added to
+pub kept_before : (h g : List ℕ → Option Entry) (kind : ℕ) (path : List ℕ) (n : ℕ) → 0 < n → n < length path → eqb (get_or path n 0) 47 ≡ true
+    → ((q : List ℕ) → g q ≡ folders_from (h q) kind path (n + 1) q) → g (take n path) ≡ h (take n path)
+kept_before h g kind path n some low slash after =
+    after (take n path) ∙ ap (λ m. folders_from (h (take n path)) kind path m (take n path)) (add-one n) ∙ ap (λ t. cond t (h (take n path)) (folders_after (h (take n path)) kind path (take n path))) inside
   where
     inside : is_in (suc n) path (take n path) ≡ true
     inside = is_in-slash (take n path) path n low slash ∙ ap (λ t. is_in n path (take n path) || t) (nat_list_eq_equiv.refl (take n path)) ∙ or-true (is_in n path (take n path))
 
-    was : g (take n path) ≡ h (take n path)
-    was = before (take n path) ∙ ap (λ t. cond t (folder_with (h (take n path)) (child_of_rest kind (rest_below (take n path) path))) (h (take n path))) (is_in-self path n some low)
+pub both_true : (s t : Bool) → (s && t) ≡ true → (s ≡ true) × (t ≡ true)
+both_true true true h = (refl, refl)
+both_true true false h = absurd cc
+both_true false t h = absurd cc
 
-    below : rest_below (take n path) path ≡ Some (drop (suc n) path)
-    below = let long : length (take n path) ≡ n = length-take-le n path (omega arith) in rest_below-long (take n path) path (omega arith) ∙ rest_after-at path n low slash
-
-    at_folder : folder_with (g (take n path)) child ≡ folders_upto (h (take n path)) kind path (suc n) (take n path)
-    at_folder = ap (λ held. folder_with held child) was ∙ ap (folder_with (h (take n path))) (e ∙ ap (child_of_rest kind) (sym below))
-        ∙ sym (ap (λ t. cond t (folder_with (h (take n path)) (child_of_rest kind (rest_below (take n path) path))) (h (take n path))) inside)
-
-    by : (t : Bool) → pointwise eqb q (take n path) ≡ t → cond t (folder_with (g (take n path)) child) (g q) ≡ folders_upto (h q) kind path (suc n) q
-    by true y = subst (λ l. folder_with (g (take n path)) child ≡ folders_upto (h l) kind path (suc n) l) (sym ((bytes_decides q (take n path)).0 y)) at_folder
-    by false y = before q ∙ ap (λ t. cond t (folder_with (h q) (child_of_rest kind (rest_below q path))) (h q)) (sym (is_in-slash q path n low slash ∙ ap (λ t. is_in n path q || t) y ∙ or-false (is_in n path q)))
-
-pub folders_upto-other : (held : Option Entry) (kind : ℕ) (path : List ℕ) (n : ℕ) (q : List ℕ) → n < length path → eqb (get_or path n 0) 47 ≡ false → folders_upto held kind path n q ≡ folders_upto held kind path (suc n) q
-folders_upto-other held kind path n q low other = ap (λ t. cond t (folder_with held (child_of_rest kind (rest_below q path))) held) (sym (is_in-other q path n low other))
-
--- the folder before the next place, where a slash is there
-pub folders_upto-step : (h g : List ℕ → Option Entry) (kind : ℕ) (path : List ℕ) (n : ℕ) → 0 < n → n < length path
-    → ((q : List ℕ) → g q ≡ folders_upto (h q) kind path n q)
-    → (q : List ℕ) → cond (eqb (get_or path n 0) 47 && pointwise eqb q (take n path)) (folder_with (g (take n path)) (child_of kind (names_of (drop (n + 1) path)))) (g q) ≡ folders_upto (h q) kind path (n + 1) q
-folders_upto-step h g kind path n some low before q =
-    subst (λ m. cond (eqb (get_or path n 0) 47 && pointwise eqb q (take n path)) (folder_with (g (take n path)) (child_of kind (names_of (drop m path)))) (g q) ≡ folders_upto (h q) kind path m q) (sym (add-one n))
-    (by (eqb (get_or path n 0) 47) refl)
+folders_from-slash : (h g : List ℕ → Option Entry) (kind : ℕ) (path : List ℕ) (n : ℕ) → 0 < n → n < length path → eqb (get_or path n 0) 47 ≡ true
+    → ((q : List ℕ) → g q ≡ folders_from (h q) kind path (suc n) q)
+    → (q : List ℕ) → cond (pointwise eqb q (take n path)) (folder_with (g (take n path)) (child_of kind (names_of (drop (suc n) path)))) (g q) ≡ folders_from (h q) kind path n q
+folders_from-slash h g kind path n some low slash after q = by (pointwise eqb q (take n path)) refl
   where
-    by : (t : Bool) → eqb (get_or path n 0) 47 ≡ t → cond (t && pointwise eqb q (take n path)) (folder_with (g (take n path)) (child_of kind (names_of (drop (suc n) path)))) (g q) ≡ folders_upto (h q) kind path (suc n) q
-    by true slash = folders_upto-slash h g kind path n (child_of kind (names_of (drop (suc n) path))) some low slash refl before q
-    by false other = before q ∙ folders_upto-other (h q) kind path n q low other
+    folder : List ℕ
+    folder = take n path
+
+    was : g folder ≡ h folder
+    was = kept_before h g kind path n some low slash (λ p. after p ∙ ap (λ m. folders_from (h p) kind path m p) (sym (add-one n)))
+
+    at_folder : folder_with (g folder) (child_of kind (names_of (drop (suc n) path))) ≡ folders_from (h folder) kind path n folder
+    at_folder =
+        ap (λ held. folder_with held (child_of kind (names_of (drop (suc n) path)))) was
+        ∙ sym (ap (λ rest. cond (is_some rest) (folder_with (h folder) (child_of_rest kind rest)) (h folder)) (below-slash path n some low slash))
+        ∙ sym (ap (λ t. cond t (h folder) (folders_after (h folder) kind path folder)) (is_in-self path n some low))
+
+    by : (t : Bool) → pointwise eqb q folder ≡ t → cond t (folder_with (g folder) (child_of kind (names_of (drop (suc n) path)))) (g q) ≡ folders_from (h q) kind path n q
+    by true y = subst (λ l. folder_with (g folder) (child_of kind (names_of (drop (suc n) path))) ≡ folders_from (h l) kind path n l) (sym ((bytes_decides q folder).0 y)) at_folder
+    by false y = after q ∙ ap (λ t. cond t (h q) (folders_after (h q) kind path q)) (is_in-slash q path n low slash ∙ ap (λ t. is_in n path q || t) y ∙ or-false (is_in n path q))
+
+-- the folder before a place, where a slash is there
+pub folders_from-step : (h g : List ℕ → Option Entry) (kind : ℕ) (path : List ℕ) (n : ℕ) → 0 < n → n < length path
+    → ((q : List ℕ) → g q ≡ folders_from (h q) kind path (n + 1) q)
+    → (q : List ℕ) → cond (eqb (get_or path n 0) 47 && pointwise eqb q (take n path)) (folder_with (g (take n path)) (child_of kind (names_of (drop (n + 1) path)))) (g q) ≡ folders_from (h q) kind path n q
+folders_from-step h g kind path n some low after q =
+    subst (λ m. ((p : List ℕ) → g p ≡ folders_from (h p) kind path m p) → cond (eqb (get_or path n 0) 47 && pointwise eqb q (take n path)) (folder_with (g (take n path)) (child_of kind (names_of (drop m path)))) (g q) ≡ folders_from (h q) kind path n q) (sym (add-one n))
+    (by (eqb (get_or path n 0) 47) refl) after
+  where
+    by : (t : Bool) → eqb (get_or path n 0) 47 ≡ t → ((p : List ℕ) → g p ≡ folders_from (h p) kind path (suc n) p)
+        → cond (t && pointwise eqb q (take n path)) (folder_with (g (take n path)) (child_of kind (names_of (drop (suc n) path)))) (g q) ≡ folders_from (h q) kind path n q
+    by true slash later = folders_from-slash h g kind path n some low slash later q
+    by false other later = later q ∙ ap (λ t. cond t (h q) (folders_after (h q) kind path q)) (is_in-other q path n low other)
+
+-- the root, behind all others
+pub folders_from-root : (h g : List ℕ → Option Entry) (kind : ℕ) (path : List ℕ) (n : ℕ) (child : Option Child) → n ≤ 1 → child ≡ child_of kind (names_of path)
+    → ((q : List ℕ) → g q ≡ folders_from (h q) kind path n q)
+    → (q : List ℕ) → cond (pointwise eqb q []) (folder_with (g []) child) (g q) ≡ folders_after (h q) kind path q
+folders_from-root h g kind path n child few is after [] = ap (λ held. folder_with held child) (after []) ∙ ap (folder_with (h [])) is
+folders_from-root h g kind path n child few is after (c ∷ q) =
+    after (c ∷ q)
+    ∙ ap (λ t. cond t (h (c ∷ q)) (folders_after (h (c ∷ q)) kind path (c ∷ q))) (is_in-cons n path c q ∙ rest_after-short (c ∷ q) (take n path) (omega (arith, length-take n path)))
+
+-- above a folder that was there nothing is new
+pub folders_from-settled : (h : List ℕ → Option Entry) (kind : ℕ) (path : List ℕ) (n : ℕ) → 0 < n → n < length path → eqb (get_or path n 0) 47 ≡ true
+    → ((q : List ℕ) → is_below (take n path) path ≡ true → is_below q (take n path) ≡ true → folder_with (h q) (child_of_rest kind (rest_below q path)) ≡ h q)
+    → (q : List ℕ) → folders_from (h q) kind path n q ≡ folders_after (h q) kind path q
+folders_from-settled h kind path n some low slash settled q = by (is_in n path q) refl
+  where
+    above : (p : List ℕ) → is_in n path p ≡ true → is_below p (take n path) ≡ true
+    above [] e = refl
+    above (c ∷ p) e = sym (is_in-cons n path c p) ∙ e
+
+    same : is_in n path q ≡ true → (t : Bool) → h q ≡ cond t (folder_with (h q) (child_of_rest kind (rest_below q path))) (h q)
+    same e true = sym (settled q (ap is_some (below-slash path n some low slash)) (above q e))
+    same e false = refl
+
+    by : (t : Bool) → is_in n path q ≡ t → cond t (h q) (folders_after (h q) kind path q) ≡ folders_after (h q) kind path q
+    by true e = same e (is_below q path)
+    by false e = refl

@@ -7,7 +7,7 @@ use Rattle.std.specs.BTreeMap.{BTreeMap, UpdatesBy}
 use Rattle.std.specs.Map.{KeepsOthers, IsKeyTest, AreApart, lookup}
 use Rattle.std.specs.declared.vec.Vec.{Vec}
 use Rattle.gopher_tree.specs.Index.{held_at}
-use Rattle.gopher_tree.specs.declared.index.Entry.{Entry}
+use Rattle.gopher_tree.specs.declared.tree.index.Entry.{Entry}
 
 apart : (bs q ks : List ℕ) → pointwise eqb q bs ≡ false → is_eq (slice_cmp nat_cmp bs ks) ≡ true → is_eq (slice_cmp nat_cmp q ks) ≡ false
 apart bs q ks n y = sym (texts_ties q ks) ∙ sym (nat_list_eq_equiv.symm ks q) ∙ sym (nat_list_eq_equiv.congr bs ks q (texts_ties bs ks ∙ y)) ∙ nat_list_eq_equiv.symm bs q ∙ n

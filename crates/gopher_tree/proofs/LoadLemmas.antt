@@ -1,16 +1,16 @@
 -- What a walk through a folder lists, step by step, and why it stops.
-use Rattle.std.proofs.Common.{◌≡◌, ℕ, ◌<◌, Bool, true, false, cond, ltb, List, [], ◌∷◌, ◌++◌, length, take, Option, None, Some, Result, Ok, Err, IfSome, IfOk, IfErr, refl, sym, ap, ◌∙◌, subst, inl, inr}
+use Rattle.std.proofs.Common.{◌≡◌, ℕ, ◌+◌, ◌-◌, ◌<◌, Bool, true, false, cond, ltb, List, [], ◌∷◌, ◌++◌, length, take, Option, None, Some, Result, Ok, Err, IfSome, IfOk, IfErr, refl, sym, ap, ◌∙◌, subst, ◌⊎◌, inl, inr, arith}
 use Rattle.std.proofs.lemmas.Bool.{ltb-true}
 use Rattle.std.proofs.lemmas.List.{append_assoc, append-nil}
 use Rattle.std.specs.Option.{option_map}
 use Rattle.std.specs.declared.io.traits.Take.{Take}
 use Rattle.std.specs.Io.Take.{take_limit, take_inner, take_remaining}
 use Rattle.gopher_tree.specs.Files.{File}
-use Rattle.gopher_tree.specs.Fault.{path_fault, or_fault, file_fault, fault_after, files_fault}
-use Rattle.gopher_tree.specs.Load.{folder_fault, StopsAt, Lists, WalksTo, Loads, LoadsTo, IsUnreadable, RefusesFile}
+use Rattle.gopher_tree.specs.Fault.{path_fault, or_fault, file_fault, fault_after, files_fault, AddsFile}
+use Rattle.gopher_tree.specs.Load.{folder_fault, Stops, Lists, WalksTo, Loads, LoadsTo, IsUnreadable, RefusesFile}
 use Rattle.gopher_tree.specs.declared.fault.TreeFault.{TreeFault}
 use Rattle.gopher_tree.specs.declared.fault.TreeFault.TheVariants.{LongSelector, TooBig, NoMemory}
-use Rattle.gopher_tree.proofs.FaultLemmas.{or_fault-none}
+use Rattle.gopher_tree.proofs.FaultLemmas.{or_fault-none, adds_refused}
 
 or_fault-both : (a b : Option TreeFault) → a ≡ None → b ≡ None → or_fault a b ≡ None
 or_fault-both a b h k = ap (λ t. or_fault t b) h ∙ k
@@ -45,40 +45,55 @@ walks_on listed first between path (Ok walk) lists walks = lists_more first betw
 walks_on listed first between path (Err fault) lists (files, more, stops) = (files, lists_more first between files lists more, stops)
 
 -- a walk that stops where it is
-pub walks_none : {T : Type 0} (listed : T → List File) (first : List File) (path : List ℕ) (result : Result T TreeFault) (fault : TreeFault) → result ≡ Err fault → StopsAt first path fault → WalksTo listed first path result
+pub walks_none : {T : Type 0} (listed : T → List File) (first : List File) (path : List ℕ) (result : Result T TreeFault) (fault : TreeFault) → result ≡ Err fault → Stops first path fault → WalksTo listed first path result
 walks_none listed first path result fault is stops = subst (WalksTo listed first path) (sym is) (first, lists_none first, stops)
 
-pub stops_unreadable : (files : List File) (path : List ℕ) (number : ℕ) (fault : TreeFault) → number ≡ length files → IsUnreadable number fault → StopsAt files path fault
-stops_unreadable files path number fault same unreadable = inr (inr (inr (subst (λ n. IsUnreadable n fault) same unreadable)))
+pub stops_unreadable : (files : List File) (path : List ℕ) (number : ℕ) (fault : TreeFault) → number ≡ length files → IsUnreadable number fault → Stops files path fault
+stops_unreadable files path number fault same unreadable = (0, inr (inr (inr (subst (λ n. IsUnreadable n fault) same unreadable))))
 
-pub stops_memory : (files : List File) (path : List ℕ) (fault : TreeFault) → fault ≡ NoMemory → StopsAt files path fault
-stops_memory files path fault is = inr (inr (inr (inr is)))
+pub stops_memory : (files : List File) (path : List ℕ) (fault : TreeFault) → fault ≡ NoMemory → Stops files path fault
+stops_memory files path fault is = (0, inr (inr (inr (inr is))))
+
+-- the folders among so many nodes
+folders_among : (files : List File) (nodes : ℕ) → length files < nodes → (folders : ℕ) × (1 + folders + length files ≡ nodes)
+folders_among files nodes more = (nodes - 1 - length files, omega arith)
 
 -- a file whose path has a fault by itself
 pub path_refused : (files : List File) (nodes : ℕ) (path bytes : List ℕ) (number : ℕ) (fault : TreeFault) → number ≡ length files → path_fault number path ≡ Some fault → RefusesFile files nodes (path, bytes) fault
 path_refused files nodes path bytes number fault same is =
     inl (or_fault-some (path_fault (length files) path) _ fault (ap (λ n. path_fault n path) (sym same) ∙ is))
 
-pub stops_file : (files : List File) (nodes : ℕ) (path bytes : List ℕ) (fault : TreeFault) → RefusesFile files nodes (path, bytes) fault → StopsAt files path fault
-stops_file files nodes path bytes fault (inl is) = inl (bytes, is)
-stops_file files nodes path bytes fault (inr (inl many)) = inr (inr (inl many.1))
-stops_file files nodes path bytes fault (inr (inr memory)) = stops_memory files path fault memory
+pub stops_file : (files : List File) (nodes : ℕ) (path bytes : List ℕ) (fault : TreeFault) → length files < nodes → RefusesFile files nodes (path, bytes) fault → Stops files path fault
+stops_file files nodes path bytes fault more (inl is) = (0, inl (bytes, is))
+stops_file files nodes path bytes fault more (inr (inl many)) = let folders = folders_among files nodes more in (folders.0, inr (inr (inl (omega (arith, folders.1, many.0), many.1))))
+stops_file files nodes path bytes fault more (inr (inr memory)) = stops_memory files path fault memory.1
 
 -- a walk that comes to a file
 pub walks_file : {T : Type 0} (listed : T → List File) (first : List File) (nodes : ℕ) (path bytes : List ℕ) (result : Result T TreeFault)
     → IfOk result (λ walk. (file_fault first (path, bytes) ≡ None) × (listed walk ≡ first ++ (path, bytes) ∷ []))
-    → IfErr result (RefusesFile first nodes (path, bytes)) → WalksTo listed first path result
-walks_file listed first nodes path bytes (Ok walk) lists refused = lists_one first (path, bytes) (listed walk) lists.0 lists.1
-walks_file listed first nodes path bytes (Err fault) lists refused = (first, lists_none first, stops_file first nodes path bytes fault refused)
+    → length first < nodes → IfErr result (RefusesFile first nodes (path, bytes)) → WalksTo listed first path result
+walks_file listed first nodes path bytes (Ok walk) lists more refused = lists_one first (path, bytes) (listed walk) lists.0 lists.1
+walks_file listed first nodes path bytes (Err fault) lists more refused = (first, lists_none first, stops_file first nodes path bytes fault more refused)
 
 -- a folder that has a fault
-pub stops_folder : (files : List File) (nodes : ℕ) (path : List ℕ) (fault : TreeFault) → folder_fault (length files) nodes path ≡ Some fault → StopsAt files path fault
-stops_folder files nodes path fault is = by (ltb 254 (length path)) (ltb 4095 nodes) refl is
+pub stops_folder : (files : List File) (nodes : ℕ) (path : List ℕ) (fault : TreeFault) → length files < nodes → folder_fault (length files) nodes path ≡ Some fault → Stops files path fault
+stops_folder files nodes path fault more is = by (ltb 254 (length path)) (ltb 4095 nodes) refl refl is
   where
-    by : (t s : Bool) → ltb 254 (length path) ≡ t → cond t (Some (LongSelector (length files))) (cond s (Some (TooBig (length files))) None) ≡ Some fault → StopsAt files path fault
-    by true s long h = let e : fault ≡ LongSelector (length files) = cc in inr (inl (ltb-true 254 (length path) long, e))
-    by false true long h = let e : fault ≡ TooBig (length files) = cc in inr (inr (inl e))
-    by false false long h = absurd cc
+    by : (t s : Bool) → ltb 254 (length path) ≡ t → ltb 4095 nodes ≡ s → cond t (Some (LongSelector (length files))) (cond s (Some (TooBig (length files))) None) ≡ Some fault → Stops files path fault
+    by true s long many h = let e : fault ≡ LongSelector (length files) = cc in (0, inr (inl (ltb-true 254 (length path) long, e)))
+    by false true long many h =
+        let e : fault ≡ TooBig (length files) = cc in
+        let folders = folders_among files nodes more in
+        let most = ltb-true 4095 nodes many in (folders.0, inr (inr (inl (omega (arith, folders.1, most), e))))
+    by false false long many h = absurd cc
+
+-- a file that adds itself to the tree, or is refused
+pub file_refused : {T : Type 0} (files : List File) (nodes : ℕ) (path bytes : List ℕ) (after : T) (fault : TreeFault) → AddsFile (file_fault files (path, bytes)) after (Err fault) → RefusesFile files nodes (path, bytes) fault
+file_refused files nodes path bytes after fault adds = by (adds_refused (file_fault files (path, bytes)) after fault adds)
+  where
+    by : (file_fault files (path, bytes) ≡ Some fault) ⊎ ((file_fault files (path, bytes) ≡ None) × (fault ≡ NoMemory)) → RefusesFile files nodes (path, bytes) fault
+    by (inl is) = inl is
+    by (inr memory) = inr (inr memory)
 
 -- all that a tree lists has no fault
 pub faultless : (files : List File) → Lists [] files → files_fault files ≡ None

@@ -1,7 +1,7 @@
 -- The nodes of a list of files, and how many a path adds.
 use Rattle.std.proofs.Common.{◌≡◌, ℕ, zero, suc, ◌+◌, ◌<◌, Bool, true, false, cond, ◌&&◌, ◌||◌, not, eqb, List, [], ◌∷◌, ◌++◌, length, get_or, take, fold, Option, Some, is_some, refl, sym, ap, subst, ◌∙◌, add-one, arith}
 use Rattle.std.specs.List.{flat_map}
-use Rattle.std.specs.Cmp.Lexicographic.{pointwise, bytes_decides}
+use Rattle.std.specs.Cmp.Lexicographic.{pointwise, bytes_decides, nat_list_eq_equiv}
 use Rattle.std.proofs.lemmas.List.{append-nil, length-append}
 use Rattle.std.proofs.lemmas.List.Concat.{flat_map-append, flat_map-cons}
 use Rattle.std.proofs.lemmas.List.Folds.{list_any-append}
@@ -9,10 +9,10 @@ use Rattle.std.proofs.lemmas.List.Sums.{fold-append}
 use Rattle.gopher_tree.specs.Path.{rest_below, is_below, folders_within, folders_of}
 use Rattle.gopher_tree.specs.Files.{File, child_of_rest, is_among, add_path, paths_of, nodes}
 use Rattle.gopher_tree.specs.Index.{folder_with, entry_after}
-use Rattle.gopher_tree.specs.declared.index.Entry.{Entry}
-use Rattle.gopher_tree.specs.declared.index.Entry.TheVariants as entry
+use Rattle.gopher_tree.specs.declared.tree.index.Entry.{Entry}
+use Rattle.gopher_tree.specs.declared.tree.index.Entry.TheVariants as entry
 use Rattle.gopher_tree.proofs.FolderLemmas.{is_in, is_in-cons, is_in-slash, is_in-other, is_in-self, is_in-whole, rest_after-short, length_take_one}
-use Rattle.std.proofs.Math.Bool.{or-true, or-false, or_assoc}
+use Rattle.std.proofs.Math.Bool.{or-true, or-false, or_assoc, and-false}
 
 pub nodes-push : (files : List File) (f : File) → nodes (files ++ f ∷ []) ≡ fold add_path (nodes files) (paths_of f.0)
 nodes-push files f =
@@ -128,11 +128,47 @@ count_step known path n some low =
     by true slash false e = count_folder known path n false some low slash e
     by false other t e = let zero_more : length (fold add_path known ([] ∷ folders_within n path)) ≡ length (fold add_path known ([] ∷ folders_within n path)) + 0 = omega arith in count_other known path n some other ∙ zero_more
 
--- the folders and the path itself
-pub all_counted : (files : List File) (path : List ℕ) (t : Bool) (place count : ℕ) → place ≡ length path → 0 < length path → is_among (nodes files) path ≡ t
-    → length (fold add_path (nodes files) ([] ∷ folders_within place path)) ≡ length (nodes files) + count
-    → length (fold add_path (nodes files) (paths_of path)) ≡ length (nodes files) + count + cond t 0 1
-all_counted files path t place count at_end some e counted =
-    count_last (nodes files) path t some e
-    ∙ ap (λ n. length (fold add_path (nodes files) ([] ∷ folders_within n path)) + cond t 0 1) (sym at_end)
-    ∙ ap (λ n. n + cond t 0 1) counted
+-- what is among them already adds nothing
+fold_known : (known paths : List (List ℕ)) → ((q : List ℕ) → is_among paths q ≡ true → is_among known q ≡ true) → fold add_path known paths ≡ known
+fold_known known [] among = refl
+fold_known known (path ∷ paths) among =
+    ap (λ t. fold add_path (cond t known (known ++ path ∷ [])) paths) (among path (ap (λ t. t || is_among paths path) (nat_list_eq_equiv.refl path)))
+    ∙ fold_known known paths (λ q h. among q (ap (λ t. pointwise eqb q path || t) h ∙ or-true (pointwise eqb q path)))
+
+-- above a node nothing is new
+count_known : (known : List (List ℕ)) (path : List ℕ) (n : ℕ) → 0 < n → n < length path → ((q : List ℕ) → is_below q (take n path) ≡ true → is_among known q ≡ true)
+    → length (fold add_path known ([] ∷ folders_within n path)) ≡ length known
+count_known known path zero some low above = absurd (omega arith)
+count_known known path (suc n) some low above = ap length (fold_known known ([] ∷ folders_within (suc n) path) (λ q h. above q (below q (sym (folders-among n path q (omega arith)) ∙ h))))
+  where
+    below : (q : List ℕ) → is_in (suc n) path q ≡ true → is_below q (take (suc n) path) ≡ true
+    below [] e = refl
+    below (c ∷ q) e = sym (is_in-cons (suc n) path c q) ∙ e
+
+-- a node before a slash
+pub count_there : (known : List (List ℕ)) (path : List ℕ) (n : ℕ) → 0 < n → n < length path → is_among known (take n path) ≡ true
+    → ((q : List ℕ) → is_below q (take n path) ≡ true → is_among known q ≡ true)
+    → length (fold add_path known ([] ∷ folders_within (n + 1) path)) ≡ length known
+count_there known path n some low there above =
+    let counted = count_known known path n some low above in
+    count_step known path n some low
+    ∙ ap (λ t. length (fold add_path known ([] ∷ folders_within n path)) + cond (eqb (get_or path n 0) 47 && not t) 1 0) there
+    ∙ ap (λ t. length (fold add_path known ([] ∷ folders_within n path)) + cond t 1 0) (and-false (eqb (get_or path n 0) 47))
+    ∙ omega (arith, counted)
+
+-- a slash with no node before it, or no slash
+pub count_missing : (known : List (List ℕ)) (path : List ℕ) (n : ℕ) → 0 < n → n < length path → (eqb (get_or path n 0) 47 && is_among known (take n path)) ≡ false
+    → length (fold add_path known ([] ∷ folders_within (n + 1) path)) ≡ length (fold add_path known ([] ∷ folders_within n path)) + cond (eqb (get_or path n 0) 47) 1 0
+count_missing known path n some low missing =
+    count_step known path n some low ∙ ap (λ m. length (fold add_path known ([] ∷ folders_within n path)) + m) (by (eqb (get_or path n 0) 47) (is_among known (take n path)) missing)
+  where
+    by : (s t : Bool) → (s && t) ≡ false → cond {A = ℕ} (s && not t) 1 0 ≡ cond {A = ℕ} s 1 0
+    by true true h = absurd cc
+    by true false h = refl
+    by false t h = refl
+
+-- the path itself, behind the folders
+pub all_counted : (known : List (List ℕ)) (path : List ℕ) (t : Bool) (count : ℕ) → 0 < length path → is_among known path ≡ t
+    → length (fold add_path known ([] ∷ folders_of path)) ≡ length known + count
+    → length (fold add_path known (paths_of path)) ≡ length known + count + cond t 0 1
+all_counted known path t count some e counted = count_last known path t some e ∙ ap (λ n. n + cond t 0 1) counted

@@ -3,9 +3,9 @@ use Rattle.std.proofs.Common.{◌≡◌, ℕ, suc, ◌+◌, ◌<◌, Bool, true,
 use Rattle.std.specs.List.{list_any}
 use Rattle.std.specs.Cmp.Lexicographic.{pointwise, nat_list_eq_equiv}
 use Rattle.gopher_tree.specs.Path.{rest_after}
-use Rattle.gopher_tree.specs.Files.{File, is_file}
+use Rattle.gopher_tree.specs.Files.{File, is_file, is_folder, leads_through_file}
 use Rattle.gopher_tree.proofs.FolderLemmas.{rest_after-take}
-use Rattle.std.proofs.Math.Bool.{or-true, and-false, and_comm}
+use Rattle.std.proofs.Math.Bool.{or-true, or-false, and-false, and_comm}
 
 or_split : (a A s b B : Bool) → ((a || (b && s)) || (A || (B && s))) ≡ ((a || A) || ((b || B) && s))
 or_split true A s b B = refl
@@ -26,6 +26,27 @@ pub through_step : (files : List File) (path : List ℕ) (n : ℕ) (found : Bool
     → list_any (λ f. is_some (rest_after f.0 (take (n + 1) path))) files ≡ (found || (eqb (get_or path n 0) 47 && is_file files (take n path)))
 through_step files path n found low e =
     ap (λ m. list_any (λ f. is_some (rest_after f.0 (take m path))) files) (add-one n) ∙ through-take files path n low ∙ ap (λ t. t || (is_file files (take n path) && eqb (get_or path n 0) 47)) e ∙ ap (λ t. found || t) (and_comm (is_file files (take n path)) (eqb (get_or path n 0) 47))
+
+-- no node before a slash, or no slash
+pub through_other : (files : List File) (path : List ℕ) (n : ℕ) → n < length path → (eqb (get_or path n 0) 47 && (is_file files (take n path) || is_folder files (take n path))) ≡ false
+    → leads_through_file files (take (n + 1) path) ≡ leads_through_file files (take n path)
+through_other files path n low none =
+    through_step files path n (leads_through_file files (take n path)) low refl
+    ∙ ap (λ t. leads_through_file files (take n path) || t) (by (eqb (get_or path n 0) 47) (is_file files (take n path)) (is_folder files (take n path)) none)
+    ∙ or-false (leads_through_file files (take n path))
+  where
+    by : (slash file folder : Bool) → (slash && (file || folder)) ≡ false → (slash && file) ≡ false
+    by true true folder h = absurd cc
+    by true false folder h = refl
+    by false file folder h = refl
+
+-- a slash with a node before it, through which no file leads
+pub through_node : (files : List File) (path : List ℕ) (n : ℕ) → n < length path → eqb (get_or path n 0) 47 ≡ true → leads_through_file files (take n path) ≡ false
+    → leads_through_file files (take (n + 1) path) ≡ is_file files (take n path)
+through_node files path n low slash none =
+    through_step files path n (leads_through_file files (take n path)) low refl
+    ∙ ap (λ t. t || (eqb (get_or path n 0) 47 && is_file files (take n path))) none
+    ∙ ap (λ t. t && is_file files (take n path)) slash
 
 -- no path leads through anything before its first byte
 pub through_none : (files : List File) (path : List ℕ) → list_any (λ f. is_some (rest_after f.0 (take 0 path))) files ≡ false

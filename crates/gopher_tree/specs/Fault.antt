@@ -1,9 +1,8 @@
 -- Which lists of files are refused, and why.
-use Rattle.std.specs.Prelude.{◌≡◌, ℕ, Bool, ◌||◌, nat_lt, List, [], ◌∷◌, ◌++◌, length, Option, None, Some, is_some, Result, Ok, Err, ◌⊎◌, if◌then◌else◌}
-use Rattle.std.specs.List.{list_any}
-use Rattle.gopher_tree.specs.Path.{names_of, first_name, is_search_name, has_bad_name, is_menu_path, rest_after}
+use Rattle.std.specs.Prelude.{◌≡◌, ℕ, Bool, ◌||◌, nat_lt, List, [], ◌∷◌, ◌++◌, length, Option, None, Some, Result, Ok, Err, ◌⊎◌, if◌then◌else◌}
+use Rattle.gopher_tree.specs.Path.{names_of, first_name, is_search_name, has_bad_name, is_menu_path}
 use Rattle.gopher_tree.specs.MenuFile.{bad_line}
-use Rattle.gopher_tree.specs.Files.{File, is_file, is_folder, nodes, total_bytes}
+use Rattle.gopher_tree.specs.Files.{File, is_file, is_folder, leads_through_file, nodes, total_bytes}
 use Rattle.gopher_tree.specs.declared.fault.TreeFault.{TreeFault}
 use Rattle.gopher_tree.specs.declared.fault.TreeFault.TheVariants.{BadName, Reserved, LongSelector, TooBig, BadMenuLine, Twice, Unreadable, NoMemory}
 
@@ -26,11 +25,13 @@ path_fault number path =
 
 -- a file, all files or the nodes are too many
 abbrev pub is_too_big : List File → File → Bool
-is_too_big files file = nat_lt 16777216 (length file.1) || nat_lt 67108864 (total_bytes (files ++ file ∷ [])) || nat_lt 4096 (length (nodes (files ++ file ∷ [])))
+is_too_big files file =
+    nat_lt 16777216 (length file.1) || nat_lt 67108864 (total_bytes (files ++ file ∷ []))
+    || nat_lt 4096 (length (nodes (files ++ file ∷ [])))
 
 -- the path is a file or a folder already, or leads through a file
 abbrev pub is_twice : List File → List ℕ → Bool
-is_twice files path = is_file files path || is_folder files path || list_any (λ file. is_some (rest_after file.0 path)) files
+is_twice files path = is_file files path || is_folder files path || leads_through_file files path
 
 abbrev pub line_fault : ℕ → Option ℕ → Option TreeFault
 line_fault number None = None
@@ -60,7 +61,18 @@ fault_after done (file ∷ files) = or_fault (file_fault done file) (fault_after
 abbrev pub files_fault : List File → Option TreeFault
 files_fault files = fault_after [] files
 
--- a tree is made of the files, or the fault is the one they have, unless memory was refused
-abbrev pub MakesTree : {T : Type 0} → Option TreeFault → T → Result T TreeFault → Type 0
-MakesTree found files (Ok tree) = (found ≡ None) × (tree ≡ files)
-MakesTree found files (Err fault) = (found ≡ Some fault) ⊎ (fault ≡ NoMemory)
+-- a file with this fault, or none, is added to the files, or refused for that; memory is refused only where there is none
+abbrev pub AddsFile : {T : Type 0} → Option TreeFault → T → Result T TreeFault → Type 0
+AddsFile (Some fault) files result = result ≡ Err fault
+AddsFile None files (Ok tree) = tree ≡ files
+AddsFile None files (Err fault) = fault ≡ NoMemory
+
+-- the fault of the first file
+abbrev pub first_fault : List File → Option TreeFault
+first_fault [] = None
+first_fault (file ∷ files) = file_fault [] file
+
+-- a tree is made of the files, or the fault is the one they have, or memory was refused, and then the first file has no fault
+abbrev pub MakesTree : List File → Result (List File) TreeFault → Type 0
+MakesTree files (Ok tree) = (files_fault files ≡ None) × (tree ≡ files)
+MakesTree files (Err fault) = (files_fault files ≡ Some fault) ⊎ ((fault ≡ NoMemory) × (first_fault files ≡ None))

@@ -1,10 +1,11 @@
 -- A list of files, each a path and its bytes, as a tree of folders.
-use Rattle.std.specs.Prelude.{ℕ, Bool, ◌||◌, nat_eq, ◌==◌, List, [], ◌∷◌, ◌++◌, length, fold, find, Option, None, Some, sum_by, if◌then◌else◌}
+use Rattle.std.specs.Prelude.{◌≡◌, ℕ, Bool, true, false, ◌||◌, nat_eq, ◌==◌, List, [], ◌∷◌, ◌++◌, length, fold, find, Option, None, Some, is_some, sum_by, if◌then◌else◌}
 use Rattle.std.specs.List.{list_any, filter_map, flat_map}
+use Rattle.std.specs.List.Sorted.{IsStrictlySortedBy}
 use Rattle.std.specs.Ordering.{nat_cmp}
 use Rattle.std.specs.Cmp.Lexicographic.{pointwise, slice_cmp}
 use Rattle.std.specs.BTreeMap.{insert_entry}
-use Rattle.gopher_tree.specs.Path.{names_of, is_menu_name, rest_below, is_below, folders_of}
+use Rattle.gopher_tree.specs.Path.{names_of, is_menu_name, rest_after, rest_below, is_below, folders_of}
 use Rattle.gopher_tree.specs.Kind.{kind_of}
 
 -- a path and the file's bytes
@@ -24,6 +25,10 @@ file_at files path = find (has_path path) files
 -- the root, and what some file's path leads through
 abbrev pub is_folder : List File → List ℕ → Bool
 is_folder files path = (length path == 0) || list_any (λ file. is_below path file.0) files
+
+-- whether a file's path leads to this one
+abbrev pub leads_through_file : List File → List ℕ → Bool
+leads_through_file files path = list_any (λ file. is_some (rest_after file.0 path)) files
 
 -- a name in a folder, and its type
 abbrev pub Child : Type 0
@@ -64,5 +69,15 @@ paths_of path = [] ∷ folders_of path ++ path ∷ []
 abbrev pub nodes : List File → List (List ℕ)
 nodes files = fold add_path ([] ∷ []) (flat_map (λ file. paths_of file.0) files)
 
+-- the nodes, each once and in the order of their bytes
+pub record AreNodes (files : List File) (paths : List (List ℕ)) : Type 0 where
+  pub order : IsStrictlySortedBy (slice_cmp nat_cmp) paths
+  pub whole : (path : List ℕ) → is_among paths path ≡ is_among (nodes files) path
+
 abbrev pub total_bytes : List File → ℕ
 total_bytes files = sum_by (λ file. length file.1) files
+
+-- all that leads to a path is among the nodes, and none of it is a file
+pub record AboveAreFolders (files : List File) (path : List ℕ) : Type 0 where
+  pub known : (folder : List ℕ) → is_below folder path ≡ true → is_among (nodes files) folder ≡ true
+  pub no_file : leads_through_file files path ≡ false

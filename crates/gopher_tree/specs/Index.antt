@@ -1,13 +1,14 @@
 -- The index of a list of files: what stands at each path.
-use Rattle.std.specs.Prelude.{◌≡◌, ℕ, ◌+◌, nat_eq, Bool, true, false, List, [], ◌∷◌, Option, None, Some, is_some, if◌then◌else◌}
+use Rattle.std.specs.Prelude.{◌≡◌, ℕ, ◌+◌, ◌<◌, ◌&&◌, nat_eq, Bool, true, false, List, [], ◌∷◌, length, take, drop, Option, None, Some, is_some, if◌then◌else◌}
+use Rattle.std.specs.List.Sorted.{IsStrictlySortedBy}
 use Rattle.std.specs.Ordering.{nat_cmp}
 use Rattle.std.specs.Cmp.Lexicographic.{pointwise, slice_cmp}
 use Rattle.std.specs.BTreeMap.{BTreeMap, get_by}
 use Rattle.std.specs.declared.vec.Vec.{Vec}
-use Rattle.gopher_tree.specs.Path.{rest_below, is_below}
-use Rattle.gopher_tree.specs.Files.{File, Child, has_path, is_file, is_folder, child_of_rest, add_child, children, nodes, is_among}
-use Rattle.gopher_tree.specs.declared.index.Entry.{Entry}
-use Rattle.gopher_tree.specs.declared.index.Entry.TheVariants as entry
+use Rattle.gopher_tree.specs.Path.{names_of, is_slash, rest_below, is_below}
+use Rattle.gopher_tree.specs.Files.{File, Child, has_path, is_file, is_folder, child_of, child_of_rest, add_child, children, nodes, is_among}
+use Rattle.gopher_tree.specs.declared.tree.index.Entry.{Entry}
+use Rattle.gopher_tree.specs.declared.tree.index.Entry.TheVariants as entry
 
 -- what an index has at a path
 abbrev pub held_at : {A : Type 0} → BTreeMap (Vec ℕ A) Entry → List ℕ → Option Entry
@@ -30,9 +31,18 @@ abbrev pub is_file_entry : Option Entry → Bool
 is_file_entry (Some (entry.File number)) = true
 is_file_entry _ = false
 
+-- the names of the folder at an entry, where it is one
+abbrev pub folder_at : Option Entry → Option (List Child)
+folder_at (Some (entry.Folder children)) = Some children
+folder_at _ = None
+
+-- these names, or none
+abbrev pub names_at : Option (List Child) → List Child
+names_at (Some children) = children
+names_at None = []
+
 abbrev pub children_at : Option Entry → List Child
-children_at (Some (entry.Folder children)) = children
-children_at _ = []
+children_at held = names_at (folder_at held)
 
 abbrev pub with_child : List Child → Option Child → List Child
 with_child children None = children
@@ -49,8 +59,26 @@ folders_after held kind added path = if is_below path added then folder_with hel
 abbrev pub entry_after : Option Entry → ℕ → ℕ → List ℕ → List ℕ → Option Entry
 entry_after held number kind added path = if pointwise nat_eq path added then Some (entry.File number) else folders_after held kind added path
 
--- the index has what stands at each path, which is one of the nodes
+-- what stands at each path after a file's path was added to the folder before a place, where a slash is there
+abbrev pub AddsBefore : {A : Type 0} → BTreeMap (Vec ℕ A) Entry → BTreeMap (Vec ℕ A) Entry → ℕ → List ℕ → ℕ → Type 0
+AddsBefore old new kind path place =
+    (q : List ℕ) → held_at new q ≡ (if is_slash path place && pointwise nat_eq q (take place path)
+    then folder_with (held_at old (take place path)) (child_of kind (names_of (drop (place + 1) path))) else held_at old q)
+
+-- where the index has a folder that a path leads through, but the root, the folders above that have what they have of the path
+abbrev pub IsSettled : {A : Type 0} → BTreeMap (Vec ℕ A) Entry → ℕ → List ℕ → Type 0
+IsSettled index kind path =
+    (folder q : List ℕ) → 0 < length folder → is_some (folder_at (held_at index folder)) ≡ true
+    → is_below folder path ≡ true → is_below q folder ≡ true
+    → folder_with (held_at index q) (child_of_rest kind (rest_below q path)) ≡ held_at index q
+
+-- the paths of an index, each once and in the order of their bytes
+pub record IndexPaths {A : Type 0} (index : BTreeMap (Vec ℕ A) Entry) (paths : List (List ℕ)) : Type 0 where
+  pub order : IsStrictlySortedBy (slice_cmp nat_cmp) paths
+  pub whole : (path : List ℕ) → is_among paths path ≡ is_some (held_at index path)
+
+-- the index has what stands at each path, which is one of the nodes; no folder is a file
 pub record IsIndex {A : Type 0} (files : List File) (index : BTreeMap (Vec ℕ A) Entry) : Type 0 where
   pub entries : (path : List ℕ) → held_at index path ≡ entry_of files path
   pub paths : (path : List ℕ) → is_some (held_at index path) ≡ is_among (nodes files) path
-  pub root : is_file files [] ≡ false
+  pub apart : (path : List ℕ) → is_folder files path ≡ true → is_file files path ≡ false

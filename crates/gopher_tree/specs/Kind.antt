@@ -1,5 +1,5 @@
 -- The type of a file (RFC 1436, section 3.8; how it is found is this profile's).
-use Rattle.std.specs.Prelude.{ℕ, ◌-◌, Bool, ◌||◌, nat_eq, ◌==◌, List, [], ◌∷◌, length, map, drop, if◌then◌else◌}
+use Rattle.std.specs.Prelude.{ℕ, ◌-◌, Bool, ◌||◌, nat_eq, ◌==◌, List, codes, length, map, drop, if◌then◌else◌}
 use Rattle.std.specs.List.{list_any}
 use Rattle.std.specs.Cmp.Lexicographic.{pointwise}
 use Rattle.std.specs.Char.{to_ascii_lowercase}
@@ -8,13 +8,11 @@ use Rattle.std.specs.Char.{to_ascii_lowercase}
 abbrev pub has_ending : List ℕ → List ℕ → Bool
 has_ending ending name = pointwise nat_eq (map to_ascii_lowercase (drop (length name - length ending) name)) (map to_ascii_lowercase ending)
 
--- `.gif`
 abbrev pub is_gif : List ℕ → Bool
-is_gif name = has_ending (46 ∷ 103 ∷ 105 ∷ 102 ∷ []) name
+is_gif name = has_ending (codes ".gif") name
 
--- `.png`, `.jpg`, `.jpeg`
 abbrev pub is_image : List ℕ → Bool
-is_image name = has_ending (46 ∷ 112 ∷ 110 ∷ 103 ∷ []) name || has_ending (46 ∷ 106 ∷ 112 ∷ 103 ∷ []) name || has_ending (46 ∷ 106 ∷ 112 ∷ 101 ∷ 103 ∷ []) name
+is_image name = has_ending (codes ".png") name || has_ending (codes ".jpg") name || has_ending (codes ".jpeg") name
 
 -- `g`, `I`, `9` or `0`
 abbrev pub kind_of : List ℕ → List ℕ → ℕ

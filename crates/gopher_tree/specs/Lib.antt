@@ -10,4 +10,4 @@ pub mod Fault
 pub mod Reply
 pub mod Found
 pub mod Load
-pub mod Kept
+pub mod Laws

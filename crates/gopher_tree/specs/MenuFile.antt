@@ -1,12 +1,11 @@
 -- A `.menu` file: the menu of its folder, written by hand.
-use Rattle.std.specs.Prelude.{ℕ, ◌+◌, Bool, ◌&&◌, ◌||◌, not, ◌==◌, List, [], ◌∷◌, map, Option, None, Some, is_some, if◌then◌else◌}
+use Rattle.std.specs.Prelude.{ℕ, ◌+◌, Bool, not, List, [], ◌∷◌, codes, map, Option, None, Some, is_some, if◌then◌else◌}
 use Rattle.std.specs.List.{filter_map}
-use Rattle.gopher_item.specs.Bytes.{is_control, has_special}
 use Rattle.gopher_item.specs.Lines.{lines_of}
 use Rattle.gopher_item.specs.Menu.{fields_of}
-use Rattle.gopher_item.specs.MenuLine.{MenuLineData, trim_spaces}
+use Rattle.gopher_item.specs.MenuLine.{MenuLineData, menu_line_fault, trim_spaces}
 use Rattle.gopher_item.specs.Number.{number_of}
-use Rattle.gopher_item.specs.Place.{HomeData, is_host, is_selector}
+use Rattle.gopher_item.specs.Place.{HomeData, is_host}
 
 -- a line as it is written; without a server it is of the server that has the file
 pub record WrittenLineData : Type 0 where
@@ -15,9 +14,9 @@ pub record WrittenLineData : Type 0 where
   pub selector : List ℕ
   pub server : Option HomeData
 
--- whether a menu line that is made may have these parts
+-- whether a menu line that is made may have these parts, at a host that it may have
 abbrev pub is_item : ℕ → List ℕ → List ℕ → Bool
-is_item kind display selector = is_selector selector && not (has_special display) && not (is_control kind || (kind == 32) || (kind == 46))
+is_item kind display selector = not (is_some (menu_line_fault kind display selector (codes "host")))
 
 abbrev pub item_of : ℕ → List ℕ → List ℕ → Option HomeData → Option WrittenLineData
 item_of kind display selector server = if is_item kind display selector then Some (record { kind = kind; display = display; selector = selector; server = server }) else None

@@ -1,5 +1,5 @@
 -- Paths of files and folders, and the selectors that name them.
-use Rattle.std.specs.Prelude.{ℕ, suc, zero, Bool, true, false, ◌&&◌, ◌||◌, not, nat_eq, ◌==◌, List, [], ◌∷◌, ◌++◌, length, take, slice_index, Option, None, Some, is_some, if◌then◌else◌}
+use Rattle.std.specs.Prelude.{ℕ, suc, zero, Bool, true, false, ◌&&◌, ◌||◌, not, nat_eq, ◌==◌, List, [], ◌∷◌, ◌++◌, codes, length, take, slice_index, Option, None, Some, is_some, if◌then◌else◌}
 use Rattle.std.specs.List.{slice_split}
 use Rattle.std.specs.Cmp.Lexicographic.{pointwise}
 use Rattle.gopher_item.specs.Bytes.{has_special}
@@ -17,16 +17,14 @@ last_name [] = []
 last_name (name ∷ []) = name
 last_name (name ∷ more) = last_name more
 
--- `.menu`
 abbrev pub menu_name : List ℕ
-menu_name = 46 ∷ 109 ∷ 101 ∷ 110 ∷ 117 ∷ []
+menu_name = codes ".menu"
 
 abbrev pub is_menu_name : List ℕ → Bool
 is_menu_name name = pointwise nat_eq name menu_name
 
--- `search`
 abbrev pub is_search_name : List ℕ → Bool
-is_search_name name = pointwise nat_eq name (115 ∷ 101 ∷ 97 ∷ 114 ∷ 99 ∷ 104 ∷ [])
+is_search_name name = pointwise nat_eq name (codes "search")
 
 -- whether no file and no folder may have the name: it is empty, begins with a period, or holds a special byte
 abbrev pub is_bad_name : List ℕ → Bool
@@ -55,6 +53,10 @@ rest_below (byte ∷ folder) path = rest_after (byte ∷ folder) path
 
 abbrev pub is_below : List ℕ → List ℕ → Bool
 is_below folder path = is_some (rest_below folder path)
+
+-- whether a slash stands at this place of a path
+abbrev pub is_slash : List ℕ → ℕ → Bool
+is_slash path place = slice_index path place == 47
 
 -- the folders that the first `count` bytes of a path lead through, but the root: its beginnings before each slash
 abbrev pub folders_within : ℕ → List ℕ → List (List ℕ)

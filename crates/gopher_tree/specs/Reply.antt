@@ -1,5 +1,6 @@
 -- What a tree replies to a selector: a function of its list of files.
-use Rattle.std.specs.Prelude.{ℕ, length, ◌==◌, List, [], ◌∷◌, ◌++◌, map, Option, None, Some, if◌then◌else◌}
+use Rattle.std.specs.Prelude.{ℕ, length, ◌==◌, List, [], ◌∷◌, ◌++◌, codes, map, Option, None, Some, if◌then◌else◌}
+use Rattle.std.specs.Option.{option_map}
 use Rattle.gopher_item.specs.Lines.{lines_of}
 use Rattle.gopher_item.specs.MenuLine.{MenuLineData, menu_bytes}
 use Rattle.gopher_item.specs.Place.{HomeData}
@@ -33,9 +34,9 @@ front_of folder = if length folder == 0 then 47 ∷ [] else 47 ∷ folder ++ 47 
 abbrev pub child_line : HomeData → List ℕ → Child → MenuLineData
 child_line home front child = record { kind = child.1; display = child.0; selector = front ++ child.0; host = home.host; port = home.port }
 
--- `Search`, of type `7`, selector `/search`
+-- of type `7` (55)
 abbrev pub search_line : HomeData → MenuLineData
-search_line home = record { kind = 55; display = 83 ∷ 101 ∷ 97 ∷ 114 ∷ 99 ∷ 104 ∷ []; selector = 47 ∷ 115 ∷ 101 ∷ 97 ∷ 114 ∷ 99 ∷ 104 ∷ []; host = home.host; port = home.port }
+search_line home = record { kind = 55; display = codes "Search"; selector = codes "/search"; host = home.host; port = home.port }
 
 -- the root begins with the search line
 abbrev pub head_lines : HomeData → List ℕ → List MenuLineData
@@ -47,13 +48,17 @@ listing_of home folder names = head_lines home folder ++ map (child_line home (f
 abbrev pub listing : List File → HomeData → List ℕ → List MenuLineData
 listing files home folder = listing_of home folder (children files folder)
 
--- a folder's own menu file stands in place of its listing
-abbrev pub folder_menu : List File → HomeData → List ℕ → Option File → List MenuLineData
-folder_menu files home folder (Some file) = written_menu home file.1
+-- the bytes of a folder's own menu file, where it has one
+abbrev pub menu_file : List File → List ℕ → Option (List ℕ)
+menu_file files folder = option_map (λ file. file.1) (file_at files (menu_path folder))
+
+-- it stands in place of the folder's listing
+abbrev pub folder_menu : List File → HomeData → List ℕ → Option (List ℕ) → List MenuLineData
+folder_menu files home folder (Some written) = written_menu home written
 folder_menu files home folder None = listing files home folder
 
 abbrev pub folder_reply : List File → HomeData → List ℕ → List ℕ
-folder_reply files home folder = menu_bytes (folder_menu files home folder (file_at files (menu_path folder)))
+folder_reply files home folder = menu_bytes (folder_menu files home folder (menu_file files folder))
 
 -- a file of type `0` (48) is sent as a text, any other as it is
 abbrev pub file_reply : ℕ → List ℕ → List ℕ
@@ -66,9 +71,8 @@ error_line text home = record { kind = 51; display = text; selector = []; host =
 abbrev pub error_bytes : List ℕ → HomeData → List ℕ
 error_bytes text home = menu_bytes (error_line text home ∷ [])
 
--- `Not found`
 abbrev pub not_found_bytes : HomeData → List ℕ
-not_found_bytes home = error_bytes (78 ∷ 111 ∷ 116 ∷ 32 ∷ 102 ∷ 111 ∷ 117 ∷ 110 ∷ 100 ∷ []) home
+not_found_bytes home = error_bytes (codes "Not found") home
 
 abbrev pub reply_to : List File → HomeData → Option Named → List ℕ
 reply_to files home (Some (NamedFile kind bytes)) = file_reply kind bytes

@@ -1,10 +1,10 @@
 -- A tree, by what it holds.
-use Rattle.std.specs.Prelude.{◌≡◌, ℕ, ◌≤◌, List, length}
+use Rattle.std.specs.Prelude.{◌≡◌, ℕ, ◌+◌, ◌≤◌, List, length, fold}
 use Rattle.std.specs.BTreeMap.{BTreeMap}
 use Rattle.std.specs.declared.vec.Vec.{Vec}
-use Rattle.gopher_tree.specs.Files.{File, nodes, total_bytes}
+use Rattle.gopher_tree.specs.Files.{File, add_path, paths_of, nodes, total_bytes}
 use Rattle.gopher_tree.specs.Index.{IsIndex}
-use Rattle.gopher_tree.specs.declared.index.Entry.{Entry}
+use Rattle.gopher_tree.specs.declared.tree.index.Entry.{Entry}
 
 -- the index, the number of bytes and the number of nodes are those of the files, within the limits
 pub record IsTree {A : Type 0} (files : List File) (held : BTreeMap (Vec ℕ A) Entry) (bytes count : ℕ) : Type 0 where
@@ -13,3 +13,7 @@ pub record IsTree {A : Type 0} (files : List File) (held : BTreeMap (Vec ℕ A) 
   pub count_is : count ≡ length (nodes files)
   pub few_bytes : bytes ≤ 67108864
   pub few_nodes : count ≤ 4096
+
+-- a path adds so many nodes to those of the files
+abbrev pub Adds : List File → List ℕ → ℕ → Type 0
+Adds files path count = length (fold add_path (nodes files) (paths_of path)) ≡ length (nodes files) + count

@@ -4,23 +4,13 @@
 //! server's address and the selector.
 #![tactic(auto)]
 
-mod children;
 mod fault;
-mod file;
-mod folder;
-mod index;
-mod kept;
-mod kind;
-mod line;
+pub mod laws;
 mod load;
 mod menu_file;
-mod path;
-mod replies;
 mod reply;
 mod tree;
 
 pub use fault::{LoadRefused, TreeFault};
-pub use line::{push_last_line, push_line};
-pub use replies::{Replies, RepliesRefused, Reply};
-pub use reply::error_reply;
-pub use tree::{Node, Tree};
+pub use reply::{error_reply, not_found};
+pub use tree::{MOST_NODES, Node, Tree};

@@ -4,9 +4,11 @@ ghost use Rattle.std.specs.Prelude.{◌≡◌, ◌<◌, ◌≤◌, ◌+◌, ◌+
 ghost use Rattle.gopher_tree.specs.Fault.{file_fault, files_fault};
 ghost use Rattle.gopher_tree.specs.Load.{folder_fault, RefusesFile, WalksTo, Loads, LoadsTo, LoadsAt};
 
+pub(crate) mod folder;
+
 use crate::fault::{LoadRefused, TreeFault};
-use crate::folder::{Target, names_in, read_file, target_of, without_links};
-use crate::path::{LONGEST_PATH, path_fault, path_in};
+use crate::load::folder::{Target, names_in, read_file, target_of, without_links};
+use crate::tree::path::{LONGEST_PATH, path_fault, path_in};
 use crate::tree::{MOST_NODES, Tree};
 use gopher_item::NoMemory;
 use std::alloc::Global;
@@ -19,6 +21,7 @@ use std::path::{Path, PathBuf};
 struct Walk {
     tree: Tree,
     nodes: usize,
+    ghost counted: { length tree < nodes },
 }
 
 // Notes the path at which a walk is.
@@ -32,7 +35,8 @@ fn note_path(at: &mut Vec<u8>, path: &[u8]) -> Result<(), NoMemory>
 
 impl Walk {
     fn new(alloc: Global) -> Result<Walk, TreeFault>
-        ensures { MatchResult result (λ walk. walk.tree ≡ []) (λ fault. fault ≡ TreeFault.NoMemory) }
+        ensures { MatchResult result
+            (λ walk. walk.tree ≡ []) (λ fault. fault ≡ TreeFault.NoMemory) }
     {
         let Ok(tree) = Tree::empty(alloc) else {
             return Err(TreeFault::NoMemory);
@@ -42,9 +46,13 @@ impl Walk {
 
     // Lists a file, or refuses it for its first fault; empty folders are among the nodes then.
     fn with_file(self, alloc: Global, path: Vec<u8>, bytes: Vec<u8>) -> Result<Walk, TreeFault>
-        ensures listed { IfOk result (λ walk. (file_fault self.tree (path.items, bytes.items) ≡ None) × (walk.tree ≡ self.tree ++ (path.items, bytes.items) ∷ [])) }
-        ensures counted { IfOk result (λ walk. (self.nodes < 4096) × (walk.nodes ≡ self.nodes + 1)) }
-        ensures refused { IfErr result (RefusesFile self.tree self.nodes (path.items, bytes.items)) }
+        ensures listed { IfOk result (λ walk.
+            (file_fault self.tree (path.items, bytes.items) ≡ None)
+            × (walk.tree ≡ self.tree ++ (path.items, bytes.items) ∷ [])) }
+        ensures counted { IfOk result (λ walk.
+            (self.nodes < 4096) × (walk.nodes ≡ self.nodes + 1)) }
+        ensures refused { IfErr result
+            (RefusesFile self.tree self.nodes (path.items, bytes.items)) }
     {
         let number = self.tree.number_of_files();
         if let Some(fault) = path_fault(number, &path) {
@@ -60,9 +68,12 @@ impl Walk {
 
     // Visits a folder, or refuses it for its first fault.
     fn with_folder(self, path: &[u8]) -> Result<Walk, TreeFault>
-        ensures visited { IfOk result (λ walk. (walk.tree ≡ self.tree) × (walk.nodes ≡ self.nodes + 1) × (folder_fault (length self.tree) self.nodes path.now ≡ None)) }
+        ensures visited { IfOk result (λ walk.
+            (walk.tree ≡ self.tree) × (walk.nodes ≡ self.nodes + 1)
+            × (folder_fault (length self.tree) self.nodes path.now ≡ None)) }
         ensures short { IfOk result (λ walk. length path.now ≤ 254) }
-        ensures refused { IfErr result (λ fault. folder_fault (length self.tree) self.nodes path.now ≡ Some fault) }
+        ensures refused { IfErr result (λ fault.
+            folder_fault (length self.tree) self.nodes path.now ≡ Some fault) }
     {
         let number = self.tree.number_of_files();
         if path.len() > LONGEST_PATH {
@@ -128,7 +139,7 @@ impl Walk {
         requires named { 0 < length name.now }
         ensures { WalksTo (λ walk. walk.tree) self.tree at.new.items result }
     {
-        let Ok(place) = folder.join(alloc, name) else {
+        let Ok(location) = folder.join(alloc, name) else {
             return Err(TreeFault::NoMemory);
         };
         let Ok(path) = path_in(alloc, path, name.as_bytes()) else {
@@ -137,12 +148,12 @@ impl Walk {
         let Ok(()) = note_path(at, &path) else {
             return Err(TreeFault::NoMemory);
         };
-        match target_of(rt, place.as_path(), self.tree.number_of_files())? {
-            Target::File => self.through_file(rt, alloc, place.as_path(), path),
+        match target_of(rt, location.as_path(), self.tree.number_of_files())? {
+            Target::File => self.through_file(rt, alloc, location.as_path(), path),
             Target::Folder => {
                 let walk = self.with_folder(&path)?;
-                let place = without_links(rt, alloc, place)?;
-                walk.through_folder(rt, alloc, place.as_path(), &path, at)
+                let location = without_links(rt, alloc, location)?;
+                walk.through_folder(rt, alloc, location.as_path(), &path, at)
             }
             Target::Neither => Ok(self),
         }

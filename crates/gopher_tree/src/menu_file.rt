@@ -10,10 +10,9 @@ ghost use Rattle.gopher_item.specs.MenuLine.{menu_line_bytes, menu_bytes};
 ghost use Rattle.gopher_tree.specs.MenuFile.{is_item, item_of, line_of_fields, server_of, written_line, bad_line, written_menu, line_at};
 ghost use Rattle.gopher_tree.specs.WrittenLine.{line_data, server_data, IsLine};
 
-use crate::line::push_line;
 use gopher_item::{
-    Home, first_line, has_special, is_control, is_host, is_selector, read_number, split_once,
-    trim_spaces,
+    Home, first_line, has_special, is_bad_type, is_host, is_selector, push_menu_line, read_number,
+    split_once, trim_spaces,
 };
 use std::alloc::AllocError;
 
@@ -28,12 +27,11 @@ struct WrittenLine<'a> {
     server: Option<(&'a [u8], u16)>,
 }
 
+#[tactic(auto, using(crate::proofs::ItemLemmas::item_is))]
 fn is_item(kind: u8, display: &[u8], selector: &[u8]) -> bool
     ensures { result ≡ is_item kind display.now selector.now }
 {
-    is_selector(selector)
-        && !has_special(display)
-        && !(is_control(kind) || kind == b' ' || kind == b'.')
+    is_selector(selector) && !has_special(display) && !is_bad_type(kind)
 }
 
 // A written line of these parts, where it is one.
@@ -114,13 +112,14 @@ pub(crate) fn bad_line(bytes: &[u8]) -> Option<usize>
 
 // Appends the line as a server with the address `home` sends it.
 fn push_written(line: WrittenLine, home: &Home, out: &mut Vec<u8>) -> Result<(), AllocError>
-    ensures written { OnOk result (out.new.items ≡ out.old.items ++ menu_line_bytes (line_at home.now (line_data line.entry))) }
+    ensures written { OnOk result (out.new.items ≡ out.old.items
+        ++ menu_line_bytes (line_at home.now (line_data line.entry))) }
 {
     let (host, port) = match line.server {
         Some(server) => server,
         None => (home.host(), home.port()),
     };
-    push_line(line.kind, line.display, line.selector, host, port, out)
+    push_menu_line(line.kind, line.display, line.selector, host, port, out)
 }
 
 // Appends the lines of a menu file as a server with the address `home` sends them.
@@ -129,7 +128,8 @@ pub(crate) fn push_written_lines(
     home: &Home,
     out: &mut Vec<u8>,
 ) -> Result<(), AllocError>
-    ensures { OnOk result (out.new.items ≡ out.old.items ++ flat_map menu_line_bytes (written_menu home.now bytes.now)) }
+    ensures { OnOk result (out.new.items ≡ out.old.items
+        ++ flat_map menu_line_bytes (written_menu home.now bytes.now)) }
 {
     let mut rest = bytes;
     while let Some((line, after)) = first_line(rest) {

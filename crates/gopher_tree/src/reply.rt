@@ -1,34 +1,35 @@
 //! Replies: menus, texts and raw files.
 
-ghost use Rattle.std.specs.Prelude.{◌≡◌, ◌++◌, ◌==◌, length, IfOk, OnOk, if◌then◌else◌};
+ghost use Rattle.std.specs.Prelude.{◌≡◌, false, ◌++◌, ◌==◌, length, IfOk, OnOk, if◌then◌else◌};
 ghost use Rattle.std.specs.List.{flat_map};
+ghost use Rattle.gopher_item.specs.Bytes.{has_special};
 ghost use Rattle.gopher_item.specs.MenuLine.{menu_line_bytes, menu_bytes};
 ghost use Rattle.gopher_tree.specs.MenuFile.{written_menu};
 ghost use Rattle.gopher_tree.specs.Reply.{front_of, head_lines, listing_of, file_reply, error_bytes, not_found_bytes};
 
-use crate::children::Children;
-use crate::line::{push_last_line, push_line};
 use crate::menu_file::push_written_lines;
-use gopher_item::{Home, NoMemory};
+use crate::tree::children::Children;
+use gopher_item::{Home, NoMemory, push_last_line, push_menu_line};
 use gopher_text::write_text_of;
 use std::alloc::{AllocError, Global};
 
 /// The reply that tells a client of an error: a line of type `3` that has `text`, and the period alone
-/// that ends a menu (RFC 1436, sections 3.8 and 3.9). The caller sees to it that the text holds no TAB,
-/// CR, LF or NUL.
+/// that ends a menu (RFC 1436, sections 3.8 and 3.9). The text holds no TAB, CR, LF or NUL.
 ///
 /// Refused only where memory is (90).
 pub fn error_reply(alloc: Global, text: &[u8], home: &Home) -> Result<Vec<u8>, NoMemory>
+    requires { has_special text.now ≡ false }
     ensures { IfOk result (λ bytes. bytes.items ≡ error_bytes text.now home.now) }
 {
     let mut out = Vec::new(alloc);
-    push_line(b'3', text, b"", home.host(), home.port(), &mut out)?;
+    push_menu_line(b'3', text, b"", home.host(), home.port(), &mut out)?;
     push_last_line(&mut out)?;
     Ok(out)
 }
 
-// The reply to a selector that names nothing.
-pub(crate) fn not_found(alloc: Global, home: &Home) -> Result<Vec<u8>, NoMemory>
+/// The reply to a selector that names nothing: the error reply `Not found`. Refused only where memory
+/// is (90).
+pub fn not_found(alloc: Global, home: &Home) -> Result<Vec<u8>, NoMemory>
     ensures { IfOk result (λ bytes. bytes.items ≡ not_found_bytes home.now) }
 {
     error_reply(alloc, b"Not found", home)
@@ -61,12 +62,13 @@ fn front_of(alloc: Global, folder: &[u8]) -> Result<Vec<u8>, NoMemory>
 
 // Appends the search line, in the root.
 fn push_head(folder: &[u8], home: &Home, out: &mut Vec<u8>) -> Result<(), AllocError>
-    ensures { OnOk result (out.new.items ≡ out.old.items ++ flat_map menu_line_bytes (head_lines home.now folder.now)) }
+    ensures { OnOk result (out.new.items ≡ out.old.items
+        ++ flat_map menu_line_bytes (head_lines home.now folder.now)) }
 {
     if !folder.is_empty() {
         return Ok(());
     }
-    push_line(b'7', b"Search", b"/search", home.host(), home.port(), out)?;
+    push_menu_line(b'7', b"Search", b"/search", home.host(), home.port(), out)?;
     Ok(())
 }
 
@@ -77,7 +79,8 @@ pub(crate) fn listing_reply(
     children: &Children,
     home: &Home,
 ) -> Result<Vec<u8>, NoMemory>
-    ensures { IfOk result (λ bytes. bytes.items ≡ menu_bytes (listing_of home.now folder.now children.now)) }
+    ensures { IfOk result (λ bytes.
+        bytes.items ≡ menu_bytes (listing_of home.now folder.now children.now)) }
 {
     let front = front_of(alloc, folder)?;
     let mut out = Vec::new(alloc);

@@ -1,30 +1,38 @@
 //! Trees.
 
-ghost use Rattle.std.specs.Prelude.{◌≡◌, ℕ, ◌+◌, ◌≤◌, ◌<◌, ◌++◌, ◌∷◌, ◌||◌, ◌&&◌, ◌==◌, not, [], None, Some, List, length, take, slice_index, if◌then◌else◌, map, fold, count_by, is_some, IfOk, MatchResult};
-ghost use Rattle.std.specs.List.{list_any};
-ghost use Rattle.gopher_tree.specs.Path.{rest_after, is_menu_path};
-ghost use Rattle.gopher_tree.specs.Files.{is_file, is_folder, children, add_path, paths_of, nodes, is_among, file_at, total_bytes};
-ghost use Rattle.gopher_tree.specs.Fault.{is_too_big, is_twice, menu_fault, file_fault, files_fault, MakesTree};
-ghost use Rattle.gopher_tree.specs.Reply.{named, folder_reply, tree_reply};
+ghost use Rattle.std.specs.Prelude.{◌≡◌, ℕ, ◌+◌, ◌≤◌, ◌<◌, ◌++◌, ◌∷◌, ◌||◌, ◌&&◌, ◌==◌, not, [], None, Some, List, length, take, slice_index, if◌then◌else◌, map, fold, count_by, IfOk, IsTrue, MatchResult};
+ghost use Rattle.gopher_tree.specs.Path.{is_menu_path, is_slash, folders_of};
+ghost use Rattle.gopher_tree.specs.Files.{is_file, is_folder, leads_through_file, AboveAreFolders, children, add_path, nodes, is_among, AreNodes, total_bytes};
+ghost use Rattle.gopher_tree.specs.Fault.{is_too_big, is_twice, menu_fault, path_fault, file_fault, first_fault, AddsFile, MakesTree};
+ghost use Rattle.gopher_tree.specs.Tree.{Adds};
+ghost use Rattle.std.specs.Option.{option_map};
+ghost use Rattle.gopher_tree.specs.Reply.{named, menu_file, folder_reply, tree_reply};
 ghost use Rattle.gopher_tree.specs.Found.{Finds, Shows, file_data};
 
-use crate::children::Children;
+pub(crate) mod alone;
+pub(crate) mod child_line;
+pub(crate) mod children;
+pub(crate) mod file;
+pub(crate) mod index;
+pub(crate) mod kind;
+pub(crate) mod path;
+
 use crate::fault::TreeFault;
-use crate::file::File;
-use crate::index::{Entry, Index, add_file, is_file_entry};
-use crate::menu_file::bad_line;
-use crate::path::{is_menu_path, menu_path, path_fault, path_of};
 use crate::reply::{file_reply, listing_reply, not_found, written_reply};
+use crate::tree::alone::{LARGEST_FILE, first_fault, menu_fault};
+use crate::tree::children::Children;
+use crate::tree::file::File;
+use crate::tree::index::{Entry, Index, add_file, is_file_entry, paths_in};
+use crate::tree::path::{is_menu_path, menu_path, path_fault, path_of};
 use gopher_item::{Home, NoMemory};
 use std::alloc::Global;
 use std::collections::BTreeMap;
 use std::marker::Model;
 
-const LARGEST_FILE: usize = 16_777_216;
-
 const MOST_BYTES: usize = 67_108_864;
 
-pub(crate) const MOST_NODES: usize = 4_096;
+/// How many nodes a tree has at most: the root, the folders and the files.
+pub const MOST_NODES: usize = 4_096;
 
 /// Files and the folders that their paths lead through, as a server sends them.
 ///
@@ -104,8 +112,12 @@ impl Tree {
         self.bytes
     }
 
-    pub(crate) fn index(&self) -> &Index {
-        &self.index
+    /// The paths of the root, the folders and the files, in the order of their bytes. Refused only where
+    /// memory is (90).
+    pub fn paths(&self, alloc: Global) -> Result<Vec<&[u8]>, NoMemory>
+        ensures { IfOk result (λ paths. AreNodes self.now (map (λ path. path.now) paths.items)) }
+    {
+        paths_in(alloc, &self.index)
     }
 
     pub(crate) fn found(&self, path: &[u8]) -> Option<Found<'_>>
@@ -127,26 +139,38 @@ impl Tree {
     fn has_node(&self, path: &[u8]) -> bool
         ensures among { result ≡ is_among (nodes self.now) path.now }
         ensures either { result ≡ (is_file self.now path.now || is_folder self.now path.now) }
+        ensures above { IsTrue result → AboveAreFolders self.now path.now }
     {
         self.index.contains_key(path)
     }
 
-    fn leads_through_file(&self, path: &[u8]) -> bool
-        ensures { result ≡ list_any (λ file. is_some (rest_after file.0 path.now)) self.now }
+    // Whether a slash is at this place of the path, and a node before it.
+    fn has_node_before(&self, path: &[u8], place: usize) -> bool
+        requires { place < length path.now }
+        ensures among { result
+            ≡ (is_slash path.now place && is_among (nodes self.now) (take place path.now)) }
+        ensures either { result ≡ (is_slash path.now place
+            && (is_file self.now (take place path.now) || is_folder self.now (take place path.now))) }
+        ensures above { IsTrue result → AboveAreFolders self.now (take place path.now) }
     {
-        let mut found = false;
-        for place in 0..path.len() {
-            found = self.has_file_before(path, place, found);
+        if path[place] != b'/' {
+            return false;
         }
-        found
+        self.has_node(&path[..place])
     }
 
-    // Whether a file was found, or the path leads through one before this place.
-    fn has_file_before(&self, path: &[u8], place: usize, found: bool) -> bool
-        requires { place < length path.now }
-        ensures { result ≡ (found || ((slice_index path.now place == 47) && is_file self.now (take place path.now))) }
+    // Of the nodes that the path leads through only the last one can be a file.
+    fn leads_through_file(&self, path: &[u8]) -> bool
+        ensures { result ≡ leads_through_file self.now path.now }
     {
-        found || (path[place] == b'/' && self.is_file(&path[..place]))
+        let mut place = path.len();
+        while place > 0 {
+            place -= 1;
+            if self.has_node_before(path, place) {
+                return self.is_file(&path[..place]);
+            }
+        }
+        false
     }
 
     fn is_twice(&self, path: &[u8]) -> bool
@@ -155,39 +179,41 @@ impl Tree {
         self.has_node(path) || self.leads_through_file(path)
     }
 
-    // How many nodes a path adds.
+    // How many nodes a path adds. Above a folder that is there nothing is new.
     fn new_nodes(&self, path: &[u8]) -> usize
         requires { 0 < length path.now }
-        ensures count { length (fold add_path (nodes self.now) (paths_of path.now)) ≡ length (nodes self.now) + result }
+        ensures count { Adds self.now path.now result }
         ensures bound { result ≤ length path.now }
     {
-        let mut count = 0;
-        for place in 1..path.len() {
-            count += self.nodes_before(path, place);
-        }
         if self.has_node(path) {
-            count
+            self.new_folders(path)
         } else {
-            count + 1
+            self.new_folders(path) + 1
         }
     }
 
-    // How many nodes a path adds by the folder before this place, where a slash is there: one, or none.
-    fn nodes_before(&self, path: &[u8], place: usize) -> usize
-        requires { place < length path.now }
-        ensures count { result ≡ (if (slice_index path.now place == 47) && not (is_among (nodes self.now) (take place path.now)) then 1 else 0) }
-        ensures bound { result ≤ 1 }
+    // How many folders a path adds.
+    fn new_folders(&self, path: &[u8]) -> usize
+        requires { 0 < length path.now }
+        ensures count { length (fold add_path (nodes self.now) ([] ∷ folders_of path.now))
+            ≡ length (nodes self.now) + result }
+        ensures bound { result < length path.now }
     {
-        if path[place] == b'/' && !self.has_node(&path[..place]) {
-            1
-        } else {
-            0
+        let mut count = 0;
+        let mut place = path.len();
+        while place > 1 {
+            place -= 1;
+            if self.has_node_before(path, place) {
+                return count;
+            }
+            count += slashes_at(path, place);
         }
+        count
     }
 
-    fn is_too_big(&self, path: &[u8], bytes: &[u8]) -> bool
-        requires some { 0 < length path.now }
-        requires short { length path.now ≤ 254 }
+    fn is_too_big(&self, path: &[u8], bytes: &[u8], new_nodes: usize) -> bool
+        requires added { Adds self.now path.now new_nodes }
+        requires short { new_nodes ≤ 254 }
         ensures { result ≡ is_too_big self.now (path.now, bytes.now) }
     {
         if bytes.len() > LARGEST_FILE {
@@ -196,18 +222,18 @@ impl Tree {
         if self.bytes + bytes.len() > MOST_BYTES {
             return true;
         }
-        self.nodes + self.new_nodes(path) > MOST_NODES
+        self.nodes + new_nodes > MOST_NODES
     }
 
-    // The first fault of a file that comes behind these.
-    fn file_fault(&self, path: &[u8], bytes: &[u8]) -> Option<TreeFault>
+    // The first fault of a file that comes behind these, and whose path has none by itself.
+    fn file_fault(&self, path: &[u8], bytes: &[u8], new_nodes: usize) -> Option<TreeFault>
+        requires good { path_fault (length self.now) path.now ≡ None }
+        requires added { Adds self.now path.now new_nodes }
+        requires short { new_nodes ≤ 254 }
         ensures { result ≡ file_fault self.now (path.now, bytes.now) }
     {
         let number = self.files.len();
-        if let Some(fault) = path_fault(number, path) {
-            return Some(fault);
-        }
-        if self.is_too_big(path, bytes) {
+        if self.is_too_big(path, bytes, new_nodes) {
             return Some(TreeFault::TooBig { file: number });
         }
         if let Some(fault) = menu_fault(number, path, bytes) {
@@ -219,32 +245,26 @@ impl Tree {
         None
     }
 
-    // Adds a file that has no fault.
-    fn add(self, alloc: Global, path: Vec<u8>, bytes: Vec<u8>) -> Result<Tree, TreeFault>
-        requires { file_fault self (path.items, bytes.items) ≡ None }
-        ensures { MatchResult result (λ tree. tree ≡ self ++ (path.items, bytes.items) ∷ []) (λ fault. fault ≡ TreeFault.NoMemory) }
+    // Adds a file that has no fault, and whose path adds so many nodes.
+    fn add(
+        self,
+        alloc: Global,
+        path: Vec<u8>,
+        bytes: Vec<u8>,
+        new_nodes: usize,
+    ) -> Result<Tree, NoMemory>
+        requires good { file_fault self (path.items, bytes.items) ≡ None }
+        requires added { Adds self path.items new_nodes }
+        ensures { IfOk result (λ tree. tree ≡ self ++ (path.items, bytes.items) ∷ []) }
     {
-        let new_nodes = self.new_nodes(&path);
-        let Tree {
-            mut files,
-            mut index,
-            bytes: total,
-            nodes,
-        } = self;
+        let mut tree = self;
         let file = File::new(path, bytes);
-        let total = total + file.bytes().len();
-        let Ok(()) = add_file(alloc, &mut index, file.path(), file.kind(), files.len()) else {
-            return Err(TreeFault::NoMemory);
-        };
-        let Ok(()) = files.push(file) else {
-            return Err(TreeFault::NoMemory);
-        };
-        Ok(Tree {
-            files,
-            index,
-            bytes: total,
-            nodes: nodes + new_nodes,
-        })
+        let number = tree.files.len();
+        add_file(alloc, &mut tree.index, file.path(), file.kind(), number)?;
+        tree.bytes += file.bytes().len();
+        tree.nodes += new_nodes;
+        tree.files.push(file)?;
+        Ok(tree)
     }
 
     // Adds a file, or refuses it for its first fault.
@@ -254,12 +274,34 @@ impl Tree {
         path: Vec<u8>,
         bytes: Vec<u8>,
     ) -> Result<Tree, TreeFault>
-        ensures { MakesTree (file_fault self (path.items, bytes.items)) (self ++ (path.items, bytes.items) ∷ []) result }
+        ensures { AddsFile (file_fault self (path.items, bytes.items))
+            (self ++ (path.items, bytes.items) ∷ []) result }
     {
-        if let Some(fault) = self.file_fault(&path, &bytes) {
+        if let Some(fault) = path_fault(self.files.len(), &path) {
             return Err(fault);
         }
-        self.add(alloc, path, bytes)
+        let new_nodes = self.new_nodes(&path);
+        if let Some(fault) = self.file_fault(&path, &bytes, new_nodes) {
+            return Err(fault);
+        }
+        match self.add(alloc, path, bytes, new_nodes) {
+            Ok(tree) => Ok(tree),
+            Err(_) => Err(TreeFault::NoMemory),
+        }
+    }
+
+    /// The bytes of the menu file of the folder that has this path, where it has one. Refused only where
+    /// memory is (90).
+    pub fn menu_file(&self, alloc: Global, folder: &[u8]) -> Result<Option<&[u8]>, NoMemory>
+        ensures { IfOk result (λ menu.
+            option_map (λ bytes. bytes.now) menu ≡ menu_file self.now folder.now) }
+    {
+        let path = menu_path(alloc, folder)?;
+        match self.found(&path) {
+            Some(Found::File(file)) => Ok(Some(file.bytes())),
+            Some(Found::Folder(_)) => Ok(None),
+            None => Ok(None),
+        }
     }
 
     // The menu of a folder that has these names.
@@ -271,12 +313,10 @@ impl Tree {
         home: &Home,
     ) -> Result<Vec<u8>, NoMemory>
         requires { names.now ≡ children self.now folder.now }
-        ensures { IfOk result (λ bytes. bytes.items ≡ folder_reply self.now home.now folder.now) }
+        ensures { IfOk result (λ menu. menu.items ≡ folder_reply self.now home.now folder.now) }
     {
-        let path = menu_path(alloc, folder)?;
-        match self.found(&path) {
-            Some(Found::File(file)) => written_reply(alloc, file.bytes(), home),
-            Some(Found::Folder(_)) => listing_reply(alloc, folder, names, home),
+        match self.menu_file(alloc, folder)? {
+            Some(bytes) => written_reply(alloc, bytes, home),
             None => listing_reply(alloc, folder, names, home),
         }
     }
@@ -286,10 +326,13 @@ impl Tree {
     /// The files are taken in their order. The first fault of the first file that has one is answered;
     /// for a file these are, in this order: `BadName` (20), `Reserved` (21), `LongSelector` (22),
     /// `TooBig` (23), `BadMenuLine` (24), `Twice` (25). `NoMemory` (90) where memory is refused before
-    /// that. The list is dropped then.
+    /// that; the first file's fault comes before any memory is taken. The list is dropped then.
     pub fn of_files(alloc: Global, files: Vec<(Vec<u8>, Vec<u8>)>) -> Result<Tree, TreeFault>
-        ensures { MakesTree (files_fault (map file_data files.items)) (map file_data files.items) result }
+        ensures { MakesTree (map file_data files.items) result }
     {
+        if let Some(fault) = first_fault(&files) {
+            return Err(fault);
+        }
         let Ok(mut tree) = Tree::empty(alloc) else {
             return Err(TreeFault::NoMemory);
         };
@@ -324,7 +367,7 @@ impl Tree {
     /// is. A selector that names nothing gets the error reply `Not found`. Refused only where memory
     /// is (90).
     pub fn reply(&self, alloc: Global, selector: &[u8], home: &Home) -> Result<Vec<u8>, NoMemory>
-        ensures { IfOk result (λ bytes. bytes.items ≡ tree_reply self.now home.now selector.now) }
+        ensures { IfOk result (λ sent. sent.items ≡ tree_reply self.now home.now selector.now) }
     {
         let Some(path) = path_of(selector) else {
             return not_found(alloc, home);
@@ -342,15 +385,11 @@ impl Tree {
     }
 }
 
-// The fault of a menu file, where the file is one.
-fn menu_fault(number: usize, path: &[u8], bytes: &[u8]) -> Option<TreeFault>
-    ensures { result ≡ menu_fault number (path.now, bytes.now) }
+// How many slashes are at a place of a path: one, or none.
+fn slashes_at(path: &[u8], place: usize) -> usize
+    requires { place < length path.now }
+    ensures count { result ≡ (if is_slash path.now place then 1 else 0) }
+    ensures bound { result ≤ 1 }
 {
-    if !is_menu_path(path) {
-        return None;
-    }
-    match bad_line(bytes) {
-        Some(line) => Some(TreeFault::BadMenuLine { file: number, line }),
-        None => None,
-    }
+    if path[place] == b'/' { 1 } else { 0 }
 }

@@ -91,7 +91,8 @@ fn rule(alloc: Global, table: &Table) -> Result<Rule, NoMemory>
 /// The seeds of these elements of `seeds`.
 pub(crate) fn seeds(alloc: Global, values: &[Value]) -> Result<Vec<Place>, NoMemory>
     requires { first_of (element_problem Element.Seed) (map view values.now) ≡ None }
-    ensures { IfOk result (λ seeds. seeds.items ≡ map seed_read (filter_map as_table (map view values.now))) }
+    ensures { IfOk result (λ seeds.
+        seeds.items ≡ map seed_read (filter_map as_table (map view values.now))) }
 {
     let mut seeds = Vec::new(alloc);
     for value in values {
@@ -105,7 +106,8 @@ pub(crate) fn seeds(alloc: Global, values: &[Value]) -> Result<Vec<Place>, NoMem
 /// The rules of these elements of `allow` or `deny`.
 pub(crate) fn rules(alloc: Global, values: &[Value]) -> Result<Vec<Rule>, NoMemory>
     requires { first_of (element_problem Element.Rule) (map view values.now) ≡ None }
-    ensures { IfOk result (λ rules. rules.items ≡ map rule_read (filter_map as_table (map view values.now))) }
+    ensures { IfOk result (λ rules.
+        rules.items ≡ map rule_read (filter_map as_table (map view values.now))) }
 {
     let mut rules = Vec::new(alloc);
     for value in values {

@@ -13,7 +13,8 @@ use toml::{Table, Value};
 
 /// The value at a key.
 pub(crate) fn value_at<'a>(table: &'a Table, name: &str) -> Option<&'a Value>
-    ensures { option_map (λ value. view value.now) result ≡ get_member name.now (table_view table.now) }
+    ensures { option_map (λ value. view value.now) result
+        ≡ get_member name.now (table_view table.now) }
 {
     table.get(name)
 }

@@ -1,7 +1,7 @@
-use Rattle.std.proofs.Common.{◌++◌, ap, sym, ◌∙◌, append_assoc}
+use Rattle.std.proofs.Common.{◌++◌, [], ap, sym, refl, ◌∙◌, append_assoc, length-append, arith, length}
 use Rattle.gopher_item.specs.Lines.{lines_of}
 use Rattle.gopher_item.specs.Menu.{entries_of, any_last_line}
-use Rattle.gopher_item.proofs.MenuLemmas.{any_last_line-line, entries_of-line, entries_of-empty}
+use Rattle.gopher_item.proofs.MenuLemmas.{any_last_line-line, entries_of-line, entries_of-empty, stands_in_rest, still_left}
 use Rattle.gopher_item.proofs.menu.read_menu.Goals as goal
 
 pub loop-line-preserved-in_ok-push : goal.loop-line-preserved-in_ok-push
@@ -10,10 +10,12 @@ loop-line-preserved-in_ok-push c =
     let rest = lines_of c.in-Some.after.now in
     let so_far = c.loop-line.entries.items in
     let other = sym c.if-is_last_line.ensures in
+    let left = c.loop-line.invariant.2 in
     let first = c.in-Some.ensures.line in (
       rw (c.in_ok-push.ensures.items, c.in_ok-entry_of.ensures, append_assoc)
           (ap (λ e. so_far ++ e) (sym (ap entries_of first ∙ entries_of-line line rest other (sym c.if-not-is_empty.ensures))) ∙ c.loop-line.invariant.0),
       sym (ap any_last_line first ∙ any_last_line-line line rest other) ∙ c.loop-line.invariant.1,
+      still_left _ left.0 _ line c.in-Some.after.now left.1 c.in-Some.ensures.whole,
     )
 
 pub loop-line-preserved : goal.loop-line-preserved
@@ -21,7 +23,23 @@ loop-line-preserved c =
     let line = c.in-Some.line.now in
     let rest = lines_of c.in-Some.after.now in
     let other = sym c.if-is_last_line.ensures in
+    let left = c.loop-line.invariant.2 in
     let first = c.in-Some.ensures.line in (
       ap (λ e. c.loop-line.entries.items ++ e) (sym (ap entries_of first ∙ entries_of-empty line rest other (sym c.if-not-is_empty.ensures))) ∙ c.loop-line.invariant.0,
       sym (ap any_last_line first ∙ any_last_line-line line rest other) ∙ c.loop-line.invariant.1,
+      still_left _ left.0 _ line c.in-Some.after.now left.1 c.in-Some.ensures.whole,
     )
+
+pub loop-line-init : goal.loop-line-init
+loop-line-init c = (rw c.in_ok-entries.ensures.items refl, refl, ([], refl))
+
+pub overflow_sub-start : goal.overflow_sub-start
+overflow_sub-start c =
+    let left = c.loop-line.invariant.2 in
+    omega (arith, ap length left.1, length-append left.0 c.loop-line.rest.now)
+
+pub entry_of-requires-clause-stands : goal.entry_of-requires-clause-stands
+entry_of-requires-clause-stands c =
+    let left = c.loop-line.invariant.2 in
+    stands_in_rest _ c.args.bytes.now left.0 c.loop-line.rest.now c.in-Some.line.now c.in-Some.after.now
+    (c.in_ok-text.ensures.ok ∙ c.in_ok-from_slice.ensures) left.1 c.in-Some.ensures.whole

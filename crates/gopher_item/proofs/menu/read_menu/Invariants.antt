@@ -1,4 +1,4 @@
-use Rattle.std.proofs.Common.{◌≡◌, ◌++◌, length}
+use Rattle.std.proofs.Common.{◌≡◌, ℕ, List, ◌++◌, length}
 use Rattle.gopher_item.specs.Lines.{lines_of}
 use Rattle.gopher_item.specs.Menu.{entries_of, any_last_line}
 use Rattle.gopher_item.proofs.menu.read_menu.Given as goal
@@ -6,6 +6,7 @@ use Rattle.gopher_item.proofs.menu.read_menu.Given as goal
 abbrev pub invariant-loop-line : goal.invariant-loop-line
 invariant-loop-line l =
     (l.entries.items ++ entries_of (lines_of l.rest) ≡ entries_of (lines_of l.bytes)) × (any_last_line (lines_of l.rest) ≡ any_last_line (lines_of l.bytes))
+    × ((seen : List ℕ) × (l.bytes ≡ seen ++ l.rest))
 
 abbrev pub decreases-loop-line : goal.decreases-loop-line
 decreases-loop-line l = length l.rest

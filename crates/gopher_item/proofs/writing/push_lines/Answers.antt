@@ -32,4 +32,4 @@ loop-line-preserved c =
 pub returns-clause-plain : goal.returns-clause-plain
 returns-clause-plain c =
     let whole : take c.loop-line.line-index c.args.lines.now ≡ c.args.lines.now = take_all _ _ (omega arith) in
-    ok_keeps c.extend_from_slice.result (rw whole at c.loop-line.invariant.0)
+    ok_keeps c.push_last_line.result (rw whole at c.loop-line.invariant.0)

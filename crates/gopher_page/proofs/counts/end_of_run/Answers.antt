@@ -1,7 +1,7 @@
 use Rattle.std.proofs.Common.{◌≡◌, true, false, ◌<◌, [], ◌∙◌, List, ℕ, length, map, sym, get_or, arith}
 use Rattle.std.proofs.lemmas.List.{length-map, get_or-map}
 use Rattle.gopher_page.specs.Words.{same_word}
-use Rattle.gopher_page.proofs.Lengths.{one_word, one_word_more, one_word_other, one_word_last}
+use Rattle.gopher_page.proofs.Lengths.{one_word, one_word_more, one_word_other}
 use Rattle.gopher_page.proofs.counts.end_of_run.Goals as goal
 
 pub loop-end-init : goal.loop-end-init

@@ -48,15 +48,19 @@ returns-in-Err-clause-fault c =
 pub overflow_cast-before : goal.overflow_cast-before
 overflow_cast-before c = omega (arith, places_fit c.self.inside.archive c.self.inside.frontier c.self.invariant, c.len-before.ensures.places)
 
-pub learn-requires-clause-few_places : goal.learn-requires-clause-few_places
-learn-requires-clause-few_places c = omega (arith, places_within c.self.inside.archive c.self.inside.frontier c.self.invariant, c.places.ensures, ap (λ o. o.limit) (c.deref-2.ensures ∙ c.opening-opening.ensures))
-
-pub learn-requires-clause-few_out : goal.learn-requires-clause-few_out
-learn-requires-clause-few_out c = out_fits c.self.inside.archive c.self.inside.frontier c.self.invariant
+pub learn-requires : goal.learn-requires
+learn-requires c =
+    let limit = c.places.ensures ∙ ap (λ o. o.limit) (c.deref-2.ensures ∙ c.opening-opening.ensures) in
+    record {
+      few_links = c.links.ensures.few;
+      limit_fits = omega (arith, limit, limit_fits c.self.inside.archive c.self.inside.frontier c.self.invariant);
+      few_places = omega (arith, limit, places_within c.self.inside.archive c.self.inside.frontier c.self.invariant);
+      few_out = out_fits c.self.inside.archive c.self.inside.frontier c.self.invariant;
+    }
 
 -- what the frontier learned of the page's links
 learned : (c : goal.After-found-arg-1) → Learned (opening_in c.self.inside.archive.events).limit (filter (allows (opening_in c.self.inside.archive.events).scope) c.args.page.links) c.self.inside.frontier c.learn.new.self c.in-Ok.added.dropped
-learned c = learned_of _ _ _ _ _ _ _ _ _ (c.places.ensures ∙ ap (λ o. o.limit) (c.deref-2.ensures ∙ c.opening-opening.ensures)) (c.scope.ensures ∙ ap (λ o. o.scope) (c.deref.ensures ∙ c.opening-opening.ensures)) c.links.ensures.links c.in-Ok.ensures.learned
+learned c = learned_of _ _ _ _ _ _ _ _ _ (c.places.ensures ∙ ap (λ o. o.limit) (c.deref-2.ensures ∙ c.opening-opening.ensures)) (c.scope.ensures ∙ ap (λ o. o.scope) (c.deref.ensures ∙ c.opening-opening.ensures)) c.links.ensures.links c.in-Ok.ensures.ok.learned
 
 pub found-requires-clause-standing : goal.found-requires-clause-standing
 found-requires-clause-standing c =
@@ -69,13 +73,13 @@ found-requires-clause-few_places c =
 
 pub found-requires-clause-some_out : goal.found-requires-clause-some_out
 found-requires-clause-some_out c =
-    omega (arith, some_out c.self.inside.archive c.self.inside.frontier c.self.invariant c.args.number c.in-Some.standing c.in-Some.ensures.0 c.in-Some.ensures.1, c.in-Ok.ensures.learned.keeps.out)
+    omega (arith, some_out c.self.inside.archive c.self.inside.frontier c.self.invariant c.args.number c.in-Some.standing c.in-Some.ensures.0 c.in-Some.ensures.1, c.in-Ok.ensures.ok.learned.keeps.out)
 
 pub found-requires-clause-few_done : goal.found-requires-clause-few_done
-found-requires-clause-few_done c = omega (arith, done_fits c.self.inside.archive c.self.inside.frontier c.self.invariant, c.in-Ok.ensures.learned.keeps.done)
+found-requires-clause-few_done c = omega (arith, done_fits c.self.inside.archive c.self.inside.frontier c.self.invariant, c.in-Ok.ensures.ok.learned.keeps.done)
 
 pub found-requires-clause-few_dropped : goal.found-requires-clause-few_dropped
-found-requires-clause-few_dropped c = omega (arith, dropped_fits c.self.inside.archive c.self.inside.frontier c.self.invariant, c.in-Ok.ensures.learned.keeps.dropped, c.in-Ok.ensures.few)
+found-requires-clause-few_dropped c = omega (arith, dropped_fits c.self.inside.archive c.self.inside.frontier c.self.invariant, c.in-Ok.ensures.ok.learned.keeps.dropped, c.in-Ok.ensures.ok.few)
 
 pub add_found-requires : goal.add_found-requires
 add_found-requires c = omega (arith, some_out c.self.inside.archive c.self.inside.frontier c.self.invariant c.args.number c.in-Some.standing c.in-Some.ensures.0 c.in-Some.ensures.1, c.self.invariant.record_room)
@@ -84,10 +88,10 @@ add_found-requires c = omega (arith, some_out c.self.inside.archive c.self.insid
 
 found : (c : goal.After-found) → IsIndexed c.add_found.new.self c.found.new.self
 found c =
-    let learned : Learned (opening_in c.self.inside.archive.events).limit (filter (allows (opening_in c.self.inside.archive.events).scope) c.args.page.links) c.self.inside.frontier c.learn.new.self c.in-Ok.added.dropped = learned_of _ _ _ _ _ _ _ _ _ (c.places.ensures ∙ ap (λ o. o.limit) (c.deref-2.ensures ∙ c.opening-opening.ensures)) (c.scope.ensures ∙ ap (λ o. o.scope) (c.deref.ensures ∙ c.opening-opening.ensures)) c.links.ensures.links c.in-Ok.ensures.learned in
+    let learned : Learned (opening_in c.self.inside.archive.events).limit (filter (allows (opening_in c.self.inside.archive.events).scope) c.args.page.links) c.self.inside.frontier c.learn.new.self c.in-Ok.added.dropped = learned_of _ _ _ _ _ _ _ _ _ (c.places.ensures ∙ ap (λ o. o.limit) (c.deref-2.ensures ∙ c.opening-opening.ensures)) (c.scope.ensures ∙ ap (λ o. o.scope) (c.deref.ensures ∙ c.opening-opening.ensures)) c.links.ensures.links c.in-Ok.ensures.ok.learned in
     let right = ap (λ place. option_map_or (λ other. same_place other place) (slice_get c.self.inside.frontier.places c.args.number) false) (sym c.place.ensures) ∙ sym c.if-not-has_place.ensures in
     after_found c.self.inside.archive c.self.inside.frontier c.self.invariant c.learn.new.self c.args.number c.in-Some.standing c.args.page c.in-Ok.added learned c.add_found.new.self c.found.new.self c.len-before.result c.in-Some.ensures.0 c.in-Some.ensures.1 right c.len-before.ensures.places
-    c.in-Ok.ensures.few c.in-Ok.ensures.fresh c.in-Ok.ensures.room c.found.ensures c.in-Ok-add_found.ensures.ok.events c.in-Ok-add_found.ensures.ok.room
+    c.in-Ok.ensures.ok.few c.in-Ok.ensures.ok.fresh c.in-Ok.ensures.ok.room c.found.ensures c.in-Ok-add_found.ensures.ok.events c.in-Ok-add_found.ensures.ok.room
 
 pub invariant_of-self-in-Ok-add_found : goal.invariant_of-self-in-Ok-add_found
 invariant_of-self-in-Ok-add_found c = found c
@@ -100,8 +104,8 @@ returns-in-Ok-add_found-clause-ok c =
 
 pub returns-in-Ok-add_found-clause-added : goal.returns-in-Ok-add_found-clause-added
 returns-in-Ok-add_found-clause-added c =
-    let learned : Learned (opening_in c.self.inside.archive.events).limit (filter (allows (opening_in c.self.inside.archive.events).scope) c.args.page.links) c.self.inside.frontier c.learn.new.self c.in-Ok.added.dropped = learned_of _ _ _ _ _ _ _ _ _ (c.places.ensures ∙ ap (λ o. o.limit) (c.deref-2.ensures ∙ c.opening-opening.ensures)) (c.scope.ensures ∙ ap (λ o. o.scope) (c.deref.ensures ∙ c.opening-opening.ensures)) c.links.ensures.links c.in-Ok.ensures.learned in
-    added_shown c.self.inside.archive c.self.inside.frontier c.self.invariant c.learn.new.self c.args.number c.in-Some.standing c.args.page c.in-Ok.added learned c.in-Ok.ensures.fresh ∙ ap (λ events. added_by events c.args.number c.args.page) c.self.view_is
+    let learned : Learned (opening_in c.self.inside.archive.events).limit (filter (allows (opening_in c.self.inside.archive.events).scope) c.args.page.links) c.self.inside.frontier c.learn.new.self c.in-Ok.added.dropped = learned_of _ _ _ _ _ _ _ _ _ (c.places.ensures ∙ ap (λ o. o.limit) (c.deref-2.ensures ∙ c.opening-opening.ensures)) (c.scope.ensures ∙ ap (λ o. o.scope) (c.deref.ensures ∙ c.opening-opening.ensures)) c.links.ensures.links c.in-Ok.ensures.ok.learned in
+    added_shown c.self.inside.archive c.self.inside.frontier c.self.invariant c.learn.new.self c.args.number c.in-Some.standing c.args.page c.in-Ok.added learned c.in-Ok.ensures.ok.fresh ∙ ap (λ events. added_by events c.args.number c.args.page) c.self.view_is
 
 pub returns-in-Ok-add_found-clause-legal : goal.returns-in-Ok-add_found-clause-legal
 returns-in-Ok-add_found-clause-legal c = (found c).legal

@@ -1,13 +1,13 @@
-use Rattle.std.proofs.Common.{◌≡◌, ℕ, ◌-◌, ◌<◌, ◌≤◌, true, false, length}
-use Rattle.gopher_page.specs.Counts.{is_before, word_at}
+use Rattle.std.proofs.Common.{◌-◌, ◌≤◌, length}
+use Rattle.gopher_page.specs.Counts.{AreBefore, NoneBefore}
 use Rattle.gopher_page.proofs.counts.Counts.words_before.Given as goal
 
 abbrev pub invariant-loop-low : goal.invariant-loop-low
 invariant-loop-low l = record {
   forward : l.low ≤ l.high;
   within : l.high ≤ length l.self;
-  before : (k : ℕ) → k < l.low → is_before (word_at l.self k) l.sought ≡ true;
-  after : (k : ℕ) → l.high ≤ k → k < length l.self → is_before (word_at l.self k) l.sought ≡ false;
+  before : AreBefore l.self l.low l.sought;
+  after : NoneBefore l.self l.high l.sought;
 }
 
 abbrev pub decreases-loop-low : goal.decreases-loop-low

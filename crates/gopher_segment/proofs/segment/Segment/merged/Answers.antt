@@ -14,16 +14,18 @@ pub invariant_of-result : goal.invariant_of-result
 invariant_of-result c = record {
   table = record {
     order = c.in_ok-table.ensures.order;
-    counts = λ test number.
-        c.in_ok-table.ensures.counts test number
-        ∙ ap (tables_count test number) c.deref_mut.ensures.value
-        ∙ tables_counts test number c.args.first _ _ c.requires c.in_ok-cursors.ensures
-        ∙ ap (count_at test number c.args.first) (sym c.in_ok-pages.ensures.pages);
-    runs = λ word.
-        c.in_ok-table.ensures.runs word
-        ∙ ap (flat_map (postings_of word)) c.deref_mut.ensures.value
-        ∙ tables_runs word c.args.first _ _ c.requires c.in_ok-cursors.ensures
-        ∙ ap (λ pages. run_of c.args.first (meant_counts false word pages)) (sym c.in_ok-pages.ensures.pages);
+    tell = record {
+      counts = λ test number.
+          c.in_ok-table.ensures.counts test number
+          ∙ ap (tables_count test number) c.deref_mut.ensures.value
+          ∙ tables_counts test number c.args.first _ _ c.requires c.in_ok-cursors.ensures
+          ∙ ap (count_at test number c.args.first) (sym c.in_ok-pages.ensures.pages);
+      runs = λ word.
+          c.in_ok-table.ensures.runs word
+          ∙ ap (flat_map (postings_of word)) c.deref_mut.ensures.value
+          ∙ tables_runs word c.args.first _ _ c.requires c.in_ok-cursors.ensures
+          ∙ ap (λ pages. run_of c.args.first (meant_counts false word pages)) (sym c.in_ok-pages.ensures.pages);
+    };
   };
   small = c.in_ok-pages.ensures.small;
 }

@@ -21,18 +21,18 @@ cells_are : (first : ℕ) (pages : List PageData) (rows : List (List ℕ × List
 cells_are first pages rows test cells segment same counted =
     let long : length cells ≡ length (map (λ page. count_where test page.counts) pages) = same ∙ sym (length-map pages (λ (page : PageData). count_where test page.counts)) in
     ext_get_or 0 cells (map (λ page. count_where test page.counts) pages) long
-    (λ k within. counted k within ∙ segment.table.counts test (first + k) ∙ count_at_here test (first + k) first pages k refl (omega arith))
+    (λ k within. counted k within ∙ segment.table.tell.counts test (first + k) ∙ count_at_here test (first + k) first pages k refl (omega arith))
 
 cells_few : (first : ℕ) (pages : List PageData) (rows : List (List ℕ × List (ℕ × ℕ))) (test : List ℕ → Bool) (cells : List ℕ) → IsSegment first pages rows
     → ((k : ℕ) → k < length cells → get_or cells k 0 ≡ rows_count test (first + k) rows) → (k d : ℕ) → k < length cells → get_or cells k d ≤ 1048576
 cells_few first pages rows test cells segment counted k d within =
-    omega (arith, get_or_default cells k d 0 within, counted k within, segment.table.counts test (first + k), count_at_few test (first + k) first pages segment.small)
+    omega (arith, get_or_default cells k d 0 within, counted k within, segment.table.tell.counts test (first + k), count_at_few test (first + k) first pages segment.small)
 
 -- the postings of each word are of the pages
 within_cells : (first : ℕ) (pages : List PageData) (rows : List (List ℕ × List (ℕ × ℕ))) → IsSegment first pages rows → (size : ℕ) → size ≡ length pages → (word : List ℕ) → AreWithin first size (postings_of word rows)
 within_cells first pages rows segment size same word =
     let long : length (meant_counts false word pages) ≡ size = length-map pages (λ (page : PageData). count_meant false word page.counts) ∙ sym same in
-    subst (λ postings. AreWithin first size postings) (sym (segment.table.runs word))
+    subst (λ postings. AreWithin first size postings) (sym (segment.table.tell.runs word))
     (subst (λ n. AreWithin first n (run_of first (meant_counts false word pages))) long (run_within first (meant_counts false word pages)))
 
 pub spread-requires-clause-within : goal.spread-requires-clause-within
@@ -44,7 +44,7 @@ spread-requires-clause-within c = λ word.
 pub spread-requires-clause-fits : goal.spread-requires-clause-fits
 spread-requires-clause-fits c = λ k within.
     let none : get_or c.args.cells.now k 0 ≡ 0 = zero_at c.args.cells.now (length c.args.self.now.pages) k c.requires within in
-    let counted = c.self.invariant.table.counts (λ word. true) (c.self.inside.first + k) in
+    let counted = c.self.invariant.table.tell.counts (λ word. true) (c.self.inside.first + k) in
     omega (arith, none, counted, count_at_few (λ word. true) (c.self.inside.first + k) c.self.inside.first _ c.self.invariant.small)
 
 pub returns-clause-counts : goal.returns-clause-counts

@@ -1,5 +1,5 @@
 use Rattle.std.proofs.Common.{ap, ◌∙◌}
-use Rattle.gopher_tree.specs.Kept.{reply_bytes}
+use Rattle.gopher_replies.specs.Kept.{reply_bytes}
 use Rattle.gopher_serve.specs.Talk.{Responds}
 use Rattle.gopher_serve.proofs.Talking.{asked_is}
 use Rattle.gopher_serve.proofs.conversation.Conversation.respond.Goals as goal

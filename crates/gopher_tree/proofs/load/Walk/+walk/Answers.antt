@@ -24,8 +24,8 @@ through_name-returns-in_err-target_of g t c =
 
 pub through_name-returns-in_err-walk-in-Folder : goal.through_name-returns-in_err-walk-in-Folder
 through_name-returns-in_err-walk-in-Folder g t c =
-    walks_none _ c.args.self.tree c.note_path.new.at.items c.from_residual-in_err-walk-in-Folder.result c.in_err-walk-in-Folder.field-0.0 (search rules) (stops_folder c.args.self.tree c.args.self.nodes c.note_path.new.at.items c.in_err-walk-in-Folder.field-0.0 (search rules))
+    walks_none _ c.args.self.tree c.note_path.new.at.items c.from_residual-in_err-walk-in-Folder.result c.in_err-walk-in-Folder.field-0.0 (search rules) (stops_folder c.args.self.tree c.args.self.nodes c.note_path.new.at.items c.in_err-walk-in-Folder.field-0.0 c.args.self.counted (search rules))
 
-pub through_name-returns-in_err-place-in-Folder : goal.through_name-returns-in_err-place-in-Folder
-through_name-returns-in_err-place-in-Folder g t c =
-    walks_none _ c.args.self.tree c.note_path.new.at.items c.from_residual-in_err-place-in-Folder.result c.in_err-place-in-Folder.field-0.0 (search rules) (stops_memory c.args.self.tree c.note_path.new.at.items c.in_err-place-in-Folder.field-0.0 (search rules))
+pub through_name-returns-in_err-location-in-Folder : goal.through_name-returns-in_err-location-in-Folder
+through_name-returns-in_err-location-in-Folder g t c =
+    walks_none _ c.args.self.tree c.note_path.new.at.items c.from_residual-in_err-location-in-Folder.result c.in_err-location-in-Folder.field-0.0 (search rules) (stops_memory c.args.self.tree c.note_path.new.at.items c.in_err-location-in-Folder.field-0.0 (search rules))

@@ -2,7 +2,7 @@ use Rattle.std.proofs.Common.{◌≡◌, ℕ, [], None, Some, cond, eqb, List, s
 use Rattle.std.specs.Cmp.Lexicographic.{pointwise}
 use Rattle.gopher_tree.specs.Index.{held_at}
 use Rattle.gopher_tree.specs.Tree.{IsTree}
-use Rattle.gopher_tree.specs.declared.index.Entry.TheVariants as entry
+use Rattle.gopher_tree.specs.declared.tree.index.Entry.TheVariants as entry
 use Rattle.gopher_tree.proofs.IndexLemmas.{held_after}
 use Rattle.gopher_tree.proofs.EmptyTree.{held_at-empty, IsTree-empty}
 use Rattle.gopher_tree.proofs.tree.Tree.empty.Goals as goal

@@ -1,0 +1,148 @@
+//! A crew that crawls a host in memory: pages a second beside the same pages made without a catalogue,
+//! its memory for each page, and how long searches take beside it.
+
+ghost use Rattle.std.specs.Prelude.{◌≡◌, []};
+
+use crate::beside::{print_spans, spans_beside};
+use crate::desks::{Pairs, opened_desk};
+use crate::failed::Failed;
+use crate::files;
+use crate::links::Host;
+use crate::making::made_alone;
+use crate::printing::{Figure, print};
+use crate::timing::{Best, now};
+use gopher_crew::{Blank, Crew, Desk, crawl};
+use gopher_item::Place;
+use gopher_page::Query;
+use std::alloc::Global;
+use std::marker::Brand;
+use std::rt::Runtime;
+use std::sync::Wait;
+use std::thread::Threads;
+
+const WORKERS: [(u32, &str); 3] = [(4, "4 workers"), (2, "2 workers"), (1, "1 worker")];
+
+// What a crawl took: its time, its memory, and how many places are done.
+#[derive(Clone, Copy)]
+struct Took {
+    best: Best,
+    held: u64,
+    done: u32,
+}
+
+// How long the workers take to crawl.
+fn span<C: Crew + Send + Sync, R: Runtime + AllocGlobal + Threads + Wait + Sync>(
+    rt: &R,
+    desk: &Desk<C, &R>,
+    pairs: Pairs<'_, C>,
+) -> Result<Best, Failed> {
+    let mut best = Best::new();
+    let start = now(rt)?;
+    let _ends = crawl(rt, rt.alloc(), desk, pairs);
+    best.end(rt, start)?;
+    Ok(best)
+}
+
+// Crawls the host with so many workers.
+fn crawled<C: Crew + Send + Sync, R: Runtime + AllocGlobal + Threads + Wait + Sync>(
+    rt: &R,
+    blank: Blank,
+    host: &Host,
+    workers: u32,
+) -> Result<Took, Failed>
+    requires name { blank.name ≡ C.name }
+    requires parts { blank.parts ≡ C.parts }
+    requires history { blank.history ≡ C.history }
+    requires begun { blank.begun ≡ [] }
+{
+    let (desk, _passes, pairs) = opened_desk::<C, R>(rt, blank, host, workers)?;
+    let before = files::resident(rt)?;
+    let best = span(rt, &desk, pairs)?;
+    let held = files::resident(rt)?.saturating_sub(before);
+    let done = desk.status(rt).done;
+    Ok(Took { best, held, done })
+}
+
+// Prints what a crawl took, beside its pages made without a catalogue.
+fn print_crawled<R: Print + AllocGlobal>(
+    rt: &R,
+    name: &str,
+    crawled: Took,
+    alone: Best,
+    pages: usize,
+) -> Result<(), Failed> {
+    let done = u64::from(crawled.done);
+    let each = crawled.held.checked_div(done).unwrap_or(0);
+    let speed = crawled.best.per_second(pages);
+    let alone = alone.per_second(pages);
+    let percent = speed.saturating_mul(100).checked_div(alone).unwrap_or(0);
+    let figures = [
+        Figure::Whole(done, "places done"),
+        Figure::Whole(each, "bytes a page"),
+        Figure::Whole(speed, "pages/s"),
+        Figure::Whole(percent, "% of those without a catalogue"),
+        Figure::Whole(alone, "pages/s"),
+    ];
+    print(rt, name, &figures)
+}
+
+// Crawls the host with so many workers, and makes its pages without a catalogue by as many threads.
+fn compare<R: Runtime + AllocGlobal + Threads + Wait + Sync>(
+    rt: &R,
+    host: &Host,
+    places: &[Place],
+    workers: (u32, &str),
+) -> Result<(), Failed> {
+    let (workers, name) = workers;
+    let crawled = crawled::<Brand, R>(rt, Blank::new(), host, workers)?;
+    let alone = made_alone(rt, host, places, workers)?;
+    print_crawled(rt, name, crawled, alone, places.len())
+}
+
+fn query(alloc: Global) -> Result<Query, Failed> {
+    match Query::read(alloc, b"rarely") {
+        Ok(query) => Ok(query),
+        Err(_) => Err(Failed::Refused),
+    }
+}
+
+// Crawls the host with so many workers, while another thread searches. Prints what the searches took.
+fn crawled_beside_searches<C: Crew + Send + Sync, R: Runtime + AllocGlobal + Threads + Wait + Sync>(
+    rt: &R,
+    blank: Blank,
+    host: &Host,
+    workers: u32,
+) -> Result<(), Failed>
+    requires name { blank.name ≡ C.name }
+    requires parts { blank.parts ≡ C.parts }
+    requires history { blank.history ≡ C.history }
+    requires begun { blank.begun ≡ [] }
+{
+    let query = query(rt.alloc())?;
+    let (desk, mut passes, pairs) = opened_desk::<C, R>(rt, blank, host, workers)?;
+    let Some(mut pass) = passes.pop() else {
+        return Err(Failed::Refused);
+    };
+    let mut spans = spans_beside(rt, &desk, pairs, &mut pass, &query);
+    print_spans(rt, &mut spans)
+}
+
+fn read_host<R: Runtime + AllocGlobal>(rt: &R, path: &str) -> Result<Host, Failed> {
+    let bytes = files::bytes(rt, path)?;
+    let texts = files::pages(rt.alloc(), &bytes)?;
+    Ok(Host::new(rt.alloc(), &texts)?)
+}
+
+/// Prints how fast 4, 2 and 1 workers crawl the file's texts, what they hold in memory, and how long
+/// searches take beside 4. The first crawl's memory counts: later ones use again what it gave back.
+pub fn measure<R: Runtime + AllocGlobal + Threads + Wait + Sync>(
+    rt: &R,
+    path: &str,
+) -> Result<(), Failed> {
+    let host = read_host(rt, path)?;
+    let places = host.places(rt.alloc())?;
+    for workers in WORKERS {
+        compare(rt, &host, &places, workers)?;
+    }
+    crawled_beside_searches::<Brand, R>(rt, Blank::new(), &host, 4)
+}

@@ -1,0 +1,101 @@
+//! Putting a merged segment in the place of what it was merged from.
+
+ghost use Rattle.std.specs.Prelude.{◌≡◌, ◌+◌, ◌≤◌, ◌∷◌, ◌++◌, List, length, map, take, drop, IfOk, IfSome};
+ghost use Rattle.std.specs.Arc.{arc_value};
+ghost use Rattle.gopher_page.specs.Page.{PageData};
+ghost use Rattle.gopher_segment.specs.Segment.{pages_of};
+ghost use Rattle.gopher_segment.specs.SegmentRows.{AreConsecutive};
+ghost use Rattle.gopher_index.specs.Index.{IsBorder, StandsIn};
+
+use gopher_item::NoMemory;
+use gopher_page::Page;
+use gopher_segment::{Segment, pages_len, share, shared};
+use std::alloc::Global;
+use std::sync::Arc;
+
+// Before which segment so many pages stand, where they are those of whole segments.
+fn border(segments: &[Arc<Segment>], pages: usize) -> Option<usize>
+    requires { pages ≤ 65536 }
+    ensures { IfSome result (IsBorder (map arc_value segments.now) pages) }
+{
+    for at in 0..segments.len() {
+        if pages_len(&segments[..at]) == pages {
+            return Some(at);
+        }
+    }
+    if pages_len(segments) == pages {
+        return Some(segments.len());
+    }
+    None
+}
+
+// The segments, with one in the place of those from one index to another.
+fn with_one(
+    alloc: Global,
+    segments: &[Arc<Segment>],
+    start: usize,
+    end: usize,
+    merged: Arc<Segment>,
+) -> Result<Vec<Arc<Segment>>, NoMemory>
+    requires start { start ≤ length segments.now }
+    requires end { end ≤ length segments.now }
+    ensures { IfOk result (λ list. map arc_value list.items
+        ≡ take start (map arc_value segments.now)
+        ++ arc_value merged ∷ drop end (map arc_value segments.now)) }
+{
+    let mut list = shared(alloc, &segments[..start])?;
+    list.push(merged)?;
+    share(&segments[end..], &mut list)?;
+    Ok(list)
+}
+
+/// Puts a segment of pages that stand in segments in their place, where whole segments have them. Refused
+/// only where memory is (90), and then all stays as it was.
+pub(crate) fn put_for_segments(
+    alloc: Global,
+    first: usize,
+    merged: Arc<Segment>,
+    segments: &mut Vec<Arc<Segment>>,
+) -> Result<(), NoMemory>
+    requires first { (arc_value merged).first ≡ first }
+    requires bound { first + length (arc_value merged).pages ≤ 65536 }
+    requires consecutive { AreConsecutive 0 (map arc_value segments.old.items) }
+    ensures consecutive { AreConsecutive 0 (map arc_value segments.new.items) }
+    ensures pages { (loose : List PageData) → StandsIn (arc_value merged)
+        (pages_of (map arc_value segments.old.items) ++ loose)
+        → pages_of (map arc_value segments.new.items)
+        ≡ pages_of (map arc_value segments.old.items) }
+{
+    let Some(start) = border(segments, first) else {
+        return Ok(());
+    };
+    let Some(end) = border(segments, first + merged.pages().len()) else {
+        return Ok(());
+    };
+    *segments = with_one(alloc, segments, start, end, merged)?;
+    Ok(())
+}
+
+/// Puts a segment of the first loose pages behind the segments. Refused only where memory is (90), and
+/// then all stays as it was.
+pub(crate) fn put_for_loose(
+    alloc: Global,
+    merged: Arc<Segment>,
+    segments: &mut Vec<Arc<Segment>>,
+    loose: &mut Vec<Arc<Page>>,
+) -> Result<(), NoMemory>
+    requires few { length (arc_value merged).pages ≤ length loose.old.items }
+    requires first { (arc_value merged).first
+        ≡ length (pages_of (map arc_value segments.old.items)) }
+    requires consecutive { AreConsecutive 0 (map arc_value segments.old.items) }
+    requires stands { StandsIn (arc_value merged)
+        (pages_of (map arc_value segments.old.items) ++ map arc_value loose.old.items) }
+    ensures consecutive { AreConsecutive 0 (map arc_value segments.new.items) }
+    ensures pages { pages_of (map arc_value segments.new.items) ++ map arc_value loose.new.items
+        ≡ pages_of (map arc_value segments.old.items) ++ map arc_value loose.old.items }
+{
+    let rest = shared(alloc, &loose[merged.pages().len()..])?;
+    segments.push(merged)?;
+    *loose = rest;
+    Ok(())
+}

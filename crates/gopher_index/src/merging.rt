@@ -1,0 +1,68 @@
+//! One segment of several, and of pages that stand in none.
+
+ghost use Rattle.std.specs.Prelude.{◌≡◌, ◌+◌, ◌≤◌, [], ◌∷◌, ◌++◌, length, map, IfOk, OnOk};
+ghost use Rattle.std.specs.Arc.{arc_value};
+ghost use Rattle.gopher_segment.specs.Segment.{pages_of};
+ghost use Rattle.gopher_segment.specs.SegmentRows.{AreConsecutive};
+
+use gopher_item::NoMemory;
+use gopher_page::Page;
+use gopher_segment::{Segment, shared, words_len};
+use std::alloc::Global;
+use std::slice::from_ref;
+use std::sync::Arc;
+
+// How many words, each page's for itself, are put into one list at most.
+const MOST_WORDS: usize = 262_144;
+
+// The segment of loose pages, of which the first has this number, page by page: without a list of all
+// their words.
+fn segment_of_each(alloc: Global, first: usize, loose: &[Arc<Page>]) -> Result<Segment, NoMemory>
+    requires { first + length loose.now ≤ 65536 }
+    ensures first { IfOk result (λ segment. segment.first ≡ first) }
+    ensures pages { IfOk result (λ segment. segment.pages ≡ map arc_value loose.now) }
+{
+    let mut singles = Vec::with_capacity(alloc, loose.len())?;
+    for (index, page) in loose.iter().enumerate() {
+        let single = Segment::of_pages(alloc, first + index, from_ref(page))?;
+        singles.push(Arc::new(alloc, single)?)?;
+    }
+    Segment::merged(alloc, first, &singles)
+}
+
+/// The segment of loose pages, of which the first has this number. Refused only where memory is (90).
+pub(crate) fn segment_of(
+    alloc: Global,
+    first: usize,
+    loose: &[Arc<Page>],
+) -> Result<Segment, NoMemory>
+    requires { first + length loose.now ≤ 65536 }
+    ensures first { IfOk result (λ segment. segment.first ≡ first) }
+    ensures pages { IfOk result (λ segment. segment.pages ≡ map arc_value loose.now) }
+{
+    if words_len(loose) <= MOST_WORDS {
+        return Segment::of_pages(alloc, first, loose);
+    }
+    segment_of_each(alloc, first, loose)
+}
+
+/// One segment of those that are due and the next one. Refused only where memory is (90).
+pub(crate) fn merged_with(
+    alloc: Global,
+    first: usize,
+    due: &[Arc<Segment>],
+    next: Arc<Segment>,
+) -> Result<Arc<Segment>, NoMemory>
+    requires { AreConsecutive first (map arc_value due.now ++ arc_value next ∷ []) }
+    ensures first { IfOk result (λ segment. (arc_value segment).first ≡ first) }
+    ensures pages { IfOk result (λ segment.
+        (arc_value segment).pages ≡ pages_of (map arc_value due.now ++ arc_value next ∷ [])) }
+{
+    if due.is_empty() {
+        return Ok(next);
+    }
+    let mut segments = shared(alloc, due)?;
+    segments.push(next)?;
+    let merged = Segment::merged(alloc, first, &segments)?;
+    Ok(Arc::new(alloc, merged)?)
+}

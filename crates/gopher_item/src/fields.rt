@@ -1,0 +1,57 @@
+//! What may be a selector, and what may be the address of a server.
+
+ghost use Rattle.std.specs.Prelude.{◌≡◌, ◌==◌, ◌||◌, map};
+ghost use Rattle.std.specs.List.{list_any};
+ghost use Rattle.gopher_item.specs.Bytes.{is_control};
+ghost use Rattle.gopher_item.specs.Fault.{Makes};
+ghost use Rattle.gopher_item.specs.Place.{address_fault, is_host, is_selector, lower_case};
+
+use crate::bytes::{ByteString, has_special, is_control};
+use crate::fault::ItemFault;
+use std::alloc::Global;
+
+/// Whether the bytes may be a selector: at most 255, and none of them special.
+pub fn is_selector(selector: &[u8]) -> bool
+    ensures { result ≡ is_selector selector.now }
+{
+    selector.len() <= 255 && !has_special(selector)
+}
+
+fn has_space_or_control(bytes: &[u8]) -> bool
+    ensures { result ≡ list_any (λ byte. (byte == 32) || is_control byte) bytes.now }
+{
+    bytes.iter().any(|byte| *byte == b' ' || is_control(*byte))
+}
+
+/// Whether the bytes may be a host: 1 to 255, and none of them a space or a control byte.
+pub fn is_host(host: &[u8]) -> bool
+    ensures { result ≡ is_host host.now }
+{
+    !host.is_empty() && host.len() <= 255 && !has_space_or_control(host)
+}
+
+/// The first fault of a server's address: `BadHost` (3) or `BadPort` (4).
+pub fn address_fault(host: &[u8], port: u16) -> Option<ItemFault>
+    ensures { result ≡ address_fault host.now port }
+{
+    if !is_host(host) {
+        Some(ItemFault::BadHost)
+    } else if port == 0 {
+        Some(ItemFault::BadPort)
+    } else {
+        None
+    }
+}
+
+/// The host of a server's address, in lower case.
+///
+/// Refused, in this order: `BadHost` (3) where the host is empty, over 255 bytes, or holds a space or a
+/// control byte; `BadPort` (4) where the port is 0; `NoMemory` (90).
+pub fn lowered_host(alloc: Global, host: &[u8], port: u16) -> Result<ByteString, ItemFault>
+    ensures { Makes (address_fault host.now port) (map lower_case host.now) result }
+{
+    if let Some(fault) = address_fault(host, port) {
+        return Err(fault);
+    }
+    Ok(ByteString::lower_cased(alloc, host)?)
+}

@@ -1,0 +1,48 @@
+-- Lists in strict order stay so while elements are put in one after another.
+use Rattle.std.proofs.Common.{◌≡◌, List, [], ◌∷◌, refl, ◌∙◌, ap}
+use Rattle.std.specs.List.{fold, AllByRecursion}
+use Rattle.std.specs.List.Sorted.{IsStrictlySortedBy}
+use Rattle.std.specs.Ordering.{match_ordering, ordering_reverse}
+use Rattle.std.specs.declared.cmp.Ordering.{Ordering}
+use Rattle.std.specs.declared.cmp.Ordering.TheVariants.{Less, Equal, Greater}
+use Rattle.std.specs.BTreeSet.{insert_key}
+use Rattle.std.specs.Cmp.{IsTotalOrder}
+
+module _ {K : Type 0} {R : K → K → Ordering} (o : IsTotalOrder R) where
+  pub flipped : (a b : K) → R a b ≡ Greater → R b a ≡ Less
+  flipped a b e = o.antisymm b a ∙ ap ordering_reverse e
+
+  pub all_after : (a b : K) (xs : List K) → R a b ≡ Less → AllByRecursion (λ y. R b y ≡ Less) xs → AllByRecursion (λ y. R a y ≡ Less) xs
+  all_after a b [] less all = tt
+  all_after a b (x ∷ xs) less all = (o.trans a b x less all.0, all_after a b xs less all.1)
+
+  all_with : (a k : K) (xs : List K) → R a k ≡ Less → AllByRecursion (λ y. R a y ≡ Less) xs → AllByRecursion (λ y. R a y ≡ Less) (insert_key R xs k)
+  all_with a k [] less all = (less, tt)
+  all_with a k (x ∷ xs) less all = by (R k x) (all_with a k xs less all.1)
+    where
+      by : (r : Ordering) → AllByRecursion (λ y. R a y ≡ Less) (insert_key R xs k) → AllByRecursion (λ y. R a y ≡ Less) (match_ordering r (k ∷ x ∷ xs) (x ∷ xs) (x ∷ insert_key R xs k))
+      by Less rest = (less, all)
+      by Equal rest = all
+      by Greater rest = (all.0, rest)
+
+  sorted_with : (xs : List K) (k : K) → IsStrictlySortedBy R xs → IsStrictlySortedBy R (insert_key R xs k)
+  unfolding IsStrictlySortedBy
+  sorted_with [] k sorted = (tt, tt)
+  sorted_with (x ∷ xs) k sorted = by (R k x) refl (sorted_with xs k sorted.1)
+    where
+      by : (r : Ordering) → R k x ≡ r → IsStrictlySortedBy R (insert_key R xs k) → IsStrictlySortedBy R (match_ordering r (k ∷ x ∷ xs) (x ∷ xs) (x ∷ insert_key R xs k))
+      by Less e rest = ((e, all_after k x xs e sorted.0), sorted)
+      by Equal e rest = sorted
+      by Greater e rest = (all_with x k xs (flipped k x e) sorted.0, rest)
+
+  sorted_along : (held xs : List K) → IsStrictlySortedBy R held → IsStrictlySortedBy R (fold (insert_key R) held xs)
+  sorted_along held [] sorted = sorted
+  sorted_along held (x ∷ xs) sorted = sorted_along (insert_key R held x) xs (sorted_with held x sorted)
+
+  sorted_none : IsStrictlySortedBy R []
+  unfolding IsStrictlySortedBy
+  sorted_none = tt
+
+  -- what was put in one after another is sorted
+  pub sorted_inserts : (xs : List K) → IsStrictlySortedBy R (fold (insert_key R) [] xs)
+  sorted_inserts xs = sorted_along [] xs sorted_none

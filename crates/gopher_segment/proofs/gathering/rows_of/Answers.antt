@@ -1,0 +1,34 @@
+use Rattle.std.proofs.Common.{◌≡◌, ◌+◌, ◌++◌, ◌∷◌, [], ◌<◌, List, length, map, take, sym, ap, subst, ◌∙◌, arith}
+use Rattle.std.proofs.lemmas.List.{map_more, length-map, length-take-le}
+use Rattle.std.specs.Arc.{arc_value}
+use Rattle.gopher_page.specs.Packed.{AreCounts}
+use Rattle.gopher_page.specs.Page.{PageData}
+use Rattle.gopher_segment.specs.Rows.{page_rows}
+use Rattle.gopher_segment.specs.SegmentRows.{AreSmall, Tell}
+use Rattle.gopher_segment.proofs.SegmentLemmas.{tell_nothing, page_behind, small_both}
+use Rattle.gopher_segment.proofs.gathering.rows_of.Goals as goal
+
+pub loop-index-init : goal.loop-index-init
+loop-index-init c = record {
+  tell = subst (Tell c.args.first []) (sym c.in_ok-rows.ensures.items) (tell_nothing c.args.first);
+  small = tt;
+}
+
+pub loop-index-preserved : goal.loop-index-preserved
+loop-index-preserved c =
+    let within : c.loop-index.index < length c.args.pages.now = omega arith in
+    let page : PageData = c.deref.result.now in
+    let so_far : List PageData = map arc_value (take c.loop-index.index c.args.pages.now) in
+    let grown : map arc_value (take (c.loop-index.index + 1) c.args.pages.now) ≡ so_far ++ page ∷ [] =
+    map_more arc_value c.args.pages.now c.loop-index.index c.index-pages-index.result within
+    ∙ ap (λ p. so_far ++ arc_value p ∷ []) (sym c.index-pages-index.is) ∙ ap (λ p. so_far ++ p ∷ []) (sym c.deref.ensures)
+    in
+    let sound : AreCounts page.counts = subst AreCounts c.counts.ensures c.add_counts.ensures.sound in
+    let at : c.args.first + c.loop-index.index ≡ c.args.first + length so_far =
+    omega (arith, length-map (take c.loop-index.index c.args.pages.now) arc_value, length-take-le c.loop-index.index c.args.pages.now (omega arith)) in
+    let added = c.in_ok-add_counts.ensures.rows ∙ ap (λ l. c.loop-index.rows.items ++ page_rows (c.args.first + c.loop-index.index) l) c.counts.ensures in
+    record {
+      tell = subst (λ l. Tell c.args.first l c.add_counts.new.rows.items) (sym grown)
+          (page_behind c.args.first so_far page (c.args.first + c.loop-index.index) c.loop-index.rows.items c.add_counts.new.rows.items c.loop-index.invariant.tell sound at added);
+      small = subst AreSmall (sym grown) (small_both so_far (page ∷ []) c.loop-index.invariant.small (sound.few, tt));
+    }

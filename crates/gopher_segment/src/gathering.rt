@@ -1,0 +1,56 @@
+//! The words of pages, one page after another.
+
+ghost use Rattle.std.specs.Prelude.{◌≡◌, ◌+◌, ◌≤◌, ◌-◌, ◌^◌, ◌++◌, length, map, min, IfOk, OnOk};
+ghost use Rattle.std.specs.Arc.{arc_value};
+ghost use Rattle.gopher_page.specs.Packed.{AreCounts};
+ghost use Rattle.gopher_segment.specs.Rows.{page_rows};
+ghost use Rattle.gopher_segment.specs.Segment.{words_count};
+ghost use Rattle.gopher_segment.specs.SegmentRows.{AreSmall, Tell};
+
+use crate::row::Row;
+use gopher_item::NoMemory;
+use gopher_page::{Counts, Page};
+use std::alloc::Global;
+use std::sync::Arc;
+
+// Adds the words of the page of a number.
+fn add_counts<'a>(number: u16, counts: &'a Counts, rows: &mut Vec<Row<'a>>) -> Result<(), NoMemory>
+    ensures rows { OnOk result (rows.new.items ≡ rows.old.items ++ page_rows number counts.now) }
+    ensures sound { AreCounts counts.now }
+{
+    rows.reserve(counts.len())?;
+    for index in 0..counts.len() {
+        let (word, count) = counts.get(index);
+        rows.push_reserved(Row::new(number, word, count));
+    }
+    Ok(())
+}
+
+/// How many words pages have, each as often as there are pages in which it stands, up to the last value
+/// of a `usize`. Takes no memory.
+pub fn words_len(pages: &[Arc<Page>]) -> usize
+    ensures { result ≡ min (words_count (map arc_value pages.now)) (2 ^ 64 - 1) }
+{
+    let mut words = 0_usize;
+    for page in pages {
+        words = words.saturating_add(page.counts().len());
+    }
+    words
+}
+
+/// The words of pages, of which the first has a number, as they stand. Refused only where memory is (90).
+pub(crate) fn rows_of<'a>(
+    alloc: Global,
+    first: usize,
+    pages: &'a [Arc<Page>],
+) -> Result<Vec<Row<'a>>, NoMemory>
+    requires { first + length pages.now ≤ 65536 }
+    ensures tell { IfOk result (λ rows. Tell first (map arc_value pages.now) rows.items) }
+    ensures small { IfOk result (λ rows. AreSmall (map arc_value pages.now)) }
+{
+    let mut rows = Vec::with_capacity(alloc, words_len(pages))?;
+    for (index, page) in pages.iter().enumerate() {
+        add_counts((first + index) as u16, page.counts(), &mut rows)?;
+    }
+    Ok(rows)
+}

@@ -1,0 +1,118 @@
+-- Names put in one after another, each in its place: what is found at a name, and that they ascend.
+use Rattle.std.proofs.Common.{◌≡◌, ℕ, Bool, true, false, cond, List, [], ◌∷◌, Option, None, Some, refl, sym, ap, subst, ◌∙◌}
+use Rattle.std.specs.Ordering.{nat_cmp, is_eq, match_ordering, ordering_reverse}
+use Rattle.std.specs.declared.cmp.Ordering.{Ordering}
+use Rattle.std.specs.declared.cmp.Ordering.TheVariants.{Less, Equal, Greater}
+use Rattle.std.specs.Cmp.Lexicographic.{slice_cmp, nat_list_cmp_total}
+use Rattle.std.specs.List.{AllByRecursion}
+use Rattle.std.specs.List.Sorted.{IsStrictlySortedBy}
+use Rattle.std.specs.BTreeMap.{insert_entry, is_at}
+use Rattle.std.specs.Map.{lookup, keys_of}
+use Rattle.std.proofs.lemmas.Map.{lookup-none}
+use Rattle.std.proofs.lemmas.Map.Entries.{none_below_head}
+use Rattle.std.proofs.lemmas.Map.Keys.{sorted_tail}
+use Rattle.std.proofs.lemmas.Map.Lookups.{exact_bytes}
+use Rattle.gopher_tree.specs.Files.{Child}
+
+abbrev pub order : List ℕ → List ℕ → Ordering
+order = slice_cmp nat_cmp
+
+-- what a list has at a name
+abbrev pub at_name : List ℕ → List Child → Option ℕ
+at_name name children = lookup (is_at (order name)) children
+
+order_self : (name : List ℕ) → order name name ≡ Equal
+order_self name = by (order name name) refl (nat_list_cmp_total.antisymm name name)
+  where
+    by : (o : Ordering) → order name name ≡ o → order name name ≡ ordering_reverse (order name name) → o ≡ Equal
+    by Less e h = absurd (let turned : Less ≡ Greater = sym e ∙ h ∙ ap ordering_reverse e in cc)
+    by Equal e h = refl
+    by Greater e h = absurd (let turned : Greater ≡ Less = sym e ∙ h ∙ ap ordering_reverse e in cc)
+
+pub same_name : (a b : List ℕ) → is_eq (order a b) ≡ true → a ≡ b
+same_name a b h = by (order a b) refl h
+  where
+    by : (o : Ordering) → order a b ≡ o → is_eq o ≡ true → a ≡ b
+    by Less e h = absurd cc
+    by Equal e h = exact_bytes a b e
+    by Greater e h = absurd cc
+
+pub at_name-same : (name : List ℕ) → is_eq (order name name) ≡ true
+at_name-same name = ap is_eq (order_self name)
+
+-- after one more, or one again
+pub at_name-insert : (children : List Child) (name : List ℕ) (kind : ℕ) (q : List ℕ)
+    → at_name q (insert_entry order children name kind) ≡ cond (is_eq (order q name)) (Some kind) (at_name q children)
+at_name-insert [] name kind q = refl
+at_name-insert (e ∷ es) name kind q = by (order name e.0) refl (at_name-insert es name kind q)
+  where
+    twice : (t : Bool) → cond t (Some kind) (at_name q es) ≡ cond t (Some kind) (cond t (Some e.1) (at_name q es))
+    twice true = refl
+    twice false = refl
+
+    turn : (s t : Bool) (rest : Option ℕ) → (s ≡ true → t ≡ true → ⊥) → cond s (Some e.1) (cond t (Some kind) rest) ≡ cond t (Some kind) (cond s (Some e.1) rest)
+    turn true true rest never = absurd (never refl refl)
+    turn true false rest never = refl
+    turn false true rest never = refl
+    turn false false rest never = refl
+
+    by : (o : Ordering) → order name e.0 ≡ o
+        → at_name q (insert_entry order es name kind) ≡ cond (is_eq (order q name)) (Some kind) (at_name q es)
+        → at_name q (match_ordering o ((name, kind) ∷ e ∷ es) ((e.0, kind) ∷ es) (e ∷ insert_entry order es name kind)) ≡ cond (is_eq (order q name)) (Some kind) (at_name q (e ∷ es))
+    by Less is rest = refl
+    by Equal is rest =
+        subst (λ n. cond (is_eq (order q e.0)) (Some kind) (at_name q es) ≡ cond (is_eq (order q n)) (Some kind) (cond (is_eq (order q e.0)) (Some e.1) (at_name q es))) (sym (exact_bytes name e.0 is)) (twice (is_eq (order q e.0)))
+    by Greater is rest =
+        ap (λ r. cond (is_eq (order q e.0)) (Some e.1) r) rest
+        ∙ turn (is_eq (order q e.0)) (is_eq (order q name)) (at_name q es) apart
+      where
+        apart : is_eq (order q e.0) ≡ true → is_eq (order q name) ≡ true → ⊥
+        apart h k =
+            let same : name ≡ e.0 = sym (same_name q name k) ∙ same_name q e.0 h in
+            let equal : order name e.0 ≡ Equal = ap (order name) (sym same) ∙ order_self name in
+            let both : Equal ≡ Greater = sym equal ∙ is in cc
+
+-- ---- the names ascend
+
+all-insert : (P : List ℕ → Type 0) (children : List Child) (name : List ℕ) (kind : ℕ) → AllByRecursion P (keys_of children) → P name → AllByRecursion P (keys_of (insert_entry order children name kind))
+all-insert P [] name kind all here = (here, tt)
+all-insert P (e ∷ es) name kind all here = by (order name e.0) (all-insert P es name kind all.1 here)
+  where
+    by : (o : Ordering) → AllByRecursion P (keys_of (insert_entry order es name kind))
+        → AllByRecursion P (keys_of (match_ordering o ((name, kind) ∷ e ∷ es) ((e.0, kind) ∷ es) (e ∷ insert_entry order es name kind)))
+    by Less rest = (here, all)
+    by Equal rest = all
+    by Greater rest = (all.0, rest)
+
+all-below : (a b : List ℕ) (names : List (List ℕ)) → order a b ≡ Less → AllByRecursion (λ y. order b y ≡ Less) names → AllByRecursion (λ y. order a y ≡ Less) names
+all-below a b [] low all = tt
+all-below a b (n ∷ names) low all = (nat_list_cmp_total.trans a b n low all.0, all-below a b names low all.1)
+
+turned : (a b : List ℕ) → order a b ≡ Greater → order b a ≡ Less
+turned a b h = nat_list_cmp_total.antisymm b a ∙ ap ordering_reverse h
+
+pub sorted-insert : (children : List Child) (name : List ℕ) (kind : ℕ) → IsStrictlySortedBy order (keys_of children) → IsStrictlySortedBy order (keys_of (insert_entry order children name kind))
+unfolding IsStrictlySortedBy
+sorted-insert [] name kind sorted = (tt, tt)
+sorted-insert (e ∷ es) name kind sorted = by (order name e.0) refl (sorted-insert es name kind sorted.1)
+  where
+    by : (o : Ordering) → order name e.0 ≡ o → IsStrictlySortedBy order (keys_of (insert_entry order es name kind))
+        → IsStrictlySortedBy order (keys_of (match_ordering o ((name, kind) ∷ e ∷ es) ((e.0, kind) ∷ es) (e ∷ insert_entry order es name kind)))
+    by Less is rest = ((is, all-below name e.0 (keys_of es) is sorted.0), sorted)
+    by Equal is rest = sorted
+    by Greater is rest = (all-insert (λ y. order e.0 y ≡ Less) es name kind sorted.0 (turned name e.0 is), rest)
+
+-- what is there already isn't put in twice
+pub insert-again : (children : List Child) (name : List ℕ) (kind : ℕ) → IsStrictlySortedBy order (keys_of children) → at_name name children ≡ Some kind → insert_entry order children name kind ≡ children
+insert-again [] name kind sorted there = absurd cc
+insert-again (e ∷ es) name kind sorted there = by (order name e.0) refl (insert-again es name kind (sorted_tail order e.0 (keys_of es) sorted))
+  where
+    by : (o : Ordering) → order name e.0 ≡ o → (at_name name es ≡ Some kind → insert_entry order es name kind ≡ es)
+        → match_ordering o ((name, kind) ∷ e ∷ es) ((e.0, kind) ∷ es) (e ∷ insert_entry order es name kind) ≡ e ∷ es
+    by Less is rest =
+        let none : at_name name (e ∷ es) ≡ None = lookup-none (is_at (order name)) (e ∷ es) (none_below_head nat_list_cmp_total name e es sorted is) in
+        absurd (let both : None ≡ Some kind = sym none ∙ there in cc)
+    by Equal is rest =
+        let value : Some e.1 ≡ Some kind = sym (ap (λ o. cond (is_eq o) (Some e.1) (at_name name es)) is) ∙ there in
+        let same : e.1 ≡ kind = cc in ap (λ k. (e.0, k) ∷ es) (sym same)
+    by Greater is rest = ap (λ l. e ∷ l) (rest (sym (ap (λ o. cond (is_eq o) (Some e.1) (at_name name es)) is) ∙ there))

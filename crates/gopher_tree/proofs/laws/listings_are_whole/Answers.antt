@@ -1,0 +1,5 @@
+use Rattle.gopher_tree.proofs.LawLemmas as law
+use Rattle.gopher_tree.proofs.laws.listings_are_whole.Goals as goal
+
+pub returns : goal.returns
+returns c = law.listings_are_whole

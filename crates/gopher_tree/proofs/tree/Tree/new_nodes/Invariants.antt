@@ -1,7 +1,0 @@
-use Rattle.std.proofs.Common.{◌≡◌, ◌+◌, ◌<◌, [], ◌∷◌, length, fold}
-use Rattle.gopher_tree.specs.Path.{folders_within}
-use Rattle.gopher_tree.specs.Files.{add_path, nodes}
-use Rattle.gopher_tree.proofs.tree.Tree.new_nodes.Given as goal
-
-abbrev pub invariant-loop-place : goal.invariant-loop-place
-invariant-loop-place l = (length (fold add_path (nodes l.self) ([] ∷ folders_within l.place l.path)) ≡ length (nodes l.self) + l.count) × (l.count < l.place)

@@ -1,0 +1,192 @@
+//! Folders of the file system: their names, what these lead to, and the bytes of files.
+
+ghost use Rattle.std.specs.Prelude.{◌≡◌, ◌≢◌, true, IfErr, IfOk, IfSome, MatchResult, take, string_bytes, string_cmp};
+ghost use Rattle.std.specs.List.{All};
+ghost use Rattle.std.specs.List.Sorted.{IsSorted};
+ghost use Rattle.std.specs.Fs.{IsDir, IsFile, file_type};
+ghost use Rattle.std.specs.IoError.{error_kind};
+ghost use Rattle.gopher_tree.specs.Load.{is_shown, IsUnreadable};
+
+use crate::fault::TreeFault;
+use crate::tree::alone::LARGEST_FILE;
+use crate::tree::path::is_menu_name;
+use std::alloc::{AllocError, Global};
+use std::fs::Files;
+use std::io::{ErrorKind, Read};
+use std::path::{Path, PathBuf};
+use std::{fs, io};
+
+// How many bytes of a file are read: at most one more than a file may have.
+const MOST_READ: u64 = LARGEST_FILE as u64 + 1;
+
+// What an entry of a folder leads to.
+#[derive(Clone, Copy)]
+pub(crate) enum Target {
+    File,
+    Folder,
+    Neither,
+}
+
+// The fault of what can't be read; `number` files were listed before.
+fn read_fault(error: io::Error, number: usize) -> TreeFault
+    ensures memory { error_kind error ≡ ErrorKind.OutOfMemory → result ≡ TreeFault.NoMemory }
+    ensures unreadable { error_kind error ≢ ErrorKind.OutOfMemory
+        → result ≡ TreeFault.Unreadable number }
+    ensures refused { IsUnreadable number result }
+{
+    match error.kind() {
+        ErrorKind::OutOfMemory => TreeFault::NoMemory,
+        _ => TreeFault::Unreadable { file: number },
+    }
+}
+
+// Whether a name is listed: a hidden one is not, but for `.menu`.
+fn is_shown(name: &[u8]) -> bool
+    ensures { result ≡ is_shown name.now }
+{
+    match name {
+        [] => false,
+        [b'.', ..] => is_menu_name(name),
+        _ => true,
+    }
+}
+
+// Adds the name, where it is listed.
+fn push_shown(alloc: Global, name: &str, names: &mut Vec<String>) -> Result<(), AllocError>
+    requires { All (λ shown. is_shown (string_bytes shown) ≡ true) names.old.items }
+    ensures { All (λ shown. is_shown (string_bytes shown) ≡ true) names.new.items }
+{
+    if is_shown(name.as_bytes()) {
+        names.push(String::from_str(alloc, name)?)?;
+    }
+    Ok(())
+}
+
+// The names in a folder that are listed.
+fn shown_names<R: Files>(
+    rt: &R,
+    alloc: Global,
+    folder: Path<'_>,
+    number: usize,
+) -> Result<Vec<String>, TreeFault>
+    ensures { MatchResult result
+        (λ names. All (λ name. is_shown (string_bytes name) ≡ true) names.items)
+        (IsUnreadable number) }
+{
+    let entries = match fs::read_dir(&(rt, alloc), folder) {
+        Ok(entries) => entries,
+        Err(error) => return Err(read_fault(error, number)),
+    };
+    let mut names = Vec::new(alloc);
+    for entry in entries {
+        match entry {
+            Ok(entry) => {
+                let Ok(()) = push_shown(alloc, entry.file_name(), &mut names) else {
+                    return Err(TreeFault::NoMemory);
+                };
+            }
+            Err(error) => return Err(read_fault(error, number)),
+        }
+    }
+    Ok(names)
+}
+
+// The names in a folder that are listed, in the order of their bytes. A name that is not UTF-8 can't
+// be read, hidden or not. `number` files were listed before.
+pub(crate) fn names_in<R: Files>(
+    rt: &R,
+    alloc: Global,
+    folder: Path<'_>,
+    number: usize,
+) -> Result<Vec<String>, TreeFault>
+    ensures shown { IfOk result (λ names.
+        All (λ name. is_shown (string_bytes name) ≡ true) names.items) }
+    ensures order { IfOk result (λ names. IsSorted string_cmp names.items) }
+    ensures refused { IfErr result (IsUnreadable number) }
+{
+    let mut names = shown_names(rt, alloc, folder, number)?;
+    let Ok(()) = names.sort() else {
+        return Err(TreeFault::NoMemory);
+    };
+    Ok(names)
+}
+
+// What a path leads to, through links; one that leads nowhere, as a link through a file does, leads to
+// neither a file nor a folder.
+pub(crate) fn target_of<R: Files>(
+    rt: &R,
+    path: Path<'_>,
+    number: usize,
+) -> Result<Target, TreeFault>
+    ensures { IfErr result (IsUnreadable number) }
+{
+    match fs::metadata(rt, path) {
+        Ok(found) => Ok(target_found(found)),
+        Err(error) if matches!(error.kind(), ErrorKind::NotFound | ErrorKind::NotADirectory) => {
+            Ok(Target::Neither)
+        }
+        Err(error) => Err(read_fault(error, number)),
+    }
+}
+
+// What it is that was found.
+fn target_found(found: fs::Metadata) -> Target
+    ensures folder { IsDir (file_type found) → result ≡ Target.Folder }
+    ensures file { IsFile (file_type found) → result ≡ Target.File }
+    ensures neither { (IsDir (file_type found) → ⊥) → (IsFile (file_type found) → ⊥)
+        → result ≡ Target.Neither }
+{
+    if found.is_dir() {
+        Target::Folder
+    } else if found.is_file() {
+        Target::File
+    } else {
+        Target::Neither
+    }
+}
+
+// The folder's path without links, so that a path through a link to a folder above it stays openable;
+// the path itself where that can't be found out.
+pub(crate) fn without_links<R: Files>(
+    rt: &R,
+    alloc: Global,
+    folder: PathBuf,
+) -> Result<PathBuf, TreeFault>
+    ensures { IfErr result (λ fault. fault ≡ TreeFault.NoMemory) }
+{
+    match fs::canonicalize(&(rt, alloc), folder.as_path()) {
+        Ok(path) => Ok(path),
+        Err(error) if error.kind() == ErrorKind::OutOfMemory => Err(TreeFault::NoMemory),
+        Err(_) => Ok(folder),
+    }
+}
+
+// The bytes of a file, but no more than one over the largest file.
+pub(crate) fn read_file<R: Files>(
+    rt: &R,
+    alloc: Global,
+    path: Path<'_>,
+    number: usize,
+) -> Result<Vec<u8>, TreeFault>
+    ensures { IfErr result (IsUnreadable number) }
+{
+    match fs::open(rt, path) {
+        Ok(file) => read_most(alloc, file, number),
+        Err(error) => Err(read_fault(error, number)),
+    }
+}
+
+fn read_most<R: Read + Drop>(alloc: Global, reader: R, number: usize) -> Result<Vec<u8>, TreeFault>
+    ensures read { IfSome (R.remaining reader) (λ all.
+        IfOk result (λ bytes. bytes.items ≡ take 16777217 all)) }
+    ensures refused { IfErr result (IsUnreadable number) }
+{
+    let mut bytes = Vec::new(alloc);
+    match reader.take(MOST_READ).read_to_end(&mut bytes) {
+        Ok(_) => {
+            bytes.shrink_to_fit();
+            Ok(bytes)
+        }
+        Err(error) => Err(read_fault(error, number)),
+    }
+}

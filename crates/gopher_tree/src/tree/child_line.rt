@@ -1,0 +1,26 @@
+//! The line of a name in a folder.
+
+ghost use Rattle.std.specs.Prelude.{◌≡◌, ◌++◌, OnOk};
+ghost use Rattle.gopher_item.specs.MenuLine.{menu_line_bytes};
+ghost use Rattle.gopher_tree.specs.Reply.{child_line};
+
+use gopher_item::{Home, push_front, push_server};
+use std::alloc::AllocError;
+
+// Appends the line of a name in a folder; `front` stands before the name in its selector.
+pub(crate) fn push_child_line(
+    kind: u8,
+    name: &[u8],
+    front: &[u8],
+    home: &Home,
+    out: &mut Vec<u8>,
+) -> Result<(), AllocError>
+    ensures { OnOk result (out.new.items ≡ out.old.items
+        ++ menu_line_bytes (child_line home.now front.now (name.now, kind))) }
+{
+    push_front(kind, name, out)?;
+    out.extend_from_slice(front)?;
+    out.extend_from_slice(name)?;
+    push_server(home.host(), home.port(), out)?;
+    Ok(())
+}

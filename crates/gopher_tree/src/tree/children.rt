@@ -1,0 +1,63 @@
+//! The names in a folder.
+
+ghost use Rattle.std.specs.Prelude.{◌≡◌, ◌++◌, [], map, OnOk};
+ghost use Rattle.std.specs.List.{flat_map};
+ghost use Rattle.std.specs.Ordering.{nat_cmp};
+ghost use Rattle.std.specs.Cmp.Lexicographic.{slice_cmp};
+ghost use Rattle.std.specs.BTreeMap.{insert_entry};
+ghost use Rattle.gopher_item.specs.MenuLine.{menu_line_bytes};
+ghost use Rattle.gopher_tree.specs.Reply.{child_line};
+
+use crate::tree::child_line::push_child_line;
+use gopher_item::{ByteString, Home, NoMemory};
+use std::alloc::{AllocError, Global};
+use std::collections::BTreeMap;
+use std::marker::Model;
+
+// The names in a folder, each once and in the order of their bytes, with their types.
+#[derive(Debug, Drop)]
+pub(crate) struct Children {
+    held: BTreeMap<ByteString, u8>,
+}
+
+impl Model for Children {
+    ghost use Rattle.std.specs.Prelude.{ℕ, List};
+
+    ghost Value = { List (List ℕ × ℕ) };
+
+    ghost view = { λ c. c.held.entries };
+}
+
+impl Children {
+    pub(crate) fn new(alloc: Global) -> Children
+        ensures { result ≡ [] }
+    {
+        Children {
+            held: BTreeMap::new(alloc),
+        }
+    }
+
+    // Adds a name, or gives it this type.
+    pub(crate) fn insert(&mut self, name: ByteString, kind: u8) -> Result<(), NoMemory>
+        ensures { OnOk result (self.new ≡ insert_entry (slice_cmp nat_cmp) self.old name kind) }
+    {
+        self.held.insert(name, kind)?;
+        Ok(())
+    }
+
+    // Appends a menu line for each name; `front` stands before the names in their selectors.
+    pub(crate) fn push_lines(
+        &self,
+        front: &[u8],
+        home: &Home,
+        out: &mut Vec<u8>,
+    ) -> Result<(), AllocError>
+        ensures { OnOk result (out.new.items ≡ out.old.items
+            ++ flat_map menu_line_bytes (map (child_line home.now front.now) self.now)) }
+    {
+        for (name, kind) in &self.held {
+            push_child_line(*kind, name.as_slice(), front, home, out)?;
+        }
+        Ok(())
+    }
+}

@@ -1,0 +1,192 @@
+//! The index of a tree: what stands at each path.
+
+ghost use Rattle.std.specs.Prelude.{◌≡◌, ℕ, ◌+◌, ◌<◌, List, [], length, take, drop, ◌&&◌, None, Some, is_some, map, IfOk, OnOk, nat_eq, if◌then◌else◌};
+ghost use Rattle.std.specs.Cmp.Lexicographic.{pointwise};
+ghost use Rattle.std.specs.Option.{option_copied};
+ghost use Rattle.gopher_tree.specs.Path.{names_of, is_slash};
+ghost use Rattle.gopher_tree.specs.Files.{child_of};
+ghost use Rattle.gopher_tree.specs.Index.{held_at, is_file_entry, folder_at, names_at, with_child, folder_with, folders_after, entry_after, AddsBefore, IsSettled, IndexPaths};
+ghost use Rattle.gopher_tree.specs.Child.{child_data};
+
+use crate::tree::children::Children;
+use crate::tree::path::is_menu_name;
+use gopher_item::{ByteString, NoMemory, split_once};
+use std::alloc::Global;
+use std::collections::BTreeMap;
+
+// What stands at a path: the file of this number in the list, or a folder.
+#[derive(Debug, Drop)]
+pub(crate) enum Entry {
+    File(usize),
+    Folder(Children),
+}
+
+pub(crate) type Index = BTreeMap<Vec<u8>, Entry>;
+
+// What a folder has of a file, of whose path this is the rest below the folder: a name and its type.
+fn child_of(kind: u8, rest: &[u8]) -> Option<(&[u8], u8)>
+    ensures { child_data result ≡ child_of kind (names_of rest.now) }
+{
+    match split_once(b'/', rest) {
+        Some((name, _)) => Some((name, b'1')),
+        None if is_menu_name(rest) => None,
+        None => Some((rest, kind)),
+    }
+}
+
+// Whether a file stands there.
+pub(crate) fn is_file_entry(entry: Option<&Entry>) -> bool
+    ensures { result ≡ is_file_entry (option_copied entry.entry) }
+{
+    matches!(entry, Some(Entry::File(_)))
+}
+
+// The paths at which something stands, in the order of their bytes.
+pub(crate) fn paths_in(alloc: Global, index: &Index) -> Result<Vec<&[u8]>, NoMemory>
+    ensures { IfOk result (λ paths. IndexPaths index.now (map (λ path. path.now) paths.items)) }
+{
+    let mut paths = Vec::new(alloc);
+    for path in index.keys() {
+        paths.push(path.as_slice())?;
+    }
+    Ok(paths)
+}
+
+// Takes the folder at the path out, where there is one.
+fn take_folder(index: &mut Index, folder: &[u8]) -> Option<Children>
+    ensures children { result ≡ folder_at (held_at index.old folder.now) }
+    ensures others { (path : List ℕ) → held_at index.new path
+        ≡ (if pointwise nat_eq path folder.now then None else held_at index.old path) }
+{
+    match index.remove(folder) {
+        Some(Entry::Folder(children)) => Some(children),
+        _ => None,
+    }
+}
+
+// Puts the entry at the path.
+fn put(alloc: Global, index: &mut Index, path: &[u8], entry: Entry) -> Result<(), NoMemory>
+    ensures { OnOk result ((q : List ℕ) → held_at index.new q
+        ≡ (if pointwise nat_eq q path.now then Some entry else held_at index.old q)) }
+{
+    index.insert(Vec::from_slice(alloc, path)?, entry)?;
+    Ok(())
+}
+
+// The names with one more, where there is one.
+fn with_child(
+    alloc: Global,
+    mut children: Children,
+    child: Option<(&[u8], u8)>,
+) -> Result<Children, NoMemory>
+    ensures { IfOk result (λ names. names ≡ with_child children (child_data child.entry)) }
+{
+    let Some((name, kind)) = child else {
+        return Ok(children);
+    };
+    children.insert(ByteString::from_slice(alloc, name)?, kind)?;
+    Ok(children)
+}
+
+// The folder's names with one more, where there is one; none of a folder that isn't there.
+fn names_with(
+    alloc: Global,
+    held: Option<Children>,
+    child: Option<(&[u8], u8)>,
+) -> Result<Children, NoMemory>
+    ensures { IfOk result (λ all. all ≡ with_child (names_at held) (child_data child.entry)) }
+{
+    match held {
+        Some(children) => with_child(alloc, children, child),
+        None => with_child(alloc, Children::new(alloc), child),
+    }
+}
+
+// Adds a child, where there is one, to the folder, which is made where it isn't there, and tells
+// whether it was there.
+fn add_child(
+    alloc: Global,
+    index: &mut Index,
+    folder: &[u8],
+    child: Option<(&[u8], u8)>,
+) -> Result<bool, NoMemory>
+    ensures added { OnOk result ((path : List ℕ) → held_at index.new path
+        ≡ (if pointwise nat_eq path folder.now
+        then folder_with (held_at index.old folder.now) (child_data child.entry)
+        else held_at index.old path)) }
+    ensures known { IfOk result (λ known. known
+        ≡ is_some (folder_at (held_at index.old folder.now))) }
+{
+    let held = take_folder(index, folder);
+    let known = held.is_some();
+    let children = names_with(alloc, held, child)?;
+    put(alloc, index, folder, Entry::Folder(children))?;
+    Ok(known)
+}
+
+// The folder that a path leads through before a slash, and what stands behind the slash.
+fn around(path: &[u8], slash: usize) -> (&[u8], &[u8])
+    requires { slash < length path.now }
+    ensures folder { result.0.now ≡ take slash path.now }
+    ensures rest { result.1.now ≡ drop (slash + 1) path.now }
+{
+    (&path[..slash], &path[slash + 1..])
+}
+
+// Adds the file's path to the folder before this place, where a slash is there, and tells whether that
+// was a folder before.
+fn add_before(
+    alloc: Global,
+    index: &mut Index,
+    path: &[u8],
+    kind: u8,
+    place: usize,
+) -> Result<bool, NoMemory>
+    requires { place < length path.now }
+    ensures added { OnOk result (AddsBefore index.old index.new kind path.now place) }
+    ensures known { IfOk result (λ known. known ≡ (is_slash path.now place
+        && is_some (folder_at (held_at index.old (take place path.now))))) }
+{
+    if path[place] != b'/' {
+        return Ok(false);
+    }
+    let (folder, rest) = around(path, place);
+    add_child(alloc, index, folder, child_of(kind, rest))
+}
+
+// Adds the file's path to the folders that it leads through, the last one first. Above one that was
+// there nothing is new.
+fn add_to_folders(alloc: Global, index: &mut Index, path: &[u8], kind: u8) -> Result<(), NoMemory>
+    requires some { 0 < length path.now }
+    requires settled { IsSettled index.old kind path.now }
+    ensures { OnOk result ((q : List ℕ) → held_at index.new q
+        ≡ folders_after (held_at index.old q) kind path.now q) }
+{
+    let mut place = path.len();
+    while place > 1 {
+        place -= 1;
+        if add_before(alloc, index, path, kind, place)? {
+            return Ok(());
+        }
+    }
+    add_child(alloc, index, &[], child_of(kind, path))?;
+    Ok(())
+}
+
+// Adds a file by its number in the list, and its path to the folders that it leads through.
+pub(crate) fn add_file(
+    alloc: Global,
+    index: &mut Index,
+    path: &[u8],
+    kind: u8,
+    number: usize,
+) -> Result<(), NoMemory>
+    requires some { 0 < length path.now }
+    requires settled { IsSettled index.old kind path.now }
+    ensures { OnOk result ((q : List ℕ) → held_at index.new q
+        ≡ entry_after (held_at index.old q) number kind path.now q) }
+{
+    add_to_folders(alloc, index, path, kind)?;
+    put(alloc, index, path, Entry::File(number))?;
+    Ok(())
+}

@@ -1,0 +1,95 @@
+#!/usr/bin/env bash
+# Runs the built program as a user would, and compares what it writes and how it ends.
+set -euo pipefail
+cd "$(dirname "$0")/.."
+program=crates/hole/out/hole
+measure=crates/bench_measure/out/bench_measure
+[ -x "$program" ] || (cd crates/hole && rt run -- replay < stdin > /dev/null)
+[ -x "$measure" ] || (cd crates/bench_measure && rt run > /dev/null)
+folder=$(mktemp -d)
+trap 'rm -rf "$folder"' EXIT
+passed=0
+failed=0
+
+count() {
+  if "$@"; then passed=$((passed + 1)); else failed=$((failed + 1)); fi
+}
+
+# as_wanted SCRIPT STATUS OUTPUT ERROR WORDS..
+as_wanted() {
+  local script=$1 status=$2 output=$3 error=$4 code=0
+  shift 4
+  printf "$script" > "$folder/script"
+  printf "$output" > "$folder/output"
+  printf "$error" > "$folder/error"
+  "$program" "$@" < "$folder/script" > "$folder/written" 2> "$folder/told" || code=$?
+  if [ "$code" = "$status" ] && cmp -s "$folder/written" "$folder/output" && cmp -s "$folder/told" "$folder/error"; then
+    return 0
+  fi
+  echo "program: '$*' on '$script' ended with $code, not as wanted"
+  return 1
+}
+
+# The examples are read without a fault.
+ends_well() {
+  "$measure" "$@" > "$folder/written" && [ -s "$folder/written" ]
+}
+
+# Words that aren't the program's: status 2, and a text on the error stream.
+refused() {
+  local code=0
+  printf 'start\t1\n' | "$program" "$@" > "$folder/written" 2> "$folder/told" || code=$?
+  if [ "$code" = 2 ] && [ ! -s "$folder/written" ] && [ -s "$folder/told" ]; then return 0; fi
+  echo "program: '$*' ended with $code, not as wanted"
+  return 1
+}
+
+# Help and the version: status 0, and a text on the output stream.
+shown() {
+  "$program" "$@" > "$folder/written" 2> "$folder/told" < /dev/null && [ -s "$folder/written" ] && [ ! -s "$folder/told" ]
+}
+
+too_long() {
+  local code=0
+  head -c 1048577 /dev/zero | tr '\0' '#' | "$program" replay > "$folder/written" 2> "$folder/told" || code=$?
+  [ "$code" = 1 ] && [ ! -s "$folder/written" ] && [ "$(cat "$folder/told")" = 'hole: 12' ]
+}
+
+full_device() {
+  local code=0
+  printf 'start\t1\n' | "$program" replay > /dev/full 2> "$folder/told" || code=$?
+  [ "$code" = 1 ] && [ "$(cat "$folder/told")" = 'hole: 13' ]
+}
+
+count as_wanted 'allow\ta b\t70\t\n' 0 'refused 3\n' '' replay
+count as_wanted 'claim\n' 1 '' 'hole: 70 line 1\n' replay
+count as_wanted 'start\t1\n\nstart\t1\n' 1 'ok\n' 'hole: 70 line 3\n' replay
+count as_wanted 'start\t1\nsearch\t--\noccurs\tmoon\n' 0 'ok\nrefused 40\nplaces 0\n' '' replay
+count refused
+count refused replay extra
+count refused serve
+count refused serve s.toml --requests 1000001
+count refused serve s.toml --log
+count shown --help
+count shown --version
+count shown serve --help
+count as_wanted 'start\t2\t0\nstart\t2\t6\nstart\t0\t0\n' 0 'refused 54\nrefused 54\nrefused 51\n' '' replay
+count as_wanted 'seed\t1\th\t70\t\nstart\t2\nallow\th\t70\t\nstart\t0\nstart\t2\nclaim\nfail\t0\t6\n' \
+  1 'refused 50\nrefused 51\nok\ntake\t0\t1\th\t70\t\n' 'hole: 70 line 7\n' replay
+count as_wanted 'allow\th\t70\t\ndeny\tH\t70\t/p\nseed\t1\th\t70\t\nstart\t5\nclaim\nfound\t0\t1\th\t70\t\n|0X\t/p/x\th\t70\n|0Y\t/q\th\t70\nstatus\n' \
+  0 'ok\ntake\t0\t1\th\t70\t\nadded 1 0\nknown 2 waiting 1 out 0 done 1 dropped 0\n' '' replay
+count as_wanted 'allow\th\t70\t\nseed\t1\th\t70\t\nstart\t2\nclaim\nfound\t0\t1\th\t70\t\n|1A\t/a\th\t70\n|1B\t/b\th\t70\n|1C\t/c\th\t70\n|1A once more\t/a\th\t70\nstatus\nclaim\nfound\t1\t1\th\t70\t/a\n|1B\t/b\th\t70\nstatus\nclaim\n' \
+  0 'ok\ntake\t0\t1\th\t70\t\nadded 1 2\nknown 2 waiting 1 out 0 done 1 dropped 2\ntake\t1\t1\th\t70\t/a\nadded 0 1\nknown 2 waiting 0 out 0 done 2 dropped 3\nfinished\n' '' replay
+count as_wanted 'allow\th\t70\t\nseed\t1\th\t70\t\nseed\t1\th\t70\t/b\nstart\t5\t2\nclaim\nfail\t0\t1\nstatus\nclaim\nclaim\nstatus\nfail\t0\t2\nclaim\nfound\t1\t1\th\t70\t/b\nstatus\nclaim\n' \
+  0 'ok\ntake\t0\t1\th\t70\t\nok\nknown 2 waiting 2 out 0 done 0 dropped 0\ntake\t1\t1\th\t70\t/b\ntake\t0\t1\th\t70\t\nknown 2 waiting 0 out 2 done 0 dropped 0\nok\nidle\nadded 0 0\nknown 2 waiting 0 out 0 done 2 dropped 0\nfinished\n' '' replay
+count as_wanted "$(cat examples/whole_search.script)\n" \
+  0 'ok\nknown 1 waiting 1 out 0 done 0 dropped 0\ntake\t0\t1\th.example\t70\t\nidle\nadded 2 0\nknown 3 waiting 2 out 0 done 1 dropped 0\ntake\t1\t1\th.example\t70\t/moon\nrefused 53\ntake\t2\t0\th.example\t70\t/sun.txt\nidle\nadded 0 0\nok\nfinished\nrefused 52\nrefused 52\nhits 2\nhit\t3\t1\th.example\t70\t\tMoon pages\nhit\t3\t0\th.example\t70\t/sun.txt\tThe sun and the moon.\nhits 1\nhit\t1\t0\th.example\t70\t/sun.txt\tThe sun and the moon.\nrefused 40\nhits 0\nplaces 2\nat\t3\t1\th.example\t70\t\nat\t3\t0\th.example\t70\t/sun.txt\nknown 3 waiting 0 out 0 done 3 dropped 0\n' '' replay
+count as_wanted "$(cat examples/first_crawl.script)\n" \
+  0 'ok\ntake\t0\t1\tlocalhost\t70\t\nadded 1 0\ntake\t1\t1\tlocalhost\t70\t/docs\nok\nfinished\nknown 2 waiting 0 out 0 done 2 dropped 0\n' '' replay
+count ends_well settings examples/hole.toml
+count ends_well site examples/site
+count too_long
+count full_device
+count tests/serving.py "$program"
+echo "program: $passed passed, $failed failed"
+[ "$failed" = 0 ]

@@ -1,0 +1,207 @@
+#!/usr/bin/env python3
+"""Serves folders by the built program, asks it over loopback as clients do, and compares what it sends byte for byte.
+
+    tests/serving.py [PROGRAM]
+
+The last line is 'serving: N passed, M failed'; the status is 0 where none failed. Every wait has an end, and every server
+ends by --requests or is killed by its process id.
+"""
+import contextlib
+import functools
+import pathlib
+import socket
+import subprocess
+import sys
+import tempfile
+import threading
+import time
+
+import server as serving
+from server import HOST, ROOT, WAIT, ask, connect, read_all
+
+PROGRAM = sys.argv[1] if len(sys.argv) > 1 else str(serving.PROGRAM)
+Server = functools.partial(serving.Server, PROGRAM)
+tally = serving.Tally("serving")
+expect = tally.expect
+
+
+def site(folder):
+    """The folder that is served."""
+    root = folder / "site"
+    (root / "docs").mkdir(parents=True)
+    (root / "a.txt").write_bytes(b"hello\n")
+    (root / "docs/b.gif").write_bytes(bytes(range(256)))
+    (root / "big.png").write_bytes(b"0123456789abcdef" * 65_536)
+    return root
+
+
+def listing(port):
+    where = f"\t{HOST}\t{port}\r\n"
+    lines = ["7Search\t/search", "0a.txt\t/a.txt", "Ibig.png\t/big.png", "1docs\t/docs"]
+    return "".join(line + where for line in lines).encode() + b".\r\n"
+
+
+def error_reply(port, text):
+    return f"3{text}\t\t{HOST}\t{port}\r\n.\r\n".encode()
+
+
+def check_replies(folder, root):
+    """Each kind of reply, beside a client that stays silent."""
+    with Server(folder, root, words=("--requests", "9")) as server:
+        port = server.port
+        expect("the line of a server", server.started(), f"listening {HOST} {port}\n".encode())
+        silent = connect(port)
+        expect("the root", ask(port, b"\r\n"), listing(port))
+        expect("the root by a slash, with Gopher+", ask(port, b"/\t+\r\n"), listing(port))
+        expect("a text", ask(port, b"/a.txt\r\n"), b"hello\r\n.\r\n")
+        expect("a raw file", ask(port, b"/docs/b.gif\n"), bytes(range(256)))
+        expect("nothing there", ask(port, b"/b\r\n"), error_reply(port, "Not found"))
+        expect("no words", ask(port, b"/search\t -- \r\n"), error_reply(port, "No words"))
+        expect("a bad request", ask(port, b"x" * 256 + b"\r\n"), error_reply(port, "Bad request"))
+        expect("a search before anything was found", ask(port, b"/search\tmoon\r\n"), b".\r\n")
+        expect("the silent client is served", ask_over(silent, b"/a.txt\r\n"), b"hello\r\n.\r\n")
+        expect("the end", server.end(), (b"known 0 waiting 0 out 0 done 0 dropped 0\n", b"", 0))
+
+
+def ask_over(client, line):
+    with client:
+        client.sendall(line)
+        return read_all(client)
+
+
+def check_lines(folder, root):
+    """Lines at the limit, in pieces, without an end, and more than a line."""
+    with Server(folder, root, words=("--requests", "7")) as server:
+        port = server.port
+        server.started()
+        expect("1,024 bytes", ask(port, b"y" * 1_024 + b"\r\n"), error_reply(port, "Bad request"))
+        expect("1,025 bytes", ask(port, b"y" * 1_025 + b"\r\n"), b"")
+        expect("2,000 bytes without an end", ask(port, b"y" * 2_000), b"")
+        expect("a second line", ask(port, b"/a.txt\r\n/docs/b.gif\r\n"), b"hello\r\n.\r\n")
+        with connect(port) as client:
+            for byte in b"/a.txt\r\n":
+                client.sendall(bytes([byte]))
+                time.sleep(0.01)
+            expect("a byte at a time", read_all(client), b"hello\r\n.\r\n")
+        with connect(port) as client:
+            client.sendall(b"/a.txt")
+            client.shutdown(socket.SHUT_WR)
+            expect("a line that ends with the input", read_all(client), b"hello\r\n.\r\n")
+        with connect(port) as client:
+            client.shutdown(socket.SHUT_WR)
+            expect("no line at all", read_all(client), listing(port))
+        expect("the end", server.end()[1:], (b"", 0))
+
+
+def check_large(folder, root, clients=20):
+    """Large replies are whole for clients that read slowly and send on."""
+    whole = (root / "big.png").read_bytes()
+    with Server(folder, root, words=("--requests", str(clients))) as server:
+        server.started()
+        replies = [b""] * clients
+
+        def fetch(number):
+            with connect(server.port) as client:
+                client.sendall(b"/big.png\r\n")
+                with contextlib.suppress(OSError):
+                    for _ in range(10):
+                        client.sendall(b"and more\r\n" * 100)
+                time.sleep(0.05 * (number % 4))
+                replies[number] = read_all(client)
+
+        threads = [threading.Thread(target=fetch, args=(number,)) for number in range(clients)]
+        for thread in threads:
+            thread.start()
+        for thread in threads:
+            thread.join(WAIT)
+        expect("large replies that came whole", sum(reply == whole for reply in replies), clients)
+        expect("the end", server.end()[1:], (b"", 0))
+
+
+def check_silent(folder, root, silent=300, asked=100):
+    """Clients that stay silent hold up nobody."""
+    with Server(folder, root) as server:
+        server.started()
+        clients = [connect(server.port) for _ in range(silent)]
+        began = time.monotonic()
+        good = sum(ask(server.port, b"/a.txt\r\n") == b"hello\r\n.\r\n" for _ in range(asked))
+        expect("replies beside silent clients", good, asked)
+        expect("in time", time.monotonic() - began < 10, True)
+        for client in clients:
+            client.close()
+
+
+def check_crawl(folder, root):
+    """A server crawls itself, and answers searches of what it found."""
+    rules = f'seeds = [{{ host = "{HOST}", port = PORT }}]\nallow = [{{ host = "{HOST}", port = PORT }}]\n'
+    with Server(folder, root, more=rules, words=("--requests", "8")) as server:
+        server.started()
+        port = server.port
+        hit = f"0hello\t/a.txt\t{HOST}\t{port}\r\n.\r\n".encode()
+        reply, until = b"", time.monotonic() + WAIT
+        asked = 0
+        while asked < 5 and reply != hit and time.monotonic() < until:
+            time.sleep(0.3)
+            reply = ask(port, b"/search\thello\r\n")
+            asked += 1
+        expect("a search of what was crawled", reply, hit)
+        for _ in range(5 - asked):
+            ask(port, b"\r\n")
+        output, error, status = server.end()
+        expect("the crawl", (output, error, status), (b"known 3 waiting 0 out 0 done 3 dropped 0\n", b"", 0))
+
+
+def check_example(folder, _root):
+    """The site of examples/, as its settings have it, but for the host and the port."""
+    rules = f'''places = 1000
+tries = 2
+workers = 4
+seeds = [{{ host = "{HOST}", port = PORT }}]
+allow = [{{ host = "{HOST}", port = PORT }}]
+'''
+    with Server(folder, ROOT / "examples/site", more=rules) as server:
+        server.started()
+        port = server.port
+        reply, until = b"", time.monotonic() + WAIT
+        while b"common-frog.txt" not in reply and time.monotonic() < until:
+            time.sleep(0.3)
+            reply = ask(port, b"/search\tfrog\r\n")
+        where = f"\t{HOST}\t{port}\r\n".encode()
+        expect("a hit of the example", b"0The common frog\t/frogs/common-frog.txt" + where in reply, True)
+        text = (ROOT / "examples/site/frogs/common-frog.txt").read_bytes().replace(b"\n", b"\r\n") + b".\r\n"
+        expect("a text of the example", ask(port, b"/frogs/common-frog.txt\r\n"), text)
+
+
+def check_faults(folder, root):
+    """The line of each fault, and its status."""
+    taken = socket.socket()
+    taken.bind((HOST, 0))
+    taken.listen()
+    with Server(folder, root, port=taken.getsockname()[1]) as server:
+        expect("a port that is taken", server.end(), (b"", b"hole: 81\n", 1))
+    taken.close()
+    with Server(folder, folder / "absent") as server:
+        expect("no folder", server.end(), (b"", b"hole: 26\n", 1))
+    with Server(folder, root, more='seeds = [{ host = "h" }]\n') as server:
+        expect("a seed out of scope", server.end(), (b"", b"hole: 50 seed 0\n", 1))
+    with Server(folder, root, more="places = 0\n") as server:
+        expect("a key out of range", server.end(), (b"", b"hole: 33 places\n", 1))
+    with Server(folder, root, words=("--requests", "0")) as server:
+        wanted = f"listening {HOST} {server.port}\nknown 0 waiting 0 out 0 done 0 dropped 0\n".encode()
+        expect("no requests", server.end(), (wanted, b"", 0))
+    missing = subprocess.run([PROGRAM, "serve", str(folder / "missing.toml")], capture_output=True, timeout=WAIT)
+    expect("no settings", (missing.stdout, missing.stderr, missing.returncode), (b"", b"hole: 80\n", 1))
+
+
+def main():
+    with tempfile.TemporaryDirectory() as name:
+        folder = pathlib.Path(name)
+        root = site(folder)
+        checks = (check_replies, check_lines, check_large, check_silent, check_crawl, check_example, check_faults)
+        for check in checks:
+            check(folder, root)
+    return tally.status()
+
+
+if __name__ == "__main__":
+    sys.exit(main())
