@@ -107,9 +107,9 @@ impl Index {
     /// Pages that are due to be merged, unless none are, and marks them as taken until `install`. Refused
     /// only where memory is (90). The pages are what they were.
     ///
-    /// Due are 64 pages that stand in no segment, and sixteen segments of one size, where the first begins
-    /// at a multiple of sixteen times that size and all fit in one; of 1,024 pages each once another
-    /// follows them. So the segments' sizes depend on the number of pages alone, once none is due.
+    /// Due are 64 pages that stand in no segment, and four segments of one size, where the first begins
+    /// at a multiple of four times that size and all fit in one; of 1,024 pages each and more once a
+    /// fifth follows them. So the segments' sizes depend on the number of pages alone, once none is due.
     pub fn due(&mut self) -> Result<Option<Due>, NoMemory>
         ensures same { self.new ≡ self.old }
         ensures stands { IfOk result (λ due. IfSome due (λ run. StandsIn run self.new)) }

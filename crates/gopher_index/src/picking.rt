@@ -7,7 +7,7 @@ use gopher_segment::{Segment, Size};
 use std::sync::Arc;
 
 // How many segments are merged at once.
-const MERGED: usize = 16;
+const MERGED: usize = 4;
 
 // How many loose pages are merged at once.
 const MERGED_LOOSE: usize = 64;
@@ -56,7 +56,7 @@ fn fit(segments: &[Arc<Segment>], size: Size) -> bool {
 // it: they have as many pages each, so that the sizes of all that are made so are known from their
 // numbers alone.
 fn is_due(first: usize, segments: &[Arc<Segment>]) -> bool
-    ensures { result ≡ true → 16 ≤ length segments.now }
+    ensures { result ≡ true → 4 ≤ length segments.now }
 {
     if segments.len() < MERGED {
         return false;
