@@ -1,21 +1,24 @@
 """Scripts of catalogues whose pages end around each size at which the segments of the index change: the first segment,
-those that are merged from sixteen, at once or once another follows, and sizes between; with words that every other page
+those that are merged from four, at once or once a fifth follows, and the largest; with words that every other page
 has, that one page has, and that stand in a page about as often as a byte counts, and far more often; and of pages with
 so many words that their segment is made otherwise.
 """
 import itertools
 import random
 
-SIZES = (7, 8, 9, 15, 16, 17, 63, 64, 65, 127, 1023, 1024, 1025, 1087, 1088, 1089, 16383, 16384, 16385, 17407, 17408, 17409)
+SIZES = (
+    *(7, 8, 9, 15, 16, 17, 63, 64, 65, 255, 256, 257, 1023, 1024, 1025),
+    *(5119, 5120, 5121, 16383, 16384, 16385, 16390),
+)
 # Pages that have the word `lark` so often, by their numbers.
-LARKS = {0: 254, 3: 255, 7: 256, 8: 300, 63: 255, 64: 256, 1023: 254, 1024: 300, 16383: 256, 16384: 255, 17407: 255}
+LARKS = {0: 254, 3: 255, 7: 256, 8: 300, 63: 255, 64: 256, 1023: 254, 1024: 300, 16383: 256, 16384: 255}
 QUESTIONS = (
     b"m", b"m*", b"s* not m*", b"m and s not r", b"m or s not so", b"p*", b"p7", b"p8", b"p63", b"p64", b"p1023",
-    b"p1024", b"p1*", b"p163*", b"p16383", b"p17408", b"p0 or p8 or p1023 or p16384", b"m not p*", b"absent", b"absent*",
+    b"p1024", b"p1*", b"p163*", b"p16383", b"p5120", b"p0 or p8 or p1023 or p16384", b"m not p*", b"absent", b"absent*",
     b"absent or p9", b"lark", b"lark*", b"l*", b"lark not m", b"lark l* la*", b"m or lark", b"k", b"k*", b"k not m",
     b"m or k", b"k and k*", b"so not s", b"r and so and s and m",
 )
-SOUGHT = (b"m", b"p0", b"p7", b"p63", b"p64", b"p1023", b"p16383", b"p17407", b"lark", b"k", b"absent")
+SOUGHT = (b"m", b"p0", b"p7", b"p63", b"p64", b"p1023", b"p5119", b"p16384", b"lark", b"k", b"absent")
 
 
 def kays(number):
@@ -69,7 +72,7 @@ def crawl_of_many_words():
 
 
 def scripts_of_sizes():
-    yield b"\n".join(crawl_of(17409, SIZES, LARKS))
+    yield b"\n".join(crawl_of(16390, SIZES, LARKS))
     yield b"\n".join(crawl_of_many_words())
     # Words that stand more often in a page than sixteen bits count.
     yield b"\n".join(crawl_of(20, (9, 20), {3: 65535, 7: 65536, 8: 70_000}))
