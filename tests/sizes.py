@@ -66,7 +66,8 @@ def crawl_of_many_words():
         yield b"found\t%d\t0\th\t7\t%d" % (number, number)
         yield b"|" + b" ".join(word for at, word in enumerate(words) if at % 65 != number)
         if number in (62, 63, 65):
-            yield from (b"search\t" + question for question in (b"a", b"b*", b"a not b", b"zz and 00 or c", b"d* not dd"))
+            questions = (b"a", b"b*", b"a not b", b"zz and 00 or c", b"d* not dd")
+            yield from (b"search\t" + question for question in questions)
             yield from (b"occurs\t" + word for word in words[:4] + words[-4:])
     yield b"status"
 
