@@ -110,6 +110,12 @@ class WrongBodies(unittest.TestCase):
         said = "./proofs/a/f/Answers.antt:7:9: error: `returns`: the two types differ\n" + said
         self.assertEqual(wrong_bodies.lacking("small", said), {"a::f": "`returns`: the two types differ"})
 
+    def test_what_only_waits_for_another_proof_shows_nothing(self):
+        said = "fn small::f: no proof: it calls `g`, which is not proved; it passes the block `f::1`, which is not proved\nonly=1 proved=0\n"
+        self.assertEqual(wrong_bodies.lacking("small", said), {})
+        said = said.replace("; it passes", "; a goal is open; it passes")
+        self.assertEqual(wrong_bodies.lacking("small", said), {"f": "a goal is open"})
+
 
 if __name__ == "__main__":
     unittest.main()
