@@ -110,11 +110,12 @@ class WrongBodies(unittest.TestCase):
         said = "./proofs/a/f/Answers.antt:7:9: error: `returns`: the two types differ\n" + said
         self.assertEqual(wrong_bodies.lacking("small", said), {"a::f": "`returns`: the two types differ"})
 
-    def test_what_only_waits_for_another_proof_shows_nothing(self):
-        said = "fn small::f: no proof: it calls `g`, which is not proved; it passes the block `f::1`, which is not proved\nonly=1 proved=0\n"
+    def test_a_function_that_only_passes_a_refused_impl_lacks_nothing(self):
+        passes = "it calls `small::PlainNext::next`, which is not proved; it passes the block `small::PlainNext`, which is not proved"
+        said = f"fn small::third: no proof: {passes}\nonly=2 proved=1\n"
         self.assertEqual(wrong_bodies.lacking("small", said), {})
-        said = said.replace("; it passes", "; a goal is open; it passes")
-        self.assertEqual(wrong_bodies.lacking("small", said), {"f": "a goal is open"})
+        said = f"fn small::third: no proof: `search` did not prove `returns`; {passes}\nonly=2 proved=1\n"
+        self.assertEqual(wrong_bodies.lacking("small", said), {"third": "`search` did not prove `returns`"})
 
 
 if __name__ == "__main__":

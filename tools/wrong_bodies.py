@@ -12,9 +12,9 @@ stands exactly once in the file, as the pairs before it left that, and only bodi
 
 Edits of different functions are tried in one check of a copy of the crate, since the prover goes on after a refusal and
 says of each function what it lacks. An edit counts as refused only where its own function lacks the proof of a goal: not
-where the function only calls a refused one or passes a block of one, and not where a proof file only names what the edit
-took away. What isn't refused in company is tried alone. The last line is 'N passed, M failed'; the status is 0 where none
-failed.
+where the function only calls a refused one or passes an impl that has one, and not where a proof file only names what the
+edit took away. What isn't refused in company is tried alone. The last line is 'N passed, M failed'; the status is 0 where
+none failed.
 """
 import os
 import pathlib
