@@ -110,6 +110,13 @@ class WrongBodies(unittest.TestCase):
         said = "./proofs/a/f/Answers.antt:7:9: error: `returns`: the two types differ\n" + said
         self.assertEqual(wrong_bodies.lacking("small", said), {"a::f": "`returns`: the two types differ"})
 
+    def test_a_function_that_only_passes_a_refused_impl_lacks_nothing(self):
+        passes = "it calls `small::PlainNext::next`, which is not proved; it passes the block `small::PlainNext`, which is not proved"
+        said = f"fn small::third: no proof: {passes}\nonly=2 proved=1\n"
+        self.assertEqual(wrong_bodies.lacking("small", said), {})
+        said = f"fn small::third: no proof: `search` did not prove `returns`; {passes}\nonly=2 proved=1\n"
+        self.assertEqual(wrong_bodies.lacking("small", said), {"third": "`search` did not prove `returns`"})
+
 
 if __name__ == "__main__":
     unittest.main()

@@ -12,8 +12,9 @@ stands exactly once in the file, as the pairs before it left that, and only bodi
 
 Edits of different functions are tried in one check of a copy of the crate, since the prover goes on after a refusal and
 says of each function what it lacks. An edit counts as refused only where its own function lacks the proof of a goal: not
-where the function only calls a refused one, and not where a proof file only names what the edit took away. What isn't
-refused in company is tried alone. The last line is 'N passed, M failed'; the status is 0 where none failed.
+where the function only calls a refused one or passes an impl that has one, and not where a proof file only names what the
+edit took away. What isn't refused in company is tried alone. The last line is 'N passed, M failed'; the status is 0 where
+none failed.
 """
 import os
 import pathlib
@@ -32,7 +33,7 @@ NAMES_ALONE = re.compile(r"is not in scope|has no field|has no `|is no name|was 
 
 
 # parts of reasons that show no goal without a proof
-NO_GOAL = re.compile(r"^it calls |the borrow checker's part in its proof is not made|expected a measure")
+NO_GOAL = re.compile(r"^it calls |^it passes the block |the borrow checker's part in its proof is not made|expected a measure")
 
 
 class BadEdit(Exception):
