@@ -1,4 +1,4 @@
-//! The worked crawls on a catalogue, and one of forty pages, of which one growth may be refused.
+//! The worked crawls on a catalogue, and one of seventy texts, of which one growth may be refused.
 
 use crate::catalogues::{Replies, crawled, finds_pages, hits, occurrences};
 use crate::opening::Checked;
@@ -21,18 +21,21 @@ const MOON_PAGES: &[(&[u8], &[u8])] = &[
     ),
 ];
 
-// The searches of forty pages, with how many they find.
+// The searches of seventy texts and their menu, with how many they find: 50 at most.
 const FOUND: &[(&[u8], usize)] = &[
-    (b"moon", 40),
-    (b"mo*", 40),
+    (b"moon", 50),
+    (b"mo*", 50),
     (b"p4*", 10),
+    (b"p7*", 10),
     (b"p41*", 1),
     (b"p41", 1),
+    (b"p78", 1),
     (b"moon and p41*", 1),
     (b"p41 and moon", 1),
-    (b"p* not p4*", 31),
-    (b"p41 or p42 or p43", 3),
-    (b"moon not p41", 39),
+    (b"p* not p4* not p5* not p6*", 41),
+    (b"p41 or p42 or p78", 3),
+    (b"moon not p41", 50),
+    (b"p7* not p71", 9),
 ];
 
 fn replies(alloc: Global, rows: &[(&[u8], &[u8])]) -> Option<Replies> {
@@ -64,7 +67,7 @@ pub fn check_first(alloc: Global) -> Checked<()> {
     let replies = replies(alloc, rows)
         .or_else(|| replies(alloc, rows))
         .ok_or("no replies")?;
-    let catalogue = crawled(alloc, &replies)?;
+    let (catalogue, _merges) = crawled(alloc, &replies)?;
     if !is_finished(catalogue.status(), 2)
         || !finds_pages(alloc, &catalogue, b"docs", &[(1, b"")])?
     {
@@ -79,7 +82,7 @@ pub fn check_second(alloc: Global) -> Checked<()> {
     let replies = replies(alloc, rows)
         .or_else(|| replies(alloc, rows))
         .ok_or("no replies")?;
-    let catalogue = crawled(alloc, &replies)?;
+    let (catalogue, _merges) = crawled(alloc, &replies)?;
     let found = is_finished(catalogue.status(), 3)
         && finds_pages(alloc, &catalogue, b"moon", &[(3, b""), (3, b"/sun.txt")])?
         && finds_pages(alloc, &catalogue, b"sun not home", &[(1, b"/sun.txt")])?
@@ -99,10 +102,10 @@ fn digits(number: u8) -> [u8; 2] {
     ]
 }
 
-// A menu of forty texts.
+// A menu of seventy texts.
 fn menu(alloc: Global) -> Option<Vec<u8>> {
     let mut menu = Vec::new(alloc);
-    for number in 10..50 {
+    for number in 10..80 {
         menu.extend_from_slice(b"0P\t/p").ok()?;
         menu.extend_from_slice(&digits(number)).ok()?;
         menu.extend_from_slice(b"\th\t70\r\n").ok()?;
@@ -120,25 +123,28 @@ fn add(alloc: Global, replies: &mut Replies, number: u8) -> Option<()> {
     replies.push((selector, reply)).ok()
 }
 
-// A root with forty texts, so that pages go into segments.
-fn forty_texts(alloc: Global) -> Option<Replies> {
+// A root with seventy texts, so that 64 pages are merged into a segment and some stay loose behind it.
+fn seventy_texts(alloc: Global) -> Option<Replies> {
     let mut replies = Vec::new(alloc);
     replies.push((Vec::new(alloc), menu(alloc)?)).ok()?;
-    for number in 10..50 {
+    for number in 10..80 {
         add(alloc, &mut replies, number)?;
     }
     Some(replies)
 }
 
-/// The crawl of a root with forty texts, and searches of rare and of common words and beginnings.
-pub fn check_forty(alloc: Global) -> Checked<()> {
-    let replies = forty_texts(alloc)
-        .or_else(|| forty_texts(alloc))
+/// The crawl of a root with seventy texts, and searches of rare and of common words and beginnings.
+pub fn check_seventy(alloc: Global) -> Checked<()> {
+    let replies = seventy_texts(alloc)
+        .or_else(|| seventy_texts(alloc))
         .ok_or("no replies")?;
-    let catalogue = crawled(alloc, &replies)?;
+    let (catalogue, merges) = crawled(alloc, &replies)?;
+    if merges != 1 {
+        return Err("a crawl of seventy texts doesn't merge pages once");
+    }
     for (text, wanted) in FOUND {
         if hits(&catalogue, &query(alloc, *text)?)?.len() != *wanted {
-            return Err("a search of forty pages finds others");
+            return Err("a search of seventy texts finds others");
         }
     }
     Ok(())

@@ -33,7 +33,11 @@ fn main(rt: HostRuntime) -> io::Result<()> {
     tell(&rt, "a folder", trees::check_folder(&rt, alloc))?;
     tell(&rt, "the first crawl", crawls::check_first(alloc))?;
     tell(&rt, "the second crawl", crawls::check_second(alloc))?;
-    tell(&rt, "a crawl of forty texts", crawls::check_forty(alloc))?;
+    tell(
+        &rt,
+        "a crawl of seventy texts",
+        crawls::check_seventy(alloc),
+    )?;
     tell(
         &rt,
         "a desk",
