@@ -1,7 +1,7 @@
 """Scripts of catalogues whose pages end around each size at which the segments of the index change: the first segment,
 those that are merged from four, at once or once a fifth follows, and the largest; with words that every other page
-has, that one page has, and that stand in a page about as often as a byte counts, and far more often; and of pages with
-so many words that their segment is made otherwise.
+has, that one page has, and that stand in a page about as often as a byte counts, and far more often; with long words
+that differ late; and of pages with so many words that their segment is made otherwise.
 """
 import itertools
 import random
@@ -12,13 +12,16 @@ SIZES = (
 )
 # Pages that have the word `lark` so often, by their numbers.
 LARKS = {0: 254, 3: 255, 7: 256, 8: 300, 63: 255, 64: 256, 1023: 254, 1024: 300, 16383: 256, 16384: 255}
+# Words that have 15 bytes alike, of which each seventh page has one: a script is at most 1,048,576 bytes.
+ALIKE = (b"willowherbwillo", b"willowherbwillow", b"willowherbwillows", b"willowherbwillowt")
 QUESTIONS = (
     b"m", b"m*", b"s* not m*", b"m and s not r", b"m or s not so", b"p*", b"p7", b"p8", b"p63", b"p64", b"p1023",
     b"p1024", b"p1*", b"p163*", b"p16383", b"p5120", b"p0 or p8 or p1023 or p16384", b"m not p*", b"absent", b"absent*",
     b"absent or p9", b"lark", b"lark*", b"l*", b"lark not m", b"lark l* la*", b"m or lark", b"k", b"k*", b"k not m",
-    b"m or k", b"k and k*", b"so not s", b"r and so and s and m",
+    b"m or k", b"k and k*", b"so not s", b"r and so and s and m", b"willowherbwillo", b"willowherbwillow and m",
+    b"willowherbwillows or willowherbwillowt", b"willowherbwillow*", b"m not willowherbwillo*",
 )
-SOUGHT = (b"m", b"p0", b"p7", b"p63", b"p64", b"p1023", b"p5119", b"p16384", b"lark", b"k", b"absent")
+SOUGHT = (b"m", b"p0", b"p7", b"p63", b"p64", b"p1023", b"p5119", b"p16384", b"lark", b"k", b"absent", b"willowherbwillowt")
 
 
 def kays(number):
@@ -28,7 +31,8 @@ def kays(number):
 
 def body(draw, number, larks):
     words = [b"p%d" % number] + [word for word in (b"m", b"s", b"r", b"so") if draw.random() < 0.4]
-    return b" ".join(words + [b"lark"] * larks.get(number, 0) + [b"k"] * kays(number))
+    alike = [ALIKE[number % 4]] if number % 7 == 0 else []
+    return b" ".join(words + alike + [b"lark"] * larks.get(number, 0) + [b"k"] * kays(number))
 
 
 def crawl_of(pages, sizes, larks):
@@ -44,7 +48,7 @@ def crawl_of(pages, sizes, larks):
         yield b"|" + body(draw, number, larks)
         if number + 1 in sizes:
             yield from (b"search\t" + question for question in QUESTIONS)
-            yield from (b"occurs\t" + word for word in SOUGHT if number < 2000 or word != b"m")
+            yield from (b"occurs\t" + word for word in SOUGHT if number < 2000 or word not in (b"m", *ALIKE))
     yield b"status"
 
 

@@ -104,6 +104,21 @@ class WrongBodies(unittest.TestCase):
         self.assertEqual(said.count("BAD EDIT"), 4, said)
         self.assertTrue(said.endswith("\n0 passed, 4 failed\n") and status == 1, said)
 
+    def test_a_blank_function_keeps_its_contract(self):
+        after_next = wrong_bodies.pieces(SOURCE)[3]
+        signature = after_next[: after_next.index("{\n    next") + 1]
+        self.assertEqual(wrong_bodies.blank(after_next), signature + "\n    unreachable!()\n}\n")
+        method = "    fn of() -> u32 {\n        1\n    }\n"
+        declared = "    fn of() -> u32;\n}\n\nimpl Of for Small {\n"
+        self.assertEqual(wrong_bodies.blank(declared + method), declared + method.replace("1", "unreachable!()"))
+
+    def test_a_function_of_a_cycle_is_known(self):
+        calls_itself = "fn halved(x: u32) -> u32 {\n    halved(x / 2)\n}\n"
+        calls_another = "fn new() -> Small {\n    Small { list: Vec::new() }\n}\n"
+        self.assertTrue(wrong_bodies.is_in_cycle(calls_itself, ""))
+        self.assertFalse(wrong_bodies.is_in_cycle(calls_another, ""))
+        self.assertTrue(wrong_bodies.is_in_cycle(calls_another, "#[cycle(new)]\n"))
+
     def test_a_proof_file_that_only_lacks_names_shows_nothing(self):
         said = "./proofs/a/f/Answers.antt:7:9: error: `returns`: `c.gone` is not in scope\nfn small::a::f: not proved\nonly=1 proved=0\n"
         self.assertEqual(wrong_bodies.lacking("small", said), {})

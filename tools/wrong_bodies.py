@@ -11,10 +11,11 @@ check names it below its crate; a line 'file: src/NAME.rt'; then pairs of lines 
 stands exactly once in the file, as the pairs before it left that, and only bodies of functions may change.
 
 Edits of different functions are tried in one check of a copy of the crate, since the prover goes on after a refusal and
-says of each function what it lacks. An edit counts as refused only where its own function lacks the proof of a goal: not
-where the function only calls a refused one or passes an impl that has one, and not where a proof file only names what the
-edit took away. What isn't refused in company is tried alone. The last line is 'N passed, M failed'; the status is 0 where
-none failed.
+says of each function what it lacks. Every other function is blank there, with a body whose proof fails at once: callers
+are judged by its contract, and what it calls isn't proved again. An edit counts as refused only where its own function
+lacks the proof of a goal: not where the function only calls a refused one or passes an impl that has one, and not where a
+proof file only names what the edit took away. What isn't refused in company is tried alone, with no blank body. The last
+line is 'N passed, M failed'; the status is 0 where none failed.
 """
 import os
 import pathlib
@@ -27,7 +28,8 @@ from concurrent.futures import ThreadPoolExecutor
 
 ROOT = pathlib.Path(os.environ.get("ROOT") or pathlib.Path(__file__).resolve().parent.parent)
 MEMORY_OF_A_CHECK = 3 << 20  # KiB
-FUNCTION = re.compile(r"(?ms)^( *)(?:pub(?:\(\w+\))? )?(?:const )?fn (?=\w).*?^\1\}\n")
+HEAD = r"(?:pub(?:\(\w+\))? )?(?:const )?fn (?=\w)"
+FUNCTION = re.compile(rf"(?ms)^( *){HEAD}.*?^\1\}}\n")
 CLAUSE = re.compile(r"(?m)^ *(?:ensures|requires|ghost)\b.*$")
 NAMES_ALONE = re.compile(r"is not in scope|has no field|has no `|is no name|was not admitted|were not checked|: module `|\(nearest: ")
 
@@ -44,6 +46,20 @@ def pieces(text):
     """A source file cut into what stands between functions (at even indexes) and functions (at odd ones)."""
     cuts = [0, *(cut for found in FUNCTION.finditer(text) for cut in found.span()), len(text)]
     return [text[start:end] for start, end in zip(cuts, cuts[1:])]
+
+
+def is_in_cycle(function, before):
+    """Whether a function calls itself, or is declared to be in a cycle of calls by what stands before it."""
+    name = re.search(r"\bfn (\w+)", function)[1]
+    return "#[cycle" in before or re.search(rf"(?<!fn )(?<![\w:.]){name}\(", function) is not None
+
+
+def blank(function):
+    """A function with a body that no contract allows. A piece may begin with methods of a trait that have no body."""
+    indent = re.match(" *", function)[0]
+    last = [*re.finditer(rf"(?m)^{indent}{HEAD}", function)][-1].start()
+    opened = re.compile(rf"(?m)^{indent}\{{$").search(function, last) or re.compile(r"(?m) \{$").search(function, last)
+    return f"{function[:opened.end()]}\n{indent}    unreachable!()\n{indent}}}\n"
 
 
 class Edit:
@@ -93,18 +109,18 @@ class Edit:
 
 
 def groups_of(edits):
-    """Parts edits into groups of one crate, with at most one edit in any function."""
+    """Parts the edits of a crate into groups with at most one edit in any function."""
     groups = []
     for edit in edits:
         stands = {(edit.file, at) for at in edit.changes}
-        for crate, taken, group in groups:
-            if crate == edit.crate and not taken & stands:
+        for taken, group in groups:
+            if not taken & stands:
                 taken |= stands
                 group.append(edit)
                 break
         else:
-            groups.append((edit.crate, stands, [edit]))
-    return [group for *_, group in groups]
+            groups.append((stands, [edit]))
+    return [group for _, group in groups]
 
 
 def libraries_below():
@@ -120,21 +136,26 @@ def run(words, folder):
     return subprocess.run(words, cwd=folder, **how)
 
 
-def copy_with(edits, built, room):
-    """Copies what a check of the crate reads, with the proofs that were kept, and makes the edits in the copy."""
-    crate = edits[0].crate
+def copy_of(crate, built, room):
+    """Copies what checks of the crate read, with the proofs that were kept."""
     for name in ("crates.txt", "HANDLES"):
         shutil.copy(ROOT / name, room / name)
     for other in (ROOT / "crates").iterdir():
         skipped = ["wrong-bodies"] if other.name == crate else ["incremental"] if other.name in built else ["out"]
         shutil.copytree(other, room / "crates" / other.name, ignore=shutil.ignore_patterns(*skipped))
-    folder = room / "crates" / crate
-    for edit in edits:
-        text = pieces((folder / edit.file).read_text())
-        for at, new in edit.changes.items():
-            text[at] = new
-        (folder / edit.file).write_text("".join(text))
-    return folder
+    return room / "crates" / crate
+
+
+def write(edits, folder, is_alone):
+    """Writes the sources of the copy with these edits. A function of a cycle is never blank, since its cycle names it."""
+    crate = ROOT / "crates" / folder.name
+    for path in (crate / "src").rglob("*.rt"):
+        file, text = path.relative_to(crate), pieces(path.read_text())
+        edited = {at: new for edit in edits if edit.file == str(file) for at, new in edit.changes.items()}
+        for at in range(1, len(text), 2):
+            is_left = is_alone or is_in_cycle(text[at], text[at - 1])
+            text[at] = edited[at] if at in edited else text[at] if is_left else blank(text[at])
+        (folder / file).write_text("".join(text))
 
 
 def lacking(crate, said):
@@ -152,17 +173,29 @@ def lacking(crate, said):
     return {function: lack for function, lack in lacks.items() if lack}
 
 
-def try_group(edits, built):
-    """What the check of a copy with these edits says: for each edit what its function lacks, or why it isn't refused."""
-    crate, built = edits[0].crate, [library.result() for library in built]
-    with tempfile.TemporaryDirectory(prefix="wrong-bodies-") as room:
-        folder = copy_with(edits, built, pathlib.Path(room))
-        only = [word for edit in edits for word in ("--only", edit.function)]
-        said = run(["rt", "check", "--jobs", "1", *only], folder).stdout
-    lacks = lacking(crate, said)
+def try_group(edits, folder, is_alone):
+    """What the check of the copy with these edits says: for each edit what its function lacks, or why it isn't refused."""
+    write(edits, folder, is_alone)
+    only = [word for edit in edits for word in ("--only", edit.function)]
+    said = run(["rt", "check", "--jobs", "1", *only], folder).stdout
+    lacks = lacking(folder.name, said)
     if lacks is None:
         return {edit: (False, "NOTHING JUDGED, the check said:\n" + said[-2000:]) for edit in edits}
     return {edit: (edit.function in lacks, lacks.get(edit.function, "NOT REFUSED")) for edit in edits}
+
+
+def try_crate(edits, built):
+    """Tries the edits of a crate in groups, and alone those that weren't refused in company. The checks follow one another
+    in one copy, so that each begins with the lemmas that those before it proved."""
+    crate, built = edits[0].crate, [library.result() for library in built]
+    tried = {}
+    with tempfile.TemporaryDirectory(prefix="wrong-bodies-") as room:
+        folder = copy_of(crate, built, pathlib.Path(room))
+        for group in groups_of(edits):
+            tried |= try_group(group, folder, is_alone=False)
+        for edit in [edit for edit, (is_refused, _) in tried.items() if not is_refused]:
+            tried |= try_group([edit], folder, is_alone=True)
+    return tried
 
 
 def mark_left():
@@ -204,21 +237,20 @@ def lanes():
 
 
 def try_all(edits, below):
-    """Tries edits in groups, and alone those that weren't refused in company.
+    """Tries the edits of several crates at once.
 
-    The libraries are built meanwhile, one after another. A group waits for those that it stands on, and for its own
-    crate where that is one of them: a folder that is being written can't be copied."""
+    The libraries are built meanwhile, one after another. A crate waits for those that it stands on, and for its own where
+    that is one of them: a folder that is being written can't be copied."""
     order = list(dict.fromkeys(low for edit in edits for low in below[edit.crate]))
     awaited = {crate: [low for low in order if low == crate or low in below[crate]] for crate in below}
-    groups, tried = groups_of(sorted(edits, key=lambda edit: max(map(order.index, awaited[edit.crate]), default=-1))), {}
+    last = lambda crate: max(map(order.index, awaited[crate]), default=-1)
+    crates, tried = sorted({edit.crate for edit in edits}, key=lambda crate: (last(crate), crate)), {}
     with ThreadPoolExecutor(1) as builder, ThreadPoolExecutor(lanes()) as pool:
         libraries = {crate: builder.submit(build, crate) for crate in order}
-        attempt = lambda group: try_group(group, [libraries[low] for low in awaited[group[0].crate]])
-        for result in pool.map(attempt, groups):
-            tried.update(result)
-        again = [[edit] for group in groups if len(group) > 1 for edit in group if not tried[edit][0]]
-        for result in pool.map(attempt, again):
-            tried.update(result)
+        of_crate = lambda crate: [edit for edit in edits if edit.crate == crate]
+        attempt = lambda crate: try_crate(of_crate(crate), [libraries[low] for low in awaited[crate]])
+        for result in pool.map(attempt, crates):
+            tried |= result
     return tried
 
 

@@ -5,52 +5,56 @@ use std::alloc::{Allocator, Global};
 use std::fs::{Files, Metadata, OpenFile, OpenOptions};
 use std::io::{Chain, Read};
 use std::os::unix::fs::symlink;
-use std::test::Fail;
 use std::{fs, io};
 
 const LARGEST: u64 = 16_777_216;
 
-fn write_files(rt: &impl Files, files: &[(&str, &str)]) -> io::Result<()> {
-    for (path, text) in files {
-        fs::write(rt, *path, *text)?;
-    }
-    Ok(())
+fn write(rt: &HostRuntime, path: &str, text: &str) -> Option<()> {
+    fs::write(rt, path, text).ok()
 }
 
 // A folder with the folders above it, and files.
-fn make_folder<R: Files>(rt: &R, path: &str, files: &[(&str, &str)]) -> io::Result<()> {
-    fs::create_dir_all(rt, path)?;
-    write_files(rt, files)
+fn make_folder(rt: &HostRuntime, path: &str, files: &[(&str, &str)]) -> Option<()> {
+    fs::create_dir_all(rt, path).ok()?;
+    for (path, text) in files {
+        write(rt, *path, *text)?;
+    }
+    Some(())
 }
 
 // A folder of links, each with what it leads to.
-fn make_links<R: Files>(rt: &R, path: &str, links: &[(&str, &str)]) -> io::Result<()> {
-    fs::create_dir(rt, path)?;
+fn make_links(rt: &HostRuntime, path: &str, links: &[(&str, &str)]) -> Option<()> {
+    fs::create_dir(rt, path).ok()?;
     for (original, link) in links {
-        symlink(rt, *original, *link)?;
+        symlink(rt, *original, *link).ok()?;
     }
-    Ok(())
+    Some(())
 }
 
-fn make_file(rt: &impl Files, path: &str, size: u64) -> io::Result<()> {
-    let file = fs::create(rt, path)?;
-    OpenFile::set_len(&file, size)
+fn make_file(rt: &HostRuntime, path: &str, size: u64) -> Option<()> {
+    let file = fs::create(rt, path).ok()?;
+    OpenFile::set_len(&file, size).ok()
 }
 
-fn make_largest_files(rt: &impl Files, paths: &[&str]) -> io::Result<()> {
+fn make_largest_files(rt: &HostRuntime, paths: &[&str]) -> Option<()> {
     for path in paths {
-        make_file(rt, path, LARGEST)?;
+        make_file(rt, *path, LARGEST)?;
     }
-    Ok(())
+    Some(())
+}
+
+// A folder in a folder, named by a number.
+fn make_numbered(rt: &HostRuntime, root: &str, number: usize) -> Option<()> {
+    let path = format!(in rt.alloc(); "{root}/{number}").ok()?;
+    fs::create_dir(rt, path.as_str()).ok()
 }
 
 // As many folders in a folder, named by numbers.
-fn make_folders<R: Files>(rt: &R, alloc: Global, root: &str, count: usize) -> io::Result<()> {
+fn make_folders(rt: &HostRuntime, root: &str, count: usize) -> Option<()> {
     for number in 0..count {
-        let path = format!(in alloc; "{root}/{number}")?;
-        fs::create_dir(rt, path.as_str())?;
+        make_numbered(rt, root, number)?;
     }
-    Ok(())
+    Some(())
 }
 
 fn fault_of<R: Files>(rt: &R, alloc: Global, root: &str) -> Option<TreeFault> {
@@ -65,24 +69,30 @@ fn has_text(tree: &Tree, selector: &[u8], wanted: &[u8]) -> bool {
     }
 }
 
-#[test]
-fn loads_a_folder(rt: HostRuntime) -> Result<(), Fail> {
-    let alloc = rt.alloc();
-    make_folder(&rt, "loaded", &[("loaded/a.txt", "hello\n")])?;
-    let tree = Tree::load(&rt, alloc, "loaded")?;
-    let root = b"7Search\t/search\tlocalhost\t7070\r\n0a.txt\t/a.txt\tlocalhost\t7070\r\n.\r\n";
-    assert!(rt; replies(alloc, &tree, b"", root));
-    Ok(())
+fn tree_at(rt: &HostRuntime, root: &str) -> Option<Tree> {
+    Tree::load(rt, rt.alloc(), root).ok()
+}
+
+const ROOT: &[u8] =
+    b"7Search\t/search\tlocalhost\t7070\r\n0a.txt\t/a.txt\tlocalhost\t7070\r\n.\r\n";
+
+fn loads_a_text(rt: &HostRuntime) -> Option<bool> {
+    make_folder(rt, "loaded", &[("loaded/a.txt", "hello\n")])?;
+    let tree = tree_at(rt, "loaded")?;
+    Some(replies(rt.alloc(), &tree, b"", ROOT))
 }
 
 #[test]
-fn refuses_what_is_no_folder(rt: HostRuntime) -> Result<(), Fail> {
-    let alloc = rt.alloc();
-    fs::write(&rt, "file", "hello\n")?;
+fn loads_a_folder(rt: HostRuntime) {
+    assert!(rt; loads_a_text(&rt) == Some(true));
+}
+
+#[test]
+fn refuses_what_is_no_folder(rt: HostRuntime) {
     let fault = Some(TreeFault::Unreadable { file: 0 });
-    assert!(rt; fault_of(&rt, alloc, "absent") == fault);
-    assert!(rt; fault_of(&rt, alloc, "file") == fault);
-    Ok(())
+    assert!(rt; write(&rt, "file", "hello\n").is_some());
+    assert!(rt; fault_of(&rt, rt.alloc(), "absent") == fault);
+    assert!(rt; fault_of(&rt, rt.alloc(), "file") == fault);
 }
 
 // Whether the tree has neither a text nor a folder of these selectors.
@@ -95,109 +105,124 @@ fn has_none(tree: &Tree, selectors: &[&[u8]]) -> bool {
     true
 }
 
-#[test]
-fn leaves_hidden_names_out(rt: HostRuntime) -> Result<(), Fail> {
-    let files = [
-        ("hiding/.hidden/x", "x"),
-        ("hiding/.y", "y"),
-        ("hiding/z", "z"),
-    ];
-    make_folder(&rt, "hiding/.hidden", &files)?;
-    let tree = Tree::load(&rt, rt.alloc(), "hiding")?;
-    assert!(rt; has_text(&tree, b"/z", b"z"));
-    assert!(rt; has_none(&tree, &[b"/.hidden", b"/.y"]));
-    Ok(())
+const HIDING: &[(&str, &str)] = &[
+    ("hiding/.hidden/x", "x"),
+    ("hiding/.y", "y"),
+    ("hiding/z", "z"),
+];
+
+fn hides_names(rt: &HostRuntime) -> Option<bool> {
+    make_folder(rt, "hiding/.hidden", HIDING)?;
+    let tree = tree_at(rt, "hiding")?;
+    Some(has_text(&tree, b"/z", b"z") && has_none(&tree, &[b"/.hidden", b"/.y"]))
 }
 
 #[test]
-fn walks_by_names(rt: HostRuntime) -> Result<(), Fail> {
-    let alloc = rt.alloc();
-    let files = [
-        ("named/a/.menu", "Welcome\n"),
-        ("named/a/x", "x"),
-        ("named/a.txt", ""),
-        ("named/b\tc", ""),
-    ];
-    make_folder(&rt, "named/a", &files)?;
+fn leaves_hidden_names_out(rt: HostRuntime) {
+    assert!(rt; hides_names(&rt) == Some(true));
+}
+
+const NAMED: &[(&str, &str)] = &[
+    ("named/a/.menu", "Welcome\n"),
+    ("named/a/x", "x"),
+    ("named/a.txt", ""),
+    ("named/b\tc", ""),
+];
+
+#[test]
+fn walks_by_names(rt: HostRuntime) {
+    assert!(rt; make_folder(&rt, "named/a", NAMED).is_some());
     let fault = Some(TreeFault::BadName { file: 3 });
-    assert!(rt; fault_of(&rt, alloc, "named") == fault);
-    fs::write(&rt, "named/a/.menu", "Welcome\n0x\ta\tb")?;
+    assert!(rt; fault_of(&rt, rt.alloc(), "named") == fault);
+    assert!(rt; write(&rt, "named/a/.menu", "Welcome\n0x\ta\tb").is_some());
     let fault = Some(TreeFault::BadMenuLine { file: 0, line: 2 });
-    assert!(rt; fault_of(&rt, alloc, "named/") == fault);
-    Ok(())
+    assert!(rt; fault_of(&rt, rt.alloc(), "named/") == fault);
+}
+
+const LINKS: &[(&str, &str)] = &[
+    ("../other/deep", "linked/folder"),
+    ("../other/deep/x", "linked/file"),
+    ("nowhere", "linked/nothing"),
+    ("../other/deep/x/y", "linked/through"),
+    ("/dev/null", "linked/device"),
+];
+
+// Whether the tree has what links to files and folders lead to, and nothing else.
+fn has_linked(tree: &Tree) -> bool {
+    has_text(tree, b"/folder/x", b"x")
+        && has_text(tree, b"/file", b"x")
+        && has_none(tree, &[b"/nothing", b"/through", b"/device"])
+}
+
+fn loads_links(rt: &HostRuntime) -> Option<bool> {
+    make_folder(rt, "other/deep", &[("other/deep/x", "x")])?;
+    make_links(rt, "linked", LINKS)?;
+    let tree = tree_at(rt, "linked")?;
+    Some(has_linked(&tree))
 }
 
 #[test]
-fn follows_links(rt: HostRuntime) -> Result<(), Fail> {
-    make_folder(&rt, "other/deep", &[("other/deep/x", "x")])?;
-    let links = [
-        ("../other/deep", "linked/folder"),
-        ("../other/deep/x", "linked/file"),
-        ("nowhere", "linked/nothing"),
-        ("../other/deep/x/y", "linked/through"),
-        ("/dev/null", "linked/device"),
-    ];
-    make_links(&rt, "linked", &links)?;
-    let tree = Tree::load(&rt, rt.alloc(), "linked")?;
-    assert!(rt; has_text(&tree, b"/folder/x", b"x"));
-    assert!(rt; has_text(&tree, b"/file", b"x"));
-    assert!(rt; has_none(&tree, &[b"/nothing", b"/through", b"/device"]));
-    Ok(())
+fn follows_links(rt: HostRuntime) {
+    assert!(rt; loads_links(&rt) == Some(true));
 }
 
 #[test]
-fn refuses_a_link_to_itself(rt: HostRuntime) -> Result<(), Fail> {
-    make_links(&rt, "cyclic", &[("self", "cyclic/self")])?;
-    fs::write(&rt, "cyclic/a", "a")?;
+fn refuses_a_link_to_itself(rt: HostRuntime) {
+    assert!(rt; make_links(&rt, "cyclic", &[("self", "cyclic/self")]).is_some());
+    assert!(rt; write(&rt, "cyclic/a", "a").is_some());
     let fault = Some(TreeFault::Unreadable { file: 1 });
     assert!(rt; fault_of(&rt, rt.alloc(), "cyclic") == fault);
-    Ok(())
 }
 
 #[test]
-fn stops_at_a_link_to_its_folder(rt: HostRuntime) -> Result<(), Fail> {
-    make_links(&rt, "alone", &[(".", "alone/a")])?;
+fn stops_at_a_link_to_its_folder(rt: HostRuntime) {
+    assert!(rt; make_links(&rt, "alone", &[(".", "alone/a")]).is_some());
     let fault = Some(TreeFault::LongSelector { file: 0 });
     assert!(rt; fault_of(&rt, rt.alloc(), "alone") == fault);
-    Ok(())
 }
 
 #[test]
-fn stops_at_two_links_to_a_wide_folder(rt: HostRuntime) -> Result<(), Fail> {
-    make_links(&rt, "wide", &[("../wide", "wide/a"), ("../wide", "wide/b")])?;
-    make_folders(&rt, rt.alloc(), "wide", 40)?;
+fn stops_at_two_links_to_a_wide_folder(rt: HostRuntime) {
+    let links = [("../wide", "wide/a"), ("../wide", "wide/b")];
+    assert!(rt; make_links(&rt, "wide", &links).is_some());
+    assert!(rt; make_folders(&rt, "wide", 40).is_some());
     let fault = Some(TreeFault::TooBig { file: 0 });
     assert!(rt; fault_of(&rt, rt.alloc(), "wide") == fault);
-    Ok(())
+}
+
+// A folder of as many folders as a tree may have.
+fn make_most_folders(rt: &HostRuntime) -> Option<()> {
+    fs::create_dir_all(rt, "folders/search").ok()?;
+    make_folders(rt, "folders", 4094)
 }
 
 #[test]
-fn counts_folders_without_files(rt: HostRuntime) -> Result<(), Fail> {
-    let alloc = rt.alloc();
-    fs::create_dir_all(&rt, "folders/search")?;
-    make_folders(&rt, alloc, "folders", 4094)?;
-    assert!(rt; fault_of(&rt, alloc, "folders") == None);
-    fs::write(&rt, "folders/zz", "")?;
+fn counts_folders_without_files(rt: HostRuntime) {
+    assert!(rt; make_most_folders(&rt).is_some());
+    assert!(rt; fault_of(&rt, rt.alloc(), "folders") == None);
+    assert!(rt; write(&rt, "folders/zz", "").is_some());
     let fault = Some(TreeFault::TooBig { file: 0 });
-    assert!(rt; fault_of(&rt, alloc, "folders") == fault);
-    fs::create_dir(&rt, "folders/y")?;
-    assert!(rt; fault_of(&rt, alloc, "folders") == fault);
-    Ok(())
+    assert!(rt; fault_of(&rt, rt.alloc(), "folders") == fault);
+    assert!(rt; fs::create_dir(&rt, "folders/y").is_ok());
+    assert!(rt; fault_of(&rt, rt.alloc(), "folders") == fault);
+}
+
+// Four of the largest files.
+fn make_four(rt: &HostRuntime) -> Option<()> {
+    fs::create_dir(rt, "counted").ok()?;
+    make_largest_files(rt, &["counted/a", "counted/b", "counted/c", "counted/d"])
 }
 
 #[test]
-fn counts_bytes(rt: HostRuntime) -> Result<(), Fail> {
-    let alloc = rt.alloc();
-    fs::create_dir(&rt, "counted")?;
-    make_largest_files(&rt, &["counted/a", "counted/b", "counted/c", "counted/d"])?;
-    assert!(rt; fault_of(&rt, alloc, "counted") == None);
-    make_file(&rt, "counted/e", 1)?;
+fn counts_bytes(rt: HostRuntime) {
+    assert!(rt; make_four(&rt).is_some());
+    assert!(rt; fault_of(&rt, rt.alloc(), "counted") == None);
+    assert!(rt; make_file(&rt, "counted/e", 1).is_some());
     let fault = Some(TreeFault::TooBig { file: 4 });
-    assert!(rt; fault_of(&rt, alloc, "counted") == fault);
-    make_file(&rt, "counted/b", LARGEST + 1)?;
+    assert!(rt; fault_of(&rt, rt.alloc(), "counted") == fault);
+    assert!(rt; make_file(&rt, "counted/b", LARGEST + 1).is_some());
     let fault = Some(TreeFault::TooBig { file: 1 });
-    assert!(rt; fault_of(&rt, alloc, "counted") == fault);
-    Ok(())
+    assert!(rt; fault_of(&rt, rt.alloc(), "counted") == fault);
 }
 
 // Files and folders of which none can be opened, or a folder with one more name.
@@ -257,24 +282,21 @@ impl<R: Files> Files for Faulty<'_, R> {
     }
 }
 
-#[test]
-fn refuses_what_is_not_readable(rt: HostRuntime) -> Result<(), Fail> {
-    let alloc = rt.alloc();
-    make_folder(&rt, "locked", &[("locked/a", "a")])?;
-    let fault = Some(TreeFault::Unreadable { file: 0 });
-    for name in [b".\xff\0", b"z\xff\0"] {
-        let misnamed = Faulty {
-            host: &rt,
-            name,
-            is_locked: false,
-        };
-        assert!(rt; fault_of(&misnamed, alloc, "locked") == fault);
-    }
-    let locked = Faulty {
-        host: &rt,
-        name: b"",
-        is_locked: true,
+// The fault of the folder, where its files can't be opened or it has one more name.
+fn fault_of_faulty(rt: &HostRuntime, name: &'static [u8], is_locked: bool) -> Option<TreeFault> {
+    let faulty = Faulty {
+        host: rt,
+        name,
+        is_locked,
     };
-    assert!(rt; fault_of(&locked, alloc, "locked") == fault);
-    Ok(())
+    fault_of(&faulty, rt.alloc(), "locked")
+}
+
+#[test]
+fn refuses_what_is_not_readable(rt: HostRuntime) {
+    assert!(rt; make_folder(&rt, "locked", &[("locked/a", "a")]).is_some());
+    let fault = Some(TreeFault::Unreadable { file: 0 });
+    assert!(rt; fault_of_faulty(&rt, b".\xff\0", false) == fault);
+    assert!(rt; fault_of_faulty(&rt, b"z\xff\0", false) == fault);
+    assert!(rt; fault_of_faulty(&rt, b"", true) == fault);
 }

@@ -2,7 +2,6 @@
 use crate::trees::{fault_of, replies, tree_of};
 use gopher_tree::TreeFault;
 use std::alloc::Global;
-use std::test::Fail;
 
 #[test]
 fn refuses_the_first_bad_menu_line(rt: HostRuntime) {
@@ -19,43 +18,57 @@ fn refuses(alloc: Global, bytes: &[u8]) -> bool {
     fault_of(alloc, &[(b".menu", bytes)]) == Some(TreeFault::BadMenuLine { file: 0, line: 1 })
 }
 
+const BAD_FIELDS: &[&[u8]] = &[
+    b"0x\ta\tb\t70x",
+    b"0x\ta\tb\t65536",
+    b"0x\ta\tb\t",
+    b"0x\ta\tb\t70\t+",
+    b"0x\ta\tb c\t70",
+    b"0x\ta\t\t70",
+];
+
 #[test]
 fn refuses_menu_lines_by_their_fields(rt: HostRuntime) {
-    for line in [
-        b"0x\ta\tb\t70x".as_slice(),
-        b"0x\ta\tb\t65536",
-        b"0x\ta\tb\t",
-        b"0x\ta\tb\t70\t+",
-        b"0x\ta\tb c\t70",
-        b"0x\ta\t\t70",
-    ] {
+    for line in BAD_FIELDS {
         assert!(rt; refuses(rt.alloc(), line));
     }
 }
+
+const BAD_BYTES: &[&[u8]] = &[
+    b"x\0",
+    b"x\r",
+    b"0x\ta\0",
+    b"0x\ra\tb",
+    b".x\ta",
+    b" x\ta",
+    b"\ta",
+];
 
 #[test]
 fn refuses_menu_lines_by_their_bytes(rt: HostRuntime) {
-    for line in [
-        b"x\0".as_slice(),
-        b"x\r",
-        b"0x\ta\0",
-        b"0x\ra\tb",
-        b".x\ta",
-        b" x\ta",
-        b"\ta",
-    ] {
+    for line in BAD_BYTES {
         assert!(rt; refuses(rt.alloc(), line));
     }
 }
 
+// A menu line whose selector has 256 bytes.
+fn long_line(alloc: Global) -> Option<Vec<u8>> {
+    let selector = vec![in alloc; b'a'; 256].ok()?;
+    let mut line = Vec::from_slice(alloc, b"0x\t").ok()?;
+    line.extend_from_slice(&selector).ok()?;
+    Some(line)
+}
+
+// Whether that line is refused, and the same without its last byte isn't.
+fn bounds_a_selector(alloc: Global) -> Option<bool> {
+    let line = long_line(alloc)?;
+    let short = fault_of(alloc, &[(b".menu", line.get(..258)?)]);
+    Some(short.is_none() && refuses(alloc, &line))
+}
+
 #[test]
-fn refuses_a_selector_of_256_bytes_in_a_menu_line(rt: HostRuntime) -> Result<(), Fail> {
-    let alloc = rt.alloc();
-    let mut line = Vec::from_slice(alloc, b"0x\t")?;
-    line.extend_from_slice(&vec![in alloc; b'a'; 256]?)?;
-    assert!(rt; fault_of(alloc, &[(b".menu", &line[..258])]).is_none());
-    assert!(rt; refuses(alloc, &line));
-    Ok(())
+fn refuses_a_selector_of_256_bytes_in_a_menu_line(rt: HostRuntime) {
+    assert!(rt; bounds_a_selector(rt.alloc()) == Some(true));
 }
 
 // Whether a menu file of these bytes gives this menu.

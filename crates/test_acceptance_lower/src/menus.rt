@@ -1,7 +1,6 @@
 // Menus read, written and read again.
 use gopher_item::{Entry, Menu, MenuLine, NoMemory, read_menu, write_menu};
 use std::alloc::Global;
-use std::test::Fail;
 
 // A line for each entry: an item's parts between bars, or an odd line's bytes; then whether it ended.
 fn described(alloc: Global, menu: &Menu) -> Result<Vec<u8>, NoMemory> {
@@ -41,32 +40,34 @@ fn is_read_as(alloc: Global, bytes: &[u8], expected: &[u8]) -> Result<bool, NoMe
     Ok(read_as(alloc, bytes)?.as_slice() == expected)
 }
 
+// Menus, and what they are read as.
+const MENUS: &[(&[u8], &[u8])] = &[
+    (b"", b"open!"),
+    (
+        b"0About internet Gopher\tStuff:About us\trawBits.micro.umn.edu\t70\r\n",
+        b"item 0|About internet Gopher|Stuff:About us|rawBits.micro.umn.edu|70\nopen!",
+    ),
+    (
+        b"iWelcome\tfake\t(NULL)\t0\r\nhSite\tURL:http://x/\th\t70\r\n1Dir\t/d\t h \t 70 \t+\nbroken\r\n\r\n0T\t/t\th\t70",
+        b"item i|Welcome|fake|(NULL)|0\nitem h|Site|URL:http://x/|h|70\nitem 1|Dir|/d|h|70\nodd broken\nitem 0|T|/t|h|70\nopen!",
+    ),
+    (
+        b"0A\t/a\th\t65535\n0A\t/a\th\t00070\n0A\t/a\th\t65536\n0A\t/a\th\t7o\n0A\t/a\th\t",
+        b"item 0|A|/a|h|65535\nitem 0|A|/a|h|70\nodd 0A\nodd 0A\nodd 0A\nopen!",
+    ),
+    (
+        b".x\r\n.x\ts\th\t70\r\n.\r\n1Z\t\th\t70\r\n",
+        b"odd .x\nitem .|x|s|h|70\nended",
+    ),
+    (b".", b"ended"),
+    (b"0A\t/a\th\t70\r", b"odd 0A\nopen!"),
+    (b"\t/a\th\t70\r\n", b"odd \nopen!"),
+    (b"0A\t/a\0\th\t70\r\n", b"odd 0A\nopen!"),
+];
+
 #[test]
 fn reads_menus_by_the_grammar(rt: HostRuntime) {
-    let cases: [(&[u8], &[u8]); 9] = [
-        (b"", b"open!"),
-        (
-            b"0About internet Gopher\tStuff:About us\trawBits.micro.umn.edu\t70\r\n",
-            b"item 0|About internet Gopher|Stuff:About us|rawBits.micro.umn.edu|70\nopen!",
-        ),
-        (
-            b"iWelcome\tfake\t(NULL)\t0\r\nhSite\tURL:http://x/\th\t70\r\n1Dir\t/d\t h \t 70 \t+\nbroken\r\n\r\n0T\t/t\th\t70",
-            b"item i|Welcome|fake|(NULL)|0\nitem h|Site|URL:http://x/|h|70\nitem 1|Dir|/d|h|70\nodd broken\nitem 0|T|/t|h|70\nopen!",
-        ),
-        (
-            b"0A\t/a\th\t65535\n0A\t/a\th\t00070\n0A\t/a\th\t65536\n0A\t/a\th\t7o\n0A\t/a\th\t",
-            b"item 0|A|/a|h|65535\nitem 0|A|/a|h|70\nodd 0A\nodd 0A\nodd 0A\nopen!",
-        ),
-        (
-            b".x\r\n.x\ts\th\t70\r\n.\r\n1Z\t\th\t70\r\n",
-            b"odd .x\nitem .|x|s|h|70\nended",
-        ),
-        (b".", b"ended"),
-        (b"0A\t/a\th\t70\r", b"odd 0A\nopen!"),
-        (b"\t/a\th\t70\r\n", b"odd \nopen!"),
-        (b"0A\t/a\0\th\t70\r\n", b"odd 0A\nopen!"),
-    ];
-    for (bytes, expected) in cases {
+    for (bytes, expected) in MENUS {
         assert!(rt; is_read_as(rt.alloc(), bytes, expected) == Ok(true));
     }
 }
@@ -126,13 +127,17 @@ fn count_of_entries(alloc: Global, bytes: &[u8]) -> Result<usize, NoMemory> {
     Ok(read_menu(alloc, bytes)?.entries.len())
 }
 
+// How many entries a mebibyte of line feeds has, and whether one of letters is one odd line.
+fn mebibytes(alloc: Global) -> Result<(usize, bool), NoMemory> {
+    let feeds = vec![in alloc; b'\n'; 1_048_576]?;
+    let count = count_of_entries(alloc, &feeds)?;
+    let letters = vec![in alloc; b'a'; 1_048_576]?;
+    Ok((count, is_one_odd_line(alloc, &letters)?))
+}
+
 #[test]
-fn reads_a_mebibyte_of_one_byte(rt: HostRuntime) -> Result<(), Fail> {
-    let feeds = vec![in rt.alloc(); b'\n'; 1_048_576]?;
-    assert!(rt; count_of_entries(rt.alloc(), &feeds) == Ok(0));
-    let letters = vec![in rt.alloc(); b'a'; 1_048_576]?;
-    assert!(rt; is_one_odd_line(rt.alloc(), &letters) == Ok(true));
-    Ok(())
+fn reads_a_mebibyte_of_one_byte(rt: HostRuntime) {
+    assert!(rt; mebibytes(rt.alloc()) == Ok((0, true)));
 }
 
 // The menu lines among the entries.
@@ -154,30 +159,48 @@ fn written_again(alloc: Global, bytes: &[u8]) -> Result<Vec<u8>, NoMemory> {
     Ok(out)
 }
 
-#[test]
-fn writes_what_it_read(rt: HostRuntime) -> Result<(), Fail> {
-    let bytes = b"0About internet Gopher\tStuff:About us\trawBits.micro.umn.edu\t70\r\n";
-    let expected =
-        b"before0About internet Gopher\tStuff:About us\trawBits.micro.umn.edu\t70\r\n.\r\n";
-    assert!(rt; written_again(rt.alloc(), bytes)?.as_slice() == expected.as_slice());
-    Ok(())
+// Whether a menu of these bytes is written so.
+fn is_written_as(alloc: Global, bytes: &[u8], expected: &[u8]) -> Result<bool, NoMemory> {
+    Ok(written_again(alloc, bytes)?.as_slice() == expected)
 }
 
 #[test]
-fn writes_lines_that_were_made(rt: HostRuntime) -> Result<(), Fail> {
-    let parts: [(u8, &[u8], &[u8], &[u8], u16); 3] = [
-        (b'0', b"About us", b"/about", b"Gopher.Example", 70),
-        (b'i', b"", b"", b"h", 0),
-        (b'1', b"Far", b"", b"far.example", 65_535),
-    ];
-    let mut lines = Vec::new(rt.alloc());
-    for (kind, display, selector, host, port) in parts {
-        lines.push(MenuLine::new(rt.alloc(), kind, display, selector, host, port)?)?;
+fn writes_what_it_read(rt: HostRuntime) {
+    let bytes = b"0About internet Gopher\tStuff:About us\trawBits.micro.umn.edu\t70\r\n";
+    let expected =
+        b"before0About internet Gopher\tStuff:About us\trawBits.micro.umn.edu\t70\r\n.\r\n";
+    assert!(rt; is_written_as(rt.alloc(), bytes, expected) == Ok(true));
+}
+
+// The type, display, selector, host and port of lines.
+const PARTS: &[(u8, &[u8], &[u8], &[u8], u16)] = &[
+    (b'0', b"About us", b"/about", b"Gopher.Example", 70),
+    (b'i', b"", b"", b"h", 0),
+    (b'1', b"Far", b"", b"far.example", 65_535),
+];
+
+fn made_lines(alloc: Global) -> Option<Vec<MenuLine>> {
+    let mut lines = Vec::new(alloc);
+    for (kind, display, selector, host, port) in PARTS {
+        let line = MenuLine::new(alloc, *kind, display, selector, host, *port).ok()?;
+        lines.push(line).ok()?;
     }
-    let mut out = Vec::new(rt.alloc());
-    write_menu(&lines, &mut out)?;
+    Some(lines)
+}
+
+fn written(alloc: Global) -> Option<Vec<u8>> {
+    let lines = made_lines(alloc)?;
+    let mut out = Vec::new(alloc);
+    write_menu(&lines, &mut out).ok()?;
+    Some(out)
+}
+
+#[test]
+fn writes_lines_that_were_made(rt: HostRuntime) {
+    let Some(out) = written(rt.alloc()) else {
+        panic!(rt; "no lines");
+    };
     let expected: &[u8] =
         b"0About us\t/about\tGopher.Example\t70\r\ni\t\th\t0\r\n1Far\t\tfar.example\t65535\r\n.\r\n";
     assert!(rt; out.as_slice() == expected);
-    Ok(())
 }

@@ -1,8 +1,6 @@
 // Homes, menu lines that are made, and requests: their parts and their refusals.
 use gopher_item::{EachLine, Home, ItemFault, MenuLine, lines, read_request};
 use std::alloc::{AllocError, Global};
-use std::process::Abort;
-use std::test::Fail;
 
 // Whether a home keeps this host and port.
 fn keeps(alloc: Global, host: &[u8], port: u16) -> bool {
@@ -33,21 +31,23 @@ fn code_of_line(
     }
 }
 
+// The type, display, selector and host of a line, and the code of its fault.
+const LINES: &[(u8, &[u8], &[u8], &[u8], Option<u8>)] = &[
+    (b' ', b"x", b"", b"h", Some(6)),
+    (b'.', b"x", b"", b"h", Some(6)),
+    (7, b"x", b"", b"h", Some(6)),
+    (b' ', b"x\t", b"", b"h", Some(5)),
+    (b'0', b"x\t", b"", b"h", Some(5)),
+    (b' ', b"x\t", b"", b"", Some(3)),
+    (b' ', b"x\t", b"\t", b"", Some(2)),
+    (b'i', b"x", b"", b"h", None),
+    (b'+', b"", b"", b"h", None),
+];
+
 #[test]
 fn tests_the_parts_of_a_made_line_in_order(rt: HostRuntime) {
-    let cases: [(u8, &[u8], &[u8], &[u8], Option<u8>); 9] = [
-        (b' ', b"x", b"", b"h", Some(6)),
-        (b'.', b"x", b"", b"h", Some(6)),
-        (7, b"x", b"", b"h", Some(6)),
-        (b' ', b"x\t", b"", b"h", Some(5)),
-        (b'0', b"x\t", b"", b"h", Some(5)),
-        (b' ', b"x\t", b"", b"", Some(3)),
-        (b' ', b"x\t", b"\t", b"", Some(2)),
-        (b'i', b"x", b"", b"h", None),
-        (b'+', b"", b"", b"h", None),
-    ];
-    for (kind, display, selector, host, code) in cases {
-        assert!(rt; code_of_line(rt.alloc(), kind, display, selector, host) == code);
+    for (kind, display, selector, host, code) in LINES {
+        assert!(rt; code_of_line(rt.alloc(), *kind, display, selector, host) == *code);
     }
 }
 
@@ -77,27 +77,39 @@ fn code_of(alloc: Global, line: &[u8]) -> Option<u8> {
     }
 }
 
-#[test]
-fn bounds_the_selectors_of_requests(rt: HostRuntime) -> Result<(), Fail> {
-    for (length, code) in [
-        (255usize, None),
-        (256, Some(2u8)),
-        (1024, Some(2)),
-        (1025, Some(7)),
-    ] {
-        let line = vec![in rt.alloc(); b's'; length]?;
-        assert!(rt; code_of(rt.alloc(), &line) == code);
+// Whether a request of a selector of this length has a fault of this code.
+fn has_code(alloc: Global, length: usize, code: Option<u8>) -> bool {
+    match vec![in alloc; b's'; length] {
+        Ok(line) => code_of(alloc, &line) == code,
+        Err(_refused) => false,
     }
-    Ok(())
 }
 
 #[test]
-fn bounds_the_searches_of_requests(rt: HostRuntime) -> Result<(), Fail> {
-    let mut line = Vec::from_slice(rt.alloc(), b"/search\t")?;
-    line.extend_from_slice(&vec![in rt.alloc(); b'x'; 1017]?)?;
-    assert!(rt; code_of(rt.alloc(), &line[..1024]).is_none());
-    assert!(rt; code_of(rt.alloc(), &line) == Some(7));
-    Ok(())
+fn bounds_the_selectors_of_requests(rt: HostRuntime) {
+    assert!(rt; has_code(rt.alloc(), 255, None));
+    assert!(rt; has_code(rt.alloc(), 256, Some(2)));
+    assert!(rt; has_code(rt.alloc(), 1024, Some(2)));
+    assert!(rt; has_code(rt.alloc(), 1025, Some(7)));
+}
+
+// A search of 1,025 bytes.
+fn long_search(alloc: Global) -> Option<Vec<u8>> {
+    let words = vec![in alloc; b'x'; 1017].ok()?;
+    let mut line = Vec::from_slice(alloc, b"/search\t").ok()?;
+    line.extend_from_slice(&words).ok()?;
+    Some(line)
+}
+
+// The codes of the faults of that search without its last byte, and of the whole.
+fn codes_of_searches(alloc: Global) -> Option<(Option<u8>, Option<u8>)> {
+    let line = long_search(alloc)?;
+    Some((code_of(alloc, line.get(..1024)?), code_of(alloc, &line)))
+}
+
+#[test]
+fn bounds_the_searches_of_requests(rt: HostRuntime) {
+    assert!(rt; codes_of_searches(rt.alloc()) == Some((None, Some(7))));
 }
 
 // The lines of these bytes, one by one.
@@ -109,11 +121,19 @@ fn each_line(alloc: Global, bytes: &[u8]) -> Result<Vec<&[u8]>, AllocError> {
     Ok(each)
 }
 
+const CUT: &[&[u8]] = &[b"a", b"", b"b\r", b"c\r"];
+
+// Whether these are the lines, where memory wasn't refused.
+fn are_cut<E: Drop>(lines: &Result<Vec<&[u8]>, E>) -> bool {
+    match lines {
+        Ok(lines) => lines.as_slice() == CUT,
+        Err(_refused) => false,
+    }
+}
+
 #[test]
-fn cuts_lines(rt: HostRuntime) -> Result<(), Fail> {
+fn cuts_lines(rt: HostRuntime) {
     let bytes = b"a\r\n\nb\r\r\nc\r";
-    let expected: [&[u8]; 4] = [b"a", b"", b"b\r", b"c\r"];
-    assert!(rt; lines(rt.alloc(), bytes)?.as_slice() == expected.as_slice());
-    assert!(rt; each_line(rt.alloc(), bytes)?.as_slice() == expected.as_slice());
-    Ok(())
+    assert!(rt; are_cut(&lines(rt.alloc(), bytes)));
+    assert!(rt; are_cut(&each_line(rt.alloc(), bytes)));
 }

@@ -13,16 +13,18 @@ fn reads(alloc: Global, text: &[u8], line: &[u8], rest: &[u8]) -> bool {
     }
 }
 
+// Texts, each with its first line and what is left of it.
+const TEXTS: &[(&[u8], &[u8], &[u8])] = &[
+    (b"/a.txt\r\nextra", b"/a.txt", b"extra"),
+    (b"a\r\r\n\n", b"a\r", b"\n"),
+    (b"\n", b"", b""),
+    (b"", b"", b""),
+    (b"/a.txt\r", b"/a.txt\r", b""),
+];
+
 #[test]
 fn reads_a_line_and_nothing_after_it(rt: HostRuntime) {
-    for (text, line, rest) in [
-        ("/a.txt\r\nextra", "/a.txt", "extra"),
-        ("a\r\r\n\n", "a\r", "\n"),
-        ("\n", "", ""),
-        ("", "", ""),
-        ("/a.txt\r", "/a.txt\r", ""),
-    ] {
-        let (text, line, rest) = (text.as_bytes(), line.as_bytes(), rest.as_bytes());
+    for (text, line, rest) in TEXTS {
         assert!(rt; reads(rt.alloc(), text, line, rest));
     }
 }
@@ -35,23 +37,44 @@ fn length_read<R: Read>(alloc: Global, reader: &mut Watched<R>) -> Result<usize,
     }
 }
 
+// So many times the byte `a`, and then this end.
+fn letters(alloc: Global, count: usize, end: &[u8]) -> Option<Vec<u8>> {
+    let mut bytes = vec![in alloc; b'a'; count].ok()?;
+    bytes.extend_from_slice(end).ok()?;
+    Some(bytes)
+}
+
+// What a line of these bytes is read as, and how much is left of them.
+fn ends_as(alloc: Global, bytes: &[u8], wanted: Result<usize, LineFault>, left: usize) -> bool {
+    let mut reader = Watched::new(bytes);
+    length_read(alloc, &mut reader) == wanted && reader.into_inner().len() == left
+}
+
+// A count of letters, what follows them, what is read, and how much is left.
+const LONG: &[(usize, &[u8], Result<usize, LineFault>, usize)] = &[
+    (1_024, b"\r\nb", Ok(1_024), 1),
+    (1_024, b"", Ok(1_024), 0),
+    (1_025, b"\nb", Err(LineFault::LineTooLong), 1),
+    (1_024, b"\r", Err(LineFault::LineTooLong), 0),
+    (1_026, b"", Err(LineFault::LineTooLong), 0),
+    (1_030, b"\n", Err(LineFault::LineTooLong), 5),
+];
+
+fn bounds_a_line(
+    alloc: Global,
+    count: usize,
+    end: &[u8],
+    wanted: Result<usize, LineFault>,
+    left: usize,
+) -> Option<bool> {
+    Some(ends_as(alloc, &letters(alloc, count, end)?, wanted, left))
+}
+
 #[test]
 fn reads_no_line_that_is_too_long(rt: HostRuntime) {
-    for (count, end, expected, left) in [
-        (1_024, "\r\nb", Ok(1_024), 1),
-        (1_024, "", Ok(1_024), 0),
-        (1_025, "\nb", Err(LineFault::LineTooLong), 1),
-        (1_024, "\r", Err(LineFault::LineTooLong), 0),
-        (1_026, "", Err(LineFault::LineTooLong), 0),
-        (1_030, "\n", Err(LineFault::LineTooLong), 5),
-    ] {
-        let mut bytes = vec![in rt.alloc(); b'a'; count].expect(&rt, "memory");
-        bytes
-            .extend_from_slice(end.as_bytes())
-            .expect(&rt, "memory");
-        let mut reader = Watched::new(bytes.as_slice());
-        assert!(rt; length_read(rt.alloc(), &mut reader) == expected);
-        assert!(rt; reader.into_inner().len() == left);
+    for (count, end, wanted, left) in LONG {
+        let is_bounded = bounds_a_line(rt.alloc(), *count, end, *wanted, *left);
+        assert!(rt; is_bounded == Some(true));
     }
 }
 

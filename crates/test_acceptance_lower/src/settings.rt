@@ -1,9 +1,7 @@
 // Settings: what a text states, and the first of its faults.
 use gopher_item::Place;
 use gopher_scope::{Key, Settings, SettingsFault};
-use std::alloc::Global;
-use std::process::Abort;
-use std::test::Fail;
+use std::alloc::{AllocError, Global};
 
 const WORKED: &str =
     "host = \"localhost\"\nport = 7070\nroot = \"/srv/hole\"\n[[seeds]]\nhost = \"localhost\"\nport = 7070\n[[allow]]\nhost = \"LOCALHOST\"\nport = 7070\n[[deny]]\nhost = \"localhost\"\nport = 7070\nprefix = \"/private\"\n";
@@ -51,13 +49,18 @@ fn numbers(settings: &Settings) -> [u32; 5] {
     ]
 }
 
+fn has_worked_values(settings: &Settings) -> bool {
+    settings.home.host() == b"localhost".as_slice()
+        && settings.root.as_str() == "/srv/hole"
+        && numbers(settings) == [7070, 4096, 4, 2, 1]
+}
+
 #[test]
-fn reads_the_worked_settings(rt: HostRuntime) -> Result<(), Fail> {
-    let settings = Settings::read(rt.alloc(), WORKED)?;
-    assert!(rt; settings.home.host() == b"localhost".as_slice());
-    assert!(rt; settings.root.as_str() == "/srv/hole");
-    assert!(rt; numbers(&settings) == [7070, 4096, 4, 2, 1]);
-    Ok(())
+fn reads_the_worked_settings(rt: HostRuntime) {
+    let Ok(settings) = Settings::read(rt.alloc(), WORKED) else {
+        panic!(rt; "the settings are refused");
+    };
+    assert!(rt; has_worked_values(&settings));
 }
 
 // Whether the settings have the worked seed alone, and the worked scope.
@@ -71,157 +74,172 @@ fn has_worked_scope(alloc: Global, settings: &Settings) -> bool {
 }
 
 #[test]
-fn reads_the_worked_seeds_and_scope(rt: HostRuntime) -> Result<(), Fail> {
-    let settings = Settings::read(rt.alloc(), WORKED)?;
+fn reads_the_worked_seeds_and_scope(rt: HostRuntime) {
+    let Ok(settings) = Settings::read(rt.alloc(), WORKED) else {
+        panic!(rt; "the settings are refused");
+    };
     assert!(rt; has_worked_scope(rt.alloc(), &settings));
-    Ok(())
 }
 
-// Whether the settings have the stated seeds.
-fn has_stated_seeds(alloc: Global, settings: &Settings) -> bool {
-    settings.seeds.len() == 2
+// Whether the settings have the stated numbers and seeds.
+fn has_stated_values(alloc: Global, settings: &Settings) -> bool {
+    numbers(settings) == [70, 65_536, 16, 8, 5]
+        && settings.seeds.len() == 2
         && has_seed(alloc, settings, 0, (b'1', b"", b"a", 70))
         && has_seed(alloc, settings, 1, (b'0', b"/x", b"b", 65_535))
 }
 
 #[test]
-fn reads_what_is_stated(rt: HostRuntime) -> Result<(), Fail> {
-    let settings = Settings::read(rt.alloc(), STATED)?;
-    assert!(rt; numbers(&settings) == [70, 65_536, 16, 8, 5]);
-    assert!(rt; has_stated_seeds(rt.alloc(), &settings));
-    Ok(())
+fn reads_what_is_stated(rt: HostRuntime) {
+    let Ok(settings) = Settings::read(rt.alloc(), STATED) else {
+        panic!(rt; "the settings are refused");
+    };
+    assert!(rt; has_stated_values(rt.alloc(), &settings));
 }
 
-fn check_refused(rt: &(impl Abort + AllocGlobal), text: &str, wanted: SettingsFault) {
-    let refused = Settings::read(rt.alloc(), text).err();
-    assert!(rt; refused == Some(wanted), "at {text}");
+// Whether the text is refused with this fault.
+fn is_refused(alloc: Global, text: &str, wanted: SettingsFault) -> bool {
+    match Settings::read(alloc, text) {
+        Ok(_settings) => false,
+        Err(fault) => fault == wanted,
+    }
 }
+
+// Whether it is refused so behind a host and a root.
+fn is_refused_after_root(
+    alloc: Global,
+    rest: &str,
+    wanted: SettingsFault,
+) -> Result<bool, AllocError> {
+    let text = format!(in alloc; "host = 'h'\nroot = 'r'\n{rest}\n")?;
+    Ok(is_refused(alloc, &text, wanted))
+}
+
+const WORKED_FAULTS: &[(&str, SettingsFault)] = &[
+    ("host =", SettingsFault::NotToml),
+    ("port = 70", SettingsFault::Missing(Key::Host)),
+    ("host = 1", SettingsFault::WrongKind(Key::Host)),
+    (
+        "host = \"h\"\nport = 0",
+        SettingsFault::OutOfRange(Key::Port),
+    ),
+    (
+        "host = \"h\"\nroot = \"r\"\nseeds = [{ port = 70 }]",
+        SettingsFault::Missing(Key::Seeds),
+    ),
+    (
+        "host = \"h\"\nroot = \"r\"\nallow = [1]",
+        SettingsFault::WrongKind(Key::Allow),
+    ),
+    ("colour = 1", SettingsFault::UnknownKey),
+    ("", SettingsFault::Missing(Key::Host)),
+];
 
 #[test]
 fn refuses_the_worked_texts(rt: HostRuntime) {
-    check_refused(&rt, "host =", SettingsFault::NotToml);
-    check_refused(&rt, "port = 70", SettingsFault::Missing(Key::Host));
-    check_refused(&rt, "host = 1", SettingsFault::WrongKind(Key::Host));
-    check_refused(
-        &rt,
-        "host = \"h\"\nport = 0",
-        SettingsFault::OutOfRange(Key::Port),
-    );
-    check_refused(
-        &rt,
-        "host = \"h\"\nroot = \"r\"\nseeds = [{ port = 70 }]",
-        SettingsFault::Missing(Key::Seeds),
-    );
-    check_refused(
-        &rt,
-        "host = \"h\"\nroot = \"r\"\nallow = [1]",
-        SettingsFault::WrongKind(Key::Allow),
-    );
-    check_refused(&rt, "colour = 1", SettingsFault::UnknownKey);
-    check_refused(&rt, "", SettingsFault::Missing(Key::Host));
+    for (text, fault) in WORKED_FAULTS {
+        assert!(rt; is_refused(rt.alloc(), text, *fault), "at {text}");
+    }
 }
+
+const FAULTS_IN_ORDER: &[(&str, SettingsFault)] = &[
+    ("host = ''\nroot = 1", SettingsFault::OutOfRange(Key::Host)),
+    (
+        "host = 'h'\nport = 70.0",
+        SettingsFault::WrongKind(Key::Port),
+    ),
+    (
+        "host = 'h'\nport = -1",
+        SettingsFault::OutOfRange(Key::Port),
+    ),
+    (
+        "host = 'h'\nport = 65536",
+        SettingsFault::OutOfRange(Key::Port),
+    ),
+    ("host = 'h'", SettingsFault::Missing(Key::Root)),
+    (
+        "host = 'h'\nroot = ''",
+        SettingsFault::OutOfRange(Key::Root),
+    ),
+    (
+        "tries = 9\n[[deny]]\nhost = 'h'\nselector = ''",
+        SettingsFault::UnknownKey,
+    ),
+];
 
 #[test]
 fn refuses_in_the_order_of_the_keys(rt: HostRuntime) {
-    check_refused(
-        &rt,
-        "host = ''\nroot = 1",
-        SettingsFault::OutOfRange(Key::Host),
-    );
-    check_refused(
-        &rt,
-        "host = 'h'\nport = 70.0",
-        SettingsFault::WrongKind(Key::Port),
-    );
-    check_refused(
-        &rt,
-        "host = 'h'\nport = -1",
-        SettingsFault::OutOfRange(Key::Port),
-    );
-    check_refused(
-        &rt,
-        "host = 'h'\nport = 65536",
-        SettingsFault::OutOfRange(Key::Port),
-    );
-    check_refused(&rt, "host = 'h'", SettingsFault::Missing(Key::Root));
-    check_refused(
-        &rt,
-        "host = 'h'\nroot = ''",
-        SettingsFault::OutOfRange(Key::Root),
-    );
-    check_refused(
-        &rt,
-        "tries = 9\n[[deny]]\nhost = 'h'\nselector = ''",
-        SettingsFault::UnknownKey,
-    );
+    for (text, fault) in FAULTS_IN_ORDER {
+        assert!(rt; is_refused(rt.alloc(), text, *fault), "at {text}");
+    }
 }
 
-// A text that states a host and a root, and then these lines.
-fn check_refused_after_root(
-    rt: &(impl Abort + AllocGlobal),
-    rest: &str,
-    wanted: SettingsFault,
-) -> Result<(), Fail> {
-    let text = format!(in rt.alloc(); "host = 'h'\nroot = 'r'\n{rest}\n")?;
-    check_refused(rt, &text, wanted);
-    Ok(())
-}
-
-#[test]
-fn refuses_seeds(rt: HostRuntime) -> Result<(), Fail> {
-    check_refused_after_root(&rt, "seeds = {}", SettingsFault::WrongKind(Key::Seeds))?;
-    check_refused_after_root(
-        &rt,
+const SEED_FAULTS: &[(&str, SettingsFault)] = &[
+    ("seeds = {}", SettingsFault::WrongKind(Key::Seeds)),
+    (
         "seeds = [{ host = 'h' }, { host = 'h', type = '2' }]",
         SettingsFault::OutOfRange(Key::Seeds),
-    )?;
-    check_refused_after_root(
-        &rt,
+    ),
+    (
         "seeds = [{ host = 1, type = '2' }]",
         SettingsFault::OutOfRange(Key::Seeds),
-    )?;
-    check_refused_after_root(
-        &rt,
+    ),
+    (
         "seeds = [{ host = 'h', selector = \"\\t\" }]",
         SettingsFault::OutOfRange(Key::Seeds),
-    )
-}
+    ),
+];
 
 #[test]
-fn refuses_rules(rt: HostRuntime) -> Result<(), Fail> {
-    check_refused_after_root(
-        &rt,
+fn refuses_seeds(rt: HostRuntime) {
+    for (text, fault) in SEED_FAULTS {
+        let is_refused = is_refused_after_root(rt.alloc(), text, *fault);
+        assert!(rt; is_refused == Ok(true), "at {text}");
+    }
+}
+
+const RULE_FAULTS: &[(&str, SettingsFault)] = &[
+    (
         "allow = [{ host = 1, port = 0 }]",
         SettingsFault::WrongKind(Key::Allow),
-    )?;
-    check_refused_after_root(
-        &rt,
+    ),
+    (
         "deny = [{ host = 'h', prefix = 7 }]\nplaces = 0",
         SettingsFault::WrongKind(Key::Deny),
-    )
-}
+    ),
+];
 
 #[test]
-fn refuses_sizes(rt: HostRuntime) -> Result<(), Fail> {
-    check_refused_after_root(&rt, "places = 0", SettingsFault::OutOfRange(Key::Places))?;
-    check_refused_after_root(
-        &rt,
-        "places = 65537",
-        SettingsFault::OutOfRange(Key::Places),
-    )?;
-    check_refused_after_root(&rt, "workers = 17", SettingsFault::OutOfRange(Key::Workers))?;
-    check_refused_after_root(
-        &rt,
+fn refuses_rules(rt: HostRuntime) {
+    for (text, fault) in RULE_FAULTS {
+        let is_refused = is_refused_after_root(rt.alloc(), text, *fault);
+        assert!(rt; is_refused == Ok(true), "at {text}");
+    }
+}
+
+const SIZE_FAULTS: &[(&str, SettingsFault)] = &[
+    ("places = 0", SettingsFault::OutOfRange(Key::Places)),
+    ("places = 65537", SettingsFault::OutOfRange(Key::Places)),
+    ("workers = 17", SettingsFault::OutOfRange(Key::Workers)),
+    (
         "threads = 9\ntries = 0",
         SettingsFault::OutOfRange(Key::Threads),
-    )?;
-    check_refused_after_root(&rt, "tries = 0", SettingsFault::OutOfRange(Key::Tries))?;
-    check_refused_after_root(&rt, "tries = 6", SettingsFault::OutOfRange(Key::Tries))?;
-    check_refused_after_root(&rt, "tries = '1'", SettingsFault::WrongKind(Key::Tries))
+    ),
+    ("tries = 0", SettingsFault::OutOfRange(Key::Tries)),
+    ("tries = 6", SettingsFault::OutOfRange(Key::Tries)),
+    ("tries = '1'", SettingsFault::WrongKind(Key::Tries)),
+];
+
+#[test]
+fn refuses_sizes(rt: HostRuntime) {
+    for (text, fault) in SIZE_FAULTS {
+        let is_refused = is_refused_after_root(rt.alloc(), text, *fault);
+        assert!(rt; is_refused == Ok(true), "at {text}");
+    }
 }
 
 // Settings that state so many rules.
-fn settings_of_rules(alloc: Global, count: usize) -> Result<String, Fail> {
+fn settings_of_rules(alloc: Global, count: usize) -> Result<String, AllocError> {
     let mut text = String::from_str(alloc, "host = 'h'\nroot = 'r'\n")?;
     for _ in 0..count {
         text.push_str("[[allow]]\nhost = 'h'\n")?;
@@ -229,25 +247,33 @@ fn settings_of_rules(alloc: Global, count: usize) -> Result<String, Fail> {
     Ok(text)
 }
 
-#[test]
-fn reads_at_most_256_rules(rt: HostRuntime) -> Result<(), Fail> {
-    let most = Settings::read(rt.alloc(), &settings_of_rules(rt.alloc(), 256)?)?;
-    let (allow, _) = most.scope.into_rules();
-    assert!(rt; allow.len() == 256);
-    let text = settings_of_rules(rt.alloc(), 257)?;
-    check_refused(&rt, &text, SettingsFault::OutOfRange(Key::Allow));
-    Ok(())
+// How many rules are allowed by settings that state so many.
+fn allowed(alloc: Global, count: usize) -> Option<usize> {
+    let text = settings_of_rules(alloc, count).ok()?;
+    let settings = Settings::read(alloc, &text).ok()?;
+    let (allow, _deny) = settings.scope.into_rules();
+    Some(allow.len())
+}
+
+fn refuses_rules_of(alloc: Global, count: usize) -> Result<bool, AllocError> {
+    let text = settings_of_rules(alloc, count)?;
+    Ok(is_refused(alloc, &text, SettingsFault::OutOfRange(Key::Allow)))
 }
 
 #[test]
-fn names_the_key_of_a_fault(rt: HostRuntime) -> Result<(), Fail> {
+fn reads_at_most_256_rules(rt: HostRuntime) {
+    assert!(rt; allowed(rt.alloc(), 256) == Some(256));
+    assert!(rt; refuses_rules_of(rt.alloc(), 257) == Ok(true));
+}
+
+fn tells_key(alloc: Global, fault: SettingsFault) -> Result<bool, AllocError> {
+    Ok(format!(in alloc; "{fault}")?.as_str().starts_with("port: "))
+}
+
+#[test]
+fn names_the_key_of_a_fault(rt: HostRuntime) {
     let fault = SettingsFault::OutOfRange(Key::Port);
     assert!(rt; fault.code() == 33);
     assert!(rt; Key::Port.name() == "port");
-    assert!(rt;
-        format!(in rt.alloc(); "{fault}")?
-            .as_str()
-            .starts_with("port: ")
-    );
-    Ok(())
+    assert!(rt; tells_key(rt.alloc(), fault) == Ok(true));
 }

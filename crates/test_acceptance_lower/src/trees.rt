@@ -2,7 +2,6 @@
 use gopher_item::Home;
 use gopher_tree::{Node, Tree, TreeFault, error_reply};
 use std::alloc::{AllocError, Global};
-use std::test::Fail;
 
 type Files = Vec<(Vec<u8>, Vec<u8>)>;
 
@@ -44,10 +43,12 @@ pub fn replies(alloc: Global, tree: &Tree, selector: &[u8], wanted: &[u8]) -> bo
     }
 }
 
+type Rows = &'static [(&'static [u8], &'static [u8])];
+
 // Whether each selector has its reply.
-fn replies_to_all(alloc: Global, tree: &Tree, rows: &[(&[u8], &[u8])]) -> bool {
+fn replies_to_all(alloc: Global, tree: &Tree, rows: Rows) -> bool {
     for (selector, wanted) in rows {
-        if !replies(alloc, tree, selector, wanted) {
+        if !replies(alloc, tree, *selector, *wanted) {
             return false;
         }
     }
@@ -56,22 +57,30 @@ fn replies_to_all(alloc: Global, tree: &Tree, rows: &[(&[u8], &[u8])]) -> bool {
 
 const NOT_FOUND: &[u8] = b"3Not found\t\tlocalhost\t7070\r\n.\r\n";
 
+// Whether the tree of these files has these replies.
+fn has_replies(alloc: Global, files: Rows, rows: Rows) -> bool {
+    match tree_of(alloc, files) {
+        Ok(tree) => replies_to_all(alloc, &tree, rows),
+        Err(_fault) => false,
+    }
+}
+
+const ROOT: &[u8] =
+    b"7Search\t/search\tlocalhost\t7070\r\n0a.txt\t/a.txt\tlocalhost\t7070\r\n.\r\n";
+
+const ROOT_REPLIES: Rows = &[
+    (b"", ROOT),
+    (b"/", ROOT),
+    (b"/a.txt", b"hello\r\n.\r\n"),
+    (b"/b", NOT_FOUND),
+    (b"//a.txt", NOT_FOUND),
+    (b"//", NOT_FOUND),
+    (b"a.txt", NOT_FOUND),
+];
+
 #[test]
-fn lists_the_root(rt: HostRuntime) -> Result<(), Fail> {
-    let alloc = rt.alloc();
-    let tree = tree_of(alloc, &[(b"a.txt", b"hello\n")])?;
-    let root = b"7Search\t/search\tlocalhost\t7070\r\n0a.txt\t/a.txt\tlocalhost\t7070\r\n.\r\n";
-    let rows = [
-        (b"".as_slice(), root.as_slice()),
-        (b"/", root),
-        (b"/a.txt", b"hello\r\n.\r\n"),
-        (b"/b", NOT_FOUND),
-        (b"//a.txt", NOT_FOUND),
-        (b"//", NOT_FOUND),
-        (b"a.txt", NOT_FOUND),
-    ];
-    assert!(rt; replies_to_all(alloc, &tree, &rows));
-    Ok(())
+fn lists_the_root(rt: HostRuntime) {
+    assert!(rt; has_replies(rt.alloc(), &[(b"a.txt", b"hello\n")], ROOT_REPLIES));
 }
 
 // Whether the selector names nothing.
@@ -79,23 +88,26 @@ fn finds_nothing(alloc: Global, tree: &Tree, selector: &[u8]) -> bool {
     replies(alloc, tree, selector, NOT_FOUND) && tree.find(selector).is_none()
 }
 
-#[test]
-fn finds_nothing_behind_a_last_slash(rt: HostRuntime) -> Result<(), Fail> {
-    let alloc = rt.alloc();
-    let tree = tree_of(alloc, &[(b"a.txt", b"a"), (b"docs/b.txt", b"b")])?;
-    assert!(rt; finds_nothing(alloc, &tree, b"/docs/"));
-    assert!(rt; finds_nothing(alloc, &tree, b"/a.txt/"));
-    assert!(rt; finds_nothing(alloc, &tree, b"/docs/b.txt/"));
-    Ok(())
+// Whether a last slash leads to nothing in a tree with `/a.txt` and `/docs/b.txt`.
+fn finds_no_last_slash(alloc: Global, tree: &Tree) -> bool {
+    finds_nothing(alloc, tree, b"/docs/")
+        && finds_nothing(alloc, tree, b"/a.txt/")
+        && finds_nothing(alloc, tree, b"/docs/b.txt/")
 }
 
 #[test]
-fn sends_texts_by_lines(rt: HostRuntime) -> Result<(), Fail> {
-    let alloc = rt.alloc();
-    let tree = tree_of(alloc, &[(b"p", b".\nhi"), (b"e", b"")])?;
-    assert!(rt; replies(alloc, &tree, b"/p", b"..\r\nhi\r\n.\r\n"));
-    assert!(rt; replies(alloc, &tree, b"/e", b".\r\n"));
-    Ok(())
+fn finds_nothing_behind_a_last_slash(rt: HostRuntime) {
+    let Ok(tree) = tree_of(rt.alloc(), &[(b"a.txt", b"a"), (b"docs/b.txt", b"b")]) else {
+        panic!(rt; "no tree");
+    };
+    assert!(rt; finds_no_last_slash(rt.alloc(), &tree));
+}
+
+#[test]
+fn sends_texts_by_lines(rt: HostRuntime) {
+    let files: Rows = &[(b"p", b".\nhi"), (b"e", b"")];
+    let rows: Rows = &[(b"/p", b"..\r\nhi\r\n.\r\n"), (b"/e", b".\r\n")];
+    assert!(rt; has_replies(rt.alloc(), files, rows));
 }
 
 // Whether the folder's menu file and its other file are found as they should be.
@@ -105,32 +117,34 @@ fn finds_docs(tree: &Tree) -> bool {
         && matches!(tree.find(b"/docs/b.gif"), Some(Node::File(b'g', _)))
 }
 
+const DOCS: Rows = &[
+    (b"a.txt", b"hello\n"),
+    (b"docs/b.gif", b"GIF\0.\n"),
+    (
+        b"docs/.menu",
+        b"Welcome\n0Read\t/a.txt\n1Far\t\tfar.example\t70\n",
+    ),
+];
+
+const DOCS_REPLIES: Rows = &[
+    (
+        b"/",
+        b"7Search\t/search\tlocalhost\t7070\r\n0a.txt\t/a.txt\tlocalhost\t7070\r\n1docs\t/docs\tlocalhost\t7070\r\n.\r\n",
+    ),
+    (
+        b"/docs",
+        b"iWelcome\t\tlocalhost\t7070\r\n0Read\t/a.txt\tlocalhost\t7070\r\n1Far\t\tfar.example\t70\r\n.\r\n",
+    ),
+    (b"/docs/b.gif", b"GIF\0.\n"),
+    (b"/docs/.menu", NOT_FOUND),
+];
+
 #[test]
-fn sends_menu_files(rt: HostRuntime) -> Result<(), Fail> {
-    let alloc = rt.alloc();
-    let files = [
-        (b"a.txt".as_slice(), b"hello\n".as_slice()),
-        (b"docs/b.gif", b"GIF\0.\n"),
-        (
-            b"docs/.menu",
-            b"Welcome\n0Read\t/a.txt\n1Far\t\tfar.example\t70\n",
-        ),
-    ];
-    let tree = tree_of(alloc, &files)?;
-    let rows = [
-        (
-            b"/".as_slice(),
-            b"7Search\t/search\tlocalhost\t7070\r\n0a.txt\t/a.txt\tlocalhost\t7070\r\n1docs\t/docs\tlocalhost\t7070\r\n.\r\n".as_slice(),
-        ),
-        (
-            b"/docs",
-            b"iWelcome\t\tlocalhost\t7070\r\n0Read\t/a.txt\tlocalhost\t7070\r\n1Far\t\tfar.example\t70\r\n.\r\n",
-        ),
-        (b"/docs/b.gif", b"GIF\0.\n"),
-        (b"/docs/.menu", NOT_FOUND),
-    ];
-    assert!(rt; replies_to_all(alloc, &tree, &rows) && finds_docs(&tree));
-    Ok(())
+fn sends_menu_files(rt: HostRuntime) {
+    let Ok(tree) = tree_of(rt.alloc(), DOCS) else {
+        panic!(rt; "no tree");
+    };
+    assert!(rt; replies_to_all(rt.alloc(), &tree, DOCS_REPLIES) && finds_docs(&tree));
 }
 
 // Whether the tree has a file of this type and these bytes at a path.
@@ -145,53 +159,60 @@ fn has_file(alloc: Global, tree: &Tree, path: &[u8], kind: u8, bytes: &[u8]) -> 
     }
 }
 
-#[test]
-fn finds_the_types_of_files(rt: HostRuntime) -> Result<(), Fail> {
-    let alloc = rt.alloc();
-    for (path, bytes, wanted) in [
-        (b"a.GIF".as_slice(), b"x".as_slice(), b'g'),
-        (b"a.png".as_slice(), b"\0".as_slice(), b'I'),
-        (b"a.jPg".as_slice(), b"".as_slice(), b'I'),
-        (b"b/jpeg.jpeg".as_slice(), b"".as_slice(), b'I'),
-        (b"gif".as_slice(), b"a\0".as_slice(), b'9'),
-        (b"a.gif.txt".as_slice(), b"a".as_slice(), b'0'),
-    ] {
-        let tree = tree_of(alloc, &[(path, bytes)])?;
-        assert!(rt; has_file(alloc, &tree, path, wanted, bytes));
+// Paths with the bytes of their files, and the types of these.
+const TYPES: &[(&[u8], &[u8], u8)] = &[
+    (b"a.GIF", b"x", b'g'),
+    (b"a.png", b"\0", b'I'),
+    (b"a.jPg", b"", b'I'),
+    (b"b/jpeg.jpeg", b"", b'I'),
+    (b"gif", b"a\0", b'9'),
+    (b"a.gif.txt", b"a", b'0'),
+];
+
+// Whether a tree of this file alone has it with this type.
+fn has_type(alloc: Global, path: &[u8], bytes: &[u8], kind: u8) -> bool {
+    match tree_of(alloc, &[(path, bytes)]) {
+        Ok(tree) => has_file(alloc, &tree, path, kind, bytes),
+        Err(_fault) => false,
     }
-    Ok(())
 }
 
 #[test]
-fn lists_each_name_once_in_order(rt: HostRuntime) -> Result<(), Fail> {
-    let alloc = rt.alloc();
-    let files = [
-        (b"b/y".as_slice(), b"".as_slice()),
-        (b"B", b""),
-        (b"b/x", b""),
-        (b"a/.menu", b""),
-    ];
-    let tree = tree_of(alloc, &files)?;
-    let rows = [
-        (
-            b"".as_slice(),
-            b"7Search\t/search\tlocalhost\t7070\r\n0B\t/B\tlocalhost\t7070\r\n1a\t/a\tlocalhost\t7070\r\n1b\t/b\tlocalhost\t7070\r\n.\r\n".as_slice(),
-        ),
-        (
-            b"/b",
-            b"0x\t/b/x\tlocalhost\t7070\r\n0y\t/b/y\tlocalhost\t7070\r\n.\r\n",
-        ),
-        (b"/a", b".\r\n"),
-    ];
-    assert!(rt; replies_to_all(alloc, &tree, &rows));
-    Ok(())
+fn finds_the_types_of_files(rt: HostRuntime) {
+    for (path, bytes, kind) in TYPES {
+        assert!(rt; has_type(rt.alloc(), path, bytes, *kind));
+    }
+}
+
+const NAMES: Rows = &[(b"b/y", b""), (b"B", b""), (b"b/x", b""), (b"a/.menu", b"")];
+
+const NAMES_REPLIES: Rows = &[
+    (
+        b"",
+        b"7Search\t/search\tlocalhost\t7070\r\n0B\t/B\tlocalhost\t7070\r\n1a\t/a\tlocalhost\t7070\r\n1b\t/b\tlocalhost\t7070\r\n.\r\n",
+    ),
+    (
+        b"/b",
+        b"0x\t/b/x\tlocalhost\t7070\r\n0y\t/b/y\tlocalhost\t7070\r\n.\r\n",
+    ),
+    (b"/a", b".\r\n"),
+];
+
+#[test]
+fn lists_each_name_once_in_order(rt: HostRuntime) {
+    assert!(rt; has_replies(rt.alloc(), NAMES, NAMES_REPLIES));
+}
+
+// The reply to a request that was refused.
+fn no_words(alloc: Global) -> Option<Vec<u8>> {
+    let home = Home::new(alloc, b"h", 70).ok()?;
+    error_reply(alloc, b"No words", &home).ok()
 }
 
 #[test]
-fn replies_with_an_error(rt: HostRuntime) -> Result<(), Fail> {
-    let alloc = rt.alloc();
-    let home = Home::new(alloc, b"h", 70)?;
-    let reply = error_reply(alloc, b"No words", &home)?;
+fn replies_with_an_error(rt: HostRuntime) {
+    let Some(reply) = no_words(rt.alloc()) else {
+        panic!(rt; "no reply");
+    };
     assert!(rt; reply.as_slice() == b"3No words\t\th\t70\r\n.\r\n".as_slice());
-    Ok(())
 }

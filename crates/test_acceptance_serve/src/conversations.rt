@@ -9,9 +9,7 @@ use gopher_text::Watched;
 use std::alloc::Global;
 use std::io::{Read, Write};
 use std::marker::Brand;
-use std::process::Abort;
 use std::sync::Wait;
-use std::test::Fail;
 
 // A line, of which a part may come.
 const LINE: &[u8] = b"/a.txt\r\n";
@@ -100,39 +98,31 @@ enum Looked {
 }
 
 // Whether conversations go as they should.
-fn go_well<'a, A: Answers<'a> + Drop>(
-    alloc: Global,
-    answers: A,
-    looked: Looked,
-) -> Result<bool, Fail> {
+fn go_well<'a, A: Answers<'a> + Drop>(alloc: Global, answers: A, looked: Looked) -> Option<bool> {
     match looked {
-        Looked::FirstLine => Ok(answers_the_first(alloc, answers)),
+        Looked::FirstLine => Some(answers_the_first(alloc, answers)),
         Looked::LongLines => bounds_a_line(alloc, answers),
-        Looked::Failures => Ok(fails_with_its_stream(alloc, answers)),
-        Looked::Waits => Ok(goes_on(alloc, answers)),
+        Looked::Failures => Some(fails_with_its_stream(alloc, answers)),
+        Looked::Waits => Some(goes_on(alloc, answers)),
     }
 }
 
 // Conversations go well with a site whose searches are a desk's.
-fn at_a_desk<C: Crew, R: Wait + Abort + AllocGlobal>(
-    rt: &R,
-    blank: Blank,
-    looked: Looked,
-) -> Result<(), Fail>
+fn at_a_desk<C: Crew, R: Wait + AllocGlobal>(rt: &R, blank: Blank, looked: Looked) -> Option<bool>
     requires name { blank.name ≡ C.name }
     requires parts { blank.parts ≡ C.parts }
     requires history { blank.history ≡ C.history }
     requires begun { blank.begun ≡ [] }
 {
-    let (_desk, _share, pass) = desk::<C, R>(rt, blank)?;
-    let replies = replies(rt.alloc())?;
-    assert!(rt; go_well(rt.alloc(), Site::new(&replies, pass), looked)?);
-    Ok(())
+    let alloc = rt.alloc();
+    let replies = replies(alloc)?;
+    let (_desk, _share, pass) = desk::<C, R>(rt, alloc, blank)?;
+    go_well(alloc, Site::new(&replies, pass), looked)
 }
 
 #[test]
-fn the_first_line_is_answered(rt: HostRuntime) -> Result<(), Fail> {
-    at_a_desk::<Brand, _>(&rt, Blank::new(), Looked::FirstLine)
+fn the_first_line_is_answered(rt: HostRuntime) {
+    assert!(rt; at_a_desk::<Brand, _>(&rt, Blank::new(), Looked::FirstLine) == Some(true));
 }
 
 // Whether it does, whatever the size of the pieces.
@@ -165,29 +155,40 @@ fn takes_the_first<'a, A: Answers<'a>>(alloc: Global, answers: &mut A, size: usi
 }
 
 #[test]
-fn a_long_line_writes_nothing(rt: HostRuntime) -> Result<(), Fail> {
-    at_a_desk::<Brand, _>(&rt, Blank::new(), Looked::LongLines)
+fn a_long_line_writes_nothing(rt: HostRuntime) {
+    assert!(rt; at_a_desk::<Brand, _>(&rt, Blank::new(), Looked::LongLines) == Some(true));
 }
 
 // Whether a line may have 1,024 bytes, and one byte more is refused, whatever its end.
-fn bounds_a_line<'a, A: Answers<'a> + Drop>(alloc: Global, answers: A) -> Result<bool, Fail> {
+fn bounds_a_line<'a, A: Answers<'a> + Drop>(alloc: Global, answers: A) -> Option<bool> {
     let mut answers = answers;
-    let mut is_bounded = true;
-    for end in [b"\r\n".as_slice(), b"\n", b""] {
-        let short = line_of(alloc, 1_024, end)?;
-        let long = line_of(alloc, 1_025, end)?;
-        is_bounded = is_bounded
-            && is_answered(alloc, &mut answers, &short)
-            && is_refused(alloc, &mut answers, &long);
+    for end in ENDS {
+        if !bounds_a_line_at(alloc, &mut answers, *end)? {
+            return Some(false);
+        }
     }
-    Ok(is_bounded)
+    Some(true)
 }
 
+// Whether they are bounded so with this end.
+fn bounds_a_line_at<'a, A: Answers<'a>>(
+    alloc: Global,
+    answers: &mut A,
+    end: &[u8],
+) -> Option<bool> {
+    let short = line_of(alloc, 1_024, end)?;
+    let long = line_of(alloc, 1_025, end)?;
+    Some(is_answered(alloc, answers, &short) && is_refused(alloc, answers, &long))
+}
+
+// The ends of a line, and none.
+const ENDS: &[&[u8]] = &[b"\r\n", b"\n", b""];
+
 // A line of so many bytes, and its end.
-fn line_of(alloc: Global, length: usize, end: &[u8]) -> Result<Vec<u8>, Fail> {
-    let mut line = vec![in alloc; b'a'; length]?;
-    line.extend_from_slice(end)?;
-    Ok(line)
+fn line_of(alloc: Global, length: usize, end: &[u8]) -> Option<Vec<u8>> {
+    let mut line = vec![in alloc; b'a'; length].ok()?;
+    line.extend_from_slice(end).ok()?;
+    Some(line)
 }
 
 // Whether a line of one long selector is answered as a bad request, whatever the pieces.
@@ -216,8 +217,8 @@ fn is_refused<'a, A: Answers<'a>>(alloc: Global, answers: &mut A, line: &[u8]) -
 }
 
 #[test]
-fn a_stream_that_fails_ends_a_conversation(rt: HostRuntime) -> Result<(), Fail> {
-    at_a_desk::<Brand, _>(&rt, Blank::new(), Looked::Failures)
+fn a_stream_that_fails_ends_a_conversation(rt: HostRuntime) {
+    assert!(rt; at_a_desk::<Brand, _>(&rt, Blank::new(), Looked::Failures) == Some(true));
 }
 
 // Whether a stream that fails, or would wait, at any place ends both as it should.
@@ -275,8 +276,8 @@ fn fails_to_write<'a, A: Answers<'a>>(
 }
 
 #[test]
-fn a_conversation_waits_and_goes_on(rt: HostRuntime) -> Result<(), Fail> {
-    at_a_desk::<Brand, _>(&rt, Blank::new(), Looked::Waits)
+fn a_conversation_waits_and_goes_on(rt: HostRuntime) {
+    assert!(rt; at_a_desk::<Brand, _>(&rt, Blank::new(), Looked::Waits) == Some(true));
 }
 
 // Whether a conversation waits for its line, and then for room for its reply.

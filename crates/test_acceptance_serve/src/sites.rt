@@ -2,16 +2,14 @@
 ghost use Rattle.std.specs.Prelude.{◌≡◌, ◌≤◌, [], length};
 
 use gopher_catalogue::Catalogue;
-use gopher_crew::{Blank, Crew, Desk, Pass, Share};
+use gopher_crew::{Blank, Crew, Desk, Note, Pass, Share};
 use gopher_item::{Home, Place};
 use gopher_page::Page;
 use gopher_replies::Replies;
 use gopher_scope::{Rule, Scope};
 use gopher_tree::Tree;
 use std::alloc::Global;
-use std::process::Abort;
 use std::sync::Wait;
-use std::test::Fail;
 
 /// The menu of the root.
 pub const ROOT: &[u8] =
@@ -35,75 +33,105 @@ pub const FOUND: &[u8] = b"1Docs\t\tlocalhost\t70\r\n.\r\n";
 /// The page's bytes.
 const DOCS: &[u8] = b"1Docs\t/docs\tlocalhost\t70\r\n.\r\n";
 
-/// The replies of a tree with the file `a.txt`.
-pub fn replies(alloc: Global) -> Result<Replies, Fail> {
+fn files(alloc: Global) -> Option<Vec<(Vec<u8>, Vec<u8>)>> {
+    let name = Vec::from_slice(alloc, b"a.txt").ok()?;
+    let bytes = Vec::from_slice(alloc, b"hello\n").ok()?;
     let mut files = Vec::new(alloc);
-    files.push((
-        Vec::from_slice(alloc, b"a.txt")?,
-        Vec::from_slice(alloc, b"hello\n")?,
-    ))?;
-    let tree = Tree::of_files(alloc, files)?;
-    let home = Home::new(alloc, b"localhost", 7070)?;
-    match Replies::new(alloc, tree, home) {
-        Ok(replies) => Ok(replies),
-        Err(refused) => Err(refused.fault.into()),
-    }
+    files.push((name, bytes)).ok()?;
+    Some(files)
+}
+
+/// The replies of a tree with the file `a.txt`.
+pub fn replies(alloc: Global) -> Option<Replies> {
+    let tree = Tree::of_files(alloc, files(alloc)?).ok()?;
+    let home = Home::new(alloc, b"localhost", 7070).ok()?;
+    Replies::new(alloc, tree, home).ok()
 }
 
 // A scope that allows the host of the page.
-fn scope(alloc: Global) -> Result<Scope, Fail> {
+fn scope(alloc: Global) -> Option<Scope> {
+    let rule = Rule::new(alloc, b"localhost", 70, b"").ok()?;
     let mut allow = Vec::new(alloc);
-    allow.push(Rule::new(alloc, b"localhost", 70, b"")?)?;
-    Ok(Scope::new(allow, Vec::new(alloc)))
+    allow.push(rule).ok()?;
+    Some(Scope::new(allow, Vec::new(alloc)))
 }
 
-/// A crawl that begins in the root of `localhost`.
-pub fn catalogue(alloc: Global) -> Result<Catalogue, Fail> {
+fn root(alloc: Global) -> Option<Place> {
+    Place::new(alloc, b'1', b"", b"localhost", 70).ok()
+}
+
+fn seeds(alloc: Global) -> Option<Vec<Place>> {
+    let root = root(alloc)?;
     let mut seeds = Vec::new(alloc);
-    seeds.push(Place::new(alloc, b'1', b"", b"localhost", 70)?)?;
-    Ok(Catalogue::open(alloc, scope(alloc)?, seeds, 10, 1)?)
+    seeds.push(root).ok()?;
+    Some(seeds)
+}
+
+// A crawl that begins in the root of `localhost`.
+fn catalogue(alloc: Global) -> Option<Catalogue> {
+    let seeds = seeds(alloc)?;
+    let scope = scope(alloc)?;
+    Catalogue::open(alloc, scope, seeds, 10, 1).ok()
+}
+
+fn page(alloc: Global) -> Option<Page> {
+    let root = root(alloc)?;
+    let scope = scope(alloc)?;
+    Page::of(alloc, &scope, &root, DOCS).ok()
+}
+
+// The page of that root is fetched; the note of it.
+fn noted<C: Crew, R: Wait>(
+    rt: &R,
+    alloc: Global,
+    desk: &Desk<C, &R>,
+    share: &mut Share<C>,
+) -> Option<Note<C>> {
+    let _turn = desk.claim(rt, share).ok()?;
+    let page = page(alloc)?;
+    match desk.found(rt, share, 0, page) {
+        Ok((_added, note)) => note,
+        Err(_refused) => None,
+    }
 }
 
 /// The page of that root is fetched; the pass is told of it.
-pub fn finds_docs<C: Crew, R: Wait + Abort + AllocGlobal>(
+pub fn finds_docs<C: Crew, R: Wait>(
     rt: &R,
+    alloc: Global,
     desk: &Desk<C, &R>,
     share: &mut Share<C>,
     pass: &mut Pass<C>,
-) -> Result<(), Fail> {
-    let alloc = rt.alloc();
-    let _turn = desk.claim(rt, share)?;
-    let place = Place::new(alloc, b'1', b"", b"localhost", 70)?;
-    let page = Page::of(alloc, &scope(alloc)?, &place, DOCS)?;
-    let Ok((_added, note)) = desk.found(rt, share, 0, page) else {
-        panic!(rt; "the page is refused");
-    };
-    pass.hear(note.ok_or("a note")?);
-    Ok(())
+) -> Option<()> {
+    let note = noted(rt, alloc, desk, share)?;
+    pass.hear(note);
+    Some(())
+}
+
+// The share, and the pass.
+fn taken<C: Crew>(shares: Vec<Share<C>>, passes: Vec<Pass<C>>) -> Option<(Share<C>, Pass<C>)> {
+    let mut shares = shares;
+    let share = shares.pop()?;
+    let mut passes = passes;
+    let pass = passes.pop()?;
+    Some((share, pass))
 }
 
 /// A desk over that catalogue, its share and its pass.
-pub fn desk<'r, C: Crew, R: Wait + Abort + AllocGlobal>(
+pub fn desk<'r, C: Crew, R: Wait>(
     rt: &'r R,
+    alloc: Global,
     blank: Blank,
-) -> Result<(Desk<C, &'r R>, Share<C>, Pass<C>), Fail>
+) -> Option<(Desk<C, &'r R>, Share<C>, Pass<C>)>
     requires name { blank.name ≡ C.name }
     requires parts { blank.parts ≡ C.parts }
     requires history { blank.history ≡ C.history }
     requires begun { blank.begun ≡ [] }
 {
-    let alloc = rt.alloc();
-    let Ok((desk, mut passes, mut shares)) = Desk::<C, &R>::open(
-        rt,
-        alloc,
-        catalogue(alloc)?,
-        1,
-        1,
-        blank,
-    ) else {
-        panic!(rt; "the desk isn't opened");
+    let catalogue = catalogue(alloc)?;
+    let Ok((desk, passes, shares)) = Desk::<C, &R>::open(rt, alloc, catalogue, 1, 1, blank) else {
+        return None;
     };
-    let share = shares.pop().ok_or("a share")?;
-    let pass = passes.pop().ok_or("a pass")?;
-    Ok((desk, share, pass))
+    let (share, pass) = taken(shares, passes)?;
+    Some((desk, share, pass))
 }

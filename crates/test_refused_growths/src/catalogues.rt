@@ -1,13 +1,12 @@
 //! Crawls on a catalogue, of which one growth may be refused. A refused call changes nothing, and gives
 //! back what it was handed.
 
-use crate::opening::{Checked, root, scope};
+use crate::opening::{Checked, scope_at_last, seeds};
 use crate::pages::{page, query};
-use gopher_catalogue::{Catalogue, Claim, Status, Turn, Why};
+use gopher_catalogue::{Catalogue, Claim, FoundRefused, OpenRefused, Status, Turn, Why};
 use gopher_index::Hit;
 use gopher_item::Place;
 use gopher_page::{Page, Query};
-use gopher_scope::Scope;
 use std::alloc::Global;
 
 /// The replies of a host, by their selectors. Where one is missing, the fetch fails.
@@ -29,94 +28,144 @@ struct Seen {
 
 /// What a search finds.
 pub fn hits(catalogue: &Catalogue, query: &Query) -> Checked<Vec<Hit>> {
-    let mut hits = catalogue.search(query);
-    if hits.is_err() {
-        hits = catalogue.search(query);
+    match catalogue.search(query) {
+        Ok(hits) => Ok(hits),
+        Err(_refused) => catalogue
+            .search(query)
+            .ok()
+            .ok_or("a search is refused twice"),
     }
-    hits.map_err(|_again| "a search is refused twice")
 }
 
 /// Where a word stands, and how often.
 pub fn occurrences(catalogue: &Catalogue, word: &[u8]) -> Checked<Vec<(Place, u32)>> {
-    let mut places = catalogue.occurrences(word);
-    if places.is_err() {
-        places = catalogue.occurrences(word);
+    match catalogue.occurrences(word) {
+        Ok(places) => Ok(places),
+        Err(_refused) => catalogue
+            .occurrences(word)
+            .ok()
+            .ok_or("occurrences are refused twice"),
     }
-    places.map_err(|_again| "occurrences are refused twice")
+}
+
+fn score_of(hits: &[Hit]) -> u64 {
+    let mut score = 0_u64;
+    for hit in hits {
+        score = score.saturating_add(hit.score);
+    }
+    score
+}
+
+fn count_of(places: &[(Place, u32)]) -> u64 {
+    let mut count = 0_u64;
+    for (_place, times) in places {
+        count = count.saturating_add(u64::from(*times));
+    }
+    count
 }
 
 fn look_at(catalogue: &Catalogue, query: &Query) -> Checked<Seen> {
     let hits = hits(catalogue, query)?;
     let places = occurrences(catalogue, b"moon")?;
-    let mut score = 0_u64;
-    for hit in &hits {
-        score = score.saturating_add(hit.score);
-    }
-    let mut count = 0_u64;
-    for (_place, times) in &places {
-        count = count.saturating_add(u64::from(*times));
-    }
     Ok(Seen {
         events: catalogue.record().len(),
         known: catalogue.places().len(),
         status: catalogue.status(),
         hits: hits.len(),
-        score,
+        score: score_of(&hits),
         places: places.len(),
-        count,
+        count: count_of(&places),
     })
 }
 
-fn seeds(alloc: Global) -> Option<Vec<Place>> {
-    let mut seeds = Vec::new(alloc);
-    seeds.push(root(alloc)?).ok()?;
-    Some(seeds)
+fn seeds_at_last(alloc: Global) -> Checked<Vec<Place>> {
+    match seeds(alloc) {
+        Some(seeds) => Ok(seeds),
+        None => seeds(alloc).ok_or("no seeds"),
+    }
+}
+
+fn opened_again(alloc: Global, refused: OpenRefused) -> Checked<Catalogue> {
+    let OpenRefused {
+        fault,
+        scope,
+        seeds,
+    } = refused;
+    if fault.code() != 90 || seeds.len() != 1 {
+        return Err("a catalogue is refused in another way");
+    }
+    Catalogue::open(alloc, scope, seeds, 64, 1)
+        .ok()
+        .ok_or("a catalogue is refused twice")
 }
 
 fn opened(alloc: Global) -> Checked<Catalogue> {
-    let scope = scope(alloc).or_else(|| scope(alloc)).ok_or("no scope")?;
-    let seeds = seeds(alloc).or_else(|| seeds(alloc)).ok_or("no seeds")?;
-    let refused = match Catalogue::open(alloc, scope, seeds, 64, 1) {
-        Ok(catalogue) => return Ok(catalogue),
-        Err(refused) => refused,
-    };
-    if refused.fault.code() != 90 || refused.seeds.len() != 1 {
-        return Err("a catalogue is refused in another way");
-    }
-    match Catalogue::open(alloc, refused.scope, refused.seeds, 64, 1) {
+    let scope = scope_at_last(alloc)?;
+    let seeds = seeds_at_last(alloc)?;
+    match Catalogue::open(alloc, scope, seeds, 64, 1) {
         Ok(catalogue) => Ok(catalogue),
-        Err(_again) => Err("a catalogue is refused twice"),
+        Err(refused) => opened_again(alloc, refused),
     }
+}
+
+fn claims_again(catalogue: &mut Catalogue, query: &Query, before: Seen) -> Checked<Turn> {
+    if before.status.waiting == 0 {
+        return Err("a claim takes memory where no place waits");
+    }
+    if look_at(catalogue, query)? != before {
+        return Err("a refused claim changed a catalogue");
+    }
+    catalogue
+        .claim()
+        .ok()
+        .ok_or("a claim of a catalogue is refused twice")
 }
 
 fn claims(catalogue: &mut Catalogue, query: &Query) -> Checked<Turn> {
     let before = look_at(catalogue, query)?;
-    let mut turn = catalogue.claim();
-    if turn.is_err() {
-        if before.status.waiting == 0 {
-            return Err("a claim takes memory where no place waits");
-        }
-        if look_at(catalogue, query)? != before {
-            return Err("a refused claim changed a catalogue");
-        }
-        turn = catalogue.claim();
+    match catalogue.claim() {
+        Ok(turn) => Ok(turn),
+        Err(_refused) => claims_again(catalogue, query, before),
     }
-    turn.map_err(|_again| "a claim of a catalogue is refused twice")
+}
+
+fn finds_again(
+    catalogue: &mut Catalogue,
+    query: &Query,
+    number: u32,
+    refused: FoundRefused,
+    before: Seen,
+) -> Checked<()> {
+    let FoundRefused { fault, page } = refused;
+    if fault.code() != 90 || look_at(catalogue, query)? != before {
+        return Err("a refused page changed a catalogue");
+    }
+    match catalogue.found(number, page) {
+        Ok(_added) => Ok(()),
+        Err(_again) => Err("a page is refused twice by a catalogue"),
+    }
 }
 
 fn finds(catalogue: &mut Catalogue, query: &Query, number: u32, page: Page) -> Checked<()> {
     let before = look_at(catalogue, query)?;
-    let refused = match catalogue.found(number, page) {
-        Ok(_added) => return Ok(()),
-        Err(refused) => refused,
-    };
-    if refused.fault.code() != 90 || look_at(catalogue, query)? != before {
-        return Err("a refused page changed a catalogue");
-    }
-    match catalogue.found(number, refused.page) {
+    match catalogue.found(number, page) {
         Ok(_added) => Ok(()),
-        Err(_again) => Err("a page is refused twice by a catalogue"),
+        Err(refused) => finds_again(catalogue, query, number, refused, before),
     }
+}
+
+fn reply_to<'a>(replies: &'a Replies, selector: &[u8]) -> Option<&'a [u8]> {
+    for (other, reply) in replies {
+        if other.as_slice() == selector {
+            return Some(reply.as_slice());
+        }
+    }
+    None
+}
+
+fn page_of(alloc: Global, place: &Place, reply: &[u8]) -> Checked<Page> {
+    let scope = scope_at_last(alloc)?;
+    page(alloc, &scope, place.kind(), place.selector(), reply)
 }
 
 // Hands in what a fetch gave.
@@ -125,32 +174,54 @@ fn settles(
     catalogue: &mut Catalogue,
     query: &Query,
     replies: &Replies,
-    claim: Claim,
+    claim: &Claim,
 ) -> Checked<()> {
-    let place = &claim.place;
-    let Some((_selector, reply)) = replies.iter().find(|(selector, _reply)| selector.as_slice()
-        == place.selector())
-    else {
+    let Some(reply) = reply_to(replies, claim.place.selector()) else {
         let failed = catalogue.fail(claim.number, Why::Connect);
-        return failed.map_err(|_refused| "a failure is refused");
+        return failed.ok().ok_or("a failure is refused");
     };
-    let scope = scope(alloc).or_else(|| scope(alloc)).ok_or("no scope")?;
-    let page = page(alloc, &scope, place.kind(), place.selector(), reply)?;
-    finds(catalogue, query, claim.number, page)
+    finds(
+        catalogue,
+        query,
+        claim.number,
+        page_of(alloc, &claim.place, reply)?,
+    )
+}
+
+fn crawl(
+    alloc: Global,
+    catalogue: &mut Catalogue,
+    query: &Query,
+    replies: &Replies,
+) -> Checked<()> {
+    for _claim in 0..MOST_CLAIMS {
+        match claims(catalogue, query)? {
+            Turn::Take(claim) => settles(alloc, catalogue, query, replies, &claim)?,
+            Turn::Idle => return Err("a place stays out"),
+            Turn::Finished => return Ok(()),
+        }
+    }
+    Err("a crawl has no end")
 }
 
 /// A crawl of that host to its end.
 pub fn crawled(alloc: Global, replies: &Replies) -> Checked<Catalogue> {
     let query = query(alloc, b"moon or sun")?;
     let mut catalogue = opened(alloc)?;
-    for _claim in 0..MOST_CLAIMS {
-        match claims(&mut catalogue, &query)? {
-            Turn::Take(claim) => settles(alloc, &mut catalogue, &query, replies, claim)?,
-            Turn::Idle => return Err("a place stays out"),
-            Turn::Finished => return Ok(catalogue),
+    crawl(alloc, &mut catalogue, &query, replies)?;
+    Ok(catalogue)
+}
+
+fn are_pages(hits: &[Hit], wanted: &[(u64, &[u8])]) -> bool {
+    if hits.len() != wanted.len() {
+        return false;
+    }
+    for (hit, (score, selector)) in hits.iter().zip(wanted) {
+        if hit.score != *score || hit.place.selector() != *selector {
+            return false;
         }
     }
-    Err("a crawl has no end")
+    true
 }
 
 /// Whether a search finds the pages with these selectors, each with its score.
@@ -160,10 +231,7 @@ pub fn finds_pages(
     text: &[u8],
     wanted: &[(u64, &[u8])],
 ) -> Checked<bool> {
-    let hits = hits(catalogue, &query(alloc, text)?)?;
-    Ok(
-        hits.len() == wanted.len()
-            && hits.iter().zip(wanted).all(|(hit, (score, selector))| hit.score == *score
-                && hit.place.selector() == *selector),
-    )
+    let query = query(alloc, text)?;
+    let hits = hits(catalogue, &query)?;
+    Ok(are_pages(&hits, wanted))
 }

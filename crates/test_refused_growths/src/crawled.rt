@@ -4,7 +4,8 @@ ghost use Rattle.std.specs.Prelude.{◌≡◌, []};
 
 use crate::opening::{Checked, opened};
 use gopher_catalogue::{Event, Status, Why};
-use gopher_crew::{Blank, Crew, Stop, work};
+use gopher_crew::{Blank, Crew, Desk, Share, Stop, work};
+use std::alloc::Global;
 use std::sync::Wait;
 use test_tables::{Fetcher, Table};
 
@@ -31,8 +32,53 @@ fn is_whole(status: &Status, failed: u32) -> bool {
     known && status.done == status.known && failed <= 1
 }
 
-fn is_other_failure(event: &Event) -> bool {
-    matches!(event, Event::Failed(_, why) if *why != Why::NoMemory)
+// Whether a place fails otherwise than for want of memory.
+fn has_other_failure(record: &[Event]) -> bool {
+    for event in record {
+        if matches!(event, Event::Failed(_, why) if *why != Why::NoMemory) {
+            return true;
+        }
+    }
+    false
+}
+
+// Works until the crawl ends or the worker stops, and gives the share back.
+fn worked<C: Crew, R: Wait>(
+    rt: &R,
+    alloc: Global,
+    desk: &Desk<C, &R>,
+    share: Share<C>,
+) -> Checked<Share<C>> {
+    let end = work(rt, alloc, desk, Fetcher::new(TwoFiles), share);
+    if end.stop == Stop::Finished && !is_whole(&desk.status(rt), end.failed) {
+        return Err("a crawl stops before its end");
+    }
+    Ok(end.share)
+}
+
+fn work_by<C: Crew, R: Wait>(
+    rt: &R,
+    alloc: Global,
+    desk: &Desk<C, &R>,
+    shares: &mut Vec<Share<C>>,
+) -> Checked<()> {
+    let share = shares.pop().ok_or("no share")?;
+    let share = worked(rt, alloc, desk, share)?;
+    shares.push(share).ok().ok_or("no room for a share")
+}
+
+fn check_record(record: &[Event]) -> Checked<()> {
+    if has_other_failure(record) {
+        return Err("a place fails for another reason");
+    }
+    Ok(())
+}
+
+fn check_closed<C: Crew, R: Wait>(desk: Desk<C, &R>, shares: Vec<Share<C>>) -> Checked<()> {
+    match desk.close(shares) {
+        Ok(catalogue) => check_record(catalogue.record()),
+        Err(_refused) => Err("a desk isn't closed"),
+    }
 }
 
 /// Crawls a root with two files by one worker. A refusal fails one place for want of memory, or stops the
@@ -44,23 +90,6 @@ pub fn check<C: Crew, R: Wait + AllocGlobal>(rt: &R, blank: Blank) -> Checked<()
     requires begun { blank.begun ≡ [] }
 {
     let (desk, _passes, mut shares) = opened::<C, R>(rt, blank)?;
-    let share = shares.pop().ok_or("no share")?;
-    let end = work(rt, rt.alloc(), &desk, Fetcher::new(TwoFiles), share);
-    if end.stop == Stop::Finished && !is_whole(&desk.status(rt), end.failed) {
-        return Err("a crawl stops before its end");
-    }
-    if shares.push(end.share).is_err() {
-        return Err("no room for a share");
-    }
-    let Ok(catalogue) = desk.close(shares) else {
-        return Err("a desk isn't closed");
-    };
-    if catalogue
-        .record()
-        .iter()
-        .any(|event| is_other_failure(event))
-    {
-        return Err("a place fails for another reason");
-    }
-    Ok(())
+    work_by(rt, rt.alloc(), &desk, &mut shares)?;
+    check_closed(desk, shares)
 }

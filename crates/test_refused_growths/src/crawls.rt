@@ -3,7 +3,8 @@
 use crate::catalogues::{Replies, crawled, finds_pages, hits, occurrences};
 use crate::opening::Checked;
 use crate::pages::query;
-use gopher_catalogue::Status;
+use gopher_catalogue::{Catalogue, Status};
+use gopher_item::Place;
 use std::alloc::Global;
 
 // A root whose one directory can't be fetched.
@@ -35,16 +36,25 @@ const FOUND: &[(&[u8], usize)] = &[
     (b"moon not p41", 39),
 ];
 
+fn row(alloc: Global, selector: &[u8], reply: &[u8]) -> Option<(Vec<u8>, Vec<u8>)> {
+    let selector = Vec::from_slice(alloc, selector).ok()?;
+    let reply = Vec::from_slice(alloc, reply).ok()?;
+    Some((selector, reply))
+}
+
 fn replies(alloc: Global, rows: &[(&[u8], &[u8])]) -> Option<Replies> {
     let mut replies = Vec::new(alloc);
     for (selector, reply) in rows {
-        let row = (
-            Vec::from_slice(alloc, selector).ok()?,
-            Vec::from_slice(alloc, reply).ok()?,
-        );
-        replies.push(row).ok()?;
+        replies.push(row(alloc, *selector, *reply)?).ok()?;
     }
     Some(replies)
+}
+
+fn replies_at_last(alloc: Global, rows: &[(&[u8], &[u8])]) -> Checked<Replies> {
+    match replies(alloc, rows) {
+        Some(replies) => Ok(replies),
+        None => replies(alloc, rows).ok_or("no replies"),
+    }
 }
 
 fn is_finished(status: Status, known: u32) -> bool {
@@ -60,10 +70,7 @@ fn is_finished(status: Status, known: u32) -> bool {
 
 /// The crawl of a root whose one directory can't be fetched.
 pub fn check_first(alloc: Global) -> Checked<()> {
-    let rows = ONE_DIRECTORY;
-    let replies = replies(alloc, rows)
-        .or_else(|| replies(alloc, rows))
-        .ok_or("no replies")?;
+    let replies = replies_at_last(alloc, ONE_DIRECTORY)?;
     let catalogue = crawled(alloc, &replies)?;
     if !is_finished(catalogue.status(), 2)
         || !finds_pages(alloc, &catalogue, b"docs", &[(1, b"")])?
@@ -73,19 +80,28 @@ pub fn check_first(alloc: Global) -> Checked<()> {
     Ok(())
 }
 
+fn finds_texts(alloc: Global, catalogue: &Catalogue) -> Checked<bool> {
+    Ok(
+        finds_pages(alloc, catalogue, b"moon", &[(3, b""), (3, b"/sun.txt")])?
+            && finds_pages(alloc, catalogue, b"sun not home", &[(1, b"/sun.txt")])?
+            && finds_pages(alloc, catalogue, b"mars", &[])?,
+    )
+}
+
+// Whether the word stands in two places, three times in each.
+fn are_two_of_three(places: &[(Place, u32)]) -> bool {
+    match places {
+        [(_, first), (_, second)] => *first == 3 && *second == 3,
+        _ => false,
+    }
+}
+
 /// The crawl of a root with a text, and its searches.
 pub fn check_second(alloc: Global) -> Checked<()> {
-    let rows = MOON_PAGES;
-    let replies = replies(alloc, rows)
-        .or_else(|| replies(alloc, rows))
-        .ok_or("no replies")?;
+    let replies = replies_at_last(alloc, MOON_PAGES)?;
     let catalogue = crawled(alloc, &replies)?;
-    let found = is_finished(catalogue.status(), 3)
-        && finds_pages(alloc, &catalogue, b"moon", &[(3, b""), (3, b"/sun.txt")])?
-        && finds_pages(alloc, &catalogue, b"sun not home", &[(1, b"/sun.txt")])?
-        && finds_pages(alloc, &catalogue, b"mars", &[])?;
-    let places = occurrences(&catalogue, b"moon")?;
-    if !found || places.len() != 2 || places.iter().any(|(_place, count)| *count != 3) {
+    let is_found = is_finished(catalogue.status(), 3) && finds_texts(alloc, &catalogue)?;
+    if !is_found || !are_two_of_three(&occurrences(&catalogue, b"moon")?) {
         return Err("the second crawl ends in another way");
     }
     Ok(())
@@ -99,25 +115,33 @@ fn digits(number: u8) -> [u8; 2] {
     ]
 }
 
+fn push_line(menu: &mut Vec<u8>, number: u8) -> Option<()> {
+    menu.extend_from_slice(b"0P\t/p").ok()?;
+    menu.extend_from_slice(&digits(number)).ok()?;
+    menu.extend_from_slice(b"\th\t70\r\n").ok()
+}
+
 // A menu of forty texts.
 fn menu(alloc: Global) -> Option<Vec<u8>> {
     let mut menu = Vec::new(alloc);
     for number in 10..50 {
-        menu.extend_from_slice(b"0P\t/p").ok()?;
-        menu.extend_from_slice(&digits(number)).ok()?;
-        menu.extend_from_slice(b"\th\t70\r\n").ok()?;
+        push_line(&mut menu, number)?;
     }
     menu.extend_from_slice(b".\r\n").ok()?;
     Some(menu)
 }
 
-fn add(alloc: Global, replies: &mut Replies, number: u8) -> Option<()> {
-    let mut selector = Vec::from_slice(alloc, b"/p").ok()?;
-    selector.extend_from_slice(&digits(number)).ok()?;
-    let mut reply = Vec::from_slice(alloc, b"moon p").ok()?;
-    reply.extend_from_slice(&digits(number)).ok()?;
-    reply.extend_from_slice(b"\r\n.\r\n").ok()?;
-    replies.push((selector, reply)).ok()
+fn numbered(alloc: Global, before: &[u8], number: u8, after: &[u8]) -> Option<Vec<u8>> {
+    let mut text = Vec::from_slice(alloc, before).ok()?;
+    text.extend_from_slice(&digits(number)).ok()?;
+    text.extend_from_slice(after).ok()?;
+    Some(text)
+}
+
+fn text(alloc: Global, number: u8) -> Option<(Vec<u8>, Vec<u8>)> {
+    let selector = numbered(alloc, b"/p", number, b"")?;
+    let reply = numbered(alloc, b"moon p", number, b"\r\n.\r\n")?;
+    Some((selector, reply))
 }
 
 // A root with forty texts, so that pages go into segments.
@@ -125,21 +149,35 @@ fn forty_texts(alloc: Global) -> Option<Replies> {
     let mut replies = Vec::new(alloc);
     replies.push((Vec::new(alloc), menu(alloc)?)).ok()?;
     for number in 10..50 {
-        add(alloc, &mut replies, number)?;
+        replies.push(text(alloc, number)?).ok()?;
     }
     Some(replies)
 }
 
-/// The crawl of a root with forty texts, and searches of rare and of common words and beginnings.
-pub fn check_forty(alloc: Global) -> Checked<()> {
-    let replies = forty_texts(alloc)
-        .or_else(|| forty_texts(alloc))
-        .ok_or("no replies")?;
-    let catalogue = crawled(alloc, &replies)?;
+fn forty_texts_at_last(alloc: Global) -> Checked<Replies> {
+    match forty_texts(alloc) {
+        Some(replies) => Ok(replies),
+        None => forty_texts(alloc).ok_or("no replies"),
+    }
+}
+
+fn count_of(alloc: Global, catalogue: &Catalogue, text: &[u8]) -> Checked<usize> {
+    let query = query(alloc, text)?;
+    Ok(hits(catalogue, &query)?.len())
+}
+
+fn check_found(alloc: Global, catalogue: &Catalogue) -> Checked<()> {
     for (text, wanted) in FOUND {
-        if hits(&catalogue, &query(alloc, *text)?)?.len() != *wanted {
+        if count_of(alloc, catalogue, *text)? != *wanted {
             return Err("a search of forty pages finds others");
         }
     }
     Ok(())
+}
+
+/// The crawl of a root with forty texts, and searches of rare and of common words and beginnings.
+pub fn check_forty(alloc: Global) -> Checked<()> {
+    let replies = forty_texts_at_last(alloc)?;
+    let catalogue = crawled(alloc, &replies)?;
+    check_found(alloc, &catalogue)
 }

@@ -2,8 +2,8 @@
 
 ghost use Rattle.std.specs.Prelude.{◌≡◌, []};
 
-use crate::opening::{Checked, opened, root, scope};
-use gopher_catalogue::{Status, Turn};
+use crate::opening::{Checked, opened, root, scope_at_last};
+use gopher_catalogue::{Added, Status, Turn};
 use gopher_crew::{Answer, Blank, Crew, Desk, Note, Pass, SearchFault, Share};
 use gopher_page::{Page, Query};
 use std::alloc::Global;
@@ -13,6 +13,28 @@ fn state<C: Crew, R: Wait>(rt: &R, desk: &Desk<C, &R>, share: &Share<C>) -> (Sta
     (desk.status(rt), share.events())
 }
 
+fn claimed<C: Crew, R: Wait>(
+    rt: &R,
+    desk: &Desk<C, &R>,
+    share: &mut Share<C>,
+) -> Checked<(Turn, Option<Note<C>>)> {
+    let before = state(rt, desk, share);
+    match desk.claim(rt, share) {
+        Ok(reply) => Ok(reply),
+        Err(_refused) if state(rt, desk, share) != before => {
+            Err("a refused claim changed something")
+        }
+        Err(_refused) => desk.claim(rt, share).ok().ok_or("a claim is refused twice"),
+    }
+}
+
+fn is_claim_of(turn: &Turn, number: u32) -> bool {
+    match turn {
+        Turn::Take(claim) => claim.number == number,
+        _ => false,
+    }
+}
+
 // Claims the place of this number.
 fn claims<C: Crew, R: Wait>(
     rt: &R,
@@ -20,27 +42,45 @@ fn claims<C: Crew, R: Wait>(
     share: &mut Share<C>,
     number: u32,
 ) -> Checked<Option<Note<C>>> {
-    let before = state(rt, desk, share);
-    let mut reply = desk.claim(rt, share);
-    if reply.is_err() {
-        if state(rt, desk, share) != before {
-            return Err("a refused claim changed something");
-        }
-        reply = desk.claim(rt, share);
-    }
-    let Ok((turn, note)) = reply else {
-        return Err("a claim is refused twice");
-    };
-    match turn {
-        Turn::Take(claim) if claim.number == number => Ok(note),
-        _ => Err("a claim answers another turn"),
+    let (turn, note) = claimed(rt, desk, share)?;
+    if is_claim_of(&turn, number) {
+        Ok(note)
+    } else {
+        Err("a claim answers another turn")
     }
 }
 
 // The page of the root, which leads to one directory.
 fn page(alloc: Global) -> Option<Page> {
-    let bytes = b"1Docs\t/docs\th\t70\r\n.\r\n";
-    Page::of(alloc, &scope(alloc)?, &root(alloc)?, bytes).ok()
+    let scope = scope_at_last(alloc).ok()?;
+    let root = root(alloc)?;
+    Page::of(alloc, &scope, &root, b"1Docs\t/docs\th\t70\r\n.\r\n").ok()
+}
+
+fn page_at_last(alloc: Global) -> Checked<Page> {
+    match page(alloc) {
+        Some(page) => Ok(page),
+        None => page(alloc).ok_or("no page"),
+    }
+}
+
+fn found<C: Crew, R: Wait>(
+    rt: &R,
+    desk: &Desk<C, &R>,
+    share: &mut Share<C>,
+    page: Page,
+) -> Checked<(Added, Option<Note<C>>)> {
+    let before = state(rt, desk, share);
+    match desk.found(rt, share, 0, page) {
+        Ok(reply) => Ok(reply),
+        Err(refused) if refused.fault.code() != 90 || state(rt, desk, share) != before => {
+            Err("a refused page changed something")
+        }
+        Err(refused) => desk
+            .found(rt, share, 0, refused.page)
+            .ok()
+            .ok_or("a page is refused twice"),
+    }
 }
 
 // Hands in the page of the root.
@@ -50,29 +90,20 @@ fn finds<C: Crew, R: Wait>(
     share: &mut Share<C>,
     page: Page,
 ) -> Checked<Option<Note<C>>> {
-    let before = state(rt, desk, share);
-    let mut reply = desk.found(rt, share, 0, page);
-    if let Err(refused) = reply {
-        if refused.fault.code() != 90 || state(rt, desk, share) != before {
-            return Err("a refused page changed something");
-        }
-        reply = desk.found(rt, share, 0, refused.page);
+    let (added, note) = found(rt, desk, share, page)?;
+    if added.fresh == 1 {
+        Ok(note)
+    } else {
+        Err("a page adds something else")
     }
-    let Ok((added, note)) = reply else {
-        return Err("a page is refused twice");
-    };
-    if added.fresh != 1 {
-        return Err("a page adds something else");
-    }
-    Ok(note)
 }
 
 fn searched<C: Crew>(pass: &mut Pass<C>, query: &Query) -> Checked<Answer> {
-    let mut answer = pass.search(query);
-    if let Err(SearchFault::NoMemory) = answer {
-        answer = pass.search(query);
+    match pass.search(query) {
+        Ok(answer) => Ok(answer),
+        Err(SearchFault::NoMemory) => pass.search(query).ok().ok_or("a search is refused twice"),
+        Err(_fault) => Err("a search is refused twice"),
     }
-    answer.map_err(|_again| "a search is refused twice")
 }
 
 // A pass has seen at least so many events, and has the page where they are three or more.
@@ -89,6 +120,21 @@ fn query(alloc: Global) -> Option<Query> {
     Query::read(alloc, b"docs").ok()
 }
 
+fn query_at_last(alloc: Global) -> Checked<Query> {
+    match query(alloc) {
+        Some(query) => Ok(query),
+        None => query(alloc).ok_or("no query"),
+    }
+}
+
+fn sees_nothing<C: Crew>(pass: &mut Pass<C>, query: &Query) -> Checked<()> {
+    let answer = searched(pass, query)?;
+    if answer.at > 2 || !answer.hits.is_empty() {
+        return Err("a page without a note is seen");
+    }
+    Ok(())
+}
+
 // Hands in the page of the root. Without a note it isn't seen before the next claim, which gives one.
 fn noted<C: Crew, R: Wait>(
     rt: &R,
@@ -98,34 +144,59 @@ fn noted<C: Crew, R: Wait>(
     pass: &mut Pass<C>,
     query: &Query,
 ) -> Checked<Note<C>> {
-    if let Some(note) = finds(rt, desk, share, page)? {
-        return Ok(note);
+    match finds(rt, desk, share, page)? {
+        Some(note) => Ok(note),
+        None => {
+            sees_nothing(pass, query)?;
+            claims(rt, desk, share, 1)?.ok_or("no note with ample memory")
+        }
     }
-    let answer = searched(pass, query)?;
-    if answer.at > 2 || !answer.hits.is_empty() {
-        return Err("a page without a note is seen");
-    }
-    claims(rt, desk, share, 1)?.ok_or("no note with ample memory")
 }
 
-// Claims the root and hands in its page; the first pass hears the note.
-fn work_at<C: Crew, R: Wait + AllocGlobal>(
+// Claims the root, hands in its page, and has the pass hear of it: of how many events it is told.
+fn told<C: Crew, R: Wait>(
     rt: &R,
+    alloc: Global,
+    desk: &Desk<C, &R>,
+    share: &mut Share<C>,
+    pass: &mut Pass<C>,
+    query: &Query,
+) -> Checked<u32> {
+    claims(rt, desk, share, 0)?;
+    let page = page_at_last(alloc)?;
+    let note = noted(rt, desk, share, page, pass, query)?;
+    let at = note.at();
+    pass.hear(note);
+    Ok(at)
+}
+
+// The first of two passes hears of the page, and both see it.
+fn work_at<C: Crew, R: Wait>(
+    rt: &R,
+    alloc: Global,
     desk: &Desk<C, &R>,
     share: &mut Share<C>,
     first: &mut Pass<C>,
     second: &mut Pass<C>,
 ) -> Checked<()> {
-    let alloc = rt.alloc();
-    let query = query(alloc).or_else(|| query(alloc)).ok_or("no query")?;
-    let page = page(alloc).or_else(|| page(alloc)).ok_or("no page")?;
+    let query = query_at_last(alloc)?;
     sees(second, &query, 1)?;
-    claims(rt, desk, share, 0)?;
-    let note = noted(rt, desk, share, page, first, &query)?;
-    let at = note.at();
-    first.hear(note);
+    let at = told(rt, alloc, desk, share, first, &query)?;
     sees(first, &query, at)?;
     sees(second, &query, 3)
+}
+
+// The share, and the two passes.
+fn taken<C: Crew>(
+    passes: Vec<Pass<C>>,
+    shares: Vec<Share<C>>,
+) -> Option<(Share<C>, Pass<C>, Pass<C>)> {
+    let mut shares = shares;
+    let share = shares.pop()?;
+    let mut passes = passes;
+    let second = passes.pop()?;
+    let first = passes.pop()?;
+    Some((share, first, second))
 }
 
 /// Claims the root, hands in its page, and has the pass hear of it.
@@ -135,12 +206,8 @@ pub fn tell<C: Crew, R: Wait + AllocGlobal>(
     share: &mut Share<C>,
     pass: &mut Pass<C>,
 ) -> Checked<()> {
-    let alloc = rt.alloc();
-    let query = query(alloc).or_else(|| query(alloc)).ok_or("no query")?;
-    let page = page(alloc).or_else(|| page(alloc)).ok_or("no page")?;
-    claims(rt, desk, share, 0)?;
-    let note = noted(rt, desk, share, page, pass, &query)?;
-    pass.hear(note);
+    let query = query_at_last(rt.alloc())?;
+    told(rt, rt.alloc(), desk, share, pass, &query)?;
     Ok(())
 }
 
@@ -151,13 +218,9 @@ pub fn check<C: Crew, R: Wait + AllocGlobal>(rt: &R, blank: Blank) -> Checked<()
     requires history { blank.history ≡ C.history }
     requires begun { blank.begun ≡ [] }
 {
-    let (desk, mut passes, mut shares) = opened::<C, R>(rt, blank)?;
-    let (Some(mut second), Some(mut first), Some(mut share)) = (
-        passes.pop(),
-        passes.pop(),
-        shares.pop(),
-    ) else {
+    let (desk, passes, shares) = opened::<C, R>(rt, blank)?;
+    let Some((mut share, mut first, mut second)) = taken(passes, shares) else {
         return Err("a desk without its passes or its share");
     };
-    work_at(rt, &desk, &mut share, &mut first, &mut second)
+    work_at(rt, rt.alloc(), &desk, &mut share, &mut first, &mut second)
 }

@@ -16,14 +16,25 @@ pub type Checked<T> = Result<T, &'static str>;
 /// A desk, with its passes and its shares.
 pub type Opened<'a, C, R> = (Desk<C, &'a R>, Vec<Pass<C>>, Vec<Share<C>>);
 
-/// The scope of one host, but for what is private.
-pub fn scope(alloc: Global) -> Option<Scope> {
-    let mut allow = Vec::new(alloc);
-    allow.push(Rule::new(alloc, b"h", 70, b"").ok()?).ok()?;
-    let mut deny = Vec::new(alloc);
-    deny.push(Rule::new(alloc, b"h", 70, b"/private").ok()?)
-        .ok()?;
+fn rules(alloc: Global, prefix: &[u8]) -> Option<Vec<Rule>> {
+    let rule = Rule::new(alloc, b"h", 70, prefix).ok()?;
+    let mut rules = Vec::new(alloc);
+    rules.push(rule).ok()?;
+    Some(rules)
+}
+
+fn scope(alloc: Global) -> Option<Scope> {
+    let allow = rules(alloc, b"")?;
+    let deny = rules(alloc, b"/private")?;
     Some(Scope::new(allow, deny))
+}
+
+/// The scope of one host, but for what is private, where one of two tries makes it.
+pub fn scope_at_last(alloc: Global) -> Checked<Scope> {
+    match scope(alloc) {
+        Some(scope) => Ok(scope),
+        None => scope(alloc).ok_or("no scope"),
+    }
 }
 
 /// The root of the host.
@@ -31,11 +42,26 @@ pub fn root(alloc: Global) -> Option<Place> {
     Place::new(alloc, b'1', b"", b"h", 70).ok()
 }
 
+/// The root alone.
+pub fn seeds(alloc: Global) -> Option<Vec<Place>> {
+    let root = root(alloc)?;
+    let mut seeds = Vec::new(alloc);
+    seeds.push(root).ok()?;
+    Some(seeds)
+}
+
 // A crawl that begins in the root.
 fn catalogue(alloc: Global) -> Option<Catalogue> {
-    let mut seeds = Vec::new(alloc);
-    seeds.push(root(alloc)?).ok()?;
-    Catalogue::open(alloc, scope(alloc)?, seeds, 10, 1).ok()
+    let seeds = seeds(alloc)?;
+    let scope = scope(alloc)?;
+    Catalogue::open(alloc, scope, seeds, 10, 1).ok()
+}
+
+fn catalogue_at_last(alloc: Global) -> Checked<Catalogue> {
+    match catalogue(alloc) {
+        Some(catalogue) => Ok(catalogue),
+        None => catalogue(alloc).ok_or("a catalogue isn't opened"),
+    }
 }
 
 /// A desk with two passes and one share; a refusal gives back what was handed in.
@@ -49,9 +75,7 @@ pub fn opened<'a, C: Crew, R: Wait + AllocGlobal>(
     requires begun { blank.begun ≡ [] }
 {
     let alloc = rt.alloc();
-    let Some(catalogue) = catalogue(alloc).or_else(|| catalogue(alloc)) else {
-        return Err("a catalogue isn't opened");
-    };
+    let catalogue = catalogue_at_last(alloc)?;
     let refused = match Desk::<C, &R>::open(rt, alloc, catalogue, 2, 1, blank) {
         Ok(opened) => return Ok(opened),
         Err(refused) => refused,
