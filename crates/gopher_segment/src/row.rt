@@ -1,12 +1,15 @@
 //! The words of pages, as they are joined into a table.
 
-ghost use Rattle.std.specs.Prelude.{◌≡◌, Some, ◌++◌, nat_eq, refl, OnOk};
+ghost use Rattle.std.specs.Prelude.{◌≡◌, Some, [], ◌∷◌, ◌++◌, nat_eq, refl, slice_index_or, OnOk, OnErr};
 ghost use Rattle.std.specs.Ordering.{nat_cmp};
 ghost use Rattle.std.specs.Cmp;
 ghost use Rattle.std.specs.Cmp.Lexicographic.{pointwise, slice_cmp, nat_list_eq_equiv, nat_list_cmp_total, texts_ties, texts_po};
 ghost use Rattle.gopher_page.specs.Words.{same_word};
+ghost use Rattle.gopher_page.specs.Numbered.{IsNumbered};
 ghost use Rattle.gopher_segment.specs.Postings.{pieces};
 
+use crate::chains::Chains;
+use crate::head::Head;
 use crate::runs::Runs;
 use gopher_item::NoMemory;
 use gopher_page::Numbered;
@@ -56,6 +59,40 @@ impl<'a> Row<'a> {
         ensures { result ≡ same_word self.now.0 other.now.0 }
     {
         self.word == other.word
+    }
+
+    /// The first eight bytes of the word as one number.
+    pub fn leading(&self) -> u64
+        ensures { IsNumbered result self.now.0 }
+    {
+        self.word.number()
+    }
+
+    /// The word, with which list has its postings.
+    pub fn head(&self, list: u32) -> Head<'a>
+        ensures { result ≡ (self.now.0, list) }
+    {
+        Head {
+            word: self.word.again(),
+            list,
+        }
+    }
+
+    /// Whether a head has the row's word.
+    pub fn is_of(&self, head: &Head<'_>) -> bool
+        ensures { result ≡ same_word head.now.0 self.now.0 }
+    {
+        head.word == self.word
+    }
+
+    /// Adds a list: the postings of the row, and then those of the list `next`, where there is one.
+    /// Refused only where memory is (90).
+    pub fn add_to_chains(&self, next: u32, chains: &mut Chains) -> Result<(), NoMemory>
+        ensures added { OnOk result (chains.new ≡ chains.old
+            ++ (self.now.1 ++ slice_index_or chains.old next []) ∷ []) }
+        ensures err { OnErr result (chains.new ≡ chains.old) }
+    {
+        chains.push(self.number, self.count, next)
     }
 
     /// Adds the postings to the last of the runs. Refused only where memory is (90).
