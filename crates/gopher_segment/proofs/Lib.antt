@@ -6,6 +6,9 @@ mod RowSearch
 mod WordOrder
 mod NumberLemmas
 mod MergeLemmas
+mod ChainLemmas
+mod GroupLemmas
+mod GroupSteps
 mod JoinLemmas
 mod SegmentLemmas
 pub mod Pieces

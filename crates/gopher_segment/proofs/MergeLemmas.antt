@@ -1,7 +1,7 @@
 -- Merging tables: the lowest of their first words, and what is left once it is taken.
-use Rattle.std.proofs.Common.{◌≡◌, ◌⊎◌, ℕ, Bool, true, false, suc, ◌+◌, ◌<◌, ◌≤◌, List, [], ◌∷◌, ◌++◌, cond, length, map, take, drop, get_or, set, append_assoc, Some, None, Option, refl, sym, ap, subst, ◌∙◌, inl, inr, arith}
+use Rattle.std.proofs.Common.{◌≡◌, ◌⊎◌, ℕ, Bool, true, false, zero, suc, ◌+◌, ◌<◌, ◌≤◌, List, [], ◌∷◌, ◌++◌, cond, length, map, take, drop, get_or, set, append_assoc, Some, None, Option, refl, sym, ap, subst, ◌∙◌, inl, inr, arith}
 use Rattle.std.proofs.lemmas.Bool.{both_ways}
-use Rattle.std.proofs.lemmas.List.{length-map, length-take-le, drop_more, get_or_at, set_at, map_more, flat_map_more, take_more}
+use Rattle.std.proofs.lemmas.List.{take-append-drop, length-map, length-take-le, drop_more, get_or_at, set_at, map_more, flat_map_more, take_more}
 use Rattle.std.proofs.lemmas.Map.Keys.{sorted_tail}
 use Rattle.std.specs.List.{flat_map, zip}
 use Rattle.std.specs.List.Sorted.{IsStrictlySortedBy}
@@ -12,7 +12,7 @@ use Rattle.gopher_page.specs.Words.{same_word}
 use Rattle.gopher_page.specs.Counts.{is_before}
 use Rattle.gopher_page.proofs.Order.{not_before-trans}
 use Rattle.gopher_segment.specs.Postings.{count_in}
-use Rattle.gopher_segment.specs.Rows.{words_of_rows, AreInOrder, rows_count, first_word, passed, taken, lowest_from, AreAllInOrder, tables_count, rows_left, AllBefore, AreBefore, ComeBefore}
+use Rattle.gopher_segment.specs.Rows.{words_of_rows, AreInOrder, rows_count, first_word, passed, taken, lowest_from, AreAllInOrder, is_at, LackBefore, tables_count, rows_left, AllBefore, AreBefore, ComeBefore}
 use Rattle.gopher_segment.proofs.PostingLemmas.{count_in-append}
 use Rattle.gopher_segment.proofs.RunLemmas.{zip-append}
 use Rattle.gopher_segment.proofs.RowLemmas.{rows_count-append}
@@ -218,6 +218,30 @@ now_at f xs now i d within is =
 pub flat_step : {X Y : Type 0} (f : X → List Y) (start : List Y) (xs : List X) (i : ℕ) (d : X) → i < length xs → (start ++ flat_map f (take i xs)) ++ f (get_or xs i d) ≡ start ++ flat_map f (take (i + 1) xs)
 flat_step f start xs i d within =
     flat_map_more f start (take i xs) (get_or xs i d) ∙ ap (λ l. start ++ flat_map f l) (sym (take_more xs i d within))
+
+-- the tables before the first that begins with a word are left as they are
+same_rows : (word : List ℕ) (rows : List (List ℕ × List (ℕ × ℕ))) → is_at word rows ≡ false → passed word rows ≡ rows
+same_rows word [] lack = refl
+same_rows word (row ∷ rows) lack = ap (λ b. cond b rows (row ∷ rows)) lack
+
+none_taken : (word : List ℕ) (rows : List (List ℕ × List (ℕ × ℕ))) → is_at word rows ≡ false → taken word rows ≡ []
+none_taken word [] lack = refl
+none_taken word (row ∷ rows) lack = ap (λ b. cond b row.1 []) lack
+
+same_before : (word : List ℕ) (first : ℕ) (tables : List (List (List ℕ × List (ℕ × ℕ)))) → LackBefore word first tables → map (passed word) (take first tables) ≡ take first tables
+same_before word zero tables lack = refl
+same_before word (suc first) [] lack = refl
+same_before word (suc first) (rows ∷ tables) lack =
+    (λ i. same_rows word rows (lack 0 (omega arith)) i ∷ same_before word first tables (λ k below. lack (suc k) (omega (arith, below))) i)
+
+pub left_before : (word : List ℕ) (first : ℕ) (tables : List (List (List ℕ × List (ℕ × ℕ)))) → LackBefore word first tables → tables ≡ map (passed word) (take first tables) ++ drop first tables
+left_before word first tables lack = sym (take-append-drop first tables) ∙ ap (λ l. l ++ drop first tables) (sym (same_before word first tables lack))
+
+pub none_before : (word : List ℕ) (first : ℕ) (tables : List (List (List ℕ × List (ℕ × ℕ)))) → LackBefore word first tables → flat_map (taken word) (take first tables) ≡ []
+none_before word zero tables lack = refl
+none_before word (suc first) [] lack = refl
+none_before word (suc first) (rows ∷ tables) lack =
+    (λ i. none_taken word rows (lack 0 (omega arith)) i ++ none_before word first tables (λ k below. lack (suc k) (omega (arith, below))) i)
 
 -- ---- a row more, and what is left
 

@@ -1,14 +1,15 @@
 -- Numbers of words decide which comes first.
 use Rattle.std.proofs.Common.{◌≡◌, ◌⊎◌, ℕ, Bool, true, false, ◌+◌, ◌-◌, ◌^◌, ◌<◌, ◌≤◌, List, [], ◌∷◌, cond, length, drop, get_or, Option, Some, None, refl, sym, ap, subst, ◌∙◌, inl, inr, arith}
-use Rattle.std.proofs.lemmas.Bool.{both_ways, cases_order}
-use Rattle.std.proofs.lemmas.List.{drop_more}
+use Rattle.std.proofs.lemmas.Bool.{both_ways, cases_lt}
+use Rattle.std.proofs.lemmas.List.{drop_more, get_or_default}
 use Rattle.std.specs.Ordering.{is_lt}
 use Rattle.std.specs.Cmp.Lexicographic.{bytes_decides, nat_list_cmp_total}
 use Rattle.gopher_page.specs.Numbered.{leading, IsNumbered}
 use Rattle.gopher_page.specs.Words.{same_word}
 use Rattle.gopher_page.specs.Counts.{is_before}
+use Rattle.gopher_page.proofs.Order.{before-trans}
 use Rattle.gopher_page.proofs.Leading.{leading_less, leading_below}
-use Rattle.gopher_segment.specs.Rows.{first_word, is_at, lower, lowest_from, IsNumberOf}
+use Rattle.gopher_segment.specs.Rows.{first_word, is_at, LackBefore, is_lower, lower, lowest_from, IsNumberOf}
 use Rattle.gopher_segment.proofs.WordOrder.{never_before_itself, less_from_before}
 
 lower_word : (own number : ℕ) (word low : List ℕ) → IsNumbered own word → IsNumbered number low → own < number → is_before word low ≡ true
@@ -22,33 +23,14 @@ not_both : (word low : List ℕ) → is_before word low ≡ true → is_before l
 not_both word low a b = both_ways _ (never_before_itself word) (ap is_lt (nat_list_cmp_total.trans word low word (less_from_before word low a) (less_from_before low word b)))
 
 -- a word with a higher number isn't lower
-pub skipped : (number own : ℕ) (low word : Option (List ℕ)) → IsNumberOf number low → IsNumberOf own word → number < own → lower low word ≡ low
-skipped number own None None low_is is above = refl
-skipped number own None (Some word) low_is is above = absurd (omega (arith, low_is, most own word is))
-skipped number own (Some low) None low_is is above = refl
-skipped number own (Some low) (Some word) low_is is above = by (is_before word low) refl
+pub never_lower : (number own : ℕ) (low word : Option (List ℕ)) → IsNumberOf number low → IsNumberOf own word → number < own → false ≡ is_lower word low
+never_lower number own low None low_is is above = refl
+never_lower number own None (Some word) low_is is above = absurd (omega (arith, low_is, most own word is))
+never_lower number own (Some low) (Some word) low_is is above = by (is_before word low) refl
   where
-    by : (b : Bool) → is_before word low ≡ b → cond b (Some word) (Some low) ≡ Some low
+    by : (b : Bool) → is_before word low ≡ b → false ≡ b
     by true e = absurd (not_both word low e (lower_word number own low word low_is is above))
     by false e = refl
-
--- and the number of one that isn't higher is that of the lower of both
-pub stays_number : (number own : ℕ) (low word : Option (List ℕ)) → IsNumberOf number low → IsNumberOf own word → own ≤ number → IsNumberOf own (lower low word)
-stays_number number own None None low_is is under = is
-stays_number number own None (Some word) low_is is under = is
-stays_number number own (Some low) None low_is is under =
-    let same : number ≡ own = omega (arith, is, most number low low_is) in
-    subst (λ n. IsNumbered n low) same low_is
-stays_number number own (Some low) (Some word) low_is is under = by (is_before word low) refl
-  where
-    equal : is_before word low ≡ false → (own ≡ number) ⊎ ((own < number) ⊎ (number < own)) → number ≡ own
-    equal e (inl same) = sym same
-    equal e (inr (inl below)) = absurd (both_ways _ e (lower_word own number word low is low_is below))
-    equal e (inr (inr above)) = absurd (omega arith)
-
-    by : (b : Bool) → is_before word low ≡ b → IsNumberOf own (cond b (Some word) (Some low))
-    by true e = is
-    by false e = subst (λ n. IsNumbered n low) (equal e (cases_order own number)) low_is
 
 -- words whose numbers differ aren't the same
 pub not_at : (own number : ℕ) (word : List ℕ) (rows : List (List ℕ × List (ℕ × ℕ))) → IsNumberOf own (first_word rows) → IsNumbered number word → (own ≡ number → ⊥) → false ≡ is_at word rows
@@ -59,8 +41,77 @@ not_at own number word (row ∷ rows) own_is is apart = by (same_word row.0 word
     by true e = absurd (apart (own_is.number_is ∙ ap (leading 8) ((bytes_decides row.0 word).0 e) ∙ sym is.number_is))
     by false e = refl
 
+-- the lower of two words
+lower_is : (low word : Option (List ℕ)) → lower low word ≡ cond (is_lower word low) word low
+lower_is None None = refl
+lower_is None (Some word) = refl
+lower_is (Some low) None = refl
+lower_is (Some low) (Some word) = refl
+
+-- a word that isn't lower than the lowest isn't lower than one below that either
+still_others : (low other : Option (List ℕ)) (word : Option (List ℕ)) → is_lower word low ≡ true → is_lower other low ≡ false → is_lower other word ≡ false
+still_others low None word less from = refl
+still_others low (Some other) None less from = absurd (both_ways _ refl less)
+still_others None (Some other) (Some word) less from = absurd (both_ways _ from refl)
+still_others (Some low) (Some other) (Some word) less from = by (is_before other word) refl
+  where
+    by : (b : Bool) → is_before other word ≡ b → b ≡ false
+    by true e = absurd (both_ways _ from (before-trans other word low e less))
+    by false e = refl
+
+-- and isn't that one
+lack_other : (low : Option (List ℕ)) (word : List ℕ) (rows : List (List ℕ × List (ℕ × ℕ))) → is_lower (Some word) low ≡ true → is_lower (first_word rows) low ≡ false → is_at word rows ≡ false
+lack_other low word [] less from = refl
+lack_other low word (row ∷ rows) less from = by (same_word row.0 word) refl
+  where
+    by : (b : Bool) → same_word row.0 word ≡ b → b ≡ false
+    by true e = absurd (both_ways _ from (subst (λ w. is_lower (Some w) low ≡ true) (sym ((bytes_decides row.0 word).0 e)) less))
+    by false e = refl
+
+-- no table's first word before an index is lower than the lowest
+abbrev pub NoneLower : Option (List ℕ) → ℕ → List (List (List ℕ × List (ℕ × ℕ))) → Type 0
+NoneLower low index tables = (k : ℕ) → k < index → is_lower (first_word (get_or tables k [])) low ≡ false
+
+abbrev pub LackLowest : Option (List ℕ) → ℕ → List (List (List ℕ × List (ℕ × ℕ))) → Type 0
+LackLowest None first tables = Unit {0}
+LackLowest (Some word) first tables = LackBefore word first tables
+
+never_itself : (word : Option (List ℕ)) → is_lower word word ≡ false
+never_itself None = refl
+never_itself (Some word) = never_before_itself word
+
+-- what holds before an index, and at it, holds before the next
+one_more : (P : List (List ℕ × List (ℕ × ℕ)) → Type 0) (tables : List (List (List ℕ × List (ℕ × ℕ)))) (rows : List (List ℕ × List (ℕ × ℕ))) (i : ℕ) → i < length tables → rows ≡ get_or tables i rows
+    → ((k : ℕ) → k < i → P (get_or tables k [])) → P rows → (k : ℕ) → k < i + 1 → P (get_or tables k [])
+one_more P tables rows i within is before here k below = by (cases_lt k i)
+  where
+    by : (k < i) ⊎ (i ≤ k) → P (get_or tables k [])
+    by (inl less) = before k less
+    by (inr past) =
+        let same : i ≡ k = omega arith in
+        subst (λ n. P (get_or tables n [])) same (subst P (is ∙ get_or_default tables i rows [] within) here)
+
+module _ (low : Option (List ℕ)) (tables : List (List (List ℕ × List (ℕ × ℕ)))) (rows : List (List ℕ × List (ℕ × ℕ))) (i : ℕ) (within : i < length tables) (is : rows ≡ get_or tables i rows) where
+  -- a table that begins with a lower word
+  pub none_below : is_lower (first_word rows) low ≡ true → NoneLower low i tables → NoneLower (first_word rows) (i + 1) tables
+  none_below less none =
+      one_more (λ r. is_lower (first_word r) (first_word rows) ≡ false) tables rows i within is
+      (λ k below. still_others low (first_word (get_or tables k [])) (first_word rows) less (none k below)) (never_itself (first_word rows))
+
+  pub lack_below : is_lower (first_word rows) low ≡ true → NoneLower low i tables → LackLowest (first_word rows) i tables
+  lack_below less none = by (first_word rows) less
+    where
+      by : (word : Option (List ℕ)) → is_lower word low ≡ true → LackLowest word i tables
+      by None e = tt
+      by (Some word) e = λ k below. lack_other low word (get_or tables k []) e (none k below)
+
+  -- and one that doesn't
+  pub none_beside : is_lower (first_word rows) low ≡ false → NoneLower low i tables → NoneLower low (i + 1) tables
+  none_beside from none = one_more (λ r. is_lower (first_word r) low ≡ false) tables rows i within is none from
+
 -- one table more
 pub lowest_step : (low : Option (List ℕ)) (tables : List (List (List ℕ × List (ℕ × ℕ)))) (rows : List (List ℕ × List (ℕ × ℕ))) (i : ℕ) → i < length tables → rows ≡ get_or tables i rows
-    → lowest_from low (drop i tables) ≡ lowest_from (lower low (first_word rows)) (drop (i + 1) tables)
-lowest_step low tables rows i within is =
+    → (b : Bool) → is_lower (first_word rows) low ≡ b → lowest_from low (drop i tables) ≡ lowest_from (cond b (first_word rows) low) (drop (i + 1) tables)
+lowest_step low tables rows i within is b e =
     ap (lowest_from low) (drop_more tables i rows within) ∙ ap (λ r. lowest_from (lower low (first_word r)) (drop (i + 1) tables)) (sym is)
+    ∙ ap (λ o. lowest_from o (drop (i + 1) tables)) (lower_is low (first_word rows) ∙ ap (λ c. cond c (first_word rows) low) e)

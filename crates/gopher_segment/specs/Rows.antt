@@ -86,6 +86,16 @@ abbrev pub taken : List ℕ → List (List ℕ × List (ℕ × ℕ)) → List (�
 taken word [] = []
 taken word (row ∷ rows) = if same_word row.0 word then row.1 else []
 
+-- none of the tables before an index begins with a word
+abbrev pub LackBefore : List ℕ → ℕ → List (List (List ℕ × List (ℕ × ℕ))) → Type 0
+LackBefore word first tables = (k : ℕ) → k < first → is_at word (slice_index_or tables k []) ≡ false
+
+-- whether there is a word, and it comes before another where there is another
+abbrev pub is_lower : Option (List ℕ) → Option (List ℕ) → Bool
+is_lower None low = false
+is_lower (Some word) None = true
+is_lower (Some word) (Some low) = is_before word low
+
 abbrev pub lower : Option (List ℕ) → Option (List ℕ) → Option (List ℕ)
 lower None word = word
 lower (Some low) None = Some low

@@ -6,7 +6,10 @@
 //! of them, and what it says of a word, or of all words that begin with one, is what these pages say.
 #![tactic(auto)]
 
+mod chains;
 mod gathering;
+mod groups;
+mod head;
 mod joining;
 mod merging;
 mod parts;

@@ -1,9 +1,9 @@
 //! Merging tables.
 
-ghost use Rattle.std.specs.Prelude.{◌≡◌, ℕ, Bool, ◌<◌, List, None, ◌++◌, length, map, drop, IfOk, OnOk};
+ghost use Rattle.std.specs.Prelude.{◌≡◌, ℕ, Bool, ◌<◌, List, None, ◌++◌, length, map, drop, option_map, IfOk, IfSome, OnOk};
 ghost use Rattle.std.specs.List.{flat_map};
 ghost use Rattle.std.specs.Option.{option_copied};
-ghost use Rattle.gopher_segment.specs.Rows.{AreInOrder, rows_count, postings_of, first_word, first_run, IsNumberOf, is_at, passed, taken, lower, lowest_from, AreAllInOrder, tables_count};
+ghost use Rattle.gopher_segment.specs.Rows.{AreInOrder, rows_count, postings_of, first_word, first_run, IsNumberOf, is_at, LackBefore, is_lower, passed, taken, lowest_from, AreAllInOrder, tables_count};
 
 use crate::runs::{Run, Runs};
 use crate::table::Table;
@@ -118,34 +118,46 @@ impl<'a> Cursor<'a> {
     }
 }
 
-fn lower<'a, 'b>(
-    lowest: Option<&'b Numbered<'a>>,
-    word: Option<&'b Numbered<'a>>,
-) -> Option<&'b Numbered<'a>>
-    ensures { option_copied result ≡ lower (option_copied lowest.entry) (option_copied word.entry) }
+// Whether there is a word, and it comes before the lowest where there is one.
+fn is_lower(word: Option<&Numbered<'_>>, lowest: Option<&Numbered<'_>>) -> bool
+    ensures { result ≡ is_lower (option_copied word.entry) (option_copied lowest.entry) }
 {
-    match (lowest, word) {
-        (Some(low), Some(word)) => Some(if word.cmp(low).is_lt() { word } else { low }),
-        (Some(low), None) => Some(low),
-        (None, word) => word,
+    match (word, lowest) {
+        (Some(word), Some(low)) => word.cmp(low).is_lt(),
+        (Some(_), None) => true,
+        (None, _) => false,
     }
 }
 
-// The lowest of the first words.
-fn lowest_word<'a>(cursors: &[Cursor<'a>]) -> Option<Numbered<'a>>
-    ensures { result ≡ lowest_from None cursors.now }
+// The same of the first word of a cursor, beside the number of the lowest.
+fn begins_lower(cursor: &Cursor<'_>, lowest: Option<&Numbered<'_>>, number: u64) -> bool
+    requires { IsNumberOf number (option_copied lowest) }
+    ensures { result ≡ is_lower (first_word cursor.now) (option_copied lowest.entry) }
+{
+    if cursor.number() > number {
+        return false;
+    }
+    is_lower(cursor.word(), lowest)
+}
+
+// The lowest of the first words, and the first of the tables that begin with it.
+fn lowest_word<'a>(cursors: &[Cursor<'a>]) -> Option<(usize, Numbered<'a>)>
+    ensures word { option_map (λ r. r.1) result ≡ lowest_from None cursors.now }
+    ensures first { IfSome result (λ r. LackBefore r.1 r.0 cursors.now) }
 {
     let mut lowest: Option<&Numbered<'a>> = None;
+    let mut first = 0;
     let mut number = u64::MAX;
-    for cursor in cursors {
-        let own = cursor.number();
-        if own <= number {
-            lowest = lower(lowest, cursor.word());
-            number = own;
+    for index in 0..cursors.len() {
+        let cursor = &cursors[index];
+        if begins_lower(cursor, lowest, number) {
+            lowest = cursor.word();
+            number = cursor.number();
+            first = index;
         }
     }
     match lowest {
-        Some(word) => Some(word.again()),
+        Some(word) => Some((first, word.again())),
         None => None,
     }
 }
@@ -164,18 +176,20 @@ fn take_run(word: &Numbered<'_>, cursor: &mut Cursor<'_>, runs: &mut Runs) -> Re
     Ok(())
 }
 
-// The same table by table.
+// The same table by table, from the first that begins with it.
 fn take_runs(
     word: &Numbered<'_>,
+    first: usize,
     cursors: &mut [Cursor<'_>],
     runs: &mut Runs,
 ) -> Result<(), NoMemory>
+    requires { LackBefore word.now first cursors.old }
     ensures cursors { OnOk result (cursors.new ≡ map (passed word.now) cursors.old) }
     ensures whole { runs.new.whole ≡ runs.old.whole }
     ensures begun { OnOk result (runs.new.begun
         ≡ runs.old.begun ++ flat_map (taken word.now) cursors.old) }
 {
-    for index in 0..cursors.len() {
+    for index in first..cursors.len() {
         take_run(word, &mut cursors[index], runs)?;
     }
     Ok(())
@@ -216,9 +230,9 @@ pub(crate) fn merge(alloc: Global, cursors: &mut [Cursor<'_>]) -> Result<Table, 
     let room = room_of(cursors);
     let mut words = Words::with_capacity(alloc, room.rows, room.bytes)?;
     let mut runs = Runs::with_capacity(alloc, room.rows, room.postings)?;
-    while let Some(word) = lowest_word(cursors) {
+    while let Some((first, word)) = lowest_word(cursors) {
         words.push(word.word())?;
-        take_runs(&word, cursors, &mut runs)?;
+        take_runs(&word, first, cursors, &mut runs)?;
         runs.end_run()?;
     }
     Ok(Table::packed(words, runs))

@@ -1,20 +1,17 @@
 //! The words of pages, as they are joined into a table.
 
-ghost use Rattle.std.specs.Prelude.{◌≡◌, Some, ◌++◌, nat_eq, refl, OnOk};
-ghost use Rattle.std.specs.Ordering.{nat_cmp};
-ghost use Rattle.std.specs.Cmp;
-ghost use Rattle.std.specs.Cmp.Lexicographic.{pointwise, slice_cmp, nat_list_eq_equiv, nat_list_cmp_total, texts_ties, texts_po};
+ghost use Rattle.std.specs.Prelude.{◌≡◌, [], ◌∷◌, ◌++◌, slice_index_or, OnOk, OnErr};
 ghost use Rattle.gopher_page.specs.Words.{same_word};
+ghost use Rattle.gopher_page.specs.Numbered.{IsNumbered};
 ghost use Rattle.gopher_segment.specs.Postings.{pieces};
 
-use crate::runs::Runs;
+use crate::chains::Chains;
+use crate::head::Head;
 use gopher_item::NoMemory;
 use gopher_page::Numbered;
-use std::cmp::Ordering;
 use std::marker::Model;
 
-/// A word of a page: the number of the page, and how often the word stands there. In the order of the
-/// words' bytes, whatever the page.
+/// A word of a page: the number of the page, and how often the word stands there.
 #[derive(Debug, Drop)]
 pub(crate) struct Row<'a> {
     word: Numbered<'a>,
@@ -44,63 +41,37 @@ impl<'a> Row<'a> {
         }
     }
 
-    /// The word.
-    pub fn word(&self) -> &'a [u8]
-        ensures { result.now ≡ self.now.0 }
+    /// The first eight bytes of the word as one number.
+    pub fn leading(&self) -> u64
+        ensures { IsNumbered result self.now.0 }
     {
-        self.word.word()
+        self.word.number()
     }
 
-    /// Whether two rows have one word.
-    pub fn is_alike(&self, other: &Row<'_>) -> bool
-        ensures { result ≡ same_word self.now.0 other.now.0 }
+    /// The word, with which list has its postings.
+    pub fn head(&self, list: u32) -> Head<'a>
+        ensures { result ≡ (self.now.0, list) }
     {
-        self.word == other.word
+        Head {
+            word: self.word.again(),
+            list,
+        }
     }
 
-    /// Adds the postings to the last of the runs. Refused only where memory is (90).
-    pub fn add_to(&self, runs: &mut Runs) -> Result<(), NoMemory>
-        ensures whole { runs.new.whole ≡ runs.old.whole }
-        ensures begun { OnOk result (runs.new.begun ≡ runs.old.begun ++ self.now.1) }
+    /// Whether a head has the row's word.
+    pub fn is_of(&self, head: &Head<'_>) -> bool
+        ensures { result ≡ same_word head.now.0 self.now.0 }
     {
-        runs.push_count(self.number, self.count)
+        head.word == self.word
     }
-}
 
-impl<'a> PartialEq for Row<'a> {
-    ghost eq = { λ x y. pointwise nat_eq x.0 y.0 };
-
-    ghost laws = { Cmp.on_per (λ row. row.0) (Cmp.partial_equiv_from_equiv nat_list_eq_equiv) };
-
-    fn eq(&self, other: &Row<'a>) -> bool {
-        self.is_alike(other)
-    }
-}
-
-impl<'a> Eq for Row<'a> {
-    ghost laws = { Cmp.on_equiv (λ row. row.0) nat_list_eq_equiv };
-}
-
-impl<'a> PartialOrd for Row<'a> {
-    ghost partial_cmp = { λ x y. Some (slice_cmp nat_cmp x.0 y.0) };
-
-    ghost laws = { Cmp.on_po (λ row. row.0) texts_po };
-
-    fn partial_cmp(&self, other: &Row<'a>) -> Option<Ordering> {
-        Some(self.cmp(other))
-    }
-}
-
-impl<'a> Ord for Row<'a> {
-    ghost cmp = { λ x y. slice_cmp nat_cmp x.0 y.0 };
-
-    ghost total = { Cmp.on_total (λ row. row.0) nat_list_cmp_total };
-
-    ghost matches_partial_cmp = { λ x y. refl };
-
-    ghost matches_eq = { λ x y. texts_ties x.0 y.0 };
-
-    fn cmp(&self, other: &Row<'a>) -> Ordering {
-        self.word.cmp(&other.word)
+    /// Adds a list: the postings of the row, and then those of the list `next`, where there is one.
+    /// Refused only where memory is (90).
+    pub fn add_to_chains(&self, next: u32, chains: &mut Chains) -> Result<(), NoMemory>
+        ensures added { OnOk result (chains.new ≡ chains.old
+            ++ (self.now.1 ++ slice_index_or chains.old next []) ∷ []) }
+        ensures err { OnErr result (chains.new ≡ chains.old) }
+    {
+        chains.push(self.number, self.count, next)
     }
 }

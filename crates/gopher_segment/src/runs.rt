@@ -158,6 +158,7 @@ impl Runs {
     }
 
     // Adds a posting to the last run.
+    #[inline(always)]
     fn push(&mut self, page: u16, count: u8) -> Result<(), NoMemory>
         ensures whole { self.new.whole ≡ self.old.whole }
         ensures begun { OnOk result (self.new.begun ≡ self.old.begun ++ (page, count) ∷ []) }
@@ -198,6 +199,7 @@ impl Runs {
     }
 
     /// Ends the last run, and begins another. Refused (90) where memory is, or past 4,294,967,295 postings.
+    #[inline(always)]
     pub fn end_run(&mut self) -> Result<(), NoMemory>
         ensures whole { OnOk result (self.new.whole ≡ self.old.whole ++ self.old.begun ∷ []) }
         ensures begun { OnOk result (self.new.begun ≡ []) }

@@ -45,14 +45,14 @@ impl Model for Segment {
 impl Segment {
     /// The segment of pages, of which the first has this number. Refused only where memory is (90).
     ///
-    /// It takes a list of their words, with 32 bytes or twice as many for each word of each page.
+    /// For a moment it takes up to 108 bytes for each word of each page, and 65,536 more.
     pub fn of_pages(alloc: Global, first: usize, pages: &[Arc<Page>]) -> Result<Segment, NoMemory>
         requires { first + length pages.now ≤ 65536 }
         ensures first { IfOk result (λ segment. segment.first ≡ first) }
         ensures pages { IfOk result (λ segment. segment.pages ≡ map arc_value pages.now) }
     {
         let rows = rows_of(alloc, first, pages)?;
-        let table = join(alloc, rows)?;
+        let table = join(alloc, &rows)?;
         let pages = shared(alloc, pages)?;
         Ok(Segment {
             first,

@@ -70,6 +70,7 @@ impl Words {
     }
 
     /// Adds a word at the end. Refused (90) where memory is, or past 4,294,967,295 bytes.
+    #[inline(always)]
     pub fn push(&mut self, word: &[u8]) -> Result<(), NoMemory>
         ensures { OnOk result (self.new ≡ self.old ++ word.now ∷ []) }
     {

@@ -1,31 +1,41 @@
-use Rattle.std.proofs.Common.{◌≡◌, ℕ, ◌+◌, List, Option, drop, sym, ap, subst, ◌∙◌, arith}
+use Rattle.std.proofs.Common.{◌≡◌, ℕ, List, Option, true, false, ◌+◌, ◌<◌, length, drop, sym, ap, subst, ◌∙◌}
 use Rattle.std.specs.Option.{option_copied}
-use Rattle.gopher_segment.specs.Rows.{first_word, lower, lowest_from, IsNumberOf}
-use Rattle.gopher_segment.proofs.NumberLemmas.{skipped, stays_number, lowest_step}
+use Rattle.gopher_segment.specs.Rows.{first_word, is_lower, lowest_from, IsNumberOf}
+use Rattle.gopher_segment.proofs.NumberLemmas.{NoneLower, LackLowest, lowest_step, none_below, lack_below, none_beside}
 use Rattle.gopher_segment.proofs.merging.lowest_word.Goals as goal
-use Rattle.gopher_segment.proofs.merging.lowest_word.Goals.{then-own-number, else-own-number}
+use Rattle.gopher_segment.proofs.merging.lowest_word.Goals.{then-begins_lower, else-begins_lower}
 
-pub loop-cursor-preserved : goal.loop-cursor-preserved
-loop-cursor-preserved c =
-    let rows : List (List ℕ × List (ℕ × ℕ)) = c.cursor-item.result in
-    let rest : List (List (List ℕ × List (ℕ × ℕ))) = drop (c.loop-cursor.cursor-index + 1) c.args.cursors.now in
-    let low : Option (List ℕ) = option_copied c.loop-cursor.lowest in
-    let step : lowest_from low (drop c.loop-cursor.cursor-index c.args.cursors.now) ≡ lowest_from (lower low (first_word rows)) rest =
-    lowest_step low c.args.cursors.now rows c.loop-cursor.cursor-index (omega arith) c.cursor-item.is in
-    elim c.if-own-number.branch [
-      | then-own-number w ↦
-          let is : option_copied c.if-own-number.lowest ≡ lower low (first_word rows) = ap option_copied w.lowest-is ∙ w.lower-lowest.ensures ∙ ap (lower low) w.word.ensures in
+pub loop-index-preserved : goal.loop-index-preserved
+loop-index-preserved c =
+    let tables : List (List (List ℕ × List (ℕ × ℕ))) = c.args.cursors.now in
+    let rows : List (List ℕ × List (ℕ × ℕ)) = c.index-cursors-index.result in
+    let next : ℕ = c.loop-index.index + 1 in
+    let low : Option (List ℕ) = option_copied c.loop-index.lowest in
+    let within : c.loop-index.index < length tables = c.loop-index-test.true in
+    elim c.if-begins_lower.branch [
+      | then-begins_lower w ↦
+          let less : is_lower (first_word rows) low ≡ true = sym c.begins_lower.ensures ∙ w.if-begins_lower.true in
+          let is : first_word rows ≡ option_copied c.if-begins_lower.lowest = sym (ap option_copied w.lowest-is ∙ w.word-lowest.ensures) in
           record {
-            lowest_so_far = ap (λ o. lowest_from o rest) is ∙ sym step ∙ c.loop-cursor.invariant.lowest_so_far;
-            number_is =
-                subst (λ n. IsNumberOf n (option_copied c.if-own-number.lowest)) (sym w.number-is)
-                (subst (IsNumberOf c.number-own.result) (sym is) (stays_number c.loop-cursor.number c.number-own.result low (first_word rows) c.loop-cursor.invariant.number_is c.number-own.ensures (omega (arith, w.if-own-number.true))));
+            lowest_so_far =
+                ap (λ o. lowest_from o (drop next tables)) (sym is)
+                ∙ sym (lowest_step low tables rows c.loop-index.index within c.index-cursors-index.is true less)
+                ∙ c.loop-index.invariant.lowest_so_far;
+            number_is = subst (λ n. IsNumberOf n (option_copied c.if-begins_lower.lowest)) (sym w.number-is) (subst (IsNumberOf w.number-number.result) is w.number-number.ensures);
+            none = subst (λ o. NoneLower o next tables) is (none_below low tables rows c.loop-index.index within c.index-cursors-index.is less c.loop-index.invariant.none);
+            lack = subst (λ n. LackLowest (option_copied c.if-begins_lower.lowest) n tables) (sym w.first-is)
+                (subst (λ o. LackLowest o c.loop-index.index tables) is (lack_below low tables rows c.loop-index.index within c.index-cursors-index.is less c.loop-index.invariant.none));
           }
-      | else-own-number w ↦
-          let is : option_copied c.if-own-number.lowest ≡ low = ap option_copied w.lowest-is in
-          let kept : lower low (first_word rows) ≡ low = skipped c.loop-cursor.number c.number-own.result low (first_word rows) c.loop-cursor.invariant.number_is c.number-own.ensures (omega (arith, w.if-own-number.false)) in
+      | else-begins_lower w ↦
+          let from : is_lower (first_word rows) low ≡ false = sym c.begins_lower.ensures ∙ w.if-begins_lower.false in
+          let is : low ≡ option_copied c.if-begins_lower.lowest = sym (ap option_copied w.lowest-is) in
           record {
-            lowest_so_far = ap (λ o. lowest_from o rest) (is ∙ sym kept) ∙ sym step ∙ c.loop-cursor.invariant.lowest_so_far;
-            number_is = subst (λ n. IsNumberOf n (option_copied c.if-own-number.lowest)) (sym w.number-is) (subst (IsNumberOf c.loop-cursor.number) (sym is) c.loop-cursor.invariant.number_is);
+            lowest_so_far =
+                ap (λ o. lowest_from o (drop next tables)) (sym is)
+                ∙ sym (lowest_step low tables rows c.loop-index.index within c.index-cursors-index.is false from)
+                ∙ c.loop-index.invariant.lowest_so_far;
+            number_is = subst (λ n. IsNumberOf n (option_copied c.if-begins_lower.lowest)) (sym w.number-is) (subst (IsNumberOf c.loop-index.number) is c.loop-index.invariant.number_is);
+            none = subst (λ o. NoneLower o next tables) is (none_beside low tables rows c.loop-index.index within c.index-cursors-index.is from c.loop-index.invariant.none);
+            lack = subst (λ n. LackLowest (option_copied c.if-begins_lower.lowest) n tables) (sym w.first-is) (subst (λ o. LackLowest o c.loop-index.first tables) is c.loop-index.invariant.lack);
           }
     ]

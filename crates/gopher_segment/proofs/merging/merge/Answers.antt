@@ -16,9 +16,9 @@ none_yet words [] e = tt
 none_yet words ([] ∷ tables) e = (tt, none_yet words tables e)
 none_yet words ((row ∷ rows) ∷ tables) e = (rw e tt, none_yet words tables e)
 
-pub loop-word-init : goal.loop-word-init
+pub loop-first-init : goal.loop-first-init
 unfolding IsStrictlySortedBy
-loop-word-init c = record {
+loop-first-init c = record {
   same = rw (c.in_ok-runs.ensures.whole, c.in_ok-words.ensures) refl;
   ended = c.in_ok-runs.ensures.begun;
   order = rw c.in_ok-words.ensures tt;
@@ -28,51 +28,51 @@ loop-word-init c = record {
   postings = λ word. rw (c.in_ok-runs.ensures.whole, c.in_ok-words.ensures) refl;
 }
 
-pub loop-word-smaller : goal.loop-word-smaller
-loop-word-smaller c =
-    let lowest : AreFrom c.in-Some.word c.loop-word.cursors × IsFirst c.in-Some.word c.loop-word.cursors = lowest_first c.in-Some.word c.loop-word.cursors (sym c.in-Some.ensures) in
-    let P : List (List (List ℕ × List (ℕ × ℕ))) → Type 0 = λ tables. rows_left tables < rows_left c.loop-word.cursors in
-    subst P (sym c.in_ok-take_runs.ensures.cursors) (fewer_left c.in-Some.word c.loop-word.cursors lowest.1)
+pub loop-first-smaller : goal.loop-first-smaller
+loop-first-smaller c =
+    let lowest : AreFrom c.in-Some.word c.loop-first.cursors × IsFirst c.in-Some.word c.loop-first.cursors = lowest_first c.in-Some.word c.loop-first.cursors (sym c.in-Some.ensures.word) in
+    let P : List (List (List ℕ × List (ℕ × ℕ))) → Type 0 = λ tables. rows_left tables < rows_left c.loop-first.cursors in
+    subst P (sym c.in_ok-take_runs.ensures.cursors) (fewer_left c.in-Some.word c.loop-first.cursors lowest.1)
 
-pub loop-word-preserved : goal.loop-word-preserved
-loop-word-preserved c =
+pub loop-first-preserved : goal.loop-first-preserved
+loop-first-preserved c =
     let word : List ℕ = c.in-Some.word in
-    let lowest : AreFrom word c.loop-word.cursors × IsFirst word c.loop-word.cursors = lowest_first word c.loop-word.cursors (sym c.in-Some.ensures) in
-    let pushed : c.push.new.self ≡ c.loop-word.words ++ word ∷ [] = c.in_ok-push.ensures ∙ ap (λ w. c.loop-word.words ++ w ∷ []) c.word.ensures in
-    let before = before_first c.loop-word.words word c.loop-word.cursors c.loop-word.invariant.before lowest.1 in
-    let run : c.take_runs.new.runs.begun ≡ flat_map (taken word) c.loop-word.cursors = c.in_ok-take_runs.ensures.begun ∙ ap (λ l. l ++ flat_map (taken word) c.loop-word.cursors) c.loop-word.invariant.ended in
-    let grown : c.end_run.new.self.whole ≡ c.loop-word.runs.whole ++ c.take_runs.new.runs.begun ∷ [] = c.in_ok-end_run.ensures.whole ∙ ap (λ l. l ++ c.take_runs.new.runs.begun ∷ []) c.in_ok-take_runs.ensures.whole in
+    let lowest : AreFrom word c.loop-first.cursors × IsFirst word c.loop-first.cursors = lowest_first word c.loop-first.cursors (sym c.in-Some.ensures.word) in
+    let pushed : c.push.new.self ≡ c.loop-first.words ++ word ∷ [] = c.in_ok-push.ensures ∙ ap (λ w. c.loop-first.words ++ w ∷ []) c.word.ensures in
+    let before = before_first c.loop-first.words word c.loop-first.cursors c.loop-first.invariant.before lowest.1 in
+    let run : c.take_runs.new.runs.begun ≡ flat_map (taken word) c.loop-first.cursors = c.in_ok-take_runs.ensures.begun ∙ ap (λ l. l ++ flat_map (taken word) c.loop-first.cursors) c.loop-first.invariant.ended in
+    let grown : c.end_run.new.self.whole ≡ c.loop-first.runs.whole ++ c.take_runs.new.runs.begun ∷ [] = c.in_ok-end_run.ensures.whole ∙ ap (λ l. l ++ c.take_runs.new.runs.begun ∷ []) c.in_ok-take_runs.ensures.whole in
     record {
-      same = omega (arith, c.loop-word.invariant.same, ap length grown, ap length pushed, length-append c.loop-word.runs.whole (c.take_runs.new.runs.begun ∷ []), length-append c.loop-word.words (word ∷ []));
+      same = omega (arith, c.loop-first.invariant.same, ap length grown, ap length pushed, length-append c.loop-first.runs.whole (c.take_runs.new.runs.begun ∷ []), length-append c.loop-first.words (word ∷ []));
       ended = c.in_ok-end_run.ensures.begun;
-      order = rw pushed (sorted_push c.loop-word.words word c.loop-word.invariant.order before);
-      before = rw (pushed, c.in_ok-take_runs.ensures.cursors) (pass_befores c.loop-word.words word c.loop-word.cursors lowest.0 c.loop-word.invariant.orders before);
-      orders = rw c.in_ok-take_runs.ensures.cursors (pass_orders word c.loop-word.cursors c.loop-word.invariant.orders);
+      order = rw pushed (sorted_push c.loop-first.words word c.loop-first.invariant.order before);
+      before = rw (pushed, c.in_ok-take_runs.ensures.cursors) (pass_befores c.loop-first.words word c.loop-first.cursors lowest.0 c.loop-first.invariant.orders before);
+      orders = rw c.in_ok-take_runs.ensures.cursors (pass_orders word c.loop-first.cursors c.loop-first.invariant.orders);
       counts = λ test page.
           (λ i. rows_count test page (zip (pushed i) (grown i)) + tables_count test page (c.in_ok-take_runs.ensures.cursors i))
-          ∙ counts_step test page word c.loop-word.words c.loop-word.runs.whole c.take_runs.new.runs.begun c.loop-word.cursors c.loop-word.invariant.same run
-          ∙ c.loop-word.invariant.counts test page;
+          ∙ counts_step test page word c.loop-first.words c.loop-first.runs.whole c.take_runs.new.runs.begun c.loop-first.cursors c.loop-first.invariant.same run
+          ∙ c.loop-first.invariant.counts test page;
       postings = λ sought.
           (λ i. postings_of sought (zip (pushed i) (grown i)) ++ flat_map (postings_of sought) (c.in_ok-take_runs.ensures.cursors i))
-          ∙ runs_step sought word c.loop-word.words c.loop-word.runs.whole c.take_runs.new.runs.begun c.loop-word.cursors c.loop-word.invariant.same run c.loop-word.invariant.orders lowest.0
-          ∙ c.loop-word.invariant.postings sought;
+          ∙ runs_step sought word c.loop-first.words c.loop-first.runs.whole c.take_runs.new.runs.begun c.loop-first.cursors c.loop-first.invariant.same run c.loop-first.invariant.orders lowest.0
+          ∙ c.loop-first.invariant.postings sought;
     }
 
 pub returns-clause-order : goal.returns-clause-order
 returns-clause-order c =
     let P : List (List ℕ) → Type 0 = IsStrictlySortedBy (slice_cmp nat_cmp) in
-    rw c.packed.ensures (subst P (sym (words_of_zip c.loop-word.words c.loop-word.runs.whole c.loop-word.invariant.same)) c.loop-word.invariant.order)
+    rw c.packed.ensures (subst P (sym (words_of_zip c.loop-first.words c.loop-first.runs.whole c.loop-first.invariant.same)) c.loop-first.invariant.order)
 
 pub returns-clause-counts : goal.returns-clause-counts
 returns-clause-counts c = λ test page.
-    let none : tables_count test page c.loop-word.cursors ≡ 0 = nothing_left c.loop-word.cursors (sym c.in_default.ensures) test page in
-    let all : rows_count test page (zip c.loop-word.words c.loop-word.runs.whole) + tables_count test page c.loop-word.cursors ≡ tables_count test page c.args.cursors.now = c.loop-word.invariant.counts test page in
+    let none : tables_count test page c.loop-first.cursors ≡ 0 = nothing_left c.loop-first.cursors (sym c.in_default.ensures.word) test page in
+    let all : rows_count test page (zip c.loop-first.words c.loop-first.runs.whole) + tables_count test page c.loop-first.cursors ≡ tables_count test page c.args.cursors.now = c.loop-first.invariant.counts test page in
     rw c.packed.ensures (omega arith)
 
 pub returns-clause-runs : goal.returns-clause-runs
 returns-clause-runs c = λ word.
-    let table : List (ℕ × ℕ) = postings_of word (zip c.loop-word.words c.loop-word.runs.whole) in
+    let table : List (ℕ × ℕ) = postings_of word (zip c.loop-first.words c.loop-first.runs.whole) in
     ap (postings_of word) c.packed.ensures
     ∙ sym (append-nil table)
-    ∙ ap (λ l. table ++ l) (sym (no_postings_left word c.loop-word.cursors (sym c.in_default.ensures)))
-    ∙ c.loop-word.invariant.postings word
+    ∙ ap (λ l. table ++ l) (sym (no_postings_left word c.loop-first.cursors (sym c.in_default.ensures.word)))
+    ∙ c.loop-first.invariant.postings word

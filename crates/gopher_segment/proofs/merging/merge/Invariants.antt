@@ -6,8 +6,8 @@ use Rattle.std.specs.Cmp.Lexicographic.{slice_cmp}
 use Rattle.gopher_segment.specs.Rows.{rows_count, postings_of, tables_count, rows_left, AreAllInOrder, ComeBefore}
 use Rattle.gopher_segment.proofs.merging.merge.Given as goal
 
-abbrev pub invariant-loop-word : goal.invariant-loop-word
-invariant-loop-word l = record {
+abbrev pub invariant-loop-first : goal.invariant-loop-first
+invariant-loop-first l = record {
   same : length l.runs.whole ≡ length l.words;
   ended : l.runs.begun ≡ [];
   order : IsStrictlySortedBy (slice_cmp nat_cmp) l.words;
@@ -17,5 +17,5 @@ invariant-loop-word l = record {
   postings : (word : List ℕ) → postings_of word (zip l.words l.runs.whole) ++ flat_map (postings_of word) l.cursors ≡ flat_map (postings_of word) l.initial.cursors;
 }
 
-abbrev pub decreases-loop-word : goal.decreases-loop-word
-decreases-loop-word l = rows_left l.cursors
+abbrev pub decreases-loop-first : goal.decreases-loop-first
+decreases-loop-first l = rows_left l.cursors

@@ -1,7 +1,17 @@
-use Rattle.std.proofs.Common.{◌≡◌, ℕ, ◌<◌, List, ◌++◌, length, get_or, ◌∙◌, arith}
+use Rattle.std.proofs.Common.{◌≡◌, ℕ, ◌<◌, List, ◌++◌, length, get_or, refl, sym, ap, ◌∙◌, arith}
+use Rattle.std.proofs.lemmas.List.{append-nil}
 use Rattle.gopher_segment.specs.Rows.{passed, taken}
-use Rattle.gopher_segment.proofs.MergeLemmas.{map_step, now_at, flat_step}
+use Rattle.gopher_segment.proofs.MergeLemmas.{left_before, none_before, map_step, now_at, flat_step}
 use Rattle.gopher_segment.proofs.merging.take_runs.Goals as goal
+
+pub loop-index-init : goal.loop-index-init
+loop-index-init c =
+    let begun : List (ℕ × ℕ) = c.args.runs.now.begun in
+    record {
+      cursors_so_far = left_before c.args.word.now c.args.first c.args.cursors.now c.requires;
+      whole = refl;
+      begun = sym (append-nil begun) ∙ ap (λ l. begun ++ l) (sym (none_before c.args.word.now c.args.first c.args.cursors.now c.requires));
+    }
 
 pub loop-index-preserved : goal.loop-index-preserved
 loop-index-preserved c =

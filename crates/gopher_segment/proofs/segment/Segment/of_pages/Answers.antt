@@ -1,5 +1,6 @@
 use Rattle.std.proofs.Common.{map, sym, subst}
 use Rattle.std.specs.Arc.{arc_value}
+use Rattle.gopher_segment.specs.Rows.{TellAlike}
 use Rattle.gopher_segment.specs.SegmentRows.{AreRowsOf, AreSmall}
 use Rattle.gopher_segment.proofs.SegmentLemmas.{rows_of_both}
 use Rattle.gopher_segment.proofs.segment.Segment.of_pages.Goals as goal
@@ -9,6 +10,6 @@ invariant_of-result c =
     let pages = map arc_value c.args.pages.now in
     record {
       table = subst (λ l. AreRowsOf c.args.first l c.in_ok-table.table) (sym c.in_ok-pages.ensures)
-          (rows_of_both c.args.first pages c.in_ok-rows.rows.items c.in_ok-table.table c.in_ok-rows.ensures.tell c.in_ok-table.ensures.order c.in_ok-table.ensures.alike);
+          (rows_of_both c.args.first pages c.in_ok-rows.rows.items c.in_ok-table.table c.in_ok-rows.ensures.tell c.in_ok-table.ensures.order (subst (λ rows. TellAlike rows c.in_ok-table.table) c.deref.ensures.value c.in_ok-table.ensures.alike));
       small = subst AreSmall (sym c.in_ok-pages.ensures) c.in_ok-rows.ensures.small;
     }

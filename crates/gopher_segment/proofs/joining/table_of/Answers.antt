@@ -1,0 +1,36 @@
+use Rattle.std.proofs.Common.{◌≡◌, ℕ, List, ◌++◌, ◌∷◌, [], length, drop, sym, ap, ◌∙◌, append_assoc, arith}
+use Rattle.std.proofs.lemmas.List.{length-append}
+use Rattle.std.specs.List.{zip}
+use Rattle.gopher_segment.specs.Rows.{joined_rows}
+use Rattle.gopher_segment.specs.Groups.{rows_of_heads}
+use Rattle.gopher_segment.proofs.RowSearch.{word_at}
+use Rattle.gopher_segment.proofs.RunLemmas.{zip-append}
+use Rattle.gopher_segment.proofs.JoinLemmas.{word_of_head, all_joined}
+use Rattle.gopher_segment.proofs.joining.table_of.Goals as goal
+
+pub loop-at-preserved : goal.loop-at-preserved
+loop-at-preserved c =
+    let rows : List (List ℕ × List (ℕ × ℕ)) = rows_of_heads c.args.chains.now c.args.heads.now in
+    let word : List ℕ = word_at rows c.loop-at.at in
+    let postings : List (ℕ × ℕ) = c.take_word.new.runs.begun in
+    let is : c.word.result.now ≡ word = c.word.ensures ∙ sym (word_of_head c.args.chains.now c.args.heads.now c.loop-at.at c.index-heads-at.result c.loop-at-test.true c.index-heads-at.is) in
+    let pushed : c.push.new.self ≡ c.loop-at.words ++ word ∷ [] = c.in_ok-push.ensures ∙ ap (λ w. c.loop-at.words ++ w ∷ []) is in
+    let ended : c.end_run.new.self.whole ≡ c.loop-at.runs.whole ++ postings ∷ [] = c.in_ok-end_run.ensures.whole ∙ ap (λ l. l ++ postings ∷ []) c.in_ok-at.ensures.whole in
+    let so_far : List (List ℕ × List (ℕ × ℕ)) = zip c.loop-at.words c.loop-at.runs.whole in
+    let left : List (List ℕ × List (ℕ × ℕ)) = joined_rows (drop c.in_ok-at.at rows) in
+    record {
+      same = omega (arith, c.loop-at.invariant.same, ap length ended, ap length pushed, length-append c.loop-at.runs.whole (postings ∷ []), length-append c.loop-at.words (word ∷ []));
+      ended = c.in_ok-end_run.ensures.begun;
+      inside = c.in_ok-at.ensures.inside;
+      joined =
+          (λ i. zip (pushed i) (ended i) ++ left)
+          ∙ ap (λ l. l ++ left) (zip-append c.loop-at.words (word ∷ []) c.loop-at.runs.whole (postings ∷ []) c.loop-at.invariant.same)
+          ∙ append_assoc so_far ((word, postings) ∷ []) left
+          ∙ ap (λ l. so_far ++ l) (sym c.in_ok-at.ensures.joined)
+          ∙ c.loop-at.invariant.joined;
+    }
+
+pub returns : goal.returns
+returns c =
+    c.packed.ensures
+    ∙ all_joined c.args.chains.now c.args.heads.now (zip c.loop-at.words c.loop-at.runs.whole) c.loop-at.at (omega (arith, c.loop-at-test.false)) c.loop-at.invariant.joined

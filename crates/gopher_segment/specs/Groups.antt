@@ -1,0 +1,45 @@
+-- Words with the lists of their postings, found by a table of slots.
+use Rattle.std.specs.Prelude.{ℕ, ◌+◌, ◌-◌, ◌*◌, ◌/◌, ◌%◌, ◌^◌, ◌≡◌, ◌<◌, ◌⊎◌, false, List, [], ◌∷◌, ◌++◌, map, length, drop, slice_index_or}
+use Rattle.std.specs.List.{AllByRecursion}
+use Rattle.gopher_page.specs.Words.{same_word}
+use Rattle.gopher_page.specs.Numbered.{leading}
+
+-- the row of a head: its word, and its list among all lists
+abbrev pub head_row : List (List (ℕ × ℕ)) → List ℕ × ℕ → List ℕ × List (ℕ × ℕ)
+head_row chains head = (head.0, slice_index_or chains head.1 [])
+
+-- the rows of heads
+abbrev pub rows_of_heads : List (List (ℕ × ℕ)) → List (List ℕ × ℕ) → List (List ℕ × List (ℕ × ℕ))
+rows_of_heads chains heads = map (head_row chains) heads
+
+-- the rows of heads, that of the last head first
+abbrev pub latest : List (List (ℕ × ℕ)) → List (List ℕ × ℕ) → List (List ℕ × List (ℕ × ℕ))
+latest chains [] = []
+latest chains (head ∷ heads) = latest chains heads ++ head_row chains head ∷ []
+
+abbrev pub words_of : List (List ℕ × ℕ) → List (List ℕ)
+words_of heads = map (λ head. head.0) heads
+
+-- none of these words is this one
+abbrev pub LackWord : List ℕ → List (List ℕ) → Type 0
+LackWord word words = AllByRecursion (λ other. same_word other word ≡ false) words
+
+-- the lists of heads are there
+abbrev pub HaveLists : ℕ → List (List ℕ × ℕ) → Type 0
+HaveLists lists heads = AllByRecursion (λ head. head.1 < lists) heads
+
+-- the slot to which words of a number come
+abbrev pub slot_of_number : ℕ → ℕ
+slot_of_number number = number * 11400714819323198485 % 2 ^ 64 / 2 ^ 50
+
+-- a word came to a slot, and none behind it is the same
+pub record IsPlaced (words : List (List ℕ)) (slot at : ℕ) : Type 0 where
+  pub within : at < length words
+  pub came : slot_of_number (leading 8 (slice_index_or words at [])) ≡ slot
+  pub last : LackWord (slice_index_or words at []) (drop (at + 1) words)
+
+-- in each slot stands nothing, or a head whose word came to it
+pub record AreGroups (slots : List ℕ) (heads : List (List ℕ × ℕ)) (chains : List (List (ℕ × ℕ))) : Type 0 where
+  pub size : length slots ≡ 16384
+  pub lists : HaveLists (length chains) heads
+  pub placed : (slot : ℕ) → slot < 16384 → (slice_index_or slots slot 0 ≡ 2 ^ 32 - 1) ⊎ IsPlaced (words_of heads) slot (slice_index_or slots slot 0)
