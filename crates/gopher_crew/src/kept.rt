@@ -166,11 +166,15 @@ impl<C: Crew, R: Wait + Drop> Kept<C, R> {
         Ok(self.journal.follow(&self.catalogue))
     }
 
-    /// Pages that are due to be merged, unless none are, memory is refused, or a part of the record can't
-    /// be entered into the history.
+    /// Pages that are due to be merged, unless none are, no place waits, memory is refused, or a part of
+    /// the record can't be entered into the history. Where no place waits, a worker that merged would
+    /// only keep the crawl from its end: few pages are still to come.
     pub(crate) fn errand(&mut self) -> Option<Errand<C>>
         ensures { self.new ≡ self.old }
     {
+        if self.catalogue.status().waiting == 0 {
+            return None;
+        }
         let front = self.journal.entered(&self.catalogue)?;
         let Ok(Some(due)) = self.catalogue.due() else {
             return None;
