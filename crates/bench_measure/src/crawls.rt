@@ -1,5 +1,5 @@
 //! A crew that crawls a host in memory: pages a second beside the same pages made without a catalogue,
-//! its memory for each page, and how long searches take beside it.
+//! the best of several rounds of both in turn, its memory for each page, and how long searches take beside it.
 
 ghost use Rattle.std.specs.Prelude.{◌≡◌, []};
 
@@ -10,7 +10,7 @@ use crate::files;
 use crate::links::Host;
 use crate::making::made_alone;
 use crate::printing::{Figure, print};
-use crate::timing::{Best, now};
+use crate::timing::{Best, ROUNDS, now};
 use gopher_crew::{Blank, Crew, Desk, crawl};
 use gopher_item::Place;
 use gopher_page::Query;
@@ -22,25 +22,23 @@ use std::thread::Threads;
 
 const WORKERS: [(u32, &str); 3] = [(4, "4 workers"), (2, "2 workers"), (1, "1 worker")];
 
-// What a crawl took: its time, its memory, and how many places are done.
+// What a crawl left: its memory, and how many places are done.
 #[derive(Clone, Copy)]
-struct Took {
-    best: Best,
+struct Left {
     held: u64,
     done: u32,
 }
 
-// How long the workers take to crawl.
-fn span<C: Crew + Send + Sync, R: Runtime + AllocGlobal + Threads + Wait + Sync>(
+// Times the workers' crawl.
+fn time<C: Crew + Send + Sync, R: Runtime + AllocGlobal + Threads + Wait + Sync>(
     rt: &R,
     desk: &Desk<C, &R>,
     pairs: Pairs<'_, C>,
-) -> Result<Best, Failed> {
-    let mut best = Best::new();
+    best: &mut Best,
+) -> Result<(), Failed> {
     let start = now(rt)?;
     let _ends = crawl(rt, rt.alloc(), desk, pairs);
-    best.end(rt, start)?;
-    Ok(best)
+    best.end(rt, start)
 }
 
 // Crawls the host with so many workers.
@@ -49,7 +47,8 @@ fn crawled<C: Crew + Send + Sync, R: Runtime + AllocGlobal + Threads + Wait + Sy
     blank: Blank,
     host: &Host,
     workers: u32,
-) -> Result<Took, Failed>
+    best: &mut Best,
+) -> Result<Left, Failed>
     requires name { blank.name ≡ C.name }
     requires parts { blank.parts ≡ C.parts }
     requires history { blank.history ≡ C.history }
@@ -57,23 +56,23 @@ fn crawled<C: Crew + Send + Sync, R: Runtime + AllocGlobal + Threads + Wait + Sy
 {
     let (desk, _passes, pairs) = opened_desk::<C, R>(rt, blank, host, workers)?;
     let before = files::resident(rt)?;
-    let best = span(rt, &desk, pairs)?;
+    time(rt, &desk, pairs, best)?;
     let held = files::resident(rt)?.saturating_sub(before);
     let done = desk.status(rt).done;
-    Ok(Took { best, held, done })
+    Ok(Left { held, done })
 }
 
-// Prints what a crawl took, beside its pages made without a catalogue.
+// Prints what crawls left and took, beside their pages made without a catalogue.
 fn print_crawled<R: Print + AllocGlobal>(
     rt: &R,
     name: &str,
-    crawled: Took,
-    alone: Best,
+    left: Left,
+    (crawls, alone): (Best, Best),
     pages: usize,
 ) -> Result<(), Failed> {
-    let done = u64::from(crawled.done);
-    let each = crawled.held.checked_div(done).unwrap_or(0);
-    let speed = crawled.best.per_second(pages);
+    let done = u64::from(left.done);
+    let each = left.held.checked_div(done).unwrap_or(0);
+    let speed = crawls.per_second(pages);
     let alone = alone.per_second(pages);
     let percent = speed.saturating_mul(100).checked_div(alone).unwrap_or(0);
     let figures = [
@@ -94,9 +93,14 @@ fn compare<R: Runtime + AllocGlobal + Threads + Wait + Sync>(
     workers: (u32, &str),
 ) -> Result<(), Failed> {
     let (workers, name) = workers;
-    let crawled = crawled::<Brand, R>(rt, Blank::new(), host, workers)?;
-    let alone = made_alone(rt, host, places, workers)?;
-    print_crawled(rt, name, crawled, alone, places.len())
+    let (mut crawls, mut alone) = (Best::new(), Best::new());
+    let left = crawled::<Brand, R>(rt, Blank::new(), host, workers, &mut crawls)?;
+    made_alone(rt, host, places, workers, &mut alone)?;
+    for _round in 1..ROUNDS {
+        crawled::<Brand, R>(rt, Blank::new(), host, workers, &mut crawls)?;
+        made_alone(rt, host, places, workers, &mut alone)?;
+    }
+    print_crawled(rt, name, left, (crawls, alone), places.len())
 }
 
 fn query(alloc: Global) -> Result<Query, Failed> {

@@ -67,18 +67,17 @@ fn make_all<R: Threads + AllocGlobal + Sync>(
     );
 }
 
-/// How long so many threads take to fetch all replies and to make their pages.
+/// Times so many threads as they fetch all replies and make their pages.
 pub fn made_alone<R: Clock + Threads + AllocGlobal + Sync>(
     rt: &R,
     host: &Host,
     places: &[Place],
     threads: u32,
-) -> Result<Best, Failed> {
+    best: &mut Best,
+) -> Result<(), Failed> {
     let scope = scope(rt.alloc())?;
     let mut makers = makers(rt.alloc(), threads)?;
-    let mut best = Best::new();
     let start = now(rt)?;
     make_all(rt, host, &scope, places, &mut makers);
-    best.end(rt, start)?;
-    Ok(best)
+    best.end(rt, start)
 }
