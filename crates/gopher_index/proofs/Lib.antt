@@ -6,6 +6,7 @@ pub mod CellLemmas
 pub mod Unwanted
 pub mod Taking
 pub mod LeastLemmas
+pub mod Ends
 pub mod Found
 pub mod Segments
 pub mod Blocks

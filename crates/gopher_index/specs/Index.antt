@@ -1,5 +1,5 @@
 -- Pages in segments and, behind them, in none yet.
-use Rattle.std.specs.Prelude.{ℕ, ◌+◌, ◌≤◌, ◌≡◌, List, ◌++◌, length, take}
+use Rattle.std.specs.Prelude.{ℕ, ◌+◌, ◌≤◌, ◌≡◌, List, [], ◌∷◌, ◌++◌, length, take}
 use Rattle.gopher_page.specs.Page.{PageData}
 use Rattle.gopher_segment.specs.Segment.{SegmentData, pages_of}
 use Rattle.gopher_segment.specs.SegmentRows.{AreConsecutive}
@@ -26,6 +26,11 @@ pub record StandsIn (run : SegmentData) (pages : List PageData) : Type 0 where
   pub after : List PageData
   pub at : pages ≡ before ++ (run.pages ++ after)
   pub number : length before ≡ run.first
+
+-- this page is the last
+pub record EndsWith (pages : List PageData) (page : PageData) : Type 0 where
+  pub before : List PageData
+  pub at : pages ≡ before ++ page ∷ []
 
 -- before the segment at an index stand so many pages
 abbrev pub IsBorder : List SegmentData → ℕ → ℕ → Type 0

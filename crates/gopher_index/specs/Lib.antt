@@ -1,3 +1,4 @@
+pub mod Due
 pub mod Index
 pub mod Answer
 pub mod Best

@@ -1,61 +1,73 @@
 //! Pages that are due to be merged.
 
-ghost use Rattle.std.specs.Prelude.{◌≡◌, ◌+◌, ◌≤◌, [], length, map, IfOk};
+ghost use Rattle.std.specs.Prelude.{◌≡◌, [], map, IfOk};
 ghost use Rattle.std.specs.Arc.{arc_value};
-ghost use Rattle.gopher_segment.specs.Segment.{pages_of};
 ghost use Rattle.gopher_index.specs.Index.{IsRun, run_data};
 
-use crate::merging::{merged_with, segment_of};
+use crate::merging::segment_of;
 use gopher_item::NoMemory;
 use gopher_page::Page;
-use gopher_segment::{Segment, pages_len, shared};
+use gopher_segment::{Segment, shared};
 use std::alloc::Global;
 use std::marker::Model;
 use std::sync::Arc;
+
+/// Pages that stand next to each other in an index: some that stand in no segment, or those of segments.
+#[derive(Debug, Drop)]
+pub(crate) enum Run {
+    Loose(Vec<Arc<Page>>),
+    Segments(Vec<Arc<Segment>>),
+}
 
 /// Pages that stand next to each other in an index, and are due to be merged into one segment. It shares
 /// them with the index, so that they can be merged without it.
 #[derive(Debug, Drop)]
 pub struct Due {
     pub(crate) first: usize,
-    pub(crate) segments: Vec<Arc<Segment>>,
-    pub(crate) loose: Vec<Arc<Page>>,
+    pub(crate) run: Run,
     pub(crate) merged: Option<Arc<Segment>>,
 }
 
 impl Model for Due {
-    ghost use Rattle.std.specs.Prelude.{◌≡◌, map, IfSome};
-    ghost use Rattle.std.specs.Arc.{arc_value};
     ghost use Rattle.gopher_segment.specs.Segment.{SegmentData};
-    ghost use Rattle.gopher_index.specs.Index.{IsRun, run_data};
+    ghost use Rattle.gopher_index.specs.Due.{IsDue, due_data};
 
     ghost Value = { SegmentData };
 
-    ghost view = { λ d. run_data d.first (map arc_value d.segments.items)
-        (map arc_value d.loose.items) };
+    ghost view = { λ d. due_data d.first d.run };
 
-    ghost invariant = { λ d. IsRun d.first (map arc_value d.segments.items)
-        (map arc_value d.loose.items) × IfSome d.merged (λ s. arc_value s
-        ≡ run_data d.first (map arc_value d.segments.items) (map arc_value d.loose.items)) };
+    ghost invariant = { λ d. IsDue d.first d.run d.merged };
 }
 
 impl Due {
-    /// The pages of segments and loose pages behind them, which aren't merged yet. Refused only where
-    /// memory is (90).
-    pub(crate) fn new(
+    /// Pages that stand in no segment, which aren't merged yet. Refused only where memory is (90).
+    pub(crate) fn of_loose(
         alloc: Global,
         first: usize,
-        segments: &[Arc<Segment>],
         loose: &[Arc<Page>],
     ) -> Result<Due, NoMemory>
-        requires { IsRun first (map arc_value segments.now) (map arc_value loose.now) }
-        ensures { IfOk result (λ due.
-            due ≡ run_data first (map arc_value segments.now) (map arc_value loose.now)) }
+        requires { IsRun first [] (map arc_value loose.now) }
+        ensures { IfOk result (λ due. due ≡ run_data first [] (map arc_value loose.now)) }
     {
         Ok(Due {
             first,
-            segments: shared(alloc, segments)?,
-            loose: shared(alloc, loose)?,
+            run: Run::Loose(shared(alloc, loose)?),
+            merged: None,
+        })
+    }
+
+    /// The pages of segments, which aren't merged yet. Refused only where memory is (90).
+    pub(crate) fn of_segments(
+        alloc: Global,
+        first: usize,
+        segments: &[Arc<Segment>],
+    ) -> Result<Due, NoMemory>
+        requires { IsRun first (map arc_value segments.now) [] }
+        ensures { IfOk result (λ due. due ≡ run_data first (map arc_value segments.now) []) }
+    {
+        Ok(Due {
+            first,
+            run: Run::Segments(shared(alloc, segments)?),
             merged: None,
         })
     }
@@ -64,9 +76,11 @@ impl Due {
     pub fn merge(&mut self, alloc: Global) -> Result<(), NoMemory>
         ensures { self.new ≡ self.old }
     {
-        let number = self.first + pages_len(&self.segments);
-        let next = Arc::new(alloc, segment_of(alloc, number, &self.loose)?)?;
-        self.merged = Some(merged_with(alloc, self.first, &self.segments, next)?);
+        let segment = match &self.run {
+            Run::Loose(loose) => segment_of(alloc, self.first, loose)?,
+            Run::Segments(segments) => Segment::merged(alloc, self.first, segments)?,
+        };
+        self.merged = Some(Arc::new(alloc, segment)?);
         Ok(())
     }
 }

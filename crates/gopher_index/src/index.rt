@@ -1,9 +1,9 @@
 //! The pages found, in segments and, at the end, in none yet.
 
-ghost use Rattle.std.specs.Prelude.{◌≡◌, ◌+◌, ◌<◌, ◌≤◌, [], ◌∷◌, ◌++◌, length, MatchResult, IfOk, IfSome};
+ghost use Rattle.std.specs.Prelude.{◌≡◌, ◌+◌, ◌<◌, ◌≤◌, [], ◌∷◌, ◌++◌, length, MatchResult, IfOk, IfSome, OnSome};
 ghost use Rattle.std.specs.Arc.{arc_value};
 ghost use Rattle.gopher_index.specs.Answer.{answer_of, AreOccurrences};
-ghost use Rattle.gopher_index.specs.Index.{StandsIn};
+ghost use Rattle.gopher_index.specs.Index.{EndsWith, StandsIn};
 
 use crate::due::Due;
 use crate::hit::Hit;
@@ -93,14 +93,14 @@ impl Index {
     {
         let alloc = *self.loose.allocator();
         if let Some((start, end)) = due_loose(self.settled, self.loose.len(), &self.taken) {
-            let due = Due::new(alloc, self.settled + start, &[], &self.loose[start..end])?;
+            let due = Due::of_loose(alloc, self.settled + start, &self.loose[start..end])?;
             return Ok(Some(due));
         }
         let Some((start, end)) = due_span(&self.segments, &self.taken) else {
             return Ok(None);
         };
         let first = pages_len(&self.segments[..start]);
-        let due = Due::new(alloc, first, &self.segments[start..end], &[])?;
+        let due = Due::of_segments(alloc, first, &self.segments[start..end])?;
         Ok(Some(due))
     }
 
@@ -137,8 +137,7 @@ impl Index {
         }
         let Due {
             first,
-            segments: _segments,
-            loose: _loose,
+            run: _run,
             merged,
         } = due;
         self.taken.retain(|other| *other != first);
@@ -200,6 +199,23 @@ impl Index {
             settled: self.settled,
             taken: Vec::new(alloc),
         })
+    }
+
+    /// The last page, where there is one page more than in another index, and as many segments with as
+    /// many pages. None where 512 pages of the other stand in no segment: its next page is added after
+    /// these were merged.
+    pub fn page_after(&self, before: &Index) -> Option<&Arc<Page>>
+        ensures last { IfSome result (λ page. EndsWith self.now (arc_value page.now)) }
+        ensures one_more { OnSome result (length self.now ≡ length before.now + 1) }
+    {
+        if self.settled != before.settled || self.segments.len() != before.segments.len() {
+            return None;
+        }
+        let loose = before.loose.len();
+        if loose >= MOST_LOOSE || self.loose.len() != loose + 1 {
+            return None;
+        }
+        self.loose.last()
     }
 
     /// What a search finds: the pages that match the query, by score descending, then in place order;

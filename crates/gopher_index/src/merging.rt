@@ -1,13 +1,11 @@
-//! One segment of several, and of pages that stand in none.
+//! One segment of pages that stand in none.
 
-ghost use Rattle.std.specs.Prelude.{◌≡◌, ◌+◌, ◌≤◌, [], ◌∷◌, ◌++◌, length, map, IfOk, OnOk};
+ghost use Rattle.std.specs.Prelude.{◌≡◌, ◌+◌, ◌≤◌, length, map, IfOk};
 ghost use Rattle.std.specs.Arc.{arc_value};
-ghost use Rattle.gopher_segment.specs.Segment.{pages_of};
-ghost use Rattle.gopher_segment.specs.SegmentRows.{AreConsecutive};
 
 use gopher_item::NoMemory;
 use gopher_page::Page;
-use gopher_segment::{Segment, shared, words_len};
+use gopher_segment::{Segment, words_len};
 use std::alloc::Global;
 use std::slice::from_ref;
 use std::sync::Arc;
@@ -44,25 +42,4 @@ pub(crate) fn segment_of(
         return Segment::of_pages(alloc, first, loose);
     }
     segment_of_each(alloc, first, loose)
-}
-
-/// One segment of those that are due and the next one. Refused only where memory is (90).
-pub(crate) fn merged_with(
-    alloc: Global,
-    first: usize,
-    due: &[Arc<Segment>],
-    next: Arc<Segment>,
-) -> Result<Arc<Segment>, NoMemory>
-    requires { AreConsecutive first (map arc_value due.now ++ arc_value next ∷ []) }
-    ensures first { IfOk result (λ segment. (arc_value segment).first ≡ first) }
-    ensures pages { IfOk result (λ segment.
-        (arc_value segment).pages ≡ pages_of (map arc_value due.now ++ arc_value next ∷ [])) }
-{
-    if due.is_empty() {
-        return Ok(next);
-    }
-    let mut segments = shared(alloc, due)?;
-    segments.push(next)?;
-    let merged = Segment::merged(alloc, first, &segments)?;
-    Ok(Arc::new(alloc, merged)?)
 }

@@ -114,6 +114,7 @@ impl<'a> PartialEq for Numbered<'a> {
 
     ghost laws = { Cmp.partial_equiv_from_equiv nat_list_eq_equiv };
 
+    #[inline(always)]
     fn eq(&self, other: &Numbered<'a>) -> bool {
         self.number == other.number && is_same_tied(self.word, other.word)
     }

@@ -19,8 +19,8 @@ returns-in-Some c =
     let is : c.in_ok-due.due ≡ run_data (c.self.inside.settled + start) [] (take count (drop start loose)) = c.in_ok-due.ensures ∙ ap (run_data (c.self.inside.settled + start) []) parts in
     subst (StandsIn c.in_ok-due.due) c.self.view_is (subst (λ run. StandsIn run (pages_of segments ++ loose)) (sym is) (loose_stands segments loose c.self.inside.settled start count c.self.invariant few))
 
-pub new-requires-2 : goal.new-requires-2
-new-requires-2 c =
+pub of_segments-requires : goal.of_segments-requires
+of_segments-requires c =
     let start = c.in-Some-due_span.start in
     let count = c.in-Some-due_span.end - c.in-Some-due_span.start in
     let segments : List SegmentData = map arc_value c.self.inside.segments.items in
