@@ -228,7 +228,7 @@ impl<C: Crew, R: Wait + Drop> Desk<C, R> {
         self.kept.lock(rt).opening()
     }
 
-    // Takes the lock once no pages are due to be merged, and merges those that are while it holds none.
+    // Takes the lock once there is no errand, and runs those that there are while it holds none.
     fn settled<W: Wait>(&self, rt: &W, alloc: Global) -> MutexGuard<'_, Kept<C, R>> {
         let mut kept = self.kept.lock(rt);
         for _round in rt.forever() {
@@ -243,8 +243,8 @@ impl<C: Crew, R: Wait + Drop> Desk<C, R> {
         unreachable!()
     }
 
-    /// Merges what is due to be merged, and claims the first place that waits; where some are out, it
-    /// waits for their outcomes first.
+    /// Merges what is due to be merged as long as places wait, and claims the first of these; where none
+    /// waits and some are out, it waits for their outcomes first.
     pub(crate) fn next<W: Wait>(
         &self,
         rt: &W,

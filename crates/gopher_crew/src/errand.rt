@@ -51,7 +51,6 @@ impl<C: Crew> Errand<C> {
         let _merged = self.due.merge(alloc);
     }
 
-    #[tactic(auto, using(crate::proofs::Errands::still_stands))]
     /// The pages, where the record that had found them is a beginning of a longer one.
     pub fn due_in(self, front: &Beginning) -> Option<Due>
         requires { front.now.history ≡ C.history }

@@ -11,7 +11,7 @@ ghost use Rattle.gopher_crew.specs.Kept.{IsNotedOn};
 use crate::crew::Crew;
 use crate::history::{Beginning, Head};
 use crate::note::Note;
-use crate::shelf::{Shelf, VersionReader};
+use crate::shelf::Shelf;
 use gopher_catalogue::{Catalogue, Event};
 use gopher_index::Index;
 use std::alloc::Global;
@@ -105,11 +105,7 @@ impl<C: Crew, R: Wait + Drop> Journal<C, R> {
         if self.shelf.len() == self.front.len() {
             return true;
         }
-        let before = self.shelf.published();
-        let Ok(version) = before.after(self.alloc, index, &self.front) else {
-            return false;
-        };
-        self.shelf.publish(version)
+        self.shelf.publish(self.alloc, index, &self.front)
     }
 
     #[tactic(auto, using(crate::proofs::Beginnings::grows))]

@@ -19,6 +19,7 @@ mod pass;
 mod settling;
 mod share;
 mod shelf;
+mod update;
 mod version;
 mod working;
 

@@ -6,7 +6,7 @@ ghost use Rattle.left_right.specs.Sides.{view};
 ghost use Rattle.gopher_catalogue.specs.Legal.{IsLegal};
 ghost use Rattle.gopher_crew.specs.Desk.{has_seen};
 ghost use Rattle.gopher_crew.specs.Crew.{hits_of};
-ghost use Rattle.gopher_crew.specs.Version.{IsSeen};
+ghost use Rattle.gopher_crew.specs.Version.{IsSeen, IsSeenVersion};
 
 use crate::crew::Crew;
 use crate::fault::SearchFault;
@@ -56,7 +56,7 @@ fn take_version<C: Crew>(
     _nothing: (),
 ) -> (VersionReader<C>, Result<Version, SearchFault>)
     ensures seen { IsPrefix (view reader.place) (view result.0.place) }
-    ensures version { IfOk result.1 (IsSeen C.history (view result.0.place)) }
+    ensures version { IfOk result.1 (IsSeenVersion C.history (view result.0.place)) }
 {
     match reader.enter_as::<Sees<C>>() {
         Ok(reading) => {

@@ -1,13 +1,12 @@
 //! The version of the catalogue that a desk publishes.
 
-ghost use Rattle.std.specs.Prelude.{◌≡◌, length, IfOk};
-ghost use mathlib.Core.List.{IsPrefix};
-ghost use Rattle.gopher_catalogue.specs.Legal.{IsLegal};
-ghost use Rattle.gopher_catalogue.specs.Pages.{pages_found};
-ghost use Rattle.gopher_crew.specs.Crew.{hits_of};
+ghost use Rattle.std.specs.Prelude.{◌≡◌, IfOk};
+ghost use Rattle.gopher_index.specs.Answer.{answer_of};
+ghost use Rattle.gopher_crew.specs.Version.{version_data};
 
 use crate::crew::Crew;
 use crate::history::Beginning;
+use crate::update::Update;
 use crossbeam_utils::rule::{Outcome, Protocol};
 use gopher_catalogue::EventData;
 use gopher_index::{Hit, Index};
@@ -18,8 +17,8 @@ use std::alloc::{AllocError, Global};
 use std::marker::{Model, PhantomData};
 use std::sync::Arc;
 
-/// The index of the pages that a record found, and the record, a beginning of the crew's history.
-/// Contracts see it as that beginning.
+/// An index of pages, and a record, a beginning of a crew's history: what is published has the pages that
+/// the record found (`Shows`). Contracts see the pages and that beginning.
 #[derive(Drop)]
 pub struct Version {
     index: Arc<Index>,
@@ -27,51 +26,22 @@ pub struct Version {
 }
 
 impl Model for Version {
-    ghost use Rattle.std.specs.Prelude.{◌≡◌};
     ghost use Rattle.std.specs.Arc.{arc_value};
-    ghost use Rattle.gopher_crew.specs.History.{BeginningData};
-    ghost use Rattle.gopher_crew.specs.Version.{IsVersion};
+    ghost use Rattle.gopher_crew.specs.Version.{VersionData, version_data};
 
-    ghost Value = { BeginningData };
+    ghost Value = { VersionData };
 
-    ghost view = { λ v. v.front };
-
-    ghost invariant = { λ v. IsVersion (arc_value v.index) v.front.events };
+    ghost view = { λ v. version_data (arc_value v.index) v.front };
 }
 
 impl Version {
-    /// The version of a record, which has these pages. It shares their segments. Refused only where
-    /// memory is (90).
+    /// The version of a record, with these pages. It shares their segments. Refused only where memory is
+    /// (90).
     pub fn of(alloc: Global, index: &Index, front: &Beginning) -> Result<Version, NoMemory>
-        requires pages { index.now ≡ pages_found front.now.events }
-        requires legal { IsLegal front.now.events }
-        ensures { IfOk result (λ version. version ≡ front.now) }
+        ensures { IfOk result (λ version. version ≡ version_data index.now front.now) }
     {
         Ok(Version {
             index: Arc::new(alloc, index.again(alloc)?)?,
-            front: front.again(),
-        })
-    }
-
-    /// The version of a record that goes on from this version's, and has these pages. Where they are as
-    /// many as this version has, as after a claim or a failure, it shares their index. Refused only where
-    /// memory is (90).
-    pub fn after(
-        &self,
-        alloc: Global,
-        index: &Index,
-        front: &Beginning,
-    ) -> Result<Version, NoMemory>
-        requires begins { IsPrefix self.now.events front.now.events }
-        requires pages { index.now ≡ pages_found front.now.events }
-        requires legal { IsLegal front.now.events }
-        ensures { IfOk result (λ version. version ≡ front.now) }
-    {
-        if self.index.len() != index.len() {
-            return Version::of(alloc, index, front);
-        }
-        Ok(Version {
-            index: self.index.clone()?,
             front: front.again(),
         })
     }
@@ -86,44 +56,48 @@ impl Version {
         })
     }
 
+    /// The pages.
+    pub fn index(&self) -> &Index
+        ensures { result.now ≡ self.now.pages }
+    {
+        &self.index
+    }
+
     /// The record that it stands for.
     pub fn front(&self) -> &Beginning
-        ensures front { result.now ≡ self.now }
-        ensures legal { IsLegal self.now.events }
+        ensures { result.now ≡ self.now.front }
     {
         &self.front
     }
 
-    /// The answer to a query over the pages of its record. Refused only where memory is (90).
+    /// The answer to a query over the pages. Refused only where memory is (90).
     pub fn search(&self, alloc: Global, query: &Query) -> Result<Vec<Hit>, NoMemory>
-        ensures { IfOk result (λ hits. hits.items ≡ hits_of self.now.events query.now) }
+        ensures { IfOk result (λ hits. hits.items ≡ answer_of self.now.pages query.now) }
     {
         self.index.search(alloc, query)
     }
 }
 
-impl Absorb<Version> for Version {
+impl Absorb<Update> for Version {
+    ghost use Rattle.gopher_crew.specs.Version.{after_update};
+
     type State = Version;
 
     ghost state = { λ version. version };
 
-    ghost applied = { λ before version. version };
+    ghost applied = { after_update };
 
-    fn absorb_first(&mut self, operation: &Version, _other: &Version) -> Result<(), AllocError> {
-        let Ok(version) = operation.again() else {
+    fn absorb_first(&mut self, update: &Update, _other: &Version) -> Result<(), AllocError> {
+        let Ok(()) = update.change.apply(update.alloc, &mut self.index) else {
             return Err(AllocError);
         };
-        *self = version;
-        Ok(())
-    }
-
-    fn absorb_second(&mut self, operation: Version, _other: &Version) -> Result<(), Version> {
-        *self = operation;
+        self.front = update.front.again();
         Ok(())
     }
 }
 
-/// The rule of what is published: it is of the crew's history, and begins with all that anyone has seen.
+/// The rule of what is published: it has the pages of a legal record, which is of the crew's history and
+/// begins with all that anyone has seen.
 pub struct Shows<C> {
     of: PhantomData<C>,
 }

@@ -1,0 +1,98 @@
+//! The update that makes the next version of one.
+
+ghost use Rattle.std.specs.Prelude.{◌≡◌, List, ◌++◌, ◌∷◌, [], MatchResult, IfOk};
+ghost use Rattle.std.specs.Arc.{arc_value};
+ghost use mathlib.Core.List.{IsPrefix};
+ghost use Rattle.gopher_page.specs.Page.{PageData};
+ghost use Rattle.gopher_crew.specs.Version.{pages_after};
+
+use crate::history::Beginning;
+use gopher_index::Index;
+use gopher_item::NoMemory;
+use gopher_page::Page;
+use std::alloc::Global;
+use std::sync::Arc;
+
+// How many pages an index has at most.
+const MOST_PAGES: usize = 65_536;
+
+/// What changes of a version's pages.
+#[derive(Drop)]
+pub enum Change {
+    /// Nothing.
+    Nothing,
+    /// One page is added at the end.
+    Page(Arc<Page>),
+    /// They are replaced by those of this index.
+    All(Arc<Index>),
+}
+
+/// What makes the next version of one: what changes of the pages, and the next version's record, a
+/// beginning of the crew's history.
+#[derive(Drop)]
+pub struct Update {
+    /// Where a copy of an index is made.
+    pub(crate) alloc: Global,
+    pub(crate) change: Change,
+    pub(crate) front: Beginning,
+}
+
+// Adds a page to an index. Where the index is shared, a copy of it takes its place.
+fn add(alloc: Global, index: &mut Arc<Index>, page: Arc<Page>) -> Result<(), NoMemory>
+    ensures { MatchResult result
+        (λ _. arc_value index.new ≡ arc_value index.old ++ arc_value page ∷ [])
+        (λ _. arc_value index.new ≡ arc_value index.old) }
+{
+    if index.len() >= MOST_PAGES {
+        return Err(NoMemory);
+    }
+    if let Some(own) = Arc::get_mut(index) {
+        return own.add(page);
+    }
+    let mut own = index.again(alloc)?;
+    own.add(page)?;
+    *index = Arc::new(alloc, own)?;
+    Ok(())
+}
+
+impl Change {
+    /// The change of any pages to those of an index. Refused only where memory is (90).
+    pub fn all(alloc: Global, index: &Index) -> Result<Change, NoMemory>
+        ensures { IfOk result (λ change.
+            (pages : List PageData) → pages_after change pages ≡ index.now) }
+    {
+        Ok(Change::All(Arc::new(alloc, index.again(alloc)?)?))
+    }
+
+    /// The change of an index's pages to those of another, which begin with them. Refused only where
+    /// memory is (90).
+    pub fn between(alloc: Global, before: &Index, index: &Index) -> Result<Change, NoMemory>
+        requires { IsPrefix before.now index.now }
+        ensures { IfOk result (λ change. pages_after change before.now ≡ index.now) }
+    {
+        if index.len() == before.len() {
+            return Ok(Change::Nothing);
+        }
+        match index.page_after(before) {
+            Some(page) => Ok(Change::Page(page.clone()?)),
+            None => Change::all(alloc, index),
+        }
+    }
+
+    /// Changes the pages of an index; where the index is shared, another takes its place. Refused (90)
+    /// where memory is, and where there would be over 65,536 pages; then the pages are what they were.
+    pub fn apply(&self, alloc: Global, index: &mut Arc<Index>) -> Result<(), NoMemory>
+        ensures { MatchResult result
+            (λ _. arc_value index.new ≡ pages_after self.now (arc_value index.old))
+            (λ _. arc_value index.new ≡ arc_value index.old) }
+    {
+        match self {
+            Change::Nothing => Ok(()),
+            Change::Page(page) => add(alloc, index, page.clone()?),
+            Change::All(all) => {
+                *index = all.clone()?;
+                Ok(())
+            }
+        }
+    }
+}
