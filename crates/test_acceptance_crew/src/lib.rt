@@ -6,4 +6,6 @@ mod crawls;
 #[cfg(test)]
 mod desks;
 #[cfg(test)]
+mod merges;
+#[cfg(test)]
 mod tables;

@@ -26,14 +26,24 @@ pub const MOON: &[u8] = b"moon\r\n.\r\n";
 /// A menu with one directory, whose links lead outside of what was allowed.
 pub const DOCS: &[u8] = b"1Docs\t/docs\tlocalhost\t70\r\n.\r\n";
 
-/// A crawl of a host at port 70 that begins in its root.
+/// A crawl of a host at port 70 that begins in its root and knows 10 places at most.
 pub fn root_catalogue(alloc: Global, host: &[u8], tries: u32) -> Result<Catalogue, Fail> {
+    catalogue_of(alloc, host, 10, tries)
+}
+
+/// A crawl of a host at port 70 that begins in its root and knows so many places at most.
+pub fn catalogue_of(
+    alloc: Global,
+    host: &[u8],
+    places: u32,
+    tries: u32,
+) -> Result<Catalogue, Fail> {
     let mut allow = Vec::new(alloc);
     allow.push(Rule::new(alloc, host, 70, b"")?)?;
     let mut seeds = Vec::new(alloc);
     seeds.push(Place::new(alloc, b'1', b"", host, 70)?)?;
     let scope = Scope::new(allow, Vec::new(alloc));
-    Ok(Catalogue::open(alloc, scope, seeds, 10, tries)?)
+    Ok(Catalogue::open(alloc, scope, seeds, places, tries)?)
 }
 
 /// A desk over a catalogue, which has to be opened.

@@ -3,8 +3,9 @@
 ghost use Rattle.std.specs.Prelude.{◌≡◌, []};
 
 use crate::opening::{Checked, opened, root, scope_at_last};
+use crate::searching::{query_at_last, searched};
 use gopher_catalogue::{Added, Status, Turn};
-use gopher_crew::{Answer, Blank, Crew, Desk, Note, Pass, SearchFault, Share};
+use gopher_crew::{Blank, Crew, Desk, Note, Pass, Share};
 use gopher_page::{Page, Query};
 use std::alloc::Global;
 use std::sync::Wait;
@@ -98,14 +99,6 @@ fn finds<C: Crew, R: Wait>(
     }
 }
 
-fn searched<C: Crew>(pass: &mut Pass<C>, query: &Query) -> Checked<Answer> {
-    match pass.search(query) {
-        Ok(answer) => Ok(answer),
-        Err(SearchFault::NoMemory) => pass.search(query).ok().ok_or("a search is refused twice"),
-        Err(_fault) => Err("a search is refused twice"),
-    }
-}
-
 // A pass has seen at least so many events, and has the page where they are three or more.
 fn sees<C: Crew>(pass: &mut Pass<C>, query: &Query, at_least: u32) -> Checked<()> {
     let answer = searched(pass, query)?;
@@ -114,17 +107,6 @@ fn sees<C: Crew>(pass: &mut Pass<C>, query: &Query, at_least: u32) -> Checked<()
         return Err("a search answers something else");
     }
     Ok(())
-}
-
-fn query(alloc: Global) -> Option<Query> {
-    Query::read(alloc, b"docs").ok()
-}
-
-fn query_at_last(alloc: Global) -> Checked<Query> {
-    match query(alloc) {
-        Some(query) => Ok(query),
-        None => query(alloc).ok_or("no query"),
-    }
 }
 
 fn sees_nothing<C: Crew>(pass: &mut Pass<C>, query: &Query) -> Checked<()> {
@@ -179,7 +161,7 @@ fn work_at<C: Crew, R: Wait>(
     first: &mut Pass<C>,
     second: &mut Pass<C>,
 ) -> Checked<()> {
-    let query = query_at_last(alloc)?;
+    let query = query_at_last(alloc, b"docs")?;
     sees(second, &query, 1)?;
     let at = told(rt, alloc, desk, share, first, &query)?;
     sees(first, &query, at)?;
@@ -206,7 +188,7 @@ pub fn tell<C: Crew, R: Wait + AllocGlobal>(
     share: &mut Share<C>,
     pass: &mut Pass<C>,
 ) -> Checked<()> {
-    let query = query_at_last(rt.alloc())?;
+    let query = query_at_last(rt.alloc(), b"docs")?;
     told(rt, rt.alloc(), desk, share, pass, &query)?;
     Ok(())
 }

@@ -11,6 +11,7 @@ mod crawls;
 mod desks;
 mod opening;
 mod pages;
+mod searching;
 mod settings;
 mod trees;
 
