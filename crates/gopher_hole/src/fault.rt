@@ -1,72 +1,157 @@
-//! Why a replay ended before the end of its script.
+//! Why the program ended otherwise than well.
 
 ghost use Rattle.std.specs.Prelude.{◌≡◌};
-ghost use Rattle.gopher_hole.specs.Fault.{replay_fault_code};
+ghost use Rattle.gopher_hole.specs.Fault.{program_fault_code, detail_of, replay_detail, tree_detail, settings_detail, open_detail};
 
+use gopher_catalogue::OpenFault;
+use gopher_crew::DeskFault;
 use gopher_item::NoMemory;
-use gopher_text::ReplyFault;
+use gopher_scope::{Key, SettingsFault};
+use gopher_script::ReplayFault;
+use gopher_tree::TreeFault;
 use thiserror::Error;
 
-/// Why a replay ended before the end of its script.
+/// Why the program ended otherwise than well.
 #[derive(Clone, Copy, Debug, PartialEq, Eq, Error)]
-pub enum ReplayFault {
-    /// 10: a read failed otherwise than by an interruption.
-    #[error("a read failed")]
-    ReadFailed,
-    /// 11: the end of the script wasn't reached by 2,097,152 reads, interrupted ones too.
-    #[error("too many reads")]
-    TooManyTurns,
-    /// 12: the script has more than 1,048,576 bytes.
-    #[error("the script is too long")]
-    ScriptTooLong,
-    /// 13: a write failed, or took nothing, or 4,096 writes of one answer were interrupted.
+pub enum ProgramFault {
+    /// 10 to 13, 70 or 90: the replay ended so.
+    #[error("{0}")]
+    Replay(ReplayFault),
+    /// 13: a line couldn't be written or flushed.
     #[error("a write failed")]
     WriteFailed,
-    /// 70: the line of this number, from 1, is bad.
-    #[error("line {0} of the script is bad")]
-    BadScript(usize),
+    /// 20 to 26, or 90: the folder makes no tree.
+    #[error("{0}")]
+    Tree(TreeFault),
+    /// 30 to 34, or 90: the settings are refused.
+    #[error("{0}")]
+    Settings(SettingsFault),
+    /// 50, 51, 54 or 90: the crawl can't begin.
+    #[error("{0}")]
+    Open(OpenFault),
+    /// 60, 61 or 90: the desk can't be opened.
+    #[error("{0}")]
+    Desk(DeskFault),
+    /// 62: the workers' shares don't count the events of the crawl.
+    #[error("the shares are not those of the desk")]
+    StrangeShare,
+    /// 80: the file of the settings can't be read, has over 1,048,576 bytes, or isn't UTF-8.
+    #[error("the settings can't be read")]
+    SettingsUnreadable,
+    /// 81: the server's address couldn't be bound, or a connection couldn't be accepted.
+    #[error("listening failed")]
+    ListenFailed,
+    /// 82: a server thread couldn't be started.
+    #[error("a server thread couldn't be started")]
+    NoThread,
     /// 90: memory was refused.
     #[error("no memory")]
     NoMemory,
 }
 
-impl ReplayFault {
-    /// The number of the fault: 10 to 13, 70 or 90.
-    pub fn code(self) -> u8
-        ensures { result ≡ replay_fault_code self }
-    {
-        match self {
-            ReplayFault::ReadFailed => 10,
-            ReplayFault::TooManyTurns => 11,
-            ReplayFault::ScriptTooLong => 12,
-            ReplayFault::WriteFailed => 13,
-            ReplayFault::BadScript(_) => 70,
-            ReplayFault::NoMemory => 90,
+/// What the line of a fault says beside its number.
+#[derive(Clone, Copy, Debug, PartialEq, Eq)]
+pub enum Detail {
+    /// Nothing.
+    Nothing,
+    /// The key of the settings.
+    Key(Key),
+    /// The number of the file in the order of the walk, from 0.
+    File(usize),
+    /// The number of the file, and of its line, from 1.
+    FileLine(usize, usize),
+    /// The number of the seed, from 0.
+    Seed(usize),
+    /// The number of the line, from 1.
+    Line(usize),
+}
+
+fn replay_detail(fault: ReplayFault) -> Detail
+    ensures { result ≡ replay_detail fault }
+{
+    match fault {
+        ReplayFault::BadScript(line) => Detail::Line(line),
+        _ => Detail::Nothing,
+    }
+}
+
+fn tree_detail(fault: TreeFault) -> Detail
+    ensures { result ≡ tree_detail fault }
+{
+    match fault {
+        TreeFault::BadName { file }
+        | TreeFault::Reserved { file }
+        | TreeFault::LongSelector { file }
+        | TreeFault::TooBig { file }
+        | TreeFault::Twice { file } => Detail::File(file),
+        TreeFault::BadMenuLine { file, line } => Detail::FileLine(file, line),
+        TreeFault::Unreadable { .. } | TreeFault::NoMemory => Detail::Nothing,
+    }
+}
+
+fn settings_detail(fault: SettingsFault) -> Detail
+    ensures { result ≡ settings_detail fault }
+{
+    match fault {
+        SettingsFault::Missing(key)
+        | SettingsFault::WrongKind(key)
+        | SettingsFault::OutOfRange(key) => Detail::Key(key),
+        SettingsFault::NotToml | SettingsFault::UnknownKey | SettingsFault::NoMemory => {
+            Detail::Nothing
         }
     }
 }
 
-impl From<NoMemory> for ReplayFault {
-    ghost use Rattle.gopher_hole.specs.declared.fault.ReplayFault.TheVariants.{NoMemory};
+fn open_detail(fault: OpenFault) -> Detail
+    ensures { result ≡ open_detail fault }
+{
+    match fault {
+        OpenFault::SeedOutOfScope(seed) => Detail::Seed(seed),
+        OpenFault::BadPlaces | OpenFault::BadTries | OpenFault::NoMemory => Detail::Nothing,
+    }
+}
+
+impl ProgramFault {
+    /// The number of the fault.
+    pub fn code(self) -> u8
+        ensures { result ≡ program_fault_code self }
+    {
+        match self {
+            ProgramFault::Replay(fault) => fault.code(),
+            ProgramFault::WriteFailed => 13,
+            ProgramFault::Tree(fault) => fault.code(),
+            ProgramFault::Settings(fault) => fault.code(),
+            ProgramFault::Open(fault) => fault.code(),
+            ProgramFault::Desk(fault) => fault.code(),
+            ProgramFault::StrangeShare => 62,
+            ProgramFault::SettingsUnreadable => 80,
+            ProgramFault::ListenFailed => 81,
+            ProgramFault::NoThread => 82,
+            ProgramFault::NoMemory => 90,
+        }
+    }
+
+    /// What its line says beside its number: the key for 31 to 33, the file for 20 to 23 and 25, the
+    /// file and its line for 24, the seed for 50, the line for 70.
+    pub fn detail(self) -> Detail
+        ensures { result ≡ detail_of self }
+    {
+        match self {
+            ProgramFault::Replay(fault) => replay_detail(fault),
+            ProgramFault::Tree(fault) => tree_detail(fault),
+            ProgramFault::Settings(fault) => settings_detail(fault),
+            ProgramFault::Open(fault) => open_detail(fault),
+            _ => Detail::Nothing,
+        }
+    }
+}
+
+impl From<NoMemory> for ProgramFault {
+    ghost use Rattle.gopher_hole.specs.declared.fault.ProgramFault.TheVariants.{NoMemory};
 
     ghost from_gives = { λ _ fault. fault ≡ NoMemory };
 
-    fn from(_refused: NoMemory) -> ReplayFault {
-        ReplayFault::NoMemory
-    }
-}
-
-impl From<ReplyFault> for ReplayFault {
-    ghost use Rattle.gopher_hole.specs.Fault.{unread};
-
-    ghost from_gives = { λ why fault. fault ≡ unread why };
-
-    fn from(why: ReplyFault) -> ReplayFault {
-        match why {
-            ReplyFault::ReadFailed => ReplayFault::ReadFailed,
-            ReplyFault::TooManyTurns => ReplayFault::TooManyTurns,
-            ReplyFault::ReplyTooLong => ReplayFault::ScriptTooLong,
-            ReplyFault::NoMemory => ReplayFault::NoMemory,
-        }
+    fn from(_refused: NoMemory) -> ProgramFault {
+        ProgramFault::NoMemory
     }
 }

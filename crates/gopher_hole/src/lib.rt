@@ -1,22 +1,29 @@
-//! A crawl replayed from a script.
+//! The program `hole`: a server that crawls and answers, and crawls replayed from scripts.
 //!
-//! RFC 1436 names no script: its commands and its answers are this profile's.
-//!
-//! The crate above rests on one promise: what `replay` writes is the output of the script.
+//! Sockets, threads and the file system appear in this crate alone. What its contracts say of a
+//! connection is that each call is safe and comes to its end; what a client is sent is said by
+//! `gopher_serve`.
 #![tactic(auto)]
 
-mod command;
-mod crawl;
-mod draft;
+mod announcing;
+mod checking;
+mod connection;
+mod crewing;
 mod fault;
-mod fields;
-mod lines;
-mod listing;
-mod reading;
-mod replaying;
-mod script;
-mod stage;
+mod fetching;
+mod listening;
+mod log_writer;
+mod logging;
+mod opening;
+mod program;
+mod progress;
+mod seats;
+mod serving;
+mod starting;
+mod turns;
+mod words;
 
-pub use fault::ReplayFault;
-pub use lines::status_line;
-pub use replaying::{replay, send_all};
+pub use fault::{Detail, ProgramFault};
+pub use fetching::TcpFetch;
+pub use log_writer::OpenLog;
+pub use program::run;

@@ -1,7 +1,7 @@
 //! The program `hole`.
 #![tactic(auto)]
 
-use gopher_program::run;
+use gopher_hole::run;
 use gopher_text::Watched;
 use std::env;
 use std::process::ExitCode;

@@ -2,8 +2,8 @@
 use crate::scripts::{Host, system, words};
 use gopher_catalogue::Why;
 use gopher_crew::Fetch;
+use gopher_hole::{TcpFetch, run};
 use gopher_item::Place;
-use gopher_program::{TcpFetch, run};
 use gopher_text::Watched;
 use std::alloc::{AllocError, Global};
 use std::net::{TcpListener, TcpStream};

@@ -2,8 +2,8 @@
 use crate::devices::{Interrupted, ShortReader, ShortWriter};
 use crate::scripts::{Host, system, words};
 use crate::worked::{FIRST_CRAWL, REFUSED_START, Worked};
-use gopher_hole::{ReplayFault, replay};
-use gopher_program::run;
+use gopher_hole::run;
+use gopher_script::{ReplayFault, replay};
 use gopher_text::Watched;
 use std::io::{Read, Write};
 use std::test::Fail;

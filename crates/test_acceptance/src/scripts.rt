@@ -3,8 +3,8 @@ use crate::devices::ShortWriter;
 use crate::worked::{
     DENY_RULE, FIRST_CRAWL, PLACE_LIMIT, REFUSED_PAGES, REFUSED_START, SHORT, TWO_TRIES, Worked,
 };
-use gopher_hole::{ReplayFault, replay};
-use gopher_program::{OpenLog, run};
+use gopher_hole::{OpenLog, run};
+use gopher_script::{ReplayFault, replay};
 use gopher_text::Watched;
 use std::alloc::{AllocError, Global};
 use std::fs::{self, File, Files};

@@ -1,7 +1,7 @@
 // Streams that fail: what is written then, and what the program answers.
 use crate::devices::{ShortReader, ShortWriter};
 use crate::worked::FIRST_CRAWL;
-use gopher_hole::{ReplayFault, replay};
+use gopher_script::{ReplayFault, replay};
 use gopher_text::{LineFault, Watched, read_line_from};
 use std::alloc::Global;
 use std::test::Fail;

@@ -1,0 +1,41 @@
+-- The program: its words, and how it ends.
+use Rattle.std.specs.Prelude.{◌≡◌, ℕ, ◌⊎◌, Bool, true, false, List, [], ◌∷◌, codes, nat_eq, Option, None, Some, Result, Ok, Err, if◌then◌else◌}
+use Rattle.std.specs.Cmp.Lexicographic.{pointwise}
+use Rattle.std.specs.Io.KnownBytes.{Appends}
+use Rattle.gopher_text.specs.Watched.{HasFailed}
+use Rattle.gopher_script.specs.Replay.{AppendsPart}
+use Rattle.gopher_script.specs.declared.fault.ReplayFault.{ReplayFault}
+use Rattle.gopher_hole.specs.Fault.{fault_line}
+use Rattle.gopher_hole.specs.declared.fault.ProgramFault.{ProgramFault}
+use Rattle.gopher_hole.specs.declared.fault.ProgramFault.TheVariants.{Replay, ListenFailed, NoThread, NoMemory}
+
+-- the one word `replay`
+abbrev pub asks_replay : List (List ℕ) → Bool
+asks_replay (word ∷ []) = pointwise nat_eq word (codes "replay")
+asks_replay words = false
+
+-- the status of the program, by how a replay ended
+abbrev pub status_of : {T : Type 0} → Result T ReplayFault → ℕ
+status_of (Ok end) = 0
+status_of (Err why) = 1
+
+-- what the program writes to its error stream, by how a replay ended
+abbrev pub said_of : {T : Type 0} → Result T ReplayFault → List ℕ
+said_of (Ok end) = []
+said_of (Err why) = fault_line (Replay why)
+
+-- bytes went out to the error stream, all of them unless a write failed: the stream's contents and its
+-- count of failures come before and after
+abbrev pub Says : List ℕ → Option (List ℕ) → Option (List ℕ) → ℕ → ℕ → Type 0
+Says bytes old new before after = Appends old new bytes ⊎ (AppendsPart old new bytes × HasFailed before after)
+
+-- the line of a fault went out
+abbrev pub SaysFault : Option (List ℕ) → Option (List ℕ) → ℕ → ℕ → Type 0
+SaysFault old new before after = (why : ProgramFault) × Says (fault_line why) old new before after
+
+-- the fault of a server, once its threads and its crawl have ended
+abbrev pub fault_at_end : Bool → Bool → Bool → Option ProgramFault
+fault_at_end accept_failed is_short was_crawled =
+    if accept_failed then Some ListenFailed
+    else (if is_short then Some NoThread
+    else (if was_crawled then None else Some NoMemory))

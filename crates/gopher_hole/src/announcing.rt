@@ -1,0 +1,173 @@
+//! What the program writes.
+
+ghost use Rattle.std.specs.Prelude.{◌++◌, codes};
+ghost use Rattle.std.specs.Fmt.{decimal};
+ghost use Rattle.gopher_script.specs.Replay.{AnswerEnds};
+ghost use Rattle.gopher_scope.specs.Rows.{key_name};
+ghost use Rattle.gopher_hole.specs.Fault.{number_bytes, detail_bytes, line_bytes, fault_line};
+
+use crate::fault::{Detail, ProgramFault};
+use gopher_catalogue::Status;
+use gopher_item::{Home, NoMemory};
+use gopher_scope::Key;
+use gopher_script::{ReplayFault, send_all, status_line};
+use gopher_text::{Watched, send};
+use itoa::Buffer;
+use std::alloc::Global;
+use std::io::Write;
+
+/// Sends a text to the output stream and flushes it. Refused (13) where either fails.
+pub fn send_text<W: Write>(output: &mut Watched<W>, text: &[u8]) -> Result<(), ProgramFault> {
+    if send(output, text).is_err() {
+        return Err(ProgramFault::WriteFailed);
+    }
+    match output.flush() {
+        Ok(()) => Ok(()),
+        Err(_) => Err(ProgramFault::WriteFailed),
+    }
+}
+
+// The line that tells where a server listens.
+fn listening_line(alloc: Global, home: &Home) -> Result<Vec<u8>, NoMemory> {
+    let port = home.port();
+    let mut line = Vec::from_slice(alloc, b"listening ")?;
+    line.extend_from_slice(home.host())?;
+    line.extend_from_slice(format!(in alloc; " {port}\n")?.as_bytes())?;
+    Ok(line)
+}
+
+/// Tells where the server listens. Refused with 13 or 90.
+pub fn tell_listening<W: Write>(
+    alloc: Global,
+    home: &Home,
+    output: &mut Watched<W>,
+) -> Result<(), ProgramFault> {
+    let line = listening_line(alloc, home)?;
+    send_text(output, &line)
+}
+
+/// Tells how the crawl ended. Refused with 13 or 90.
+pub fn tell_status<W: Write>(
+    alloc: Global,
+    status: Status,
+    output: &mut Watched<W>,
+) -> Result<(), ProgramFault> {
+    let line = status_line(alloc, status)?;
+    send_text(output, &line)
+}
+
+// Writes a number.
+fn send_number<E: Write>(error: &mut Watched<E>, number: usize) -> Result<(), ReplayFault>
+    ensures { AnswerEnds (decimal number)
+        (E.contents error.old.device) (E.contents error.new.device)
+        error.old.failures error.new.failures result }
+{
+    let mut digits = Buffer::new();
+    send_all(error, digits.format(number).as_bytes())
+}
+
+// Writes the name of a key.
+fn send_name<E: Write>(error: &mut Watched<E>, key: Key) -> Result<(), ReplayFault>
+    ensures { AnswerEnds (key_name key)
+        (E.contents error.old.device) (E.contents error.new.device)
+        error.old.failures error.new.failures result }
+{
+    send_all(error, key.name().as_bytes())
+}
+
+// Writes a word and a number.
+fn write_number<E: Write>(
+    error: &mut Watched<E>,
+    front: &[u8],
+    number: usize,
+) -> Result<(), ReplayFault>
+    ensures { AnswerEnds (number_bytes front.now number)
+        (E.contents error.old.device) (E.contents error.new.device)
+        error.old.failures error.new.failures result }
+{
+    if let Err(fault) = send_all(error, front) {
+        return Err(fault);
+    }
+    send_number(error, number)
+}
+
+// Writes a key of the settings.
+fn write_key<E: Write>(error: &mut Watched<E>, key: Key) -> Result<(), ReplayFault>
+    ensures { AnswerEnds (codes " " ++ key_name key)
+        (E.contents error.old.device) (E.contents error.new.device)
+        error.old.failures error.new.failures result }
+{
+    if let Err(fault) = send_all(error, b" ") {
+        return Err(fault);
+    }
+    send_name(error, key)
+}
+
+// Writes the number of a file and that of its line.
+fn write_file_line<E: Write>(
+    error: &mut Watched<E>,
+    file: usize,
+    line: usize,
+) -> Result<(), ReplayFault>
+    ensures { AnswerEnds (number_bytes (codes " file ") file ++ number_bytes (codes " line ") line)
+        (E.contents error.old.device) (E.contents error.new.device)
+        error.old.failures error.new.failures result }
+{
+    if let Err(fault) = write_number(error, b" file ", file) {
+        return Err(fault);
+    }
+    write_number(error, b" line ", line)
+}
+
+// Writes what the line of a fault says beside its number.
+fn write_detail<E: Write>(error: &mut Watched<E>, detail: Detail) -> Result<(), ReplayFault>
+    ensures { AnswerEnds (detail_bytes detail)
+        (E.contents error.old.device) (E.contents error.new.device)
+        error.old.failures error.new.failures result }
+{
+    match detail {
+        Detail::Nothing => send_all(error, b""),
+        Detail::Key(key) => write_key(error, key),
+        Detail::File(file) => write_number(error, b" file ", file),
+        Detail::FileLine(file, line) => write_file_line(error, file, line),
+        Detail::Seed(seed) => write_number(error, b" seed ", seed),
+        Detail::Line(line) => write_number(error, b" line ", line),
+    }
+}
+
+// Writes the rest of a line behind its number.
+fn write_rest<E: Write>(error: &mut Watched<E>, detail: Detail) -> Result<(), ReplayFault>
+    ensures { AnswerEnds (detail_bytes detail ++ codes "\n")
+        (E.contents error.old.device) (E.contents error.new.device)
+        error.old.failures error.new.failures result }
+{
+    if let Err(fault) = write_detail(error, detail) {
+        return Err(fault);
+    }
+    send_all(error, b"\n")
+}
+
+// Writes a line of a number, and what is said beside.
+fn write_line<E: Write>(
+    error: &mut Watched<E>,
+    code: usize,
+    detail: Detail,
+) -> Result<(), ReplayFault>
+    ensures { AnswerEnds (line_bytes code detail)
+        (E.contents error.old.device) (E.contents error.new.device)
+        error.old.failures error.new.failures result }
+{
+    if let Err(fault) = write_number(error, b"hole: ", code) {
+        return Err(fault);
+    }
+    write_rest(error, detail)
+}
+
+/// Writes the line of a fault: its number, and what it says beside. Refused with 13.
+pub fn write_fault<E: Write>(error: &mut Watched<E>, fault: ProgramFault) -> Result<(), ReplayFault>
+    ensures { AnswerEnds (fault_line fault)
+        (E.contents error.old.device) (E.contents error.new.device)
+        error.old.failures error.new.failures result }
+{
+    write_line(error, usize::from(fault.code()), fault.detail())
+}

@@ -1,0 +1,61 @@
+//! A site that is checked, and what is told of it.
+
+ghost use Rattle.std.specs.Prelude.{◌≡◌};
+ghost use Rattle.gopher_check.specs.Fault.{site_fault_code};
+ghost use Rattle.gopher_hole.specs.Fault.{program_fault_code};
+
+use crate::announcing::send_text;
+use crate::fault::ProgramFault;
+use crate::opening::settings_bytes;
+use gopher_catalogue::OpenFault;
+use gopher_check::{Report, SiteFault, check, unreadable};
+use gopher_item::NoMemory;
+use gopher_text::Watched;
+use std::alloc::Global;
+use std::fs::Files;
+use std::io::Write;
+use std::str;
+
+// The fault of the program that a fault of its site is.
+fn program_fault(fault: SiteFault) -> ProgramFault
+    ensures { program_fault_code result ≡ site_fault_code fault }
+{
+    match fault {
+        SiteFault::Settings(fault) => ProgramFault::Settings(fault),
+        SiteFault::Tree(fault, _) => ProgramFault::Tree(fault),
+        SiteFault::SeedOutOfScope(seed) => ProgramFault::Open(OpenFault::SeedOutOfScope(seed)),
+        SiteFault::SettingsUnreadable => ProgramFault::SettingsUnreadable,
+    }
+}
+
+// The report of the settings in a file.
+fn file_report<R: Files>(rt: &R, alloc: Global, path: &str) -> Result<Report, NoMemory> {
+    let bytes = match settings_bytes(rt, alloc, path) {
+        Ok(bytes) => bytes,
+        Err(ProgramFault::NoMemory) => return Err(NoMemory),
+        Err(_) => return unreadable(alloc, path),
+    };
+    match str::from_utf8(&bytes) {
+        Ok(text) => check(rt, alloc, path, text),
+        Err(_) => unreadable(alloc, path),
+    }
+}
+
+/// Checks the settings in a file and their folder as a server would, and sends what is told of them to
+/// the output.
+///
+/// Refused as `serve` is for the same fault: 80, 30 to 34, 20 to 26, 50, 90; and with 13 where a sound
+/// site's report can't be written.
+pub fn check_site<R: Files, W: Write>(
+    rt: &R,
+    alloc: Global,
+    path: &str,
+    output: &mut Watched<W>,
+) -> Result<(), ProgramFault> {
+    let report = file_report(rt, alloc, path)?;
+    let sent = send_text(output, &report.words);
+    match report.fault {
+        Some(fault) => Err(program_fault(fault)),
+        None => sent,
+    }
+}

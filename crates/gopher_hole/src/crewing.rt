@@ -1,0 +1,173 @@
+//! A server with its crew, from its settings to its end.
+
+ghost use Rattle.std.specs.Prelude.{◌≡◌, []};
+ghost use Rattle.gopher_hole.specs.Program.{fault_at_end};
+
+use crate::announcing::{tell_listening, tell_status};
+use crate::fault::ProgramFault;
+use crate::fetching::TcpFetch;
+use crate::listening::listen;
+use crate::log_writer::{OpenLog, end_log, queue_of, start_log};
+use crate::opening::{Opened, open, read_settings};
+use crate::progress::crawl_and_tell;
+use crate::starting::{Shop, join_all, start_threads};
+use crate::words::Serving;
+use gopher_catalogue::Status;
+use gopher_crew::{Blank, Crew, Desk, Pass, Share, WorkEnd, crawl};
+use gopher_replies::Replies;
+use gopher_text::Watched;
+use std::alloc::Global;
+use std::fs::{File, Files};
+use std::io::{Eprint, Write};
+use std::net::{Net, TcpListener, TcpStream};
+use std::sync::Wait;
+use std::thread::Threads;
+use std::time::Clock;
+
+// A fetcher for each share.
+fn pairs_of<C: Crew>(
+    alloc: Global,
+    shares: Vec<Share<C>>,
+) -> Result<Vec<(TcpFetch, Share<C>)>, ProgramFault> {
+    let Ok(mut pairs) = Vec::with_capacity(alloc, shares.len()) else {
+        return Err(ProgramFault::NoMemory);
+    };
+    for share in shares {
+        if pairs.push((TcpFetch::new(), share)).is_err() {
+            return Err(ProgramFault::NoMemory);
+        }
+    }
+    Ok(pairs)
+}
+
+// The fault of a server whose threads and crawl ended so.
+fn fault_at_end(accept_failed: bool, is_short: bool, was_crawled: bool) -> Option<ProgramFault>
+    ensures { result ≡ fault_at_end accept_failed is_short was_crawled }
+{
+    if accept_failed {
+        Some(ProgramFault::ListenFailed)
+    } else if is_short {
+        Some(ProgramFault::NoThread)
+    } else if !was_crawled {
+        Some(ProgramFault::NoMemory)
+    } else {
+        None
+    }
+}
+
+// Starts the server threads, crawls, and waits until all of them ended.
+fn serve_and_crawl<
+    C: Crew + Send + Sync + 'static,
+    R: Net<Listener = TcpListener, Stream = TcpStream>
+        + Threads
+        + Wait
+        + Clock
+        + Eprint
+        + Clone
+        + Send
+        + Sync
+        + Drop
+        + 'static,
+>(
+    rt: &R,
+    alloc: Global,
+    shop: Shop,
+    desk: &Desk<C, &R>,
+    passes: Vec<Pass<C>>,
+    pairs: Vec<(TcpFetch, Share<C>)>,
+    progress: bool,
+) -> Result<Vec<WorkEnd<TcpFetch, C>>, ProgramFault> {
+    let started = start_threads(rt, alloc, &shop, passes);
+    drop(shop);
+    if started.threads.is_empty() {
+        return Err(ProgramFault::NoThread);
+    }
+    let crawled = if progress {
+        crawl_and_tell(rt, alloc, desk, pairs)
+    } else {
+        crawl(rt, alloc, desk, pairs)
+    };
+    let accept_failed = join_all(rt, started.threads);
+    if let Some(fault) = fault_at_end(accept_failed, started.is_short, crawled.is_ok()) {
+        return Err(fault);
+    }
+    match crawled {
+        Ok(ends) => Ok(ends),
+        Err(_refused) => Err(ProgramFault::NoMemory),
+    }
+}
+
+// Closes the desk, and gives the sizes of its frontier.
+fn close<C: Crew, R: Wait + Drop>(
+    alloc: Global,
+    desk: Desk<C, R>,
+    ends: Vec<WorkEnd<TcpFetch, C>>,
+) -> Result<Status, ProgramFault> {
+    let mut shares = Vec::new(alloc);
+    for end in ends {
+        if shares.push(end.share).is_err() {
+            return Err(ProgramFault::NoMemory);
+        }
+    }
+    match desk.close(shares) {
+        Ok(catalogue) => Ok(catalogue.status()),
+        Err(_refused) => Err(ProgramFault::StrangeShare),
+    }
+}
+
+// Listens, tells where, and gives what the server threads share.
+fn open_shop<R: Net, W: Write>(
+    rt: &R,
+    alloc: Global,
+    replies: Replies,
+    requests: Option<u64>,
+    output: &mut Watched<W>,
+) -> Result<Shop, ProgramFault> {
+    let listener = listen(rt, replies.home())?;
+    tell_listening(alloc, replies.home(), output)?;
+    match Shop::new(alloc, listener, replies, requests) {
+        Ok(shop) => Ok(shop),
+        Err(_refused) => Err(ProgramFault::NoMemory),
+    }
+}
+
+/// Serves and crawls as the settings say, and tells where it listens and how the crawl ended.
+pub fn serve<
+    C: Crew + Send + Sync + 'static,
+    R: Files<File = File>
+        + OpenLog
+        + Net<Listener = TcpListener, Stream = TcpStream>
+        + Threads
+        + Wait
+        + Clock
+        + Eprint
+        + AllocGlobal
+        + Clone
+        + Send
+        + Sync
+        + Drop
+        + 'static,
+    W: Write,
+>(rt: &R, serving: &Serving<'_>, blank: Blank, output: &mut Watched<W>) -> Result<(), ProgramFault>
+    requires name { blank.name ≡ C.name }
+    requires parts { blank.parts ≡ C.parts }
+    requires history { blank.history ≡ C.history }
+    requires begun { blank.begun ≡ [] }
+{
+    let alloc = rt.alloc();
+    let settings = read_settings(rt, alloc, serving.settings)?;
+    let Opened {
+        replies,
+        desk,
+        passes,
+        shares,
+    } = open::<C, R>(rt, alloc, settings, blank)?;
+    let pairs = pairs_of(alloc, shares)?;
+    let mut shop = open_shop(rt, alloc, replies, serving.requests, output)?;
+    let log = start_log(rt, alloc, serving.log);
+    shop.log = queue_of(&log);
+    let ended = serve_and_crawl(rt, alloc, shop, &desk, passes, pairs, serving.progress);
+    end_log(rt, log);
+    let status = close(alloc, desk, ended?)?;
+    tell_status(alloc, status, output)
+}

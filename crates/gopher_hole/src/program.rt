@@ -1,0 +1,202 @@
+//! The program.
+
+ghost use Rattle.std.specs.Prelude.{◌≡◌, ◌≢◌, ◌≤◌, map, string_bytes, Result};
+ghost use Rattle.std.specs.Bool.{OnTrue};
+ghost use Rattle.std.specs.Io.KnownBytes.{Keeps};
+ghost use Rattle.gopher_script.specs.declared.fault.ReplayFault.{ReplayFault};
+ghost use Rattle.gopher_script.specs.Replay.{Replays};
+ghost use Rattle.gopher_hole.specs.Fault.{fault_line};
+ghost use Rattle.gopher_hole.specs.Program.{asks_replay, status_of, said_of, Says, SaysFault};
+
+use crate::announcing::{send_text, write_fault};
+use crate::checking::check_site;
+use crate::crewing::serve;
+use crate::fault::ProgramFault;
+use crate::log_writer::OpenLog;
+use crate::words::{Asked, Text, read_words};
+use gopher_crew::Blank;
+use gopher_script::{ReplayFault, replay, send_all};
+use gopher_text::Watched;
+use std::alloc::Global;
+use std::fs::{File, Files};
+use std::io::{Eprint, Read, Write};
+use std::marker::Brand;
+use std::net::{Net, TcpListener, TcpStream};
+use std::sync::Wait;
+use std::thread::Threads;
+use std::time::Clock;
+
+fn asks_replay(words: &[String]) -> bool
+    ensures { result ≡ asks_replay (map (λ word. string_bytes word) words.now) }
+{
+    match words {
+        [word] => word.as_str() == "replay",
+        _ => false,
+    }
+}
+
+/// Replays the script and flushes what was written.
+fn replay_all<R: Read, W: Write>(
+    alloc: Global,
+    input: &mut Watched<R>,
+    output: &mut Watched<W>,
+) -> Result<(), ReplayFault>
+    ensures { Replays (R.remaining input.old.device) (R.remaining input.new.device)
+        input.old.failures input.new.failures
+        (W.contents output.old.device) (W.contents output.new.device)
+        output.old.failures output.new.failures result }
+{
+    if let Err(fault) = replay(alloc, input, output) {
+        let _ = output.flush();
+        return Err(fault);
+    }
+    match output.flush() {
+        Ok(()) => Ok(()),
+        Err(_) => Err(ReplayFault::WriteFailed),
+    }
+}
+
+// Replays, and tells how that ended.
+fn run_replay<R: Read, W: Write, E: Write>(
+    alloc: Global,
+    input: &mut Watched<R>,
+    output: &mut Watched<W>,
+    error: &mut Watched<E>,
+) -> u8
+    ensures replays { (end : Result (Unit {0}) ReplayFault)
+        × Replays (R.remaining input.old.device) (R.remaining input.new.device)
+        input.old.failures input.new.failures
+        (W.contents output.old.device) (W.contents output.new.device)
+        output.old.failures output.new.failures end
+        × (result ≡ status_of end)
+        × Says (said_of end) (E.contents error.old.device) (E.contents error.new.device)
+        error.old.failures error.new.failures }
+    ensures well { result ≡ 0 → error.new ≡ error.old }
+    ensures told { result ≢ 0 → SaysFault (E.contents error.old.device)
+        (E.contents error.new.device) error.old.failures error.new.failures }
+    ensures status { result ≤ 1 }
+{
+    match replay_all(alloc, input, output) {
+        Ok(()) => 0,
+        Err(fault) => tell_fault(error, ProgramFault::Replay(fault)),
+    }
+}
+
+// Tells a fault, and gives its status.
+fn tell_fault<E: Write>(error: &mut Watched<E>, fault: ProgramFault) -> u8
+    ensures status { result ≡ 1 }
+    ensures said { Says (fault_line fault) (E.contents error.old.device)
+        (E.contents error.new.device) error.old.failures error.new.failures }
+{
+    let _ = write_fault(error, fault);
+    1
+}
+
+// Tells how a server, or the showing of a text, ended, and gives the status.
+fn tell_end<E: Write>(error: &mut Watched<E>, end: Result<(), ProgramFault>) -> u8
+    ensures well { result ≡ 0 → error.new ≡ error.old }
+    ensures told { result ≢ 0 → SaysFault (E.contents error.old.device)
+        (E.contents error.new.device) error.old.failures error.new.failures }
+    ensures status { result ≤ 1 }
+{
+    match end {
+        Ok(()) => 0,
+        Err(fault) => tell_fault(error, fault),
+    }
+}
+
+// Tells a text that answers the words, and gives the status.
+fn tell_text<W: Write, E: Write>(text: &Text, output: &mut Watched<W>, error: &mut Watched<E>) -> u8
+    ensures well { result ≡ 0 → error.new ≡ error.old }
+    ensures told { result ≡ 1 → SaysFault (E.contents error.old.device)
+        (E.contents error.new.device) error.old.failures error.new.failures }
+    ensures refused { result ≡ 2 → output.new ≡ output.old }
+    ensures status { result ≤ 2 }
+{
+    match text {
+        Text::Shown(shown) => {
+            let end = send_text(output, shown.as_bytes());
+            tell_end(error, end)
+        }
+        Text::Refusal(refusal) => {
+            let _ = send_all(error, refusal.as_bytes());
+            2
+        }
+    }
+}
+
+/// The program `hole` on its words, without its own name. Gives its status.
+///
+/// - The word `replay` alone replays the script that `input` holds, writes its output to `output`
+///   and flushes it: status 0. Where that fails, `error` gets the line of the fault, as `hole: 13`
+///   or, for a bad line, `hole: 70 line 7`, and the status is 1. A flush that fails is 13.
+/// - `serve SETTINGS`, with `--requests N` if it is to end, serves the folder of the settings, crawls,
+///   and answers searches. `output` gets the line `listening HOST PORT` once the server listens, and
+///   the sizes of the crawl at the end: status 0. Where that fails, `error` gets the line of the fault,
+///   as `hole: 33 port`, and the status is 1. With `--log FILE` a line for each request is appended to
+///   the file; with `--progress` the sizes of the crawl are told as it goes on. What is told while it
+///   serves, as that the log can't be written, goes to the error stream of `rt`, not to `error`.
+/// - `check SETTINGS` writes to `output` what is wrong with the settings or their folder, in words, and
+///   where, or what a sound site has: status 0. Where there is a fault, `error` gets the line that `serve`
+///   would write, and the status is 1.
+/// - `--help` and `--version` write their text to `output`: status 0.
+/// - Any other words read and write nothing, but for a text on `error` that says what is wrong with
+///   them: status 2.
+///
+/// A failure of `error` changes nothing.
+pub fn run<
+    H: Files<File = File>
+        + OpenLog
+        + Net<Listener = TcpListener, Stream = TcpStream>
+        + Threads
+        + Wait
+        + Clock
+        + Eprint
+        + AllocGlobal
+        + Clone
+        + Send
+        + Sync
+        + Drop
+        + 'static,
+    R: Read,
+    W: Write,
+    E: Write,
+>(
+    rt: &H,
+    words: &[String],
+    input: &mut Watched<R>,
+    output: &mut Watched<W>,
+    error: &mut Watched<E>,
+) -> u8
+    ensures replays { OnTrue (asks_replay (map (λ word. string_bytes word) words.now))
+        ((end : Result (Unit {0}) ReplayFault)
+        × Replays (R.remaining input.old.device) (R.remaining input.new.device)
+        input.old.failures input.new.failures
+        (W.contents output.old.device) (W.contents output.new.device)
+        output.old.failures output.new.failures end
+        × (result ≡ status_of end)
+        × Says (said_of end) (E.contents error.old.device) (E.contents error.new.device)
+        error.old.failures error.new.failures) }
+    ensures well { result ≡ 0 → Keeps (E.contents error.old.device) (E.contents error.new.device) }
+    ensures told { result ≡ 1 → SaysFault (E.contents error.old.device)
+        (E.contents error.new.device) error.old.failures error.new.failures }
+    ensures refused { result ≡ 2 → (input.new ≡ input.old) × (output.new ≡ output.old) }
+    ensures status { result ≤ 2 }
+{
+    if asks_replay(words) {
+        return run_replay(rt.alloc(), input, output, error);
+    }
+    match read_words(rt.alloc(), words) {
+        Ok(Asked::Replay) => run_replay(rt.alloc(), input, output, error),
+        Ok(Asked::Serve(serving)) => {
+            let end = serve::<Brand, H, W>(rt, &serving, Blank::new(), output);
+            tell_end(error, end)
+        }
+        Ok(Asked::Check(settings)) => {
+            let end = check_site(rt, rt.alloc(), settings, output);
+            tell_end(error, end)
+        }
+        Ok(Asked::Told(text)) => tell_text(&text, output, error),
+        Err(_refused) => tell_fault(error, ProgramFault::NoMemory),
+    }
+}

@@ -1,0 +1,96 @@
+//! The sizes of a crawl, told as it goes on.
+
+use crate::fetching::TcpFetch;
+use gopher_crew::{CrawlRefused, Crew, Desk, Share, WorkEnd, crawl};
+use gopher_script::status_line;
+use std::alloc::Global;
+use std::io::Eprint;
+use std::net::{Net, TcpListener, TcpStream};
+use std::str;
+use std::sync::Wait;
+use std::sync::atomic::{AtomicBool, Ordering};
+use std::thread::{self, Threads};
+use std::time::{Clock, Duration};
+
+// After how many rests the sizes are told again.
+const RESTS: u32 = 100;
+
+// How many milliseconds a rest has.
+const REST: u64 = 100;
+
+// Tells the sizes of a desk's frontier on the error stream. Where memory is refused, nothing is told.
+fn tell<C: Crew, R: Wait + Drop, W: Wait + Eprint>(rt: &W, alloc: Global, desk: &Desk<C, R>) {
+    let Ok(line) = status_line(alloc, desk.status(rt)) else {
+        return;
+    };
+    if let Ok(text) = str::from_utf8(&line) {
+        let _ = rt.eprint(text);
+    }
+}
+
+// Waits until the crawl is over, for ten seconds at most, and tells whether it is.
+fn wait_for_end(clock: &impl Clock, is_over: &AtomicBool) -> bool {
+    for _rest in 0..RESTS {
+        if is_over.load(Ordering::SeqCst) {
+            return true;
+        }
+        thread::sleep(clock, Duration::from_millis(REST));
+    }
+    is_over.load(Ordering::SeqCst)
+}
+
+// Tells the sizes every ten seconds, and once the crawl is over.
+fn tell_until_over<C: Crew, R: Wait + Drop, W: Wait + Clock + Eprint>(
+    rt: &W,
+    alloc: Global,
+    desk: &Desk<C, R>,
+    is_over: &AtomicBool,
+) {
+    for _round in rt.forever() {
+        let was_over = wait_for_end(rt, is_over);
+        tell(rt, alloc, desk);
+        if was_over {
+            return;
+        }
+    }
+    unreachable!()
+}
+
+// Crawls, and notes that it is over.
+fn crawl_until_over<
+    C: Crew + Send + Sync,
+    R: Wait + Drop + Send + Sync,
+    W: Net<Listener = TcpListener, Stream = TcpStream> + Threads + Wait + Sync,
+>(
+    rt: &W,
+    alloc: Global,
+    desk: &Desk<C, R>,
+    pairs: Vec<(TcpFetch, Share<C>)>,
+    is_over: &AtomicBool,
+) -> Result<Vec<WorkEnd<TcpFetch, C>>, CrawlRefused<TcpFetch, C>> {
+    let crawled = crawl(rt, alloc, desk, pairs);
+    is_over.store(true, Ordering::SeqCst);
+    crawled
+}
+
+/// Crawls as `gopher_crew::crawl` does, and tells the sizes of the crawl on the error stream every ten
+/// seconds and at its end.
+pub fn crawl_and_tell<
+    C: Crew + Send + Sync,
+    R: Wait + Drop + Send + Sync,
+    W: Net<Listener = TcpListener, Stream = TcpStream> + Threads + Wait + Clock + Eprint + Sync,
+>(
+    rt: &W,
+    alloc: Global,
+    desk: &Desk<C, R>,
+    pairs: Vec<(TcpFetch, Share<C>)>,
+) -> Result<Vec<WorkEnd<TcpFetch, C>>, CrawlRefused<TcpFetch, C>> {
+    let over = AtomicBool::new(false);
+    let is_over = &over;
+    let (crawled, _told) = thread::join(
+        rt,
+        move || crawl_until_over(rt, alloc, desk, pairs, is_over),
+        move || tell_until_over(rt, alloc, desk, is_over),
+    );
+    crawled
+}

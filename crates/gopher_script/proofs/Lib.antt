@@ -1,0 +1,5 @@
+pub mod Blocks
+pub mod Runs
+pub mod Sizes
+pub mod Sends
+pub mod Finds

@@ -1,0 +1,6 @@
+use Rattle.gopher_script.proofs.Finds.{refused_seed}
+use Rattle.gopher_script.proofs.draft.add_seed.Goals as goal
+
+pub returns-in-Err : goal.returns-in-Err
+returns-in-Err c =
+    refused_seed c.args.parts.now c.args.seeds.now.items c.in-Err.fault c.refusal.result (rw c.in-Err.is at c.make.ensures) c.refusal.ensures.cause c.refusal.ensures.line

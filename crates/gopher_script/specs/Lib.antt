@@ -1,0 +1,10 @@
+pub mod Answer
+pub mod Command
+pub mod Draft
+pub mod Fault
+pub mod Fields
+pub mod Parts
+pub mod Replay
+pub mod Script
+pub mod Stage
+pub mod Statement

@@ -1,0 +1,67 @@
+-- What a replay read and wrote, by how it ended.
+use Rattle.std.specs.Prelude.{◌≡◌, ℕ, ◌<◌, ◌≤◌, ◌⊎◌, List, [], ◌++◌, length, Option, None, Some, Result, Ok, Err}
+use Rattle.std.specs.Io.KnownBytes.{Appends, Consumes, IsAtEnd, Keeps}
+use Rattle.gopher_text.specs.Reply.{SpendsTurns}
+use Rattle.gopher_text.specs.Watched.{WatchedData, HasFailed}
+use Rattle.gopher_script.specs.Statement.{StatementData}
+use Rattle.gopher_script.specs.Script.{RunData, script_output, answer_at, after_at}
+use Rattle.gopher_script.specs.declared.stage.Stage.{Stage}
+use Rattle.gopher_script.specs.declared.fault.ReplayFault.{ReplayFault}
+use Rattle.gopher_script.specs.declared.fault.ReplayFault.TheVariants.{ReadFailed, TooManyTurns, ScriptTooLong, WriteFailed, BadScript, NoMemory}
+
+-- some bytes at the front of these were written
+abbrev pub AppendsPart : Option (List ℕ) → Option (List ℕ) → List ℕ → Type 0
+AppendsPart old new bytes = (written : List ℕ) × (rest : List ℕ) × (bytes ≡ written ++ rest) × Appends old new written
+
+-- what a run wrote, by how it ended: all of its output where it ended by itself, well or at its bad
+-- line, and a part of it where a write failed or memory was refused. The contents of the writer and
+-- its count of failures come before and after.
+abbrev pub RunEnds : {T : Type 0} → RunData → Option (List ℕ) → Option (List ℕ) → ℕ → ℕ → Result T ReplayFault → Type 0
+RunEnds run old new before after (Ok end) = (run.bad_line ≡ None) × Appends old new run.output × (before ≤ after)
+RunEnds run old new before after (Err (BadScript line)) = (run.bad_line ≡ Some line) × Appends old new run.output
+RunEnds run old new before after (Err WriteFailed) = AppendsPart old new run.output × HasFailed before after
+RunEnds run old new before after (Err NoMemory) = AppendsPart old new run.output
+RunEnds run old new before after (Err fault) = ⊥
+
+-- the same of one answer
+abbrev pub AnswerEnds : {T : Type 0} → List ℕ → Option (List ℕ) → Option (List ℕ) → ℕ → ℕ → Result T ReplayFault → Type 0
+AnswerEnds answer old new before after (Ok end) = Appends old new answer × (before ≤ after)
+AnswerEnds answer old new before after (Err WriteFailed) = AppendsPart old new answer × HasFailed before after × (before ≤ after)
+AnswerEnds answer old new before after (Err fault) = ⊥
+
+-- the same of one statement, which leads to another stage where it ends well
+abbrev pub StatementEnds : Stage → StatementData → Option (List ℕ) → Option (List ℕ) → ℕ → ℕ → Result Stage ReplayFault → Type 0
+StatementEnds stage statement old new before after (Ok next) =
+    (answer : List ℕ) × (answer_at stage statement ≡ Some answer) × Appends old new answer × (next ≡ after_at stage statement) × (before ≤ after)
+StatementEnds stage statement old new before after (Err (BadScript line)) =
+    (answer_at stage statement ≡ None) × (line ≡ statement.number) × Appends old new []
+StatementEnds stage statement old new before after (Err WriteFailed) =
+    (answer : List ℕ) × (answer_at stage statement ≡ Some answer) × AppendsPart old new answer × HasFailed before after × (before ≤ after)
+StatementEnds stage statement old new before after (Err NoMemory) = Appends old new []
+StatementEnds stage statement old new before after (Err fault) = ⊥
+
+-- the limit of a script, in bytes
+abbrev pub script_limit : ℕ
+script_limit = 1048576
+
+-- how a replay ended, after these bytes of the script were read: what the reader has left, its count
+-- of failures before and after, and the writer's contents and count of failures before and after
+abbrev pub ReplayEnds : {T : Type 0} → List ℕ → Option (List ℕ) → ℕ → ℕ → Option (List ℕ) → Option (List ℕ) → ℕ → ℕ → Result T ReplayFault → Type 0
+ReplayEnds bytes left missed missing old new before after (Ok end) =
+    (length bytes ≤ script_limit) × IsAtEnd left × RunEnds (script_output bytes) old new before after (Ok end)
+ReplayEnds bytes left missed missing old new before after (Err (BadScript line)) =
+    (length bytes ≤ script_limit) × IsAtEnd left × RunEnds {T = Unit {0}} (script_output bytes) old new before after (Err (BadScript line))
+ReplayEnds bytes left missed missing old new before after (Err WriteFailed) =
+    (length bytes ≤ script_limit) × IsAtEnd left × RunEnds {T = Unit {0}} (script_output bytes) old new before after (Err WriteFailed)
+ReplayEnds bytes left missed missing old new before after (Err NoMemory) =
+    (length bytes ≤ script_limit) × ((IsAtEnd left × AppendsPart old new (script_output bytes).output) ⊎ Keeps old new)
+ReplayEnds bytes left missed missing old new before after (Err ScriptTooLong) = (script_limit < length bytes) × Keeps old new
+ReplayEnds bytes left missed missing old new before after (Err ReadFailed) =
+    (length bytes ≤ script_limit) × HasFailed missed missing × Keeps old new
+ReplayEnds bytes left missed missing old new before after (Err TooManyTurns) =
+    (length bytes ≤ script_limit) × HasFailed missed missing × SpendsTurns 2097152 missed missing (length bytes) × Keeps old new
+
+-- a replay, by how it ended: what the reader has left before and after, its count of failures before
+-- and after, and the writer's contents and count of failures before and after
+abbrev pub Replays : {T : Type 0} → Option (List ℕ) → Option (List ℕ) → ℕ → ℕ → Option (List ℕ) → Option (List ℕ) → ℕ → ℕ → Result T ReplayFault → Type 0
+Replays had left missed missing old new before after end = (bytes : List ℕ) × Consumes had left bytes × ReplayEnds bytes left missed missing old new before after end

@@ -1,0 +1,129 @@
+//! What the commands of a script do in its crawl. Each function answers the bytes of the command's
+//! answer.
+
+ghost use Rattle.std.specs.Prelude.{◌≡◌, ◌≤◌, IfOk, OnOk, length};
+ghost use Rattle.gopher_catalogue.specs.Step.{turn_of, after_turn};
+ghost use Rattle.gopher_page.specs.Page.{page_of};
+ghost use Rattle.gopher_script.specs.Stage.{turn_line, scope_in, page_line, after_page, found_line, after_found, fail_line, after_fail, search_lines, occurs_lines};
+
+use crate::command::{PlaceParts, QueryText};
+use crate::lines::{
+    added_line, finished_line, idle_line, ok_line, refusal, refused_line, take_line,
+};
+use crate::listing::{hits_lines, places_lines};
+use gopher_catalogue::{Catalogue, FoundFault, Turn, Why};
+use gopher_item::{NoMemory, Place};
+use gopher_page::{Page, Query, QueryFault};
+use std::alloc::Global;
+
+/// Claims the next place.
+pub fn claim(alloc: Global, catalogue: &mut Catalogue) -> Result<Vec<u8>, NoMemory>
+    ensures answer { IfOk result (λ answer. answer.items ≡ turn_line (turn_of catalogue.old)) }
+    ensures record { OnOk result
+        (catalogue.new ≡ after_turn catalogue.old (turn_of catalogue.old)) }
+{
+    match catalogue.claim()? {
+        Turn::Take(claim) => take_line(alloc, claim.number, &claim.place),
+        Turn::Idle => idle_line(alloc),
+        Turn::Finished => finished_line(alloc),
+    }
+}
+
+/// Hands in the page of a reply for a number.
+pub fn found(
+    alloc: Global,
+    catalogue: &mut Catalogue,
+    number: u32,
+    parts: &PlaceParts<'_>,
+    reply: &[u8],
+) -> Result<Vec<u8>, NoMemory>
+    requires { length reply.now ≤ 1048576 }
+    ensures answer { IfOk result
+        (λ answer. answer.items ≡ found_line catalogue.old number parts.now reply.now) }
+    ensures record { OnOk result
+        (catalogue.new ≡ after_found catalogue.old number parts.now reply.now) }
+{
+    match parts.make(alloc) {
+        Ok(place) => found_at(alloc, catalogue, number, &place, reply),
+        Err(fault) => refusal(alloc, fault),
+    }
+}
+
+fn found_at(
+    alloc: Global,
+    catalogue: &mut Catalogue,
+    number: u32,
+    place: &Place,
+    reply: &[u8],
+) -> Result<Vec<u8>, NoMemory>
+    requires { length reply.now ≤ 1048576 }
+    ensures answer { IfOk result (λ answer. answer.items
+        ≡ page_line catalogue.old number (page_of (scope_in catalogue.old) place.now reply.now)) }
+    ensures record { OnOk result (catalogue.new
+        ≡ after_page catalogue.old number (page_of (scope_in catalogue.old) place.now reply.now)) }
+{
+    let page = Page::of(alloc, catalogue.opening().scope(), place, reply)?;
+    hand_in(alloc, catalogue, number, page)
+}
+
+fn hand_in(
+    alloc: Global,
+    catalogue: &mut Catalogue,
+    number: u32,
+    page: Page,
+) -> Result<Vec<u8>, NoMemory>
+    ensures answer { IfOk result (λ answer. answer.items ≡ page_line catalogue.old number page) }
+    ensures record { OnOk result (catalogue.new ≡ after_page catalogue.old number page) }
+{
+    match catalogue.found(number, page) {
+        Ok(added) => {
+            catalogue.settle();
+            added_line(alloc, added)
+        }
+        Err(refused) => {
+            let fault = refused.fault;
+            if fault == FoundFault::NoMemory {
+                return Err(NoMemory);
+            }
+            refused_line(alloc, fault.code())
+        }
+    }
+}
+
+/// Tells that a number's place failed.
+pub fn fail(
+    alloc: Global,
+    catalogue: &mut Catalogue,
+    number: u32,
+    why: Why,
+) -> Result<Vec<u8>, NoMemory>
+    ensures answer { IfOk result (λ answer. answer.items ≡ fail_line catalogue.old number) }
+    ensures record { OnOk result (catalogue.new ≡ after_fail catalogue.old number why) }
+{
+    match catalogue.fail(number, why) {
+        Ok(()) => ok_line(alloc),
+        Err(refused) => refused_line(alloc, refused.code()),
+    }
+}
+
+/// Searches the pages that were found.
+pub fn search(
+    alloc: Global,
+    catalogue: &Catalogue,
+    text: &QueryText<'_>,
+) -> Result<Vec<u8>, NoMemory>
+    ensures { IfOk result (λ answer. answer.items ≡ search_lines catalogue.now text.now) }
+{
+    match Query::read(alloc, text.as_slice()) {
+        Ok(query) => hits_lines(alloc, &catalogue.search(&query)?),
+        Err(QueryFault::NoMemory) => Err(NoMemory),
+        Err(fault) => refused_line(alloc, fault.code()),
+    }
+}
+
+/// Looks up the places of the pages that have a word.
+pub fn occurs(alloc: Global, catalogue: &Catalogue, word: &[u8]) -> Result<Vec<u8>, NoMemory>
+    ensures { IfOk result (λ answer. answer.items ≡ occurs_lines catalogue.now word.now) }
+{
+    places_lines(alloc, &catalogue.occurrences(word)?)
+}

@@ -1,0 +1,78 @@
+//! What a script states before its crawl begins.
+
+ghost use Rattle.std.specs.Prelude.{◌≡◌, [], IfOk};
+ghost use Rattle.gopher_script.specs.Draft.{DraftData};
+ghost use Rattle.gopher_script.specs.Parts.{fault_of_rule, fault_of_place};
+ghost use Rattle.gopher_script.specs.Stage.{taken_line, with_rule, with_seed};
+
+use crate::command::{PlaceParts, RuleParts};
+use crate::lines::refusal;
+use gopher_item::{NoMemory, Place};
+use gopher_scope::{Rule, Scope};
+use std::alloc::Global;
+use std::marker::Model;
+
+/// The rules and the seeds that a script has stated.
+#[derive(Drop)]
+pub struct Draft {
+    pub allow: Vec<Rule>,
+    pub deny: Vec<Rule>,
+    pub seeds: Vec<Place>,
+}
+
+impl Model for Draft {
+    ghost use Rattle.gopher_script.specs.Draft.{DraftData, draft_with};
+
+    ghost Value = { DraftData };
+
+    ghost view = { λ d. draft_with d.allow.items d.deny.items d.seeds.items };
+}
+
+impl Draft {
+    /// No rules and no seeds.
+    pub fn new(alloc: Global) -> Self
+        ensures { result ≡ record { allow = []; deny = []; seeds = [] } }
+    {
+        Draft {
+            allow: Vec::new(alloc),
+            deny: Vec::new(alloc),
+            seeds: Vec::new(alloc),
+        }
+    }
+}
+
+/// Adds a rule. Answers the bytes of the command's answer.
+pub fn add_rule(
+    alloc: Global,
+    rules: &mut Vec<Rule>,
+    parts: &RuleParts<'_>,
+) -> Result<Vec<u8>, NoMemory>
+    ensures { IfOk result (λ answer. (answer.items ≡ taken_line (fault_of_rule parts.now))
+        × (rules.new.items ≡ with_rule rules.old.items parts.now)) }
+{
+    match parts.make(alloc) {
+        Ok(rule) => {
+            rules.push(rule)?;
+            Ok(Vec::new(alloc))
+        }
+        Err(fault) => refusal(alloc, fault),
+    }
+}
+
+/// Adds a seed. Answers the bytes of the command's answer.
+pub fn add_seed(
+    alloc: Global,
+    seeds: &mut Vec<Place>,
+    parts: &PlaceParts<'_>,
+) -> Result<Vec<u8>, NoMemory>
+    ensures { IfOk result (λ answer. (answer.items ≡ taken_line (fault_of_place parts.now))
+        × (seeds.new.items ≡ with_seed seeds.old.items parts.now)) }
+{
+    match parts.make(alloc) {
+        Ok(seed) => {
+            seeds.push(seed)?;
+            Ok(Vec::new(alloc))
+        }
+        Err(fault) => refusal(alloc, fault),
+    }
+}

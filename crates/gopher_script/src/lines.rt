@@ -1,0 +1,92 @@
+//! The answers of a script's commands, as bytes.
+
+ghost use Rattle.std.specs.Prelude.{◌≡◌, ◌≢◌, ◌++◌, IfOk, OnOk};
+ghost use Rattle.gopher_item.specs.Fault.{item_fault_code};
+ghost use Rattle.gopher_script.specs.Answer.{ok_line, idle_line, finished_line, refused_line, place_fields, take_line, added_line, status_line};
+
+use gopher_catalogue::{Added, Status};
+use gopher_item::{ItemFault, NoMemory, Place};
+use std::alloc::Global;
+
+pub fn ok_line(alloc: Global) -> Result<Vec<u8>, NoMemory>
+    ensures { IfOk result (λ line. line.items ≡ ok_line) }
+{
+    Ok(Vec::from_slice(alloc, b"ok\n")?)
+}
+
+pub fn idle_line(alloc: Global) -> Result<Vec<u8>, NoMemory>
+    ensures { IfOk result (λ line. line.items ≡ idle_line) }
+{
+    Ok(Vec::from_slice(alloc, b"idle\n")?)
+}
+
+pub fn finished_line(alloc: Global) -> Result<Vec<u8>, NoMemory>
+    ensures { IfOk result (λ line. line.items ≡ finished_line) }
+{
+    Ok(Vec::from_slice(alloc, b"finished\n")?)
+}
+
+pub fn refused_line(alloc: Global, code: u8) -> Result<Vec<u8>, NoMemory>
+    ensures { IfOk result (λ line. line.items ≡ refused_line code) }
+{
+    Ok(format!(in alloc; "refused {code}\n")?.into_bytes())
+}
+
+/// The line of a refused rule or place, unless it was memory that was refused.
+pub fn refusal(alloc: Global, fault: ItemFault) -> Result<Vec<u8>, NoMemory>
+    ensures cause { OnOk result (fault ≢ ItemFault.NoMemory) }
+    ensures line { IfOk result (λ line. line.items ≡ refused_line (item_fault_code fault)) }
+{
+    if fault == ItemFault::NoMemory {
+        return Err(NoMemory);
+    }
+    refused_line(alloc, fault.code())
+}
+
+/// Appends a place's type, host, port and selector.
+pub fn push_place(alloc: Global, place: &Place, line: &mut Vec<u8>) -> Result<(), NoMemory>
+    ensures { OnOk result (line.new.items ≡ line.old.items ++ place_fields place.now) }
+{
+    let port = place.port();
+    line.push(place.kind())?;
+    line.push(b'\t')?;
+    line.extend_from_slice(place.host())?;
+    line.extend_from_slice(format!(in alloc; "\t{port}\t")?.as_bytes())?;
+    line.extend_from_slice(place.selector())?;
+    Ok(())
+}
+
+pub fn take_line(alloc: Global, number: u32, place: &Place) -> Result<Vec<u8>, NoMemory>
+    ensures { IfOk result (λ line. line.items ≡ take_line number place.now) }
+{
+    let mut line = format!(in alloc; "take\t{number}\t")?.into_bytes();
+    push_place(alloc, place, &mut line)?;
+    line.push(b'\n')?;
+    Ok(line)
+}
+
+pub fn added_line(alloc: Global, added: Added) -> Result<Vec<u8>, NoMemory>
+    ensures { IfOk result (λ line. line.items ≡ added_line added) }
+{
+    let fresh = added.fresh;
+    let dropped = added.dropped;
+    Ok(format!(in alloc; "added {fresh} {dropped}\n")?.into_bytes())
+}
+
+/// The line of a crawl's sizes: how many places are known, waiting, out, done and dropped.
+///
+/// Refused only where memory is (90).
+pub fn status_line(alloc: Global, status: Status) -> Result<Vec<u8>, NoMemory>
+    ensures { IfOk result (λ line. line.items ≡ status_line status) }
+{
+    let Status {
+        known,
+        waiting,
+        out,
+        done,
+        dropped,
+    } = status;
+    let mut line = format!(in alloc; "known {known} waiting {waiting} out {out}")?.into_bytes();
+    line.extend_from_slice(format!(in alloc; " done {done} dropped {dropped}\n")?.as_bytes())?;
+    Ok(line)
+}

@@ -1,0 +1,157 @@
+//! The statements of a script.
+
+ghost use Rattle.std.specs.Prelude.{◌≡◌, ◌+◌, ◌^◌, ◌<◌, ◌≤◌, [], ◌∷◌, true, false, length, IfOk, IfSome, MatchOption};
+ghost use Rattle.gopher_item.specs.Lines.{lines_of};
+ghost use Rattle.gopher_script.specs.Statement.{StatementData};
+ghost use Rattle.gopher_script.specs.Script.{begins_block, block_of, reply_of, reply_after, takes_block, statements_of, statements_after, statements_in};
+
+use crate::command::Command;
+use crate::reading::read_command;
+use gopher_item::{NoMemory, first_line};
+use std::alloc::Global;
+use std::marker::Model;
+
+/// A line of a script that is in no block, with the reply of its own block.
+#[derive(Drop)]
+pub struct Statement<'a> {
+    /// The number of the line, from 1.
+    pub number: usize,
+    /// The line's command, or `None` where the line is bad.
+    pub command: Option<Command<'a>>,
+    /// The reply of the block after a `found`; of any other line it is empty.
+    pub reply: Vec<u8>,
+}
+
+impl<'a> Model for Statement<'a> {
+    ghost use Rattle.gopher_script.specs.Statement.{StatementData};
+
+    ghost Value = { StatementData };
+
+    ghost view = { λ s. record { number = s.number; command = s.command; reply = s.reply.items } };
+}
+
+/// The statements of a script that are still to be read.
+#[derive(Drop)]
+pub struct Script<'a> {
+    // How many lines were read.
+    lines_read: usize,
+    // The bytes after them. No block that belongs to a line before goes on there.
+    rest: &'a [u8],
+}
+
+impl<'a> Model for Script<'a> {
+    ghost use Rattle.std.specs.Prelude.{◌+◌, ◌^◌, ◌<◌, List, length};
+    ghost use Rattle.gopher_script.specs.Statement.{StatementData};
+    ghost use Rattle.gopher_script.specs.Script.{statements_after};
+
+    ghost Value = { List StatementData };
+
+    ghost view = { λ s. statements_after s.lines_read s.rest.now };
+
+    ghost invariant = { λ s. s.lines_read + length s.rest.now < 2 ^ 64 };
+}
+
+/// The block at the front of bytes.
+#[derive(Drop)]
+struct Block<'a> {
+    reply: Vec<u8>,
+    // How many lines of the script were read up to its end.
+    lines_read: usize,
+    rest: &'a [u8],
+}
+
+/// The text of the block line at the front of the bytes, and what follows that line.
+fn block_line(bytes: &[u8]) -> Option<(&[u8], &[u8])>
+    ensures line { MatchOption result (begins_block (lines_of bytes.now) ≡ false)
+        (λ parts. lines_of bytes.now ≡ (124 ∷ parts.0.now) ∷ lines_of parts.1.now) }
+    ensures shorter { IfSome result (λ parts. length parts.1.now < length bytes.now) }
+{
+    let (line, rest) = first_line(bytes)?;
+    match line {
+        [b'|', text @ ..] => Some((text, rest)),
+        _ => None,
+    }
+}
+
+/// Takes the block at the front of the bytes, before which `before` lines were read.
+fn take_block<'a>(alloc: Global, before: usize, bytes: &'a [u8]) -> Result<Block<'a>, NoMemory>
+    requires { before + length bytes.now < 2 ^ 64 }
+    ensures reply { IfOk result
+        (λ block. block.reply.items ≡ reply_of (block_of (lines_of bytes.now))) }
+    ensures rest { IfOk result (λ block. statements_after block.lines_read block.rest.now
+        ≡ statements_of (before + 1) true (lines_of bytes.now)) }
+    ensures size { IfOk result
+        (λ block. block.lines_read + length block.rest.now ≤ before + length bytes.now) }
+{
+    let mut reply = Vec::new(alloc);
+    let mut lines_read = before;
+    let mut rest = bytes;
+    while let Some((text, after)) = block_line(rest) {
+        reply.extend_from_slice(text)?;
+        reply.extend_from_slice(b"\r\n")?;
+        lines_read += 1;
+        rest = after;
+    }
+    Ok(Block {
+        reply,
+        lines_read,
+        rest,
+    })
+}
+
+/// Takes the block of a line's command, if it takes one, at the front of the bytes.
+fn block_after<'a>(
+    alloc: Global,
+    command: &Option<Command<'_>>,
+    before: usize,
+    bytes: &'a [u8],
+) -> Result<Block<'a>, NoMemory>
+    requires { before + length bytes.now < 2 ^ 64 }
+    ensures reply { IfOk result
+        (λ block. block.reply.items ≡ reply_after command.now (lines_of bytes.now)) }
+    ensures rest { IfOk result (λ block. statements_after block.lines_read block.rest.now
+        ≡ statements_of (before + 1) (takes_block command.now) (lines_of bytes.now)) }
+    ensures size { IfOk result
+        (λ block. block.lines_read + length block.rest.now ≤ before + length bytes.now) }
+{
+    if let Some(Command::Found(..)) = command {
+        return take_block(alloc, before, bytes);
+    }
+    Ok(Block {
+        reply: Vec::new(alloc),
+        lines_read: before,
+        rest: bytes,
+    })
+}
+
+impl<'a> Script<'a> {
+    /// All statements of a script.
+    pub fn of(bytes: &'a [u8]) -> Self
+        ensures { result ≡ statements_in bytes.now }
+    {
+        Script {
+            lines_read: 0,
+            rest: bytes,
+        }
+    }
+
+    /// The next statement, or `None` where none is left. Refused only where memory is (90).
+    pub fn next(&mut self, alloc: Global) -> Result<Option<Statement<'a>>, NoMemory>
+        ensures { IfOk result (λ next. MatchOption next (self.old ≡ [])
+            (λ statement. self.old ≡ statement ∷ self.new)) }
+    {
+        let Some((line, rest)) = first_line(self.rest) else {
+            return Ok(None);
+        };
+        let number = self.lines_read + 1;
+        let command = read_command(line);
+        let block = block_after(alloc, &command, number, rest)?;
+        self.lines_read = block.lines_read;
+        self.rest = block.rest;
+        Ok(Some(Statement {
+            number,
+            command,
+            reply: block.reply,
+        }))
+    }
+}

@@ -1,0 +1,146 @@
+//! How far a script has come, and what its commands do.
+
+ghost use Rattle.std.specs.Prelude.{◌≡◌, ◌≤◌, ◌≢◌, [], IfOk, OnOk, MatchOption, None, Some, length};
+ghost use Rattle.gopher_catalogue.specs.Fault.{open_fault_code};
+ghost use Rattle.gopher_script.specs.Answer.{refused_line};
+ghost use Rattle.gopher_script.specs.Stage.{answer_before, after_before, answer_in, after_in, answer_of, after, draft_of, start_line, fault_of_start, after_start, IsPerformed};
+
+use crate::command::Command;
+use crate::crawl::{claim, fail, found, occurs, search};
+use crate::draft::{Draft, add_rule, add_seed};
+use crate::lines::{ok_line, refused_line, status_line};
+use gopher_catalogue::{Catalogue, OpenFault, OpenRefused};
+use gopher_item::NoMemory;
+use gopher_scope::Scope;
+use std::alloc::Global;
+
+/// How far a script has come.
+#[derive(Drop)]
+pub enum Stage {
+    /// The crawl hasn't begun: rules and seeds are gathered.
+    Gathering(Draft),
+    /// The crawl began.
+    Crawling(Catalogue),
+}
+
+/// What a command led to.
+#[derive(Drop)]
+pub struct Performed {
+    /// How far the script has come then.
+    pub stage: Stage,
+    /// The bytes of the command's answer.
+    pub answer: Vec<u8>,
+}
+
+/// Begins the crawl, unless its catalogue can't be opened.
+fn start(alloc: Global, draft: Draft, places: u32, tries: u32) -> Result<Performed, NoMemory>
+    ensures answer { IfOk result
+        (λ done. done.answer.items ≡ start_line (fault_of_start draft places tries)) }
+    ensures stage { IfOk result (λ done. done.stage ≡ after_start draft places tries) }
+{
+    let Draft { allow, deny, seeds } = draft;
+    match Catalogue::open(alloc, Scope::new(allow, deny), seeds, places, tries) {
+        Ok(catalogue) => Ok(Performed {
+            stage: Stage::Crawling(catalogue),
+            answer: ok_line(alloc)?,
+        }),
+        Err(refused) => restored(alloc, refused),
+    }
+}
+
+/// The rules and seeds as they were before a start that was refused.
+fn restored(alloc: Global, refused: OpenRefused) -> Result<Performed, NoMemory>
+    ensures cause { OnOk result (refused.fault ≢ OpenFault.NoMemory) }
+    ensures answer { IfOk result
+        (λ done. done.answer.items ≡ refused_line (open_fault_code refused.fault)) }
+    ensures stage { IfOk result (λ done. done.stage
+        ≡ Stage.Gathering (draft_of refused.scope refused.seeds.items)) }
+{
+    let OpenRefused {
+        fault,
+        scope,
+        seeds,
+    } = refused;
+    if fault == OpenFault::NoMemory {
+        return Err(NoMemory);
+    }
+    let (allow, deny) = scope.into_rules();
+    Ok(Performed {
+        stage: Stage::Gathering(Draft { allow, deny, seeds }),
+        answer: refused_line(alloc, fault.code())?,
+    })
+}
+
+/// Performs a command before the crawl, or `None` for a command whose time it isn't.
+fn perform_before(
+    alloc: Global,
+    draft: Draft,
+    command: Command<'_>,
+) -> Result<Option<Performed>, NoMemory>
+    ensures { IfOk result
+        (IsPerformed (answer_before draft command.entry) (after_before draft command.entry)) }
+{
+    let mut draft = draft;
+    let answer = match command {
+        Command::Nothing => Vec::new(alloc),
+        Command::Allow(rule) => add_rule(alloc, &mut draft.allow, &rule)?,
+        Command::Deny(rule) => add_rule(alloc, &mut draft.deny, &rule)?,
+        Command::Seed(place) => add_seed(alloc, &mut draft.seeds, &place)?,
+        Command::Start(places, tries) => return Ok(Some(start(alloc, draft, places, tries)?)),
+        Command::Claim
+        | Command::Found(..)
+        | Command::Fail(..)
+        | Command::Search(_)
+        | Command::Occurs(_)
+        | Command::Status => return Ok(None),
+    };
+    let stage = Stage::Gathering(draft);
+    Ok(Some(Performed { stage, answer }))
+}
+
+/// Performs a command in the crawl, with the reply of its block, or `None` for a command whose time
+/// it isn't.
+fn perform_in(
+    alloc: Global,
+    catalogue: Catalogue,
+    command: Command<'_>,
+    reply: &[u8],
+) -> Result<Option<Performed>, NoMemory>
+    requires { length reply.now ≤ 1048576 }
+    ensures { IfOk result (IsPerformed (answer_in catalogue command.entry reply.now)
+        (Stage.Crawling (after_in catalogue command.entry reply.now))) }
+{
+    let mut catalogue = catalogue;
+    let answer = match command {
+        Command::Nothing => Vec::new(alloc),
+        Command::Claim => claim(alloc, &mut catalogue)?,
+        Command::Found(number, place) => found(alloc, &mut catalogue, number, &place, reply)?,
+        Command::Fail(number, why) => fail(alloc, &mut catalogue, number, why)?,
+        Command::Search(text) => search(alloc, &catalogue, &text)?,
+        Command::Occurs(word) => occurs(alloc, &catalogue, word.bytes)?,
+        Command::Status => status_line(alloc, catalogue.status())?,
+        Command::Allow(_) | Command::Deny(_) | Command::Seed(_) | Command::Start(..) => return Ok(
+            None,
+        ),
+    };
+    let stage = Stage::Crawling(catalogue);
+    Ok(Some(Performed { stage, answer }))
+}
+
+/// Performs a command, with the reply of its block, or answers `None` for a command whose time it
+/// isn't. Refused only where memory is.
+pub fn perform(
+    alloc: Global,
+    stage: Stage,
+    command: Command<'_>,
+    reply: &[u8],
+) -> Result<Option<Performed>, NoMemory>
+    requires { length reply.now ≤ 1048576 }
+    ensures { IfOk result (IsPerformed (answer_of stage command.entry reply.now)
+        (after stage command.entry reply.now)) }
+{
+    match stage {
+        Stage::Gathering(draft) => perform_before(alloc, draft, command),
+        Stage::Crawling(catalogue) => perform_in(alloc, catalogue, command, reply),
+    }
+}
