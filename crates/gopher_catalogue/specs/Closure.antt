@@ -1,6 +1,5 @@
 -- What a finished crawl contains if its record agrees with a table of outcomes: exactly the places
--- that
--- can be reached from the seeds, and their pages.
+-- that can be reached from the seeds, and their pages.
 use Rattle.std.specs.Prelude.{◌≡◌, ℕ, Bool, ◌||◌, ◌↔◌, List, [], ◌∷◌, Option, None, Some, slice_get, IsTrue, if◌then◌else◌}
 use Rattle.std.specs.List.{fold, Contains}
 use Rattle.gopher_item.specs.Place.{PlaceData, is_among}
@@ -102,8 +101,7 @@ abbrev pub SamePlaces : List PlaceData → List PlaceData → Type 0
 SamePlaces places places' = (place : PlaceData) → is_among places place ≡ is_among places' place
 
 -- two finished crawls with the same table, scope and seeds contain the same places and pages,
--- whatever
--- the order of their seeds and events, their limits and their tries
+-- whatever the order of their seeds and events, their limits and their tries
 abbrev pub FinishedCrawlsAgree : Type 0
 FinishedCrawlsAgree =
     (scope : ScopeData) (seeds seeds' : List PlaceData) (table : OutcomeTable) (limit tries limit' tries' : ℕ) (events events' : List EventData) →

@@ -1,6 +1,5 @@
 -- The results of searches of a finished crawl. The definitions mention only the table of outcomes:
--- no
--- record, no number of a place and no state.
+-- no record, no number of a place and no state.
 use Rattle.std.specs.Prelude.{◌≡◌, ℕ, ◌<◌, false, ◌↔◌, List, ◌∷◌, take, IsTrue}
 use Rattle.std.specs.List.{Contains}
 use Rattle.std.specs.List.Sorted.{IsStrictlySortedBy}
@@ -32,8 +31,7 @@ pub record IsHitAmong (IsPage : PageData → Type 0) (query : List TermData) (hi
   pub is_hit : hit ≡ hit_at query page
 
 -- the first 50 hits of the matching pages of this set: by score, highest first, and hits of equal
--- score
--- in place order
+-- score in place order
 pub record IsAnswerAmong (IsPage : PageData → Type 0) (query : List TermData) (hits : List Hit) : Type 0 where
   pub all : List Hit
   pub members : (hit : Hit) → Contains all hit ↔ IsHitAmong IsPage query hit
@@ -114,9 +112,8 @@ FinishedCrawlGivesFinalOccurrences =
     (record_ : List EventData) (word : List ℕ) → IsLegal record_ → AreFinalOnceComplete record_ word (occurrences_of (pages_found record_) word)
 
 -- two finished crawls with the same table, scope and seeds give equal answers to every query and
--- equal
--- occurrences of every word, whatever the order of their seeds and events, their limits and their
--- tries
+-- equal occurrences of every word, whatever the order of their seeds and events, their limits and
+-- their tries
 abbrev pub FinishedCrawlsAnswerAlike : Type 0
 FinishedCrawlsAnswerAlike =
     (scope : ScopeData) (seeds seeds' : List PlaceData) (table : OutcomeTable) (limit tries limit' tries' : ℕ) (events events' : List EventData) →

@@ -56,8 +56,7 @@ failures events number = count_by (is_failure_of number) events
 -- ---- states
 
 -- the numbers that an event appends to the queue, after the events before it: those of the places
--- that
--- become known, or its own if it failed with tries left
+-- that become known, or its own if it failed with tries left
 abbrev pub entered : OpeningData → List EventData → EventData → List ℕ
 entered opening before (Found number page) =
     let old = length (known opening before) in

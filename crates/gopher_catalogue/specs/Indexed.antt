@@ -23,8 +23,7 @@ pub record Tells (opening : OpeningData) (events : List EventData) (frontier : F
   pub few_dropped : frontier.dropped ≤ length opening.seeds + 1048576 * length events
 
 -- the record is legal, the tables are its own, and the record and the queue have room for the
--- outcome of
--- each place that is out
+-- outcome of each place that is out
 pub record IsIndexed (record_ : RecordData) (frontier : FrontierData) : Type 0 where
   pub legal : IsLegal record_.events
   pub tells : Tells (opening_in record_.events) (later_in record_.events) frontier

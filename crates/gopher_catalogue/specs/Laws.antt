@@ -46,8 +46,7 @@ abbrev pub times_listed : List ℕ → ℕ → ℕ
 times_listed list number = count_by (λ other. number == other) list
 
 -- exactly one of the three lists contains the number of each known place, once; none contains any
--- other
--- number
+-- other number
 abbrev pub EachKnownPlaceHasOneState : Type 0
 EachKnownPlaceHasOneState =
     (opening : OpeningData) (events : List EventData) (number : ℕ) → IsLegal (Opened opening ∷ events) →
@@ -69,8 +68,7 @@ abbrev pub numbers : OpeningData → List EventData → List ℕ
 numbers opening events = range_with_len 0 (length (known opening events))
 
 -- the states with one try: a waiting place was never claimed, a place that is out was claimed and
--- has no
--- outcome, and a place that is done was found or failed
+-- has no outcome, and a place that is done was found or failed
 pub record HasSimpleStates (opening : OpeningData) (events : List EventData) : Type 0 where
   pub waiting_is : waiting opening events ≡ filter (λ number. claims events number == 0) (numbers opening events)
   pub out_is : out opening events ≡ filter (λ number. nat_lt 0 (claims events number) && (outcomes events number == 0)) (numbers opening events)

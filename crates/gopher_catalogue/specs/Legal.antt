@@ -19,8 +19,7 @@ pub record IsOut (opening : OpeningData) (events : List EventData) (number : ℕ
   pub is_out : is_out events number ≡ true
 
 -- an event may follow these if it claims the first waiting number, or is an outcome of a number
--- that is
--- out; a page must be of the number's place
+-- that is out; a page must be of the number's place
 abbrev pub MayFollow : OpeningData → List EventData → EventData → Type 0
 MayFollow opening before (Opened other) = ⊥
 MayFollow opening before (Claimed number) = slice_get (waiting opening before) 0 ≡ Some number

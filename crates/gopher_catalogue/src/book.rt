@@ -16,8 +16,7 @@ use std::marker::Model;
 /// A record of events that is built one event at a time and can be searched.
 ///
 /// Contracts see a book as the list of its events. The book doesn't check that its record is legal,
-/// and
-/// its contracts promise search results only for a legal record.
+/// and its contracts promise search results only for a legal record.
 #[derive(Debug, Drop)]
 pub struct Book {
     alloc: Global,

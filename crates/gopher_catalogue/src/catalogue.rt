@@ -31,8 +31,7 @@ use std::sync::Arc;
 /// The catalogue of a crawl.
 ///
 /// Contracts see a catalogue as its record, which is always legal. The frontier and the index
-/// beside the
-/// record let a step or a search run without reading the record again.
+/// beside the record let a step or a search run without reading the record again.
 #[derive(Debug, Drop)]
 pub struct Catalogue {
     alloc: Global,
@@ -138,8 +137,7 @@ impl Catalogue {
     /// Claims the first waiting place, which is out until `found` or `fail` records its outcome.
     ///
     /// A claim reserves room for the outcome, so that `fail` never allocates. If no place waits,
-    /// the call
-    /// changes nothing and allocates nothing.
+    /// the call changes nothing and allocates nothing.
     pub fn claim(&mut self) -> Result<Turn, NoMemory>
         ensures turn { IfOk result (λ turn. turn_data turn ≡ turn_of self.old) }
         ensures after { OnOk result (self.new ≡ after_turn self.old (turn_of self.old)) }
@@ -166,8 +164,7 @@ impl Catalogue {
     /// Records the page of a place that is out.
     ///
     /// Links of the page that the scope allows and that aren't known yet become known, up to the
-    /// limit of
-    /// places, and wait.
+    /// limit of places, and wait.
     ///
     /// # Errors
     ///
@@ -214,8 +211,7 @@ impl Catalogue {
     }
 
     /// Records that a place that is out could not be fetched. If it has tries left, it waits again,
-    /// behind
-    /// all others. Allocates nothing.
+    /// behind all others. Allocates nothing.
     ///
     /// # Errors
     ///
@@ -253,8 +249,7 @@ impl Catalogue {
     /// Puts a merged run in its place in the index. A run that wasn't merged becomes ready again.
     ///
     /// Neither the record nor the result of any search changes. A merged run is returned if pages
-    /// before it
-    /// aren't in a segment yet: install it after those.
+    /// before it aren't in a segment yet: install it after those.
     pub fn install(&mut self, due: Due) -> Option<Due>
         requires { StandsIn due (pages_found self.old) }
         ensures same { self.new ≡ self.old }
@@ -283,8 +278,7 @@ impl Catalogue {
     /// Returns whether the crawl is finished: no place waits and none is out.
     ///
     /// If also no mention was dropped (`Status::dropped` is 0), the places known and the results of
-    /// searches
-    /// depend only on the scope, the seeds and what the servers reply: see `closure`.
+    /// searches depend only on the scope, the seeds and what the servers reply: see `closure`.
     pub fn is_finished(&self) -> bool
         ensures finished { result ≡ is_finished self.now }
         ensures legal { IsLegal self.now }
@@ -304,8 +298,8 @@ impl Catalogue {
     /// Returns the known places, each at the index that is its number.
     ///
     /// If the crawl is finished and dropped no mention, these are exactly the places that can be
-    /// reached from
-    /// the seeds, for any table of server replies that the record agrees with (`closure`).
+    /// reached from the seeds, for any table of server replies that the record agrees with
+    /// (`closure`).
     pub fn places(&self) -> &[Arc<Place>]
         ensures places { map arc_value result.now ≡ places_of self.now }
         ensures reach { HoldsReachOnceComplete self.now }
@@ -334,8 +328,7 @@ impl Catalogue {
     /// place order.
     ///
     /// If the crawl is finished and dropped no mention, the search covers the pages of exactly the
-    /// places that
-    /// can be reached, as in `places`.
+    /// places that can be reached, as in `places`.
     pub fn search(&self, query: &Query) -> Result<Vec<Hit>, NoMemory>
         ensures hits { IfOk result (AreHitsIn self.now query.now) }
         ensures once_complete { IfOk result (AreFinalHits self.now query.now) }
@@ -347,8 +340,7 @@ impl Catalogue {
     /// Returns each place whose page contains `word`, with the number of times, in place order.
     ///
     /// If the crawl is finished and dropped no mention, the list covers the pages of exactly the
-    /// places that
-    /// can be reached, as in `places`.
+    /// places that can be reached, as in `places`.
     pub fn occurrences(&self, word: &[u8]) -> Result<Vec<(Place, u32)>, NoMemory>
         ensures occurrences { IfOk result (AreOccurrencesIn self.now word.now) }
         ensures once_complete { IfOk result (AreFinalOccurrences self.now word.now) }

@@ -1,26 +1,21 @@
 //! What a finished crawl contains: exactly the places that can be reached from its seeds.
 //!
 //! Each function does nothing: its contract is a law over all records. The laws speak of a table
-//! that
-//! gives one outcome for each place. A record agrees with a table if the last outcome of each known
-//! place
-//! is the table's. A finished crawl that agrees with a table and dropped no mention depends only on
-//! the
-//! table, the scope and the seeds. No law says that a crawl finishes.
+//! that gives one outcome for each place. A record agrees with a table if the last outcome of each
+//! known place is the table's. A finished crawl that agrees with a table and dropped no mention
+//! depends only on the table, the scope and the seeds. No law says that a crawl finishes.
 
 ghost use Rattle.gopher_catalogue.specs.Closure.{EachPageIsFoundOnce, FinishedCrawlHoldsReach, FinishedCrawlsAgree, OneTryAgreesThroughout};
 ghost use Rattle.gopher_catalogue.specs.FinalAnswer.{AnswersAreOfPagesFound, FinalAnswerIsOne, FinalOccurrencesAreOne, FinishedCrawlGivesFinalAnswers, FinishedCrawlGivesFinalOccurrences, FinishedCrawlsAnswerAlike};
 
 /// A finished crawl knows exactly the places that can be reached. All of them are allowed and done,
-/// and
-/// the pages found are those of the table's bytes.
+/// and the pages found are those of the table's bytes.
 pub fn finished_crawl_holds_reach()
     ensures { FinishedCrawlHoldsReach }
 {}
 
 /// Two finished crawls with the same table, scope and seeds contain the same places and pages. The
-/// order
-/// of their seeds and events, their limits and their tries don't matter.
+/// order of their seeds and events, their limits and their tries don't matter.
 pub fn finished_crawls_agree()
     ensures { FinishedCrawlsAgree }
 {}
@@ -53,8 +48,7 @@ pub fn final_occurrences_are_one()
 {}
 
 /// A finished crawl returns the final answer to each query: the hits among the pages of all places
-/// that
-/// can be reached.
+/// that can be reached.
 pub fn finished_crawl_gives_final_answers()
     ensures { FinishedCrawlGivesFinalAnswers }
 {}
@@ -65,10 +59,8 @@ pub fn finished_crawl_gives_final_occurrences()
 {}
 
 /// Two finished crawls with the same table, scope and seeds give equal answers to every query and
-/// equal
-/// occurrences of every word. The order of their seeds and events, their limits and their tries
-/// don't
-/// matter.
+/// equal occurrences of every word. The order of their seeds and events, their limits and their
+/// tries don't matter.
 pub fn finished_crawls_answer_alike()
     ensures { FinishedCrawlsAnswerAlike }
 {}

@@ -69,8 +69,7 @@ impl Event {
 /// An event as data, with the contents of its opening or page instead of shared memory.
 ///
 /// Contracts see a record as a list of these, and threads share statements about them. No code
-/// makes a
-/// value of this type.
+/// makes a value of this type.
 #[derive(Debug, Drop)]
 pub enum EventData {
     /// The crawl began.

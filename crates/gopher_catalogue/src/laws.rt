@@ -44,8 +44,7 @@ pub fn one_try_is_one_claim()
 {}
 
 /// With one try, a waiting place was never claimed, a place that is out was claimed and has no
-/// outcome,
-/// and a place that is done was found or failed.
+/// outcome, and a place that is done was found or failed.
 pub fn one_try_has_simple_states()
     ensures { OneTryHasSimpleStates }
 {}

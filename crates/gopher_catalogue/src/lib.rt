@@ -2,16 +2,13 @@
 //! pages.
 //!
 //! The crates above use one contract. Each call of `Catalogue` is one step of the sequential
-//! catalogue
-//! from the record before to the record after, every record is legal, and a search covers all pages
-//! that the record found. `specs/Step.antt` defines the steps, `specs/Legal.antt` the legal
-//! records.
+//! catalogue from the record before to the record after, every record is legal, and a search covers
+//! all pages that the record found. `specs/Step.antt` defines the steps, `specs/Legal.antt` the
+//! legal records.
 //!
 //! Error 90 (`NoMemory`) means out of memory. A call that fails with it changes nothing, and its
-//! error
-//! contains the arguments that the call took. Calls that can't fail with 90 allocate nothing,
-//! except
-//! `install` and `settle`, which put off a merge when out of memory.
+//! error contains the arguments that the call took. Calls that can't fail with 90 allocate nothing,
+//! except `install` and `settle`, which put off a merge when out of memory.
 //!
 //! RFC 1436 doesn't define crawls and leaves search results to the server: this profile defines
 //! both.
