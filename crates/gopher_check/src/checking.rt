@@ -1,4 +1,4 @@
-//! A site that is checked: its settings, its folder, and the seeds of its crawl.
+//! Checking a site: its settings, its folder, and the seeds of its crawl.
 
 ghost use Rattle.std.specs.Prelude.{◌≡◌, [], None, Some, IfOk};
 ghost use Rattle.gopher_scope.specs.Settings.{settings_data};
@@ -17,18 +17,16 @@ use gopher_tree::{Tree, TreeFault};
 use std::alloc::Global;
 use std::fs::Files;
 
-/// What a check tells.
+/// The report of a check.
 #[derive(Debug, Drop)]
 pub struct Report {
-    /// Its words, in lines.
+    /// The lines of the report.
     pub words: Vec<u8>,
-    /// The first fault; none of a sound site.
+    /// The first fault of the site; `None` if it has none.
     pub fault: Option<SiteFault>,
 }
 
-/// The report of settings whose file can't be read. `path` is where it should be.
-///
-/// Refused only where memory is (90).
+/// Reports that the settings file at `path` can't be read.
 pub fn unreadable(alloc: Global, path: &str) -> Result<Report, NoMemory>
     ensures fault { IfOk result (λ report. report.fault ≡ Some SettingsUnreadable) }
     ensures words { IfOk result (λ report. report.words.items
@@ -42,7 +40,7 @@ pub fn unreadable(alloc: Global, path: &str) -> Result<Report, NoMemory>
     })
 }
 
-// The first seed that the scope doesn't allow.
+// The index of the first seed that the scope doesn't allow.
 fn seed_outside(scope: &Scope, seeds: &[Place]) -> Option<usize>
     ensures { result ≡ seed_outside scope.now seeds.now }
 {
@@ -59,7 +57,7 @@ fn menu_line_of(fault: TreeFault) -> Option<usize>
     }
 }
 
-// A path from the root, behind the root's own.
+// The path of a file or folder of the tree, after the root's own path.
 fn path_below(alloc: Global, root: &str, path: &[u8]) -> Result<Vec<u8>, NoMemory>
     ensures { IfOk result (λ below. below.items ≡ path_below root.now path.now) }
 {
@@ -69,7 +67,7 @@ fn path_below(alloc: Global, root: &str, path: &[u8]) -> Result<Vec<u8>, NoMemor
     Ok(below)
 }
 
-// The number of the line, from 1, at which a text is no TOML, where it is none.
+// The line, from 1, at which a text isn't TOML, if it isn't.
 fn broken_line(alloc: Global, text: &str) -> Option<usize> {
     let Err(fault) = toml::table_from_str(alloc, text) else {
         return None;
@@ -80,7 +78,7 @@ fn broken_line(alloc: Global, text: &str) -> Option<usize> {
     Some(feeds.saturating_add(1))
 }
 
-// The report of settings with the tree of their folder.
+// The report on settings and the tree of their folder.
 fn tree_report(
     alloc: Global,
     path: &str,
@@ -103,7 +101,7 @@ fn tree_report(
     Ok(Report { words, fault: None })
 }
 
-// The report of settings.
+// The report on settings and their folder.
 #[tactic(auto, using(crate::proofs::Tells::tells_folder))]
 fn settings_report<R: Files>(
     rt: &R,
@@ -128,7 +126,7 @@ fn settings_report<R: Files>(
     }
 }
 
-// The number of the line at which settings are no TOML, where that is their fault.
+// The line at which the settings aren't TOML, if that is the fault.
 fn settings_line(alloc: Global, text: &str, fault: SettingsFault) -> Option<usize> {
     match fault {
         SettingsFault::NotToml => broken_line(alloc, text),
@@ -136,7 +134,7 @@ fn settings_line(alloc: Global, text: &str, fault: SettingsFault) -> Option<usiz
     }
 }
 
-// The key of settings that isn't known, where that is their fault.
+// The unknown key of the settings, if that is the fault.
 fn settings_key(alloc: Global, text: &str, fault: SettingsFault) -> Result<Vec<u8>, NoMemory> {
     match fault {
         SettingsFault::UnknownKey => unknown_key(alloc, text),
@@ -144,14 +142,12 @@ fn settings_key(alloc: Global, text: &str, fault: SettingsFault) -> Result<Vec<u
     }
 }
 
-/// The report of the settings that a text states, of the folder that they name, and of their seeds. `path`
-/// is where the text was found.
+/// Checks the settings in `text`, the folder that they name, and their seeds. `path` is the path of
+/// the settings file, for the report.
 ///
-/// The first fault is told, in this order: of the settings (30 to 34), of the folder (20 to 26), of the
-/// seeds (50). For 30 the line is told, too, for 34 the key; for 26 what the system says when what can't be read is tried
-/// once more.
-///
-/// Refused only where memory is (90).
+/// The report names the first fault in this order: of the settings (30 to 34), of the folder (20 to
+/// 26), of the seeds (50). For 30 it also names the line, for 34 the key. For 26 it reads the file
+/// or folder once more and names the system's reason.
 #[tactic(auto, using(crate::proofs::Tells::tells_text, crate::proofs::Tells::tells_refused))]
 pub fn check<R: Files>(rt: &R, alloc: Global, path: &str, text: &str) -> Result<Report, NoMemory>
     ensures { IfOk result (λ report. TellsText path.now text.now

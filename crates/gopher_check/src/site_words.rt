@@ -1,4 +1,4 @@
-//! What is told of a sound site.
+//! The report of a site without a fault.
 
 ghost use Rattle.std.specs.Prelude.{◌≡◌, ◌++◌, IfOk, OnOk};
 ghost use Rattle.std.specs.List.{flat_map};
@@ -11,7 +11,7 @@ use gopher_scope::{Rule, Settings};
 use gopher_tree::Tree;
 use std::alloc::{AllocError, Global};
 
-// Appends where the site is served, and the folder.
+// Appends the server's address and the folder.
 fn push_home(home: &Home, root: &str, out: &mut Vec<u8>) -> Result<(), AllocError>
     ensures { OnOk result (out.new.items ≡ out.old.items ++ address_lines home.now root.now) }
 {
@@ -21,7 +21,7 @@ fn push_home(home: &Home, root: &str, out: &mut Vec<u8>) -> Result<(), AllocErro
     push_words(b"root: ", root.as_bytes(), out)
 }
 
-// Appends how many files, menu files and bytes there are.
+// Appends the numbers of files, menu files and bytes.
 fn push_sizes(tree: &Tree, out: &mut Vec<u8>) -> Result<(), AllocError>
     ensures { OnOk result (out.new.items ≡ out.old.items ++ size_lines tree.now) }
 {
@@ -69,11 +69,9 @@ fn push_rules(front: &[u8], rules: &[Rule], out: &mut Vec<u8>) -> Result<(), All
     Ok(())
 }
 
-/// What is told of a sound site: the file of its settings, the address, the root, how many files, menu
-/// files and bytes there are, the seeds and the rules of its crawl, each in a line of its own, and that it
-/// is sound.
-///
-/// Refused only where memory is (90).
+/// Makes the report of a site without a fault. It names the settings file, the address, the root,
+/// the numbers of files, menu files and bytes, the seeds and the rules of its crawl, each on its
+/// own line.
 pub(crate) fn site_report(
     alloc: Global,
     path: &[u8],
