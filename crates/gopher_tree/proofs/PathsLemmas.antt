@@ -13,7 +13,7 @@ use Rattle.gopher_tree.specs.Files.{File, is_among, AreNodes}
 use Rattle.gopher_tree.specs.Index.{held_at, IndexPaths, IsIndex}
 use Rattle.gopher_tree.specs.declared.tree.index.Entry.{Entry}
 
--- ---- keys in order, seen by what they hold
+-- ---- keys in order, by their contents
 
 below_map : {A B : Type 0} (c : B → B → Ordering) (f : A → B) (x : A) (xs : List A) → AllByRecursion (λ y. c (f x) (f y) ≡ Less) xs → AllByRecursion (λ y. c (f x) y ≡ Less) (map f xs)
 below_map c f x [] h = tt
