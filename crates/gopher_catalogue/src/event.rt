@@ -68,8 +68,8 @@ impl Event {
 
 /// An event as data, with the contents of its opening or page instead of shared memory.
 ///
-/// Contracts see a record as a list of these, and threads share statements about them. No code
-/// makes a value of this type.
+/// Contracts, also those between threads, see a record as a list of these. No code makes a value of
+/// this type.
 #[derive(Debug, Drop)]
 pub enum EventData {
     /// The crawl began.

@@ -13,7 +13,7 @@
 //! RFC 1436 doesn't define crawls and leaves search results to the server: this profile defines
 //! both.
 //!
-//! Library API that no program here calls: `Book`, a searchable copy of a record, and
+//! Library API that only tests here call: `Book`, a searchable copy of a record, and
 //! `Catalogue::is_finished` and `Catalogue::places`.
 #![tactic(auto)]
 

@@ -57,14 +57,14 @@ impl Opening {
         &self.seeds
     }
 
-    /// Returns the most places that can become known, 1 to 65,536.
+    /// Returns the limit of known places, 1 to 65,536.
     pub fn places(&self) -> u32
         ensures { result ≡ self.now.limit }
     {
         self.places
     }
 
-    /// Returns how often a place can be claimed, 1 to 5.
+    /// Returns the limit of claims of a place, 1 to 5.
     pub fn tries(&self) -> u32
         ensures { result ≡ self.now.tries }
     {

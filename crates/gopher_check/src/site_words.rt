@@ -30,7 +30,6 @@ fn push_sizes(tree: &Tree, out: &mut Vec<u8>) -> Result<(), AllocError>
     push_number(b"bytes: ", tree.number_of_bytes(), out)
 }
 
-// Appends the line of a seed.
 fn push_seed(seed: &Place, out: &mut Vec<u8>) -> Result<(), AllocError>
     ensures { OnOk result (out.new.items ≡ out.old.items ++ seed_line seed.now) }
 {
@@ -40,7 +39,6 @@ fn push_seed(seed: &Place, out: &mut Vec<u8>) -> Result<(), AllocError>
     push_address(seed.host(), seed.port(), seed.selector(), out)
 }
 
-// Appends the lines of the seeds.
 fn push_seeds(seeds: &[Place], out: &mut Vec<u8>) -> Result<(), AllocError>
     ensures { OnOk result (out.new.items ≡ out.old.items ++ flat_map seed_line seeds.now) }
 {
@@ -50,7 +48,6 @@ fn push_seeds(seeds: &[Place], out: &mut Vec<u8>) -> Result<(), AllocError>
     Ok(())
 }
 
-// Appends the line of a rule.
 fn push_rule(front: &[u8], rule: &Rule, out: &mut Vec<u8>) -> Result<(), AllocError>
     ensures { OnOk result (out.new.items ≡ out.old.items ++ rule_line front.now rule.now) }
 {
@@ -58,7 +55,6 @@ fn push_rule(front: &[u8], rule: &Rule, out: &mut Vec<u8>) -> Result<(), AllocEr
     push_address(rule.host(), rule.port(), rule.prefix(), out)
 }
 
-// Appends the lines of rules.
 fn push_rules(front: &[u8], rules: &[Rule], out: &mut Vec<u8>) -> Result<(), AllocError>
     ensures { OnOk result (out.new.items ≡ out.old.items
         ++ flat_map (rule_line front.now) rules.now) }

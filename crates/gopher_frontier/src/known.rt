@@ -184,7 +184,8 @@ impl KnownPlaces {
         Ok(dropped)
     }
 
-    /// Mentions the seeds of a crawl. Returns the number of dropped mentions.
+    /// Mentions the seeds of a crawl. Returns the number of dropped mentions. When out of memory it
+    /// can leave new places known.
     pub fn mention_seeds(
         &mut self,
         alloc: Global,

@@ -1,5 +1,5 @@
 -- A request line without its CR LF (RFC 1436, section 2, and appendix: Full-Text Search
--- Transaction; the limits are this profile's).
+-- Transaction; the limit of 1,024 bytes is this profile's).
 use Rattle.std.specs.Prelude.{◌≡◌, ℕ, not, List, Option, None, Some, Result, Ok, Err, length, slice_get, nat_lt, if◌then◌else◌}
 use Rattle.gopher_item.specs.Place.{is_selector}
 use Rattle.gopher_item.specs.Menu.{fields_of, first_field}

@@ -17,7 +17,6 @@ use std::sync::Arc;
 
 const TAB: u8 = b'\t';
 
-// Whether the bytes contain a CR or a NUL.
 fn has_return_or_nul(line: &[u8]) -> bool
     ensures { result ≡ has_return_or_nul line.now }
 {

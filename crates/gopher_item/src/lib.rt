@@ -6,10 +6,10 @@
 //! menu back as the same lines, and a `Place` or a `MenuLine` has only valid parts.
 //!
 //! Error 90 (`NoMemory`, or `AllocError` in calls that have no other error) means out of memory.
-//! Unless its comment says otherwise, a call that fails with it leaves its arguments unchanged.
-//! Calls that can't fail with it allocate nothing.
+//! Unless its comment says otherwise, a public call that fails with it leaves its arguments
+//! unchanged. Calls that can't fail with it allocate nothing.
 //!
-//! Library API that no program here calls: `write_menu`, `lines`, `EachLine` and
+//! Library API that only tests and benchmarks here call: `write_menu`, `lines`, `EachLine` and
 //! `ByteString::into_vec`.
 #![tactic(auto)]
 

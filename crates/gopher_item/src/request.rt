@@ -37,8 +37,8 @@ impl Clone for Request {
 ///
 /// # Errors
 ///
-/// The first fault in this order; both limits are this profile's:
-/// - `LineTooLong` (7): the line has over 1,024 bytes
+/// The first fault in this order:
+/// - `LineTooLong` (7): the line has over 1,024 bytes, a limit of this profile
 /// - `BadSelector` (2): the selector has over 255 bytes, or contains a CR, LF or NUL
 /// - `NoMemory` (90)
 pub fn read_request(alloc: Global, line: &[u8]) -> Result<Request, RequestFault>

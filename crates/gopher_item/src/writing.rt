@@ -71,7 +71,6 @@ pub fn push_last_line(out: &mut Vec<u8>) -> Result<(), AllocError>
     out.extend_from_slice(b".\r\n")
 }
 
-// Appends one line.
 fn push_line(line: &MenuLine, out: &mut Vec<u8>) -> Result<(), AllocError>
     ensures plain { IsMenuLine line.now }
     ensures written { OnOk result (out.new.items ≡ out.old.items ++ menu_line_bytes line.now) }

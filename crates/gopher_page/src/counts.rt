@@ -198,7 +198,8 @@ impl Counts {
         low
     }
 
-    /// Returns how often the word `sought` occurs or, if `is_prefix`, all words that begin with it.
+    /// Returns the number of occurrences of `sought` or, if `is_prefix`, of all words that begin
+    /// with it.
     pub fn count_meant(&self, is_prefix: bool, sought: &[u8]) -> u32
         ensures { result ≡ count_meant is_prefix sought.now self.now }
     {

@@ -1,4 +1,4 @@
-//! Words with their first bytes as a number, which most comparisons of words need only.
+//! Words with their first bytes as a number, which is enough for most comparisons.
 
 ghost use Rattle.std.specs.Prelude.{◌≡◌, Some, map, nat_eq, IfOk, refl};
 ghost use Rattle.std.specs.Ordering.{nat_cmp};
@@ -23,8 +23,8 @@ fn leading_number(word: &[u8]) -> u64
     number
 }
 
-// Whether two words with equal numbers are equal. Short words of equal length are, since the number
-// contains all their bytes.
+// Whether two words with equal numbers are equal. Short words of equal length are, because the
+// number contains all their bytes.
 fn is_same_tied(word: &[u8], other: &[u8]) -> bool
     requires word { AreBytes word.now }
     requires other { AreBytes other.now }

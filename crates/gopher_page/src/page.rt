@@ -18,7 +18,6 @@ use std::alloc::Global;
 use std::marker::Model;
 use std::sync::Arc;
 
-// The parts of a page.
 #[derive(Debug, Drop)]
 struct Parts {
     place: Place,

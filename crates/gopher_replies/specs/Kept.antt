@@ -35,8 +35,8 @@ AreReplies files home kept not_found = IsKept files home kept × (not_found ≡ 
 abbrev pub most_menu_bytes : HomeData → List ℕ → ℕ
 most_menu_bytes home written = (count_by (λ byte. byte == 10) written + 1) * (length home.host + 11) + length written + 3
 
--- the menu of a folder with this menu file, or none, has at most `room` bytes for sure; a listing
--- counts as if it had
+-- the menu of this menu file has at most `room` bytes for sure; true without a menu file, because a
+-- listing is measured when it is made
 abbrev pub is_menu_within : HomeData → ℕ → Option (List ℕ) → Bool
 is_menu_within home room None = true
 is_menu_within home room (Some written) = nat_le (most_menu_bytes home written) room

@@ -17,7 +17,6 @@ const MOST_MENUS: usize = 16_777_216;
 // The text of a file has at most this many bytes more than twice the file's.
 const MOST_MORE: usize = 6;
 
-// A reply and its selector.
 #[derive(Debug, Drop)]
 pub(crate) struct KeptReply {
     selector: ByteString,
@@ -34,7 +33,6 @@ pub(crate) struct KeptReplies {
     most_texts: usize,
 }
 
-// The selector of a path.
 fn selector_of(alloc: Global, path: &[u8]) -> Result<Vec<u8>, NoMemory> {
     let mut selector = Vec::from_slice(alloc, b"/")?;
     selector.extend_from_slice(path)?;
@@ -59,7 +57,8 @@ fn most_menu_bytes(written: &[u8], home: &Home) -> usize
         .saturating_add(LAST_LINE)
 }
 
-// Whether the folder's menu has at most `room` bytes for sure; a listing counts as if it had.
+// Whether the menu of the folder's menu file has at most `room` bytes for sure. Without a menu file
+// it returns true, because `push_within` measures the listing.
 fn is_menu_within(
     alloc: Global,
     tree: &Tree,
@@ -127,7 +126,6 @@ impl KeptReplies {
         }
     }
 
-    // The kept reply to the selector.
     pub(crate) fn reply(&self, selector: &[u8]) -> Option<&[u8]>
         ensures { (files : List File) (home : HomeData) → IsKept files home self.now
             → IfSome result (λ bytes. bytes.now ≡ tree_reply files home selector.now) }
@@ -143,7 +141,6 @@ impl KeptReplies {
         }
     }
 
-    // The number of bytes of all replies.
     pub(crate) fn number_of_bytes(&self) -> usize
         requires { self.now.texts + self.now.menus < 2 ^ 64 }
         ensures { result ≡ self.now.texts + self.now.menus }
@@ -177,7 +174,6 @@ fn push_within(
     Ok(count)
 }
 
-// Appends a reply.
 fn push_reply(
     selector: Vec<u8>,
     bytes: Vec<u8>,

@@ -3,11 +3,11 @@
 //! The crates above use these contracts: texts are read and written as `specs/Text.antt` defines,
 //! and each call on a stream says exactly which bytes it consumed or sent.
 //!
-//! Error 90 (`NoMemory`) means out of memory. A call that fails with it leaves the vector to which
-//! it appends unchanged; what a reader consumed stays consumed. Calls that can't fail with it
-//! allocate nothing.
+//! Error 90 (`NoMemory`) means out of memory. A public call that fails with it leaves the vector to
+//! which it appends unchanged. Bytes that a reader consumed stay consumed. Calls that can't fail
+//! with it allocate nothing.
 //!
-//! Library API that no program here calls: `read_text` and `write_text`.
+//! Library API that only tests and benchmarks here call: `read_text` and `write_text`.
 #![tactic(auto)]
 
 mod fault;

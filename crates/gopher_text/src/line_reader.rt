@@ -100,7 +100,6 @@ fn fill<R: Read>(reader: &mut Watched<R>, held: &mut [u8]) -> (usize, Result<(),
     (filled, Err(LineFault::TooManyTurns))
 }
 
-// The bytes of a line without its end.
 fn without_end(bytes: &[u8]) -> &[u8]
     ensures { result.now ≡ without_end bytes.now }
 {

@@ -78,7 +78,6 @@ fn push_lines_of(bytes: &[u8], out: &mut Vec<u8>) -> Result<(), AllocError>
     out.extend_from_slice(b".\r\n")
 }
 
-// Appends one line.
 fn push_line(line: &[u8], out: &mut Vec<u8>) -> Result<(), AllocError>
     ensures written { OnOk result (out.new.items ≡ out.old.items ++ text_line_bytes line.now) }
     ensures kept { StartsWith out.new.items out.old.items }

@@ -15,7 +15,7 @@ pub enum TreeFault {
     /// contains a TAB, CR, LF or NUL.
     #[error("file {file}: a name is empty, begins with a period or holds a special byte")]
     BadName { file: usize },
-    /// 21: the first name of the path is `search`, which is the selector of searches.
+    /// 21: the first name of the path is `search`, which searches use.
     #[error("file {file}: the name search is reserved")]
     Reserved { file: usize },
     /// 22: the selector, a slash and the path, has over 255 bytes.

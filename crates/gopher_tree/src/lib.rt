@@ -7,7 +7,7 @@
 //! Error 90 (`NoMemory`) means out of memory. `Tree::of_files` then drops its list; the other calls
 //! borrow their arguments. Calls that can't fail with it allocate nothing.
 //!
-//! Library API that no program here calls: `Tree::of_files`, which makes a tree without a file
+//! Library API that only tests here call: `Tree::of_files`, which makes a tree without a file
 //! system.
 #![tactic(auto)]
 

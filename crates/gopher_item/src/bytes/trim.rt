@@ -12,7 +12,8 @@ pub fn trim_spaces(bytes: &[u8]) -> &[u8]
     trim_back(trim_front(bytes))
 }
 
-// The search first builds a table of its set, which pays only if the bytes begin with a space.
+// The search first builds a table of its set, which pays off only if the bytes begin with a
+// space.
 fn trim_front(bytes: &[u8]) -> &[u8]
     ensures { result.now ≡ trim_front bytes.now }
 {
@@ -25,7 +26,8 @@ fn trim_front(bytes: &[u8]) -> &[u8]
     }
 }
 
-// The search first builds a table of its set, which pays only if the bytes end with a space.
+// The search first builds a table of its set, which pays off only if the bytes end with a
+// space.
 fn trim_back(bytes: &[u8]) -> &[u8]
     ensures { result.now ≡ reverse (trim_front (reverse bytes.now)) }
 {

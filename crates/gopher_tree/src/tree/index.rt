@@ -35,7 +35,6 @@ fn child_of(kind: u8, rest: &[u8]) -> Option<(&[u8], u8)>
     }
 }
 
-// Whether the entry is a file.
 pub(crate) fn is_file_entry(entry: Option<&Entry>) -> bool
     ensures { result ≡ is_file_entry (option_copied entry.entry) }
 {
@@ -65,7 +64,6 @@ fn take_folder(index: &mut Index, folder: &[u8]) -> Option<Children>
     }
 }
 
-// Puts the entry at the path.
 fn put(alloc: Global, index: &mut Index, path: &[u8], entry: Entry) -> Result<(), NoMemory>
     ensures { OnOk result ((q : List ℕ) → held_at index.new q
         ≡ (if pointwise nat_eq q path.now then Some entry else held_at index.old q)) }

@@ -81,7 +81,6 @@ pub(crate) fn path_fault(number: usize, path: &[u8]) -> Option<TreeFault>
     }
 }
 
-// Whether the path is of a menu file.
 pub(crate) fn is_menu_path(path: &[u8]) -> bool
     ensures { result ≡ is_menu_path path.now }
 {
@@ -103,7 +102,6 @@ pub(crate) fn path_in(alloc: Global, folder: &[u8], name: &[u8]) -> Result<Vec<u
     Ok(path)
 }
 
-// The path of a folder's menu file.
 pub(crate) fn menu_path(alloc: Global, folder: &[u8]) -> Result<Vec<u8>, NoMemory>
     ensures { IfOk result (λ path. path.items ≡ menu_path folder.now) }
 {
