@@ -75,7 +75,8 @@ FinalOccurrencesAreOne =
 
 -- ---- the laws
 
--- at each moment of a crawl, finished or not, the answer contains each matching page once
+-- at each moment of a crawl, finished or not, the answer contains each matching page once, and the
+-- occurrences of a word contain each page with the word once
 abbrev pub AnswersAreOfPagesFound : Type 0
 AnswersAreOfPagesFound =
     (opening : OpeningData) (events : List EventData) → IsLegal (Opened opening ∷ events) →

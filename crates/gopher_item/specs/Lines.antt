@@ -3,9 +3,9 @@ use Rattle.std.specs.Prelude.{◌≡◌, ◌==◌, ℕ, Bool, List, ◌++◌}
 use Rattle.std.specs.List.{list_any, slice_split}
 use Rattle.std.specs.Str.Lines.{lines}
 
--- The lines of bytes: each LF ends a line, and one CR directly before an LF is part of the end.
--- Bytes after the last LF are a line of their own, with all their bytes. RFC 1436 (section 2) ends
--- lines with CR LF; a lone LF is this profile's.
+-- each LF ends a line, and one CR directly before an LF is part of the end; bytes after the last LF
+-- are a line of their own, with all their bytes; RFC 1436 (section 2) ends lines with CR LF, a lone
+-- LF is this profile's
 abbrev pub lines_of : List ℕ → List (List ℕ)
 lines_of bytes = lines bytes
 

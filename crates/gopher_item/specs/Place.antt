@@ -31,7 +31,8 @@ is_place_kind kind = (kind == 48) || (kind == 49)
 abbrev pub is_selector : List ℕ → Bool
 is_selector selector = nat_le (length selector) 255 && not (has_special selector)
 
--- a host: 1 to 255 bytes, none of them a space or a control byte
+-- a host: 1 to 255 bytes, none of them a space or a control byte (stricter than RFC 1436, appendix:
+-- Host)
 abbrev pub is_host : List ℕ → Bool
 is_host host =
     nat_lt 0 (length host) && nat_le (length host) 255

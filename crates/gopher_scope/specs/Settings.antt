@@ -48,7 +48,7 @@ pub record AreInRange (settings : SettingsData) : Type 0 where
   pub threads : IsUpTo 8 settings.threads
   pub tries : IsUpTo 5 settings.tries
 
--- the number is the value of a key, or this one if the key is missing
+-- the number is the value of a key, or `absent` if the key is missing
 abbrev pub IsNumberAt : Members → List ℕ → ℕ → ℕ → Type 0
 IsNumberAt table name absent number = MatchOption (get_member name table) (number ≡ absent) (λ value. as_integer value ≡ Some (pos number))
 

@@ -28,7 +28,7 @@ use Rattle.gopher_script.specs.declared.stage.Stage.TheVariants.{Gathering, Craw
 
 -- ---- before the crawl
 
--- adding a valid rule or seed has an empty answer
+-- the answer to a rule or a seed: empty if it is valid
 abbrev pub taken_line : Option ItemFault → List ℕ
 taken_line None = []
 taken_line (Some fault) = refused_line (item_fault_code fault)

@@ -19,7 +19,8 @@ ReadsAfter old new before after buffer filled Interrupted =
     Keeps old new × CountsFailure before after
 ReadsAfter old new before after buffer filled Failed = Keeps old new × CountsFailure before after
 
--- this many reads happened, each of which read a byte or failed; or the count of failures is full
+-- at least this many reads happened, each of which took bytes or failed; or the count of failures
+-- is at its maximum
 abbrev pub SpendsTurns : ℕ → ℕ → ℕ → ℕ → Type 0
 SpendsTurns turns before after taken = (after ≡ 2 ^ 64 - 1) ⊎ (before + turns ≤ after + taken)
 

@@ -60,7 +60,7 @@ folder_menu files home folder None = listing files home folder
 abbrev pub folder_reply : List File → HomeData → List ℕ → List ℕ
 folder_reply files home folder = menu_bytes (folder_menu files home folder (menu_file files folder))
 
--- a file of type `0` (48) is sent as a text, any other byte for byte
+-- a file of type `0` (48) is sent as a text, any other byte for byte (RFC 1436, appendix)
 abbrev pub file_reply : ℕ → List ℕ → List ℕ
 file_reply kind bytes = if kind == 48 then text_bytes (lines_of bytes) else bytes
 
