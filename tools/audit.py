@@ -1,11 +1,12 @@
 #!/usr/bin/env python3
 """Prints what has to be read to believe a promise: the clauses of its contracts, and every definition they reach.
 
-    tools/audit.py              lists the promises, with the lines to read for each
-    tools/audit.py PROMISE ..   prints the text of these promises, by number or name
-    tools/audit.py --all        prints the text of all promises, each definition once
-    tools/audit.py --table      prints the table of docs/AUDIT.md
-    tools/audit.py --write      puts that table into docs/AUDIT.md
+    tools/audit.py                  lists the promises, with the lines to read for each
+    tools/audit.py PROMISE ..       prints the text of these promises, by number or name
+    tools/audit.py --all            prints the text of all promises, each definition once
+    tools/audit.py --crate CRATE    prints the contract of each public function of a crate
+    tools/audit.py --table          prints the table of docs/AUDIT.md
+    tools/audit.py --write          puts that table into docs/AUDIT.md
 
 The text holds no proof, no body and no import. A contract comes first. Each definition follows the one that first names
 it. Types of the program appear as contracts see them: the value of their model, or their public fields. Words of the
@@ -22,7 +23,8 @@ WORD = re.compile(r"(?<![\w.'])[^\W\d][\w'-]*(?:\.[^\W\d][\w']*)?")
 ITEM = re.compile(r"(?:(?:abbrev|unfoldable)(?: pub)?|(?:pub )?(?:record|data)) (?P<name>[^\s:({]+)")
 USE = re.compile(r"use (Rattle|mathlib)\.([\w.]+?)(?:\.\{([^}]*)\}| as (\w+))")
 
-# a promise: its name, and its contracts as (crate, function, clauses); no clauses means all of them
+# a promise: its name, and its contracts as (crate, function, clauses); no clauses means all of them. Of several crates the
+# first that has the function counts.
 PROMISES = {
     "search": [("gopher_crew", "Pass::search", "legal hits")],
     "tries": [
@@ -36,7 +38,7 @@ PROMISES = {
         ("gopher_crew", "Kept::fail", ""),
         ("gopher_crew", "Pass::search", ""),
     ],
-    "requests": [("gopher_serve", "advance", ""), ("gopher_serve", "Site: Answers", ""), ("gopher_serve", "answer", "")],
+    "requests": [("gopher_conversation gopher_serve", "advance", ""), ("gopher_serve", "Site: Answers", ""), ("gopher_serve", "answer", "")],
     "closure": [
         ("gopher_catalogue", "closure::finished_crawl_gives_final_answers", ""),
         ("gopher_catalogue", "closure::finished_crawls_answer_alike", ""),
@@ -229,13 +231,20 @@ def meaning_of_trait(tree, crate, path):
             shown = f"// {path}\n{found[0].splitlines()[0]}\n" + "\n".join(ghosts)
             imported = {word: (home, word) for word, home in rust_uses(text).items()}
             return Item(crate, str(file.relative_to(tree.root / "crates")), path, shown, imported | uses(text) | uses(found[0]))
-    raise SystemExit(f"There is no {crate}::{path}.")
+    return None
 
 
-def contract(tree, crate, path, wanted):
+def contract(tree, crates, path, wanted):
+    """A contract in the first of these crates that has it."""
+    for crate in crates.split():
+        item = meaning_of_trait(tree, crate, path) if ": " in path else contract_of(tree, crate, path, wanted)
+        if item:
+            return item
+    raise SystemExit(f"There is no contract {path} in {crates}.")
+
+
+def contract_of(tree, crate, path, wanted):
     """The contract of a function, by its path below its crate: `name`, `Type::name` or `module::name`."""
-    if ": " in path:
-        return meaning_of_trait(tree, crate, path)
     owner, _, name = path.rpartition("::")
     for file in sorted((tree.root / "crates" / crate / "src").glob("**/*.rt")):
         text = file.read_text()
@@ -253,7 +262,7 @@ def contract(tree, crate, path, wanted):
             item = Item(crate, str(file.relative_to(tree.root / "crates")), path, shown, scope)
             item.fields = set(re.findall(r"λ ([\w' ]+)\.", shown)) | set(re.findall(r"(\w+):", shown)) | {"self", "result"}
             return item
-    raise SystemExit(f"There is no contract {crate}::{path}.")
+    return None
 
 
 def words_of(item):
@@ -304,6 +313,18 @@ def text_of(tree, roots):
     return "\n\n".join(parts), total
 
 
+def contracts_of(crate):
+    """The signature and the clauses of each public function of a crate, with the first line of its comment, by files."""
+    folder = ROOT / "crates" / crate / "src"
+    for file in sorted(folder.glob("**/*.rt")):
+        parts = []
+        for found in re.finditer(r"(?ms)^( *)(/// [^\n]*)\n(?:\1(?:///|#\[)[^\n]*\n)*\1(pub fn .*?)(?=^\1\{)", file.read_text()):
+            indent = len(found[1])
+            parts.append("\n".join([found[2], found[3].splitlines()[0], *(line[indent:] for line in found[3].splitlines()[1:])]))
+        if parts:
+            yield "\n\n".join([f"==== {crate}/src/{file.relative_to(folder)}", *parts])
+
+
 def table(tree):
     """The table of docs/AUDIT.md."""
     rows = ["| promise | contracts | lines to read |", "|---|---|---|"]
@@ -312,8 +333,9 @@ def table(tree):
         roots = roots_of(tree, name)
         everything += roots
         names = ", ".join(
-            f"`{crate}::{path}`" + (f" (clauses {', '.join(f'`{one}`' for one in wanted.split())})" if wanted else "")
-            for crate, path, wanted in PROMISES[name]
+            f"[`{root.name}`](../crates/{root.file})"
+            + (f" (clauses {', '.join(f'`{one}`' for one in wanted.split())})" if wanted else "")
+            for root, (_, _, wanted) in zip(roots, PROMISES[name])
         )
         rows.append(f"| {number} `{name}` | {names} | {text_of(tree, roots)[1]} |")
     rows.append(f"| all | | {text_of(tree, everything)[1]} |")
@@ -326,6 +348,9 @@ def written(page, rows):
 
 
 def main(words):
+    if words[:1] == ["--crate"] and len(words) == 2:
+        print("\n\n".join(contracts_of(words[1])))
+        return 0
     tree = Tree()
     if words == ["--table"]:
         print(table(tree))

@@ -26,11 +26,12 @@ marker path { fill: #808080; stroke: none }
 </style>
 <defs><marker id="end" viewBox="0 0 8 8" refX="7" refY="4" markerWidth="7" markerHeight="7" orient="auto"><path d="M0 0 8 4 0 8z"/></marker></defs>"""
 
-# one answer's way: what happens, the function that does it as (crate, name), and what goes on to the next
+# one answer's way: what happens, the function that does it as (crate, name), and what goes on to the next; of several
+# crates the first that has the function counts
 WAY = [
     ("socket", "bytes come in, in pieces", None, "pieces"),
-    ("server thread", "polls its connections", ("gopher_hole", "serve_at"), "a ready stream"),
-    ("conversation", "finds the first line", ("gopher_serve", "advance"), "a request line"),
+    ("server thread", "polls its connections", ("gopher_server gopher_hole", "serve_at"), "a ready stream"),
+    ("conversation", "finds the first line", ("gopher_conversation gopher_serve", "advance"), "a request line"),
     ("answer", "makes the reply to a line", ("gopher_serve", "answer"), "a query"),
     ("snapshot", "takes the newest published record", ("gopher_crew", "Pass::search"), "a query"),
     ("index", "finds the first 50 hits", ("gopher_index", "Index::search"), ""),
@@ -170,24 +171,24 @@ def crates_picture():
     return picture(WIDTH, height, "The crates of Hole, each above those that it uses", parts)
 
 
-def is_there(where):
-    """Whether a function still is where the picture says."""
-    crate, name = where
-    files = (ROOT / "crates" / crate / "src").glob("**/*.rt")
-    return any(re.search(rf"\bpub(?:\(crate\))? fn {name.split('::')[-1]}\b", path.read_text()) for path in files)
+def label(where):
+    """Where a function is: `crate::Type::name`."""
+    crates, name = where
+    for crate in crates.split():
+        files = (ROOT / "crates" / crate / "src").glob("**/*.rt")
+        if any(re.search(rf"\bpub(?:\(crate\))? fn {name.split('::')[-1]}\b", path.read_text()) for path in files):
+            return f"{crate}::{name}"
+    raise SystemExit(f"{crates} has no pub fn {name}: tools/draw_crates.py draws a way that isn't there.")
 
 
 def answer_picture():
     """What one answer goes through, from the socket to the index, and back."""
-    for _, _, where, *_ in [*WAY, BESIDE]:
-        if where and not is_there(where):
-            raise SystemExit(f"{where[0]} has no pub fn {where[1]}: tools/draw_crates.py draws a way that isn't there.")
     parts, width, left = [], 330, 260
     for number, (title, note, where, handed) in enumerate(WAY):
         y = MARGIN + number * 84
         parts.append(box(left, y, width, title, note))
         if where:
-            parts.append(f'<text class="note left" x="{left + width + 16}" y="{y + 28}">{where[0]}::{where[1]}</text>')
+            parts.append(f'<text class="note left" x="{left + width + 16}" y="{y + 28}">{label(where)}</text>')
         if handed:
             parts.append(line(left + 110, y + 48, left + 110, y + 83))
             parts.append(line(left + width - 110, y + 84, left + width - 110, y + 49))
@@ -199,7 +200,7 @@ def answer_picture():
     y = MARGIN + 3 * 84
     parts.append(box(40, y, 170, title, note))
     parts.append(line(left, y + 24, 211, y + 24))
-    parts.append(f'<text class="note" x="125" y="{y + 66}">{where[0]}::{where[1]}</text>')
+    parts.append(f'<text class="note" x="125" y="{y + 66}">{label(where)}</text>')
     return picture(WIDTH, MARGIN * 2 + 84 * len(WAY) - 36, "One answer's way through Hole", parts)
 
 

@@ -56,6 +56,12 @@ class Audit(unittest.TestCase):
         self.assertNotIn("ensures after_told", text("search"))
         self.assertIn("ensures after_told", text("one-catalogue"))
 
+    def test_each_public_function_of_a_crate_has_its_contract_printed(self):
+        printed = "\n".join(audit.contracts_of("gopher_item"))
+        sources = "".join(path.read_text() for path in (audit.ROOT / "crates/gopher_item/src").glob("**/*.rt"))
+        self.assertEqual(printed.count("pub fn "), len(re.findall(r"(?m)^ *pub fn ", sources)))
+        self.assertIn("ensures", printed)
+
     def test_comments_and_empty_lines_do_not_count(self):
         item = audit.Item("c", "f", "n", "-- what\n\nabbrev pub n : ℕ\nn = 1\n// why")
         self.assertEqual(item.lines(), 2)
