@@ -74,7 +74,7 @@ def stated(text):
 
 def table(counts):
     rows = [f"| {name} | {rounded(name, count):,} |" for name, count in counts.items()]
-    return "\n".join(["| of the product | count |", "|---|---|", *rows])
+    return "\n".join(["| the program and its libraries | count |", "|---|---|", *rows])
 
 
 def main(words):
