@@ -36,6 +36,11 @@ fuzz: crates/hole/out/hole
 wrong-bodies:
 	tools/wrong_bodies.py --reasons $(CRATE)
 
+# What has to be read to believe a promise: its clauses and the definitions that they reach. make audit PROMISE=search
+.PHONY: audit
+audit:
+	@tools/audit.py $(PROMISE)
+
 # Gopher clients that are installed, each asking a server of the example's site for a menu, a text, a search and an image.
 .PHONY: clients
 clients: crates/hole/out/hole

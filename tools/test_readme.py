@@ -1,0 +1,73 @@
+#!/usr/bin/env python3
+"""Tests README.md: its numbers are those of the tree, and the code that it quotes is there."""
+import pathlib
+import re
+import sys
+import unittest
+
+sys.path.insert(0, str(pathlib.Path(__file__).resolve().parent))
+import audit
+import numbers_of_code as numbers
+
+ROOT = pathlib.Path(__file__).resolve().parent.parent
+README = (ROOT / "README.md").read_text()
+OFF_BY = 0.02  # a count that moves with every commit may differ by so much
+
+
+def plain(text):
+    """A number as README writes it."""
+    return int(text.replace(",", ""))
+
+
+class Readme(unittest.TestCase):
+    def test_counts_are_those_of_the_tree(self):
+        stated, counted = numbers.stated(README), numbers.counted()
+        self.assertEqual(list(stated), list(counted))
+        for name, count in counted.items():
+            if name in ("crates", "wrong bodies"):
+                self.assertEqual(stated[name], count, f"{name}: run tools/numbers_of_code.py --write")
+            else:
+                self.assertAlmostEqual(stated[name] / count, 1, delta=OFF_BY, msg=f"{name}: run tools/numbers_of_code.py --write")
+
+    def test_wrong_bodies_are_counted_in_the_text_too(self):
+        named = re.search(r"refuse each of ([\d,]+) deliberately wrong functions", README)
+        self.assertEqual(plain(named[1]), numbers.counted()["wrong bodies"])
+
+    def test_lines_to_read_are_those_of_the_audit(self):
+        tree = audit.Tree()
+        first = audit.text_of(tree, audit.roots_of(tree, "search"))[1]
+        roots = [root for name in audit.PROMISES for root in audit.roots_of(tree, name)]
+        named = re.search(r"([\d,]+) lines for the first promise and ([\d,]+) for all five", README)
+        self.assertEqual([plain(one) for one in named.groups()], [first, audit.text_of(tree, roots)[1]])
+
+    def test_quoted_code_is_in_the_file_that_is_named_last(self):
+        for found in re.finditer(r"(?ms)^```(?:rust)?\n(.*?)^```", README):
+            named = re.findall(r"\]\((crates/[\w/.]+)\)", README[: found.start()])[-1]
+            source = (ROOT / named).read_text()
+            for line in filter(str.strip, found[1].splitlines()):
+                if not line.startswith("+"):
+                    self.assertIn(line.removeprefix("-").strip(), source, named)
+
+    def test_the_wrong_body_is_one_that_the_gate_tries(self):
+        name = re.search(r"wrong body `(\w+)`", README)[1]
+        edits = [*ROOT.glob(f"crates/*/wrong-bodies/{name}.edit"), *ROOT.glob(f"crates/*/must-fail/{name}*")]
+        self.assertEqual(len(edits), 1)
+        edit = edits[0].read_text() if edits[0].is_file() else "\n".join(one.read_text() for one in edits[0].iterdir())
+        changed = re.findall(r"(?m)^[-+] +(.*)$", re.findall(r"(?ms)^```\n(-.*?)^```", README)[0])
+        for line in changed:
+            self.assertIn(line, edit)
+
+    def test_there_is_no_unsafe_and_no_axiom(self):
+        for path in ROOT.glob("crates/*/*/**/*.*"):
+            if path.suffix in (".rt", ".antt") and "/out/" not in str(path):
+                code = "\n".join(numbers.lines_of(path.read_text()))
+                self.assertNotRegex(code, r"\bunsafe\b|(?m:^(?:pub )?axiom\b)", str(path))
+
+    def test_the_version_is_the_programs(self):
+        version = re.search(r"This is version (\d+\.\d+\.\d+)\.", README)[1]
+        sources = [path.read_text() for path in ROOT.glob("crates/gopher_hole/src/**/*.rt")]
+        self.assertTrue(any(f'"{version}"' in text for text in sources), version)
+
+
+if __name__ == "__main__":
+    unittest.main()
