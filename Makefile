@@ -10,20 +10,15 @@ run:
 build:
 	cd crates/hole && rt run -- --version
 
-# Every proof and test from nothing, the wrong bodies, and the program as a user runs it.
+# Every proof and test from nothing, the wrong bodies, and the program as a user runs it; a table of all of it at the end.
 .PHONY: test
 test:
-	rt ci
-	tools/test_wrong_bodies.py
-	tools/test_gophermap_to_menu.py
-	tools/wrong_bodies.py --after-ci
-	tests/program.sh
-	tests/replays.py
-	tests/requests.py --lines 500
-	tests/check.py
-	tests/log.py
-	tests/attack.py
-	tests/refusals.sh
+	tools/gate.py
+
+# What needs no proof, in minutes: layout, scripts, links, and the tests of the program, built without its proofs if need be.
+.PHONY: quick
+quick:
+	tools/gate.py --quick
 
 # The program beside the plain models of tests/, on scripts, folders and request lines that are drawn anew each time.
 .PHONY: fuzz

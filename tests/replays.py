@@ -1,12 +1,13 @@
 #!/usr/bin/env python3
 """Replays scripts with the built program, and compares all that it writes with the plain model of model.py.
 
-    tests/replays.py [--scripts N] [--seed S] [PROGRAM]
+    tests/replays.py [--scripts N] [--seed S] [--pages N] [PROGRAM]
 
 The scripts: N that are drawn (500 without N, always the same without S); those of worked.py, with the answers that were
 worked out by hand; the example's whole search, cut after each of its bytes; crawls in every order of their outcomes; and
-catalogues whose pages end around each size at which the segments of the index change. The last line is
-'replays: N passed, M failed'; a script on which the program differs is left in the folder that is named then.
+catalogues whose pages end around each size at which the segments of the index change, of at most 16,390 pages or those of
+--pages. The last line is 'replays: N passed, M failed'; a script on which the program differs is left in the folder that is
+named then.
 """
 import argparse
 import pathlib
@@ -17,7 +18,7 @@ import tempfile
 
 import model
 from drawing import drawn_script
-from sizes import scripts_of_sizes
+from sizes import MOST_PAGES, scripts_of_sizes
 from worked import WORKED
 
 ROOT = pathlib.Path(__file__).resolve().parent.parent
@@ -64,7 +65,7 @@ def crawl_in_order(replies, failing, tries, question, order):
     return b"".join(script)
 
 
-def wanted_runs(scripts, seed):
+def wanted_runs(scripts, seed, pages):
     """Each script with how its output has to end."""
     yield from WORKED
     for length in range(len(WHOLE_SEARCH)):
@@ -73,7 +74,7 @@ def wanted_runs(scripts, seed):
         *how, answer = crawl
         for order in range(128):
             yield crawl_in_order(*how, order), b"finished\n" + answer
-    for script in scripts_of_sizes():
+    for script in scripts_of_sizes(pages):
         yield script, b""
     for number in range(scripts):
         yield drawn_script(random.Random(f"{seed} {number}")), b""
@@ -83,10 +84,11 @@ def main():
     words = argparse.ArgumentParser()
     words.add_argument("--scripts", type=int, default=500)
     words.add_argument("--seed", default="hole")
+    words.add_argument("--pages", type=int, default=MOST_PAGES)
     words.add_argument("program", nargs="?", default=ROOT / "crates" / "hole" / "out" / "hole")
     given = words.parse_args()
     passed, differ = 0, []
-    for script, end in wanted_runs(given.scripts, given.seed):
+    for script, end in wanted_runs(given.scripts, given.seed, given.pages):
         output, error, status = model.replayed(script)
         ran = subprocess.run([given.program, "replay"], input=script, capture_output=True, timeout=60)
         if (ran.stdout, ran.stderr, ran.returncode) == (output, error, status) and output.endswith(end):

@@ -10,6 +10,7 @@ SIZES = (
     *(7, 8, 9, 15, 16, 17, 63, 64, 65, 255, 256, 257, 1023, 1024, 1025),
     *(5119, 5120, 5121, 16383, 16384, 16385, 16390),
 )
+MOST_PAGES = 16390
 # Pages that have the word `lark` so often, by their numbers.
 LARKS = {0: 254, 3: 255, 7: 256, 8: 300, 63: 255, 64: 256, 1023: 254, 1024: 300, 16383: 256, 16384: 255}
 # Words that have 15 bytes alike, of which each seventh page has one: a script is at most 1,048,576 bytes.
@@ -76,8 +77,8 @@ def crawl_of_many_words():
     yield b"status"
 
 
-def scripts_of_sizes():
-    yield b"\n".join(crawl_of(16390, SIZES, LARKS))
+def scripts_of_sizes(pages):
+    yield b"\n".join(crawl_of(pages, SIZES, LARKS))
     yield b"\n".join(crawl_of_many_words())
     # Words that stand more often in a page than sixteen bits count.
     yield b"\n".join(crawl_of(20, (9, 20), {3: 65535, 7: 65536, 8: 70_000}))

@@ -6,39 +6,28 @@ The program is built without its proofs, by `rt try`, unless `make build` has le
 import os
 import pathlib
 import signal
-import socket
 import subprocess
 import sys
 import tempfile
 import time
 import tomllib
 
-ROOT = pathlib.Path(__file__).resolve().parent.parent
-PROVED = ROOT / "crates/hole/out/hole"
-DAY = "86400"
-STEPS = "1000000000000000"
+import unproved
 
-
-def is_up(port):
-    """Whether a server listens at the port."""
-    try:
-        socket.create_connection(("localhost", port), timeout=1).close()
-        return True
-    except OSError:
-        return False
+ROOT = unproved.ROOT
 
 
 def command(settings):
     """What starts the server, and where."""
-    if os.access(PROVED, os.X_OK):
-        return [str(PROVED), "serve", settings], ROOT
-    return ["rt", "try", "--seconds", DAY, "--steps", STEPS, "--", "serve", settings], ROOT / "crates/hole"
+    if os.access(unproved.PROVED, os.X_OK):
+        return [str(unproved.PROVED), "serve", settings], ROOT
+    return unproved.command("serve", settings), ROOT / "crates/hole"
 
 
 def main():
     text = (ROOT / "examples/hole.toml").read_text()
     port = tomllib.loads(text)["port"]
-    if is_up(port):
+    if unproved.is_up("localhost", port):
         print(f"Something listens at port {port} already.")
         return 1
     with tempfile.TemporaryDirectory() as folder:
@@ -48,7 +37,7 @@ def main():
         print("Starting:", " ".join(words[:2]), ".. (without a proved program this takes a minute)", flush=True)
         server = subprocess.Popen(words, cwd=place, start_new_session=True)
         try:
-            while server.poll() is None and not is_up(port):
+            while server.poll() is None and not unproved.is_up("localhost", port):
                 time.sleep(0.5)
             if server.poll() is None:
                 print(
