@@ -10,7 +10,7 @@ use crate::listening::listen;
 use crate::log_writer::{OpenLog, end_log, queue_of, start_log};
 use crate::opening::{Opened, open, read_settings};
 use crate::progress::crawl_and_tell;
-use crate::starting::{Shop, join_all, start_threads};
+use crate::starting::{ServerShared, join_all, start_threads};
 use crate::words::Serving;
 use gopher_catalogue::Status;
 use gopher_crew::{Blank, Crew, Desk, Pass, Share, WorkEnd, crawl};
@@ -71,14 +71,14 @@ fn serve_and_crawl<
 >(
     rt: &R,
     alloc: Global,
-    shop: Shop,
+    shared: ServerShared,
     desk: &Desk<C, &R>,
     passes: Vec<Pass<C>>,
     pairs: Vec<(TcpFetch, Share<C>)>,
     progress: bool,
 ) -> Result<Vec<WorkEnd<TcpFetch, C>>, ProgramFault> {
-    let started = start_threads(rt, alloc, &shop, passes);
-    drop(shop);
+    let started = start_threads(rt, alloc, &shared, passes);
+    drop(shared);
     if started.threads.is_empty() {
         return Err(ProgramFault::NoThread);
     }
@@ -116,17 +116,17 @@ fn close<C: Crew, R: Wait + Drop>(
 }
 
 // Listens, tells where, and gives what the server threads share.
-fn open_shop<R: Net, W: Write>(
+fn open_shared<R: Net + Eprint, W: Write>(
     rt: &R,
     alloc: Global,
     replies: Replies,
     requests: Option<u64>,
     output: &mut Watched<W>,
-) -> Result<Shop, ProgramFault> {
-    let listener = listen(rt, replies.home())?;
+) -> Result<ServerShared, ProgramFault> {
+    let listeners = listen(rt, alloc, replies.home(), &[])?;
     tell_listening(alloc, replies.home(), output)?;
-    match Shop::new(alloc, listener, replies, requests) {
-        Ok(shop) => Ok(shop),
+    match ServerShared::new(alloc, listeners, replies, requests) {
+        Ok(shared) => Ok(shared),
         Err(_refused) => Err(ProgramFault::NoMemory),
     }
 }
@@ -163,10 +163,10 @@ pub fn serve<
         shares,
     } = open::<C, R>(rt, alloc, settings, blank)?;
     let pairs = pairs_of(alloc, shares)?;
-    let mut shop = open_shop(rt, alloc, replies, serving.requests, output)?;
+    let mut shared = open_shared(rt, alloc, replies, serving.requests, output)?;
     let log = start_log(rt, alloc, serving.log);
-    shop.log = queue_of(&log);
-    let ended = serve_and_crawl(rt, alloc, shop, &desk, passes, pairs, serving.progress);
+    shared.log = queue_of(&log);
+    let ended = serve_and_crawl(rt, alloc, shared, &desk, passes, pairs, serving.progress);
     end_log(rt, log);
     let status = close(alloc, desk, ended?)?;
     tell_status(alloc, status, output)

@@ -17,8 +17,8 @@ use std::time::{Clock, Duration};
 // How many connections are accepted in one go.
 const MOST_ACCEPTS: u32 = 16;
 
-// What the events of the listener are named.
-const LISTENER: usize = usize::MAX;
+// What the events of the first listener are named; those of each further one have the next number.
+const FIRST_LISTENER: usize = usize::MAX - 1_024;
 
 // One event for each connection, and one thread for each event: that of the listener comes for as long
 // as a connection waits there (`EPOLLIN` and `EPOLLEXCLUSIVE` of Linux).
@@ -34,7 +34,7 @@ pub struct Post {
     /// What it reads into.
     pub buffer: [u8; 4096],
     /// Where it accepts.
-    pub listener: Arc<TcpListener>,
+    pub listeners: Arc<Vec<TcpListener>>,
     /// How many connections it may hold.
     pub seats: usize,
     /// Its part of the log, if requests are logged.
@@ -42,15 +42,21 @@ pub struct Post {
 }
 
 impl Post {
-    /// Has the listener's connections reported. False where the system refuses that.
-    pub fn watch_listener(&self) -> bool {
-        os::epoll_ctl(
-            self.poll.as_raw_fd(),
-            libc::net::EPOLL_CTL_ADD,
-            self.listener.as_raw_fd(),
-            LISTENER_EVENTS,
-            LISTENER as u64,
-        ) == 0
+    /// Has the listeners' connections reported. False where the system refuses that.
+    pub fn watch_listeners(&self) -> bool {
+        for (index, listener) in self.listeners.iter().enumerate() {
+            let added = os::epoll_ctl(
+                self.poll.as_raw_fd(),
+                libc::net::EPOLL_CTL_ADD,
+                listener.as_raw_fd(),
+                LISTENER_EVENTS,
+                FIRST_LISTENER.saturating_add(index) as u64,
+            );
+            if added != 0 {
+                return false;
+            }
+        }
+        true
     }
 }
 
@@ -60,7 +66,7 @@ struct Server<'a, 't, A: Answers<'a> + Drop> {
     alloc: Global,
     poll: Poll,
     buffer: [u8; 4096],
-    listener: Option<Arc<TcpListener>>,
+    listeners: Option<Arc<Vec<TcpListener>>>,
     seats: Seats<'a>,
     answers: A,
     turns: &'t Turns,
@@ -69,9 +75,12 @@ struct Server<'a, 't, A: Answers<'a> + Drop> {
 }
 
 impl<'a, 't, A: Answers<'a> + Drop> Server<'a, 't, A> {
-    // Accepts no more: the last thread that does closes the listener.
-    fn leave_listener(&mut self) {
-        if let Some(listener) = self.listener.take() {
+    // Accepts no more: the last thread that does closes the listeners.
+    fn leave_listeners(&mut self) {
+        let Some(listeners) = self.listeners.take() else {
+            return;
+        };
+        for listener in listeners.iter() {
             let _refused = os::epoll_ctl(
                 self.poll.as_raw_fd(),
                 libc::net::EPOLL_CTL_DEL,
@@ -85,14 +94,22 @@ impl<'a, 't, A: Answers<'a> + Drop> Server<'a, 't, A> {
     // Takes the next turn, or accepts no more.
     fn take_turn(&mut self) {
         if !self.turns.take() {
-            self.leave_listener();
+            self.leave_listeners();
         }
     }
 
-    // Accepts the connections that wait.
-    fn accept<R: Wait + Clock>(&mut self, rt: &R) {
+    // The listener of this number.
+    fn listener(&self, index: usize) -> Option<&TcpListener> {
+        match &self.listeners {
+            Some(listeners) => listeners.get(index),
+            None => None,
+        }
+    }
+
+    // Accepts the connections that wait at a listener.
+    fn accept<R: Wait + Clock>(&mut self, rt: &R, index: usize) {
         for _accepted in 0..MOST_ACCEPTS {
-            let Some(listener) = &self.listener else {
+            let Some(listener) = self.listener(index) else {
                 return;
             };
             match listener.accept() {
@@ -106,7 +123,7 @@ impl<'a, 't, A: Answers<'a> + Drop> Server<'a, 't, A> {
                     ErrorKind::Interrupted | ErrorKind::ConnectionAborted => {}
                     _ => {
                         self.accept_failed = true;
-                        self.leave_listener();
+                        self.leave_listeners();
                     }
                 },
             }
@@ -218,16 +235,15 @@ impl<'a, 't, A: Answers<'a> + Drop> Server<'a, 't, A> {
 
     // Goes on with what an event names.
     fn meet<R: Wait + Clock>(&mut self, rt: &R, token: Token) {
-        if token.0 == LISTENER {
-            self.accept(rt);
-        } else {
-            self.go_on(rt, token.0);
+        match token.0.checked_sub(FIRST_LISTENER) {
+            Some(index) => self.accept(rt, index),
+            None => self.go_on(rt, token.0),
         }
     }
 
     // Whether nothing is left to do.
     fn is_done(&self) -> bool {
-        self.listener.is_none() && self.seats.is_empty()
+        self.listeners.is_none() && self.seats.is_empty()
     }
 
     // Hands on the lines of the log that are due.
@@ -285,7 +301,7 @@ pub fn serve_at<'a, A: Answers<'a> + Drop, R: Wait + Clock>(
         poll,
         events,
         buffer,
-        listener,
+        listeners,
         seats,
         log,
     } = post;
@@ -294,7 +310,7 @@ pub fn serve_at<'a, A: Answers<'a> + Drop, R: Wait + Clock>(
         alloc,
         poll,
         buffer,
-        listener: Some(listener),
+        listeners: Some(listeners),
         seats: Seats::new(alloc, seats),
         answers,
         turns,

@@ -29,9 +29,9 @@ const MOST_SEATS: u64 = 16_384;
 
 /// What all server threads share.
 #[derive(Drop)]
-pub struct Shop {
+pub struct ServerShared {
     /// Where they accept.
-    pub listener: Arc<TcpListener>,
+    pub listeners: Arc<Vec<TcpListener>>,
     /// What they send.
     pub replies: Arc<Replies>,
     /// How many connections they may accept.
@@ -40,16 +40,16 @@ pub struct Shop {
     pub log: Option<Arc<LogQueue>>,
 }
 
-impl Shop {
+impl ServerShared {
     /// What the server threads share that accept so many connections. Refused only where memory is (90).
     pub fn new(
         alloc: Global,
-        listener: TcpListener,
+        listeners: Vec<TcpListener>,
         replies: Replies,
         requests: Option<u64>,
-    ) -> Result<Shop, NoMemory> {
-        Ok(Shop {
-            listener: Arc::new(alloc, listener)?,
+    ) -> Result<ServerShared, NoMemory> {
+        Ok(ServerShared {
+            listeners: Arc::new(alloc, listeners)?,
             replies: Arc::new(alloc, replies)?,
             turns: Arc::new(alloc, Turns::new(requests))?,
             log: None,
@@ -98,14 +98,14 @@ fn thread_log(alloc: Global, log: &Option<Arc<LogQueue>>) -> io::Result<Option<T
 }
 
 // What a server thread needs of the system.
-fn post_at<R: Net>(rt: &R, alloc: Global, shop: &Shop, seats: u64) -> io::Result<Post> {
+fn post_at<R: Net>(rt: &R, alloc: Global, shared: &ServerShared, seats: u64) -> io::Result<Post> {
     Ok(Post {
         poll: Poll::new(rt)?,
         events: Events::with_capacity(alloc, EVENTS)?,
         buffer: [0u8; 4096],
-        listener: Arc::try_clone(&shop.listener)?,
+        listeners: Arc::try_clone(&shared.listeners)?,
         seats: seats as usize,
-        log: thread_log(alloc, &shop.log)?,
+        log: thread_log(alloc, &shared.log)?,
     })
 }
 
@@ -113,13 +113,13 @@ fn post_at<R: Net>(rt: &R, alloc: Global, shop: &Shop, seats: u64) -> io::Result
 fn start_one<
     C: Crew + Send + Sync + 'static,
     R: Net + Threads + Wait + Clock + Clone + Send + Drop + 'static,
->(rt: &R, alloc: Global, shop: &Shop, pass: Pass<C>, seats: u64) -> Option<JoinHandle<bool>> {
-    let post = post_at(rt, alloc, shop, seats).ok()?;
-    if !post.watch_listener() {
+>(rt: &R, alloc: Global, shared: &ServerShared, pass: Pass<C>, seats: u64) -> Option<JoinHandle<bool>> {
+    let post = post_at(rt, alloc, shared, seats).ok()?;
+    if !post.watch_listeners() {
         return None;
     }
-    let replies = Arc::try_clone(&shop.replies).ok()?;
-    let turns = Arc::try_clone(&shop.turns).ok()?;
+    let replies = Arc::try_clone(&shared.replies).ok()?;
+    let turns = Arc::try_clone(&shared.turns).ok()?;
     let theirs = rt.clone().ok()?;
     let thread = thread::spawn(rt, move || {
         serve_at(&theirs, alloc, post, Site::new(&replies, pass), &turns)
@@ -131,7 +131,7 @@ fn start_one<
 pub fn start_threads<
     C: Crew + Send + Sync + 'static,
     R: Net + Threads + Wait + Clock + Clone + Send + Drop + 'static,
->(rt: &R, alloc: Global, shop: &Shop, passes: Vec<Pass<C>>) -> Started {
+>(rt: &R, alloc: Global, shared: &ServerShared, passes: Vec<Pass<C>>) -> Started {
     let seats = seats_each(open_files(), passes.len() as u64);
     let Ok(mut threads) = Vec::with_capacity(alloc, passes.len()) else {
         return Started {
@@ -141,7 +141,7 @@ pub fn start_threads<
     };
     let mut is_short = false;
     for pass in passes {
-        match start_one(rt, alloc, shop, pass, seats) {
+        match start_one(rt, alloc, shared, pass, seats) {
             Some(thread) => is_short |= threads.push(thread).is_err(),
             None => is_short = true,
         }
