@@ -151,6 +151,38 @@ def check_refused_watch(tally, room):
     tally.expect("its bytes", 0 < found[0][4] < len(LARGE), True)
 
 
+def check_closed(tally, room):
+    """A connection that is closed since all places are taken has its line."""
+    path = room.folder / "closed"
+    before = ("sh", "-c", 'ulimit -n 66; exec "$@"', "sh")
+    words = ["--log", str(path)]
+    with Server(room.program, room.folder, room.root, more="threads = 1\n", words=words, before=before) as server:
+        server.started()
+        with connect(server.port) as deaf, connect(server.port) as second:
+            deaf.sendall(b"/large.png\r\n")
+            time.sleep(0.3)
+            with connect(server.port) as third:
+                time.sleep(0.3)
+                time.sleep(1.0)
+                tally.expect("lines while the others wait", [request[2] for request in logged(path)], [b"/large.png"])
+                tally.expect("clients that wait", [is_open(deaf), is_open(second), is_open(third)], [False, True, True])
+        server.process.terminate()
+        server.end()
+
+
+def is_open(client):
+    """Whether the server hasn't closed the connection of a client; what it was sent is read."""
+    client.setblocking(False)
+    try:
+        while client.recv(1 << 20):
+            pass
+        return False
+    except BlockingIOError:
+        return True
+    except OSError:
+        return False
+
+
 def check_silence(tally, room):
     """Clients that ask nothing leave no line; what stood in the file stays; lines come while the server runs."""
     path = room.folder / "appended"
@@ -304,8 +336,8 @@ def check_ratio(tally, room, least):
 
 
 CHECKS = (
-    check_fields, check_escapes, check_idle, check_refused_watch, check_silence, check_reset, check_threads, check_unread,
-    check_never_read, check_progress,
+    check_fields, check_escapes, check_idle, check_refused_watch, check_closed, check_silence, check_reset, check_threads,
+    check_unread, check_never_read, check_progress,
 )
 
 

@@ -151,6 +151,24 @@ def check_crawl(folder, root):
         expect("the crawl", (output, error, status), (b"known 3 waiting 0 out 0 done 3 dropped 0\n", b"", 0))
 
 
+def check_hits(folder, _root):
+    """A served search has at most 50 hits: of as many words each, the first in the order of places."""
+    root = folder / "moons"
+    root.mkdir()
+    for number in range(60):
+        (root / f"m{number:02}.txt").write_text(f"moon {number:02}\n")
+    rules = f'places = 100\nseeds = [{{ host = "{HOST}", port = PORT }}]\nallow = [{{ host = "{HOST}", port = PORT }}]\n'
+    with Server(folder, root, more=rules) as server:
+        server.started()
+        where = f"\t{HOST}\t{server.port}\r\n"
+        wanted = "".join(f"0moon {number:02}\t/m{number:02}.txt{where}" for number in range(50)).encode() + b".\r\n"
+        reply, until = b"", time.monotonic() + WAIT
+        while reply != wanted and time.monotonic() < until:
+            time.sleep(0.3)
+            reply = ask(server.port, b"/search\tmoon\r\n")
+        expect("a search with 50 hits", reply, wanted)
+
+
 def check_example(folder, _root):
     """The site of examples/, as its settings have it, but for the host and the port."""
     rules = f'''places = 1000
@@ -276,7 +294,7 @@ def main():
     with tempfile.TemporaryDirectory() as name:
         folder = pathlib.Path(name)
         root = site(folder)
-        checks = (check_replies, check_lines, check_large, check_silent, check_crawl, check_example, check_addresses, check_activation)
+        checks = (check_replies, check_lines, check_large, check_silent, check_crawl, check_hits, check_example, check_addresses, check_activation)
         checks += (check_refused_threads, check_faults)
         for check in checks:
             check(folder, root)

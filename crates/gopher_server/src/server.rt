@@ -310,6 +310,16 @@ impl<'a, A: Answers<'a> + Drop> Server<'a, A> {
         }
     }
 
+    // Accepts no more than its share of connections. The clock is read only during a pause.
+    fn keep_share(&mut self, clock: &impl Clock) {
+        let now = match self.acceptor.resumes_at() {
+            Some(_) => self.now(clock),
+            None => 0,
+        };
+        let held = self.connections.len() as u64;
+        self.acceptor.keep_share(&self.poll, held, now);
+    }
+
     // Waits for events, and handles them.
     fn work<R: Wait + Clock + Eprint>(&mut self, rt: &R, events: &mut Events) -> io::Result<()> {
         let timeout = self.poll_timeout(rt);
@@ -319,8 +329,7 @@ impl<'a, A: Answers<'a> + Drop> Server<'a, A> {
         }
         self.end_lingering(rt);
         self.close_excess(rt);
-        let (held, now) = (self.connections.len() as u64, self.now(rt));
-        self.acceptor.keep_share(&self.poll, held, now);
+        self.keep_share(rt);
         self.log.hand_on_due(rt, self.alloc);
         Ok(())
     }
