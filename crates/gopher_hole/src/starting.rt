@@ -47,8 +47,8 @@ fn start_one<
     thread.ok()
 }
 
-/// Starts a server thread for each setup and pass. If one of the passes gets no thread, that is told on
-/// the error stream of `rt`, once.
+/// Starts a server thread for each pass, by one of the setups. If one of the passes gets none, that is
+/// told on the error stream of `rt`, once.
 pub fn start_threads<
     C: Crew + Send + Sync + 'static,
     R: Threads + Wait + Clock + Eprint + Clone + Send + Drop + 'static,
@@ -59,10 +59,15 @@ pub fn start_threads<
     setups: Vec<ThreadSetup>,
     passes: Vec<Pass<C>>,
 ) -> Started {
-    let mut is_short = setups.len() < passes.len();
+    let mut is_short = false;
+    let mut setups = setups;
     let mut threads = Vec::new(alloc);
-    for (setup, pass) in setups.into_iter().zip(passes) {
-        match start_one(rt, alloc, replies, setup, pass) {
+    for pass in passes {
+        let started = match setups.pop() {
+            Some(setup) => start_one(rt, alloc, replies, setup, pass),
+            None => None,
+        };
+        match started {
             Some(thread) => is_short |= threads.push(thread).is_err(),
             None => is_short = true,
         }

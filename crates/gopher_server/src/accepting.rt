@@ -1,28 +1,38 @@
 //! What a refused accept means.
 
 ghost use Rattle.std.specs.Prelude.{◌≡◌};
-ghost use Rattle.gopher_server.specs.Accepting.{failure_of};
+ghost use Rattle.gopher_server.specs.Accepting.{failure_of, is_lost, is_short};
 
-// Errors of accept(2) that std gives no name.
-const ENFILE: i32 = 23;
+// Errors of accept(2), by their numbers on Linux.
+const EPERM: u32 = 1;
 
-const ENONET: i32 = 64;
+const EINTR: u32 = 4;
 
-const EPROTO: i32 = 71;
+const ENOMEM: u32 = 12;
 
-const ENOPROTOOPT: i32 = 92;
+const ENFILE: u32 = 23;
 
-const EOPNOTSUPP: i32 = 95;
+const EMFILE: u32 = 24;
 
-const ENETDOWN: i32 = 100;
+const ENONET: u32 = 64;
 
-const ENETUNREACH: i32 = 101;
+const EPROTO: u32 = 71;
 
-const ENOBUFS: i32 = 105;
+const ENOPROTOOPT: u32 = 92;
 
-const EHOSTDOWN: i32 = 112;
+const EOPNOTSUPP: u32 = 95;
 
-const EHOSTUNREACH: i32 = 113;
+const ENETDOWN: u32 = 100;
+
+const ENETUNREACH: u32 = 101;
+
+const ECONNABORTED: u32 = 103;
+
+const ENOBUFS: u32 = 105;
+
+const EHOSTDOWN: u32 = 112;
+
+const EHOSTUNREACH: u32 = 113;
 
 /// What a refused accept means.
 #[derive(Clone, Copy, Debug, PartialEq, Eq)]
@@ -35,24 +45,40 @@ pub(crate) enum AcceptFailure {
     IsBroken,
 }
 
-/// What an error of accept(2) means, by its number: the network errors that its manual page says to try
-/// again lose one connection.
-pub(crate) fn failure_of(error: i32) -> AcceptFailure
+// Whether descriptors or memory are short.
+fn is_short(error: u32) -> bool
+    ensures { result ≡ is_short error }
+{
+    error == ENOMEM || error == ENFILE || error == EMFILE || error == ENOBUFS
+}
+
+// Whether the call was interrupted, or one connection is lost: accept(2) has the network errors after
+// which to try again.
+fn is_lost(error: u32) -> bool
+    ensures { result ≡ is_lost error }
+{
+    error == EPERM
+        || error == EINTR
+        || error == ENONET
+        || error == EPROTO
+        || error == ENOPROTOOPT
+        || error == EOPNOTSUPP
+        || error == ENETDOWN
+        || error == ENETUNREACH
+        || error == ECONNABORTED
+        || error == EHOSTDOWN
+        || error == EHOSTUNREACH
+}
+
+/// What an error of accept(2) means, by its number.
+pub(crate) fn failure_of(error: u32) -> AcceptFailure
     ensures { result ≡ failure_of error }
 {
-    match error {
-        ENFILE | libc::EMFILE | ENOBUFS | libc::ENOMEM => AcceptFailure::IsShort,
-        libc::EPERM
-        | libc::EINTR
-        | libc::ECONNABORTED
-        | ENONET
-        | EPROTO
-        | ENOPROTOOPT
-        | EOPNOTSUPP
-        | ENETDOWN
-        | ENETUNREACH
-        | EHOSTDOWN
-        | EHOSTUNREACH => AcceptFailure::IsLost,
-        _ => AcceptFailure::IsBroken,
+    if is_short(error) {
+        AcceptFailure::IsShort
+    } else if is_lost(error) {
+        AcceptFailure::IsLost
+    } else {
+        AcceptFailure::IsBroken
     }
 }

@@ -41,6 +41,19 @@ pub(crate) struct Connection<'a> {
     lingers: bool,
 }
 
+// Adds the line of a conversation to the log, if a line was asked.
+fn add_line<R: Wait + Clock>(
+    rt: &R,
+    alloc: Global,
+    log: &mut ThreadLog,
+    accepted: Accepted,
+    conversation: &Conversation<'_>,
+) {
+    if let Some(asked) = conversation.asked_line() {
+        log.add(rt, alloc, accepted, asked, conversation.sent_len() as u64);
+    }
+}
+
 impl<'a> Connection<'a> {
     /// A connection of which nothing was read yet, and how it was accepted, if its request is logged.
     pub(crate) fn new(
@@ -82,17 +95,8 @@ impl<'a> Connection<'a> {
         alloc: Global,
         log: &mut ThreadLog,
     ) {
-        let Some(accepted) = self.accepted.take() else {
-            return;
-        };
-        if let Some(asked) = self.conversation.asked_line() {
-            log.add(
-                rt,
-                alloc,
-                accepted,
-                asked,
-                self.conversation.sent_len() as u64,
-            );
+        if let Some(accepted) = self.accepted.take() {
+            add_line(rt, alloc, log, accepted, &self.conversation);
         }
     }
 

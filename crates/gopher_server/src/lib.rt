@@ -12,7 +12,10 @@ mod listeners;
 mod server;
 mod setup;
 mod shared;
+mod thread_clock;
+mod thread_end;
 
-pub use server::{ThreadEnd, serve};
+pub use server::serve;
 pub use setup::{ThreadSetup, set_up};
 pub use shared::ServerShared;
+pub use thread_end::ThreadEnd;

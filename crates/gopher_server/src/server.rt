@@ -5,6 +5,8 @@ use crate::acceptor::Acceptor;
 use crate::connection::{BUFFER_BYTES, Connection, NextStep};
 use crate::listeners::{WAKER, listener_index};
 use crate::setup::ThreadSetup;
+use crate::thread_clock::ThreadClock;
+use crate::thread_end::ThreadEnd;
 use gopher_connections::{Connections, Deadlines};
 use gopher_conversation::Answers;
 use gopher_log_writer::ThreadLog;
@@ -14,7 +16,7 @@ use std::alloc::Global;
 use std::io::{self, Eprint, ErrorKind};
 use std::net::SocketAddr;
 use std::sync::Wait;
-use std::time::{Clock, Duration, Instant};
+use std::time::{Clock, Duration};
 
 // How many connections are accepted in one go.
 const MAX_ACCEPTS: u32 = 16;
@@ -22,17 +24,6 @@ const MAX_ACCEPTS: u32 = 16;
 // For how many milliseconds a connection lingers at most. No more than 128 KiB of its reply are still in
 // the system by then, so that each client receives all that takes 8 KiB a second.
 const LINGER: u64 = 16_000;
-
-/// How a server thread ended.
-#[derive(Clone, Copy, Debug, PartialEq, Eq)]
-pub enum ThreadEnd {
-    /// All connections of the quota were accepted, and all that it accepted are at their end.
-    Served,
-    /// A listener is broken, or the system refused to wait.
-    Failed,
-    /// Memory was refused before anything was accepted.
-    LacksMemory,
-}
 
 // A server thread.
 #[derive(Drop)]
@@ -45,7 +36,7 @@ struct Server<'a, A: Answers<'a> + Drop> {
     deadlines: Deadlines,
     answers: A,
     log: ThreadLog,
-    began: Instant,
+    clock: ThreadClock,
     end: ThreadEnd,
 }
 
@@ -56,14 +47,6 @@ fn tell(rt: &impl Eprint, what: &str, error: io::Error) {
 }
 
 impl<'a, A: Answers<'a> + Drop> Server<'a, A> {
-    // The milliseconds since the thread began; 0 if the clock can't be read.
-    fn now(&self, clock: &impl Clock) -> u64 {
-        match Instant::now(clock) {
-            Ok(now) => now.duration_since(self.began).as_millis() as u64,
-            Err(_) => 0,
-        }
-    }
-
     // ---- accepting
 
     // Accepts the connections that wait at a listener.
@@ -90,7 +73,7 @@ impl<'a, A: Answers<'a> + Drop> Server<'a, A> {
         error: io::Error,
         was_short: bool,
     ) -> bool {
-        match failure_of(error.raw_os_error().unwrap_or(0)) {
+        match failure_of(error.raw_os_error().unwrap_or(0).unsigned_abs()) {
             AcceptFailure::IsLost => false,
             AcceptFailure::IsShort => {
                 self.make_do(rt, was_short);
@@ -111,23 +94,28 @@ impl<'a, A: Answers<'a> + Drop> Server<'a, A> {
         match self.connections.idle_longest() {
             Some(key) if !was_short => self.close(rt, key),
             _ => {
-                let now = self.now(rt);
+                let now = self.clock.now(rt);
                 self.acceptor.pause(&self.poll, now);
             }
         }
     }
 
-    // Goes on with a new connection at once, and keeps it if it has to wait.
+    // Takes in a client that was accepted.
     fn welcome<R: Wait + Clock>(&mut self, rt: &R, stream: TcpStream, address: SocketAddr) {
         let accepted = self.log.accept(rt, address.ip());
-        let mut connection = Connection::new(self.alloc, stream, accepted);
+        self.begin(rt, Connection::new(self.alloc, stream, accepted));
+        self.acceptor.take_quota(&self.poll);
+    }
+
+    // Goes on with a new connection at once, and keeps it if it has to wait.
+    fn begin<R: Wait + Clock>(&mut self, rt: &R, connection: Connection<'a>) {
+        let mut connection = connection;
         let step = connection.go_on(self.alloc, &mut self.answers, &mut self.buffer);
         if step == NextStep::Ends {
             connection.log_request(rt, self.alloc, &mut self.log);
         } else {
             self.keep(rt, connection, step);
         }
-        self.acceptor.take_quota(&self.poll);
     }
 
     // ---- connections that wait
@@ -250,7 +238,7 @@ impl<'a, A: Answers<'a> + Drop> Server<'a, A> {
     // Has the connection at a key, whose reply is sent, closed in time.
     fn linger<R: Wait + Clock>(&mut self, rt: &R, key: usize) {
         self.log_at(rt, key);
-        let deadline = self.now(rt).saturating_add(LINGER);
+        let deadline = self.clock.now(rt).saturating_add(LINGER);
         if self.deadlines.set(key, deadline).is_err() {
             self.close(rt, key);
         }
@@ -261,7 +249,7 @@ impl<'a, A: Answers<'a> + Drop> Server<'a, A> {
         if self.deadlines.first().is_none() {
             return;
         }
-        let now = self.now(rt);
+        let now = self.clock.now(rt);
         for _closed in 0..u64::MAX {
             let Some(key) = self.deadlines.take_due(now) else {
                 return;
@@ -303,7 +291,7 @@ impl<'a, A: Answers<'a> + Drop> Server<'a, A> {
         let Some(time) = self.next_time() else {
             return log;
         };
-        let wait = Duration::from_millis(time.saturating_sub(self.now(clock)));
+        let wait = Duration::from_millis(time.saturating_sub(self.clock.now(clock)));
         match log {
             Some(log) => Some(log.min(wait)),
             None => Some(wait),
@@ -313,7 +301,7 @@ impl<'a, A: Answers<'a> + Drop> Server<'a, A> {
     // Accepts no more than its share of connections. The clock is read only during a pause.
     fn keep_share(&mut self, clock: &impl Clock) {
         let now = match self.acceptor.resumes_at() {
-            Some(_) => self.now(clock),
+            Some(_) => self.clock.now(clock),
             None => 0,
         };
         let held = self.connections.len() as u64;
@@ -335,7 +323,7 @@ impl<'a, A: Answers<'a> + Drop> Server<'a, A> {
     }
 
     // Works until nothing is left to do, or the system refuses to wait.
-    fn work_to_end<R: Wait + Clock + Eprint>(&mut self, rt: &R, events: &mut Events) {
+    fn work_on<R: Wait + Clock + Eprint>(&mut self, rt: &R, events: &mut Events) {
         for _round in rt.forever() {
             if self.is_done() {
                 return;
@@ -346,6 +334,14 @@ impl<'a, A: Answers<'a> + Drop> Server<'a, A> {
             }
         }
         unreachable!()
+    }
+
+    // Works to its end, and hands on what is left of the log.
+    fn work_to_end<R: Wait + Clock + Eprint>(&mut self, rt: &R, events: &mut Events) -> ThreadEnd {
+        self.acceptor.take_quota(&self.poll);
+        self.work_on(rt, events);
+        self.log.end(rt, self.alloc);
+        self.end
     }
 
     // Ends, and closes all connections.
@@ -376,7 +372,7 @@ pub fn serve<'a, A: Answers<'a> + Drop, R: Wait + Clock + Eprint>(
         log,
     } = setup;
     let mut events = events;
-    let (Ok(connections), Ok(began)) = (Connections::new(alloc), Instant::now(rt)) else {
+    let (Ok(connections), Ok(clock)) = (Connections::new(alloc), ThreadClock::new(rt)) else {
         let _ = rt.eprintln("hole: a server thread ends: out of memory");
         return ThreadEnd::LacksMemory;
     };
@@ -389,11 +385,8 @@ pub fn serve<'a, A: Answers<'a> + Drop, R: Wait + Clock + Eprint>(
         deadlines: Deadlines::new(alloc),
         answers,
         log,
-        began,
+        clock,
         end: ThreadEnd::Served,
     };
-    server.acceptor.take_quota(&server.poll);
-    server.work_to_end(rt, &mut events);
-    server.log.end(rt, alloc);
-    server.end
+    server.work_to_end(rt, &mut events)
 }
