@@ -12,12 +12,13 @@ use crate::announcing::{send_text, write_fault};
 use crate::checking::check_site;
 use crate::crewing::serve;
 use crate::fault::ProgramFault;
-use crate::log_writer::OpenLog;
 use crate::words::{Asked, Text, read_words};
 use gopher_crew::Blank;
+use gopher_log_writer::OpenLog;
 use gopher_script::{ReplayFault, replay, send_all};
 use gopher_text::Watched;
 use std::alloc::Global;
+use std::env::Env;
 use std::fs::{File, Files};
 use std::io::{Eprint, Read, Write};
 use std::marker::Brand;
@@ -151,6 +152,7 @@ pub fn run<
         + Threads
         + Wait
         + Clock
+        + Env
         + Eprint
         + AllocGlobal
         + Clone

@@ -74,7 +74,7 @@ fn crawl_until_over<
 }
 
 /// Crawls as `gopher_crew::crawl` does, and tells the sizes of the crawl on the error stream every ten
-/// seconds and at its end.
+/// seconds and at its end; if the system refuses a thread for that, at its end alone.
 pub fn crawl_and_tell<
     C: Crew + Send + Sync,
     R: Wait + Drop + Send + Sync,
@@ -87,10 +87,10 @@ pub fn crawl_and_tell<
 ) -> Result<Vec<WorkEnd<TcpFetch, C>>, CrawlRefused<TcpFetch, C>> {
     let over = AtomicBool::new(false);
     let is_over = &over;
-    let (crawled, _told) = thread::join(
+    let (_told, crawled) = thread::join(
         rt,
-        move || crawl_until_over(rt, alloc, desk, pairs, is_over),
         move || tell_until_over(rt, alloc, desk, is_over),
+        move || crawl_until_over(rt, alloc, desk, pairs, is_over),
     );
     crawled
 }

@@ -4,7 +4,7 @@ ghost use Rattle.std.specs.Prelude.{◌≡◌, ◌<◌, [], length};
 use crate::devices::{Ending, Narrow, Pieces};
 use crate::sites::{BAD_REQUEST, HELLO, ROOT, desk, replies};
 use gopher_crew::{Blank, Crew};
-use gopher_serve::{Answers, Conversation, ServeFault, Site, Turn, advance, serve_one};
+use gopher_serve::{Answers, Conversation, Progress, ServeFault, Site, advance, serve_with};
 use gopher_text::Watched;
 use std::alloc::Global;
 use std::io::{Read, Write};
@@ -21,18 +21,18 @@ fn converse<'a, A: Answers<'a>, R: Read, W: Write>(
     reader: &mut Watched<R>,
     writer: &mut Watched<W>,
     buffer: &mut [u8],
-) -> Result<(), Turn>
+) -> Result<(), Progress>
     requires { 0 < length buffer.old }
 {
     let mut conversation = Conversation::new(alloc);
     for _step in 0..10_000 {
         match advance(alloc, &mut conversation, answers, reader, writer, buffer) {
-            Turn::Done => return Ok(()),
-            Turn::Paused => {}
-            turn => return Err(turn),
+            Progress::Done => return Ok(()),
+            Progress::Paused => {}
+            progress => return Err(progress),
         }
     }
-    Err(Turn::Paused)
+    Err(Progress::Paused)
 }
 
 // What a conversation over these pieces sends into a room of so many bytes, and how it ends.
@@ -41,7 +41,7 @@ fn conversed<'a, A: Answers<'a>>(
     answers: &mut A,
     pieces: Pieces,
     room: usize,
-) -> (Vec<u8>, Result<(), Turn>) {
+) -> (Vec<u8>, Result<(), Progress>) {
     let mut reader = Watched::new(pieces);
     let mut writer = Watched::new(Narrow::new(Vec::new(alloc), room, 3, Ending::Fails));
     let mut buffer = [0; 8];
@@ -49,7 +49,7 @@ fn conversed<'a, A: Answers<'a>>(
     (writer.into_inner().held, end)
 }
 
-// What `serve_one` sends for these pieces into a room of so many bytes, and how it ends.
+// What `serve_with` sends for these pieces into a room of so many bytes, and how it ends.
 fn served<'a, A: Answers<'a>>(
     alloc: Global,
     answers: &mut A,
@@ -58,7 +58,7 @@ fn served<'a, A: Answers<'a>>(
 ) -> (Vec<u8>, Result<(), ServeFault>) {
     let mut reader = Watched::new(pieces);
     let mut writer = Watched::new(Narrow::new(Vec::new(alloc), room, 3, Ending::Fails));
-    let end = serve_one(alloc, answers, &mut reader, &mut writer);
+    let end = serve_with(alloc, answers, &mut reader, &mut writer);
     (writer.into_inner().held, end)
 }
 
@@ -68,14 +68,14 @@ fn converses<'a, A: Answers<'a>>(
     answers: &mut A,
     pieces: Pieces,
     room: usize,
-    wanted: Result<(), Turn>,
+    wanted: Result<(), Progress>,
     bytes: &[u8],
 ) -> bool {
     let (sent, end) = conversed(alloc, answers, pieces, room);
     end == wanted && sent.as_slice() == bytes
 }
 
-// Whether `serve_one` ends so, and sends these bytes.
+// Whether `serve_with` ends so, and sends these bytes.
 fn serves<'a, A: Answers<'a>>(
     alloc: Global,
     answers: &mut A,
@@ -140,7 +140,7 @@ fn answers_the_first<'a, A: Answers<'a> + Drop>(alloc: Global, answers: A) -> bo
 fn leaves_the_rest<'a, A: Answers<'a>>(alloc: Global, answers: &mut A) -> bool {
     let mut reader = Watched::new(b"/a.txt\r\nextra".as_slice());
     let mut writer = Watched::new(Narrow::new(Vec::new(alloc), 100, 3, Ending::Fails));
-    let end = serve_one(alloc, answers, &mut reader, &mut writer);
+    let end = serve_with(alloc, answers, &mut reader, &mut writer);
     end == Ok(())
         && writer.into_inner().held.as_slice() == HELLO
         && reader.into_inner() == b"extra".as_slice()
@@ -208,7 +208,14 @@ fn is_refused<'a, A: Answers<'a>>(alloc: Global, answers: &mut A, line: &[u8]) -
     let fault = ServeFault::LineTooLong;
     for size in [1, 7, 64] {
         let pieces = Pieces::new(line, size, Ending::Ends);
-        if !converses(alloc, answers, pieces, 100, Err(Turn::Failed(fault)), b"") {
+        if !converses(
+            alloc,
+            answers,
+            pieces,
+            100,
+            Err(Progress::Failed(fault)),
+            b"",
+        ) {
             return false;
         }
     }
@@ -248,15 +255,21 @@ fn fails_with_its_stream<'a, A: Answers<'a> + Drop>(alloc: Global, answers: A) -
 fn fails_to_read<'a, A: Answers<'a>>(alloc: Global, answers: &mut A, given: &[u8]) -> bool {
     let pieces = Pieces::new(given, 9, Ending::Fails);
     let fault = ServeFault::ReadFailed;
-    converses(alloc, answers, pieces, 100, Err(Turn::Failed(fault)), b"")
-        && serves(alloc, answers, pieces, 100, Err(fault), b"")
+    converses(
+        alloc,
+        answers,
+        pieces,
+        100,
+        Err(Progress::Failed(fault)),
+        b"",
+    ) && serves(alloc, answers, pieces, 100, Err(fault), b"")
 }
 
-// Whether a reader that would wait after these bytes lets a conversation wait, and fails for `serve_one`.
+// Whether a reader that would wait after these bytes lets a conversation wait, and fails for `serve_with`.
 fn would_wait<'a, A: Answers<'a>>(alloc: Global, answers: &mut A, given: &[u8]) -> bool {
     let pieces = Pieces::new(given, 9, Ending::Waits);
     let fault = ServeFault::ReadFailed;
-    converses(alloc, answers, pieces, 100, Err(Turn::Waits), b"")
+    converses(alloc, answers, pieces, 100, Err(Progress::Waits), b"")
         && serves(alloc, answers, pieces, 100, Err(fault), b"")
 }
 
@@ -271,8 +284,14 @@ fn fails_to_write<'a, A: Answers<'a>>(
     let pieces = Pieces::new(line, 9, Ending::Ends);
     let fault = ServeFault::WriteFailed;
     let sent = &reply[..room.min(reply.len())];
-    converses(alloc, answers, pieces, room, Err(Turn::Failed(fault)), sent)
-        && serves(alloc, answers, pieces, room, Err(fault), sent)
+    converses(
+        alloc,
+        answers,
+        pieces,
+        room,
+        Err(Progress::Failed(fault)),
+        sent,
+    ) && serves(alloc, answers, pieces, room, Err(fault), sent)
 }
 
 #[test]
@@ -306,10 +325,17 @@ fn waits_for_room<'a, A: Answers<'a>>(
     conversation: &mut Conversation<'a>,
     answers: &mut A,
 ) -> bool {
-    sends(alloc, conversation, answers, 4, Turn::Waits, b"hell")
-        && sends(alloc, conversation, answers, 0, Turn::Waits, b"")
-        && sends(alloc, conversation, answers, 5, Turn::Waits, b"o\r\n.\r")
-        && sends(alloc, conversation, answers, 9, Turn::Done, b"\n")
+    sends(alloc, conversation, answers, 4, Progress::Waits, b"hell")
+        && sends(alloc, conversation, answers, 0, Progress::Waits, b"")
+        && sends(
+            alloc,
+            conversation,
+            answers,
+            5,
+            Progress::Waits,
+            b"o\r\n.\r",
+        )
+        && sends(alloc, conversation, answers, 9, Progress::Done, b"\n")
 }
 
 // The first turn that isn't a pause.
@@ -319,15 +345,15 @@ fn turn_of<'a, A: Answers<'a>>(
     answers: &mut A,
     reader: &mut Watched<Pieces>,
     writer: &mut Watched<Narrow>,
-) -> Turn {
+) -> Progress {
     let mut buffer = [0; 8];
     for _step in 0..100 {
-        let turn = advance(alloc, conversation, answers, reader, writer, &mut buffer);
-        if turn != Turn::Paused {
-            return turn;
+        let progress = advance(alloc, conversation, answers, reader, writer, &mut buffer);
+        if progress != Progress::Paused {
+            return progress;
         }
     }
-    Turn::Paused
+    Progress::Paused
 }
 
 // Whether the conversation waits after these bytes, and has sent nothing.
@@ -340,7 +366,9 @@ fn waits_for_more<'a, A: Answers<'a>>(
     let mut reader = Watched::new(Pieces::new(piece, 2, Ending::Waits));
     let mut writer = Watched::new(Narrow::new(Vec::new(alloc), 100, 3, Ending::Fails));
     let turn = turn_of(alloc, conversation, answers, &mut reader, &mut writer);
-    turn == Turn::Waits && writer.into_inner().held.is_empty() && conversation.reply_len() == 0
+    progress == Progress::Waits
+        && writer.into_inner().held.is_empty()
+        && conversation.reply_len() == 0
 }
 
 // Whether the conversation, once its line has ended, sends these bytes into a room of so many.
@@ -349,7 +377,7 @@ fn sends<'a, A: Answers<'a>>(
     conversation: &mut Conversation<'a>,
     answers: &mut A,
     room: usize,
-    wanted: Turn,
+    wanted: Progress,
     bytes: &[u8],
 ) -> bool {
     let mut reader = Watched::new(Pieces::new(b"\n", 1, Ending::Fails));

@@ -6,7 +6,8 @@ use crate::sites::{
 };
 use gopher_crew::{Blank, Crew, Desk, Pass, Share};
 use gopher_replies::Replies;
-use gopher_serve::{Answers, Site, answer};
+use gopher_serve::{Answers, Site, answer, answer_kept, serve_one};
+use gopher_text::Watched;
 use std::alloc::Global;
 use std::marker::Brand;
 use std::sync::Wait;
@@ -35,8 +36,26 @@ fn answers<C: Crew>(
     line: &[u8],
     wanted: &[u8],
 ) -> Option<bool> {
-    let reply = answer(alloc, replies, pass, line).ok()?;
-    Some(reply.as_slice() == wanted)
+    let kept = answer_kept(alloc, replies, pass, line).ok()?;
+    let made = answer(alloc, replies.tree(), replies.home(), pass, line).ok()?;
+    Some(kept.as_slice() == wanted && made.as_slice() == wanted)
+}
+
+// Whether `serve_one` sends the reply to a line, and reads no more.
+fn serves_a_line<C: Crew>(alloc: Global, replies: &Replies, pass: &mut Pass<C>) -> bool {
+    let mut reader = Watched::new(b"/a.txt\r\nextra".as_slice());
+    let mut writer = Watched::new(Vec::new(alloc));
+    let end = serve_one(
+        alloc,
+        replies.tree(),
+        replies.home(),
+        pass,
+        &mut reader,
+        &mut writer,
+    );
+    end.is_ok()
+        && writer.into_inner().as_slice() == HELLO
+        && reader.into_inner() == b"extra".as_slice()
 }
 
 // Whether each of the lines has its reply.
@@ -65,6 +84,7 @@ fn lines<C: Crew, R: Wait + AllocGlobal>(rt: &R, blank: Blank) -> Option<bool>
     let (_desk, _share, mut pass) = desk::<C, R>(rt, alloc, blank)?;
     Some(
         answers_all(alloc, &replies, &mut pass)?
+            && serves_a_line(alloc, &replies, &mut pass)
             && bounds_a_selector(alloc, &replies, &mut pass)?
             && bounds_a_line(alloc, &replies, &mut pass)?,
     )
