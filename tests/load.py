@@ -1,6 +1,6 @@
 #!/usr/bin/env python3
-"""Has the built program read folders with what is neither a regular file nor a folder, with files of the kernel, and folders
-that change while they are read.
+"""Has the built program read folders with what is neither a regular file nor a folder, with files of the kernel, and with
+names that vanish while they are read (tests/vanishing.c).
 
     tests/load.py [PROGRAM]
 
@@ -13,12 +13,8 @@ import socket
 import subprocess
 import sys
 import tempfile
-import threading
-import time
 
-from server import PROGRAM, WAIT, Tally, free_port
-
-CHURN_SECONDS, FOLDERS, FILES = 4.0, 40, 40
+from server import PROGRAM, ROOT, WAIT, Tally, free_port
 
 
 class Site:
@@ -30,10 +26,13 @@ class Site:
         (self.root / "a.txt").write_text("hello\n")
         self.settings.write_text(f'host = "127.0.0.1"\nport = {free_port()}\nroot = "{self.root}"\n')
 
-    def check(self):
-        """What `hole check` counts, its line on standard error, and its status; None if it doesn't end."""
+    def check(self, before=None):
+        """What `hole check` counts, its line on standard error, and its status; None if it doesn't end. `before` is a library
+        that is loaded before it."""
+        env = {**os.environ, "LD_PRELOAD": str(before)} if before else None
+        words = [str(self.program), "check", str(self.settings)]
         try:
-            ran = subprocess.run([str(self.program), "check", str(self.settings)], capture_output=True, timeout=WAIT)
+            ran = subprocess.run(words, capture_output=True, timeout=WAIT, env=env)
         except subprocess.TimeoutExpired:
             return None
         counts = [line for line in ran.stdout.decode().splitlines() if line.split(":")[0] in ("files", "menu files", "bytes")]
@@ -69,40 +68,23 @@ def check_kernel(tally, site):
             print(f"load: skipped: /proc/{name} can't be read here")
 
 
-def churn(root, is_over):
-    """Makes folders and files, and takes them away again, until it is told to end."""
-    while not is_over.is_set():
-        for number in range(FOLDERS):
-            folder = root / f"{number:03}"
-            folder.mkdir()
-            for other in range(FILES):
-                (folder / f"{other:03}.txt").write_text("here\n")
-        for number in range(FOLDERS):
-            folder = root / f"{number:03}"
-            for file in folder.iterdir():
-                file.unlink()
-            folder.rmdir()
-
-
 def check_vanishing(tally, site):
-    """Files and folders that vanish while the folder is read don't end a start."""
-    is_over = threading.Event()
-    changes = threading.Thread(target=churn, args=(site.root, is_over))
-    changes.start()
-    counts, until = set(), time.monotonic() + CHURN_SECONDS
-    try:
-        while time.monotonic() < until:
-            found = site.check()
-            tally.expect("a folder that changes", found and (found[1], found[2]), (b"", 0))
-            counts.add(found and found[0][0])
-    finally:
-        is_over.set()
-        changes.join()
-    tally.expect("a folder that changes was seen in several states", len(counts) > 1, True)
+    """A file or a folder that vanishes between its listing and its opening is left out, and so is what turns into a folder."""
+    library = site.settings.with_name("vanishing.so")
+    subprocess.run(["cc", "-O2", "-shared", "-fPIC", "-o", library, ROOT / "tests" / "vanishing.c"], check=True)
+    (site.root / "b").mkdir()
+    (site.root / "b" / "vanishing.txt").write_text("gone\n")
+    (site.root / "b" / "turning.txt").write_text("gone\n")
+    (site.root / "b" / "z.txt").write_text("last\n")
+    (site.root / "vanishing").mkdir()
+    (site.root / "vanishing" / "c.txt").write_text("gone\n")
+    tally.expect("a file, a folder and a file that turns into a folder", site.check(before=library), sound(2, 11))
+    moved = [(site.root / name).exists() for name in ("b/.vanishing.txt", "b/.turning.txt", ".vanishing")]
+    tally.expect("what was to vanish did", moved, [True] * 3)
 
 
 def check_root(tally, site):
-    """A root that has vanished is still a fault."""
+    """A root that has vanished is a fault."""
     os.rename(site.root, site.root.with_name("moved"))
     tally.expect("no root", site.check(), ([], b"hole: 26\n", 1))
 
