@@ -4,9 +4,11 @@ ghost use Rattle.std.specs.Prelude.{◌≡◌};
 ghost use Rattle.gopher_check.specs.Fault.{site_fault_code};
 ghost use Rattle.gopher_hole.specs.Fault.{program_fault_code};
 
+use crate::address_check::tell_addresses;
 use crate::announcing::send_text;
 use crate::fault::ProgramFault;
-use crate::opening::settings_bytes;
+use crate::opening::{read_settings, settings_bytes};
+use crate::words::Checking;
 use gopher_catalogue::OpenFault;
 use gopher_check::{Report, SiteFault, check, unreadable};
 use gopher_item::NoMemory;
@@ -14,6 +16,7 @@ use gopher_text::Watched;
 use std::alloc::Global;
 use std::fs::Files;
 use std::io::Write;
+use std::net::Net;
 use std::str;
 
 // The fault of the program that a fault of its site is.
@@ -42,20 +45,25 @@ fn file_report<R: Files>(rt: &R, alloc: Global, path: &str) -> Result<Report, No
 }
 
 /// Checks the settings in a file and their folder as a server would, and sends what is told of them to
-/// the output.
+/// the output. Of a sound site, the addresses of its host are told, too.
 ///
-/// Refused as `serve` is for the same fault: 80, 30 to 34, 20 to 26, 50, 90; and with 13 where a sound
-/// site's report can't be written.
-pub fn check_site<R: Files, W: Write>(
+/// # Errors
+///
+/// - Those of `serve` for the same fault: 80, 30 to 34, 20 to 26, 50, 90.
+/// - `ListenFailed` (81): addresses were to be bound, and none could be.
+/// - `WriteFailed` (13): a sound site's report couldn't be written.
+pub fn check_site<R: Files + Net, W: Write>(
     rt: &R,
     alloc: Global,
-    path: &str,
+    checking: Checking<'_>,
     output: &mut Watched<W>,
 ) -> Result<(), ProgramFault> {
-    let report = file_report(rt, alloc, path)?;
+    let report = file_report(rt, alloc, checking.settings)?;
     let sent = send_text(output, &report.words);
-    match report.fault {
-        Some(fault) => Err(program_fault(fault)),
-        None => sent,
+    if let Some(fault) = report.fault {
+        return Err(program_fault(fault));
     }
+    sent?;
+    let settings = read_settings(rt, alloc, checking.settings)?;
+    tell_addresses(rt, alloc, &settings.home, checking.listens, output)
 }
