@@ -101,10 +101,10 @@ def check_checks(tally, program, folder, root):
     def run(host, *words):
         settings.write_text(f'host = "{host}"\nport = {port}\nroot = "{root}"\n')
         ran = subprocess.run([str(program), "check", str(settings), *words], capture_output=True, timeout=6 * WAIT)
-        return ran.stdout.partition(b"sound\n")[2].decode(), ran.stderr, ran.returncode
+        return ran.stdout[ran.stdout.rindex(b"bytes: 6\n") + 9 :].decode(), ran.stderr, ran.returncode
 
-    tally.expect("a host that is an address", run(HOST), (f"resolves to: {HOST}:{port}\n", b"", 0))
-    both = f"resolves to: {HOST}:{port}\ncan listen at: {HOST}:{port}\n"
+    tally.expect("a host that is an address", run(HOST), (f"resolves to: {HOST}:{port}\nsound\n", b"", 0))
+    both = f"resolves to: {HOST}:{port}\ncan listen at: {HOST}:{port}\nsound\n"
     tally.expect("an address that can be bound", run(HOST, "--listen"), (both, b"", 0))
     with socket.socket() as taken:
         taken.bind((HOST, port))

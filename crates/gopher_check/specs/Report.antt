@@ -32,17 +32,18 @@ settings_detail (settings_fault.OutOfRange key) unknown = words_line (codes "key
 settings_detail settings_fault.UnknownKey unknown = unknown_detail unknown
 settings_detail why unknown = []
 
--- the key, or the number of the seed; `unknown` is a key that isn't known
+-- the key, or the number of the seed; `unknown` is a key that isn't known, or that is given twice
 abbrev pub detail : SiteFault → List ℕ → List ℕ
 detail (fault.Settings why) unknown = settings_detail why unknown
 detail (fault.SeedOutOfScope seed) unknown = number_line (codes "seed: ") seed
+detail fault.KeyTwice unknown = unknown_detail unknown
 detail why unknown = []
 
 abbrev pub line_detail : Option ℕ → List ℕ
 line_detail None = []
 line_detail (Some line) = number_line (codes "line: ") line
 
--- what is told of a fault of what lies at a path, or of a line in it; `unknown` is a key that isn't known
+-- what is told of a fault of what lies at a path, or of a line in it; `unknown` is a key that isn't known, or that is given twice
 abbrev pub fault_report : SiteFault → List ℕ → Option ℕ → List ℕ → List ℕ
 fault_report why path line unknown =
     number_line (codes "fault: ") (site_fault_code why) ++ words_line (codes "path: ") path ++ line_detail line ++ detail why unknown
@@ -98,4 +99,7 @@ abbrev pub TellsText : List ℕ → List ℕ → List ℕ → Option SiteFault �
 TellsText path text words (Some (fault.Settings why)) =
     (why ≢ settings_fault.NoMemory → settings_of (parse_document text) ≡ Err why)
     × ((line : Option ℕ) × (unknown : List ℕ) × (words ≡ fault_report (fault.Settings why) path line unknown))
+TellsText path text words (Some fault.KeyTwice) =
+    (settings_of (parse_document text) ≡ Err settings_fault.NotToml)
+    × ((line : Option ℕ) × (key : List ℕ) × (words ≡ fault_report fault.KeyTwice path line key))
 TellsText path text words found = (settings : SettingsData) × (settings_of (parse_document text) ≡ Ok settings) × TellsSite path settings words found

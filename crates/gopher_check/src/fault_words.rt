@@ -43,6 +43,7 @@ fn push_detail(fault: SiteFault, unknown: &[u8], out: &mut Vec<u8>) -> Result<()
     match fault {
         SiteFault::Settings(fault) => push_settings_detail(fault, unknown, out),
         SiteFault::SeedOutOfScope(seed) => push_number(b"seed: ", seed, out),
+        SiteFault::KeyTwice => push_unknown(unknown, out),
         SiteFault::Tree(..) | SiteFault::SettingsUnreadable => Ok(()),
     }
 }
@@ -59,7 +60,7 @@ fn push_line(line: Option<usize>, out: &mut Vec<u8>) -> Result<(), AllocError>
 
 /// What is told of a fault of what lies at a path, or of a line in it: its number, the path, the line,
 /// the key or the seed, the cause and the remedy, each in a line of its own. `unknown` is a key that isn't
-/// known, or empty.
+/// known, or is given twice, or empty.
 ///
 /// Refused only where memory is (90).
 pub(crate) fn fault_report(

@@ -12,12 +12,16 @@ use crate::words::Checking;
 use gopher_catalogue::OpenFault;
 use gopher_check::{Report, SiteFault, check, unreadable};
 use gopher_item::NoMemory;
+use gopher_scope::SettingsFault;
 use gopher_text::Watched;
 use std::alloc::Global;
 use std::fs::Files;
 use std::io::Write;
 use std::net::Net;
 use std::str;
+
+// The last line of a sound site's report.
+const SOUND: &[u8] = b"sound\n";
 
 // The fault of the program that a fault of its site is.
 fn program_fault(fault: SiteFault) -> ProgramFault
@@ -28,6 +32,7 @@ fn program_fault(fault: SiteFault) -> ProgramFault
         SiteFault::Tree(fault, _) => ProgramFault::Tree(fault),
         SiteFault::SeedOutOfScope(seed) => ProgramFault::Open(OpenFault::SeedOutOfScope(seed)),
         SiteFault::SettingsUnreadable => ProgramFault::SettingsUnreadable,
+        SiteFault::KeyTwice => ProgramFault::Settings(SettingsFault::NotToml),
     }
 }
 
@@ -45,7 +50,7 @@ fn file_report<R: Files>(rt: &R, alloc: Global, path: &str) -> Result<Report, No
 }
 
 /// Checks the settings in a file and their folder as a server would, and sends what is told of them to
-/// the output. Of a sound site, the addresses of its host are told, too.
+/// the output. Of a sound site, the addresses of its host are told before the last line.
 ///
 /// # Errors
 ///
@@ -59,11 +64,15 @@ pub fn check_site<R: Files + Net, W: Write>(
     output: &mut Watched<W>,
 ) -> Result<(), ProgramFault> {
     let report = file_report(rt, alloc, checking.settings)?;
-    let sent = send_text(output, &report.words);
     if let Some(fault) = report.fault {
+        let _unsent = send_text(output, &report.words);
         return Err(program_fault(fault));
     }
-    sent?;
+    let Some(words) = report.words.strip_suffix(SOUND) else {
+        return send_text(output, &report.words);
+    };
+    send_text(output, words)?;
     let settings = read_settings(rt, alloc, checking.settings)?;
-    tell_addresses(rt, alloc, &settings.home, checking.listens, output)
+    tell_addresses(rt, alloc, &settings.home, checking.listens, output)?;
+    send_text(output, SOUND)
 }
