@@ -46,7 +46,7 @@ MARK = "~unproved"
 DOCUMENTS = ("packaging/README.md", "docs/OPERATING.md", "docs/SPECIFICATION.md")
 PAGES = (("man/hole.1", "man1"), ("man/hole.toml.5", "man5"))
 UNITS = ("packaging/hole.service",)
-UNIT_EXAMPLES = ("packaging/hole.path", "packaging/hole-restart.service", "packaging/hole.logrotate")
+UNIT_EXAMPLES = tuple(f"packaging/{name}" for name in ("hole.path", "hole-restart.service", "hole.socket", "hole.logrotate"))
 SCRIPTS = ("preinst", "postinst", "prerm", "postrm")
 
 

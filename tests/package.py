@@ -164,7 +164,7 @@ def check_unit(tally, machine, folder):
     if not is_here("systemd-analyze"):
         return
     units = [machine.root / "lib/systemd/system/hole.service", *(machine.root / DOCUMENTS / "examples").glob("hole*.service")]
-    units += [machine.root / DOCUMENTS / "examples/hole.path"]
+    units += [machine.root / DOCUMENTS / "examples" / name for name in ("hole.path", "hole.socket")]
     for unit in units:
         place = folder / "units" / unit.name
         place.parent.mkdir(exist_ok=True)
