@@ -275,7 +275,8 @@ def make_debian(release, out):
     control = Tree()
     control.add("DEBIAN/control", control_of(release, tree))
     control.add("DEBIAN/conffiles", "/etc/hole/hole.toml\n")
-    sums = [f"{hashlib.md5(held[0]).hexdigest()}  {path}\n" for path, held in sorted(tree.files.items()) if not path.startswith("etc/")]
+    packed = {path: held[0] for path, held in sorted(tree.files.items()) if not path.startswith("etc/")}
+    sums = [f"{hashlib.md5(content).hexdigest()}  {path}\n" for path, content in packed.items()]
     control.add("DEBIAN/md5sums", "".join(sums))
     for name in SCRIPTS:
         if (PACKAGING / "debian" / name).is_file():

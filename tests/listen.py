@@ -16,7 +16,10 @@ import tempfile
 from server import HOST, PROGRAM, WAIT, Server, Tally, ask, free_port
 
 OTHER, REPLY = "127.0.0.2", b"hello\r\n.\r\n"
-NO_ADDRESSES = ("", "localhost", "127.0.0", "127.0.0.1:", "127.0.0.1:0", "127.0.0.1:65536", "127.0.0.1:70x", "[127.0.0.1]", "::1]", "[::1", "[::1]:", "1:2")
+NO_ADDRESSES = (
+    "", "localhost", "127.0.0", "127.0.0.1:", "127.0.0.1:0", "127.0.0.1:65536", "127.0.0.1:70x", "[127.0.0.1]", "::1]", "[::1",
+    "[::1]:", "1:2",
+)
 
 
 def has_ipv6():
@@ -55,7 +58,8 @@ def check_ports(tally, program, folder, root):
     """An address may have a port of its own; menus name the settings' port."""
     port = free_port()
     with Server(program, folder, root, words=["--requests", "1", "--listen", f"{OTHER}:{port}"]) as server:
-        tally.expect("a port of its own: the settings' address is told", server.started(), f"listening {HOST} {server.port}\n".encode())
+        told = f"listening {HOST} {server.port}\n".encode()
+        tally.expect("a port of its own: the settings' address is told", server.started(), told)
         menu = ask(port, b"\r\n", OTHER)
         tally.expect("a port of its own: menus name the settings' port", f"\t{HOST}\t{server.port}\r\n".encode() in menu, True)
     if not has_ipv6():
@@ -64,7 +68,8 @@ def check_ports(tally, program, folder, root):
     for word in ("::1", "[::1]", f"[::1]:{port}"):
         with Server(program, folder, root, words=["--requests", "1", "--listen", word]) as server:
             server.started()
-            tally.expect(f"{word} is served", ask(port if word.endswith(str(port)) else server.port, b"/a.txt\r\n", "::1"), REPLY)
+            served = port if word.endswith(str(port)) else server.port
+            tally.expect(f"{word} is served", ask(served, b"/a.txt\r\n", "::1"), REPLY)
     with Server(program, folder, root, words=["--requests", "2", "--listen", "[::]"]) as server:
         server.started()
         for host in ("::1", HOST):
@@ -90,7 +95,8 @@ def check_usage(tally, program):
         usage = f"\nUsage: hole {words[0]} ".encode()
         tally.expect(f"{words}: how it is used", (ran.stdout, usage in ran.stderr, ran.returncode), (b"", True, 2))
     shown = subprocess.run([str(program), "serve", "--help"], capture_output=True, timeout=WAIT).stdout
-    tally.expect("serve --help begins so", (b"\nUsage: hole serve [OPTIONS] <SETTINGS>\n" in shown, b"--listen <ADDRESS>" in shown), (True, True))
+    parts = (b"\nUsage: hole serve [OPTIONS] <SETTINGS>\n", b"--listen <ADDRESS>")
+    tally.expect("serve --help", [part in shown for part in parts], [True, True])
 
 
 def check_checks(tally, program, folder, root):
@@ -111,7 +117,8 @@ def check_checks(tally, program, folder, root):
         taken.listen()
         lines, error, status = run(HOST, "--listen")
         wanted = rf"resolves to: {HOST}:{port}\ncan't listen at: {HOST}:{port}: Address already in use.*\n"
-        tally.expect("an address that is taken", (re.fullmatch(wanted, lines) is not None, error, status), (True, b"hole: 81\n", 1))
+        found = (re.fullmatch(wanted, lines) is not None, error, status)
+        tally.expect("an address that is taken", found, (True, b"hole: 81\n", 1))
         tally.expect("an address that is taken, without --listen", run(HOST)[1:], (b"", 0))
     lines, error, status = run("192.0.2.1", "--listen")
     tally.expect("an address of another machine", ("Cannot assign" in lines, error, status), (True, b"hole: 81\n", 1))

@@ -144,7 +144,7 @@ def check_installed(tally, machine, package):
         text = gzip.decompress(page.read_bytes()).decode()
         tally.expect(f"{page.name} has the version", f'"{" ".join(shown)}' in text, True)
         if shutil.which("man"):
-            tally.expect(f"{page.name} is laid out", run("man", "--warnings", "-l", "-Tutf8", page, env={**os.environ, "MANPAGER": "cat"}).stderr, "")
+            tally.expect(f"{page.name} is laid out", run("man", "--warnings", "-l", "-Tutf8", page).stderr, "")
     build = machine.text(f"{DOCUMENTS}/BUILD")
     commit = run("git", "-C", ROOT, "rev-parse", "HEAD").stdout.strip()
     tally.expect("BUILD names the commit", f"\ncommit {commit}" in build, True)
@@ -208,12 +208,13 @@ def check_serves(tally, machine):
 def check_removed(tally, machine, package):
     """Removal leaves the settings and the site, and purging leaves nothing."""
     tally.expect("it is removed", machine.dpkg("--remove", "hole").returncode, 0)
-    left = [file for file in machine.files() if file not in machine.empty]
+    left = [file for file in machine.files() if file not in machine.empty and not file.startswith("etc/systemd/")]
     kept = ["etc/hole/hole.toml", *(f"srv/gopher/{file}" for file in files_below(SITE))]
-    tally.expect("removal leaves the settings and the site", [file for file in left if not file.startswith("etc/systemd/")], kept)
+    tally.expect("removal leaves the settings and the site", left, kept)
     tally.expect("it is purged", machine.dpkg("--purge", "hole").returncode, 0)
     tally.expect("purging leaves nothing", [file for file in machine.files() if file not in machine.empty], [])
-    tally.expect("no folder of it either", [name for name in ("etc/hole", "srv/gopher", "usr/share/hole") if (machine.root / name).exists()], [])
+    folders = [name for name in ("etc/hole", "srv/gopher", "usr/share/hole") if (machine.root / name).exists()]
+    tally.expect("purging leaves no folder either", folders, [])
 
 
 def check_owner(tally, machine, package):

@@ -18,9 +18,9 @@ In a gophermap:
 - A line with a TAB is type and name, selector, host, port. Where the selector is empty and nothing follows it, the name is
   the selector. Where a host is given and no port, the port is 70. Fields behind the port are left out. A line whose type,
   selector, host or port this server would refuse (24) is left out.
-- On this server (no host, or an empty one, which is told) a selector that doesn't begin with `/` counts from the gophermap's folder, and
-  `.`, `..` and slashes at the end or twice are resolved, since this server knows each selector in one spelling. Lines of
-  type i and 3, and selectors that begin with `URL:`, stay as they are. Where the selector names nothing in FOLDER, or what
+- On this server (no host, or an empty one, which is told) a selector that doesn't begin with `/` counts from the gophermap's
+  folder, and `.`, `..` and slashes at the end or twice are resolved, since this server knows each selector in one spelling.
+  Lines of type i and 3, and selectors that begin with `URL:`, stay as they are. Where the selector names nothing in FOLDER, or what
   isn't served, the line stays and that is told.
 - `=file` is replaced by the lines of that file, which counts from the gophermap's folder; its selectors do too. One that is
   absent or a script is left out, and so is one that is included eight files deep.
