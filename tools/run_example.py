@@ -1,11 +1,11 @@
 #!/usr/bin/env python3
 """Serves a folder by its settings, and prints how to ask it. Ctrl-C ends it.
 
-    tools/run_example.py [SETTINGS]
+    tools/run_example.py [--program FILE] [SETTINGS]
 
 Without SETTINGS it serves examples/site by examples/hole.toml. A relative root in them starts at the working directory.
 
-The program is built without its proofs, by `rt try`, unless `make build` has left a proved one. The server ends with this
+Without --program it runs the one that `make build` has left, or else builds one without its proofs, by `rt try`. The server ends with this
 script, whatever ends the script: a guard in a session of its own waits for that.
 """
 import argparse
@@ -45,10 +45,10 @@ def is_up(host, port):
         return False
 
 
-def command(settings):
+def command(program, settings):
     """What starts the server, and where."""
-    if os.access(PROVED, os.X_OK):
-        return [str(PROVED), "serve", settings], ROOT
+    if os.access(program, os.X_OK):
+        return [str(program), "serve", settings], ROOT
     return ["rt", "try", "--seconds", DAY, "--steps", STEPS, "--", "serve", settings], ROOT / "crates/hole"
 
 
@@ -94,7 +94,8 @@ def serve(words, place, host, port, hint):
 def main():
     words = argparse.ArgumentParser(description="Serves a folder by its settings, and prints how to ask it.")
     words.add_argument("settings", nargs="?", metavar="SETTINGS", help="examples/hole.toml without it")
-    given = words.parse_args().settings
+    words.add_argument("--program", type=pathlib.Path, default=PROVED, help="what `make build` left without it")
+    program, given = words.parse_args().program.resolve(), words.parse_args().settings
     for number in ENDING:
         signal.signal(number, lambda number, _: sys.exit(128 + number))
     try:
@@ -110,7 +111,7 @@ def main():
     with tempfile.TemporaryDirectory() as folder:
         place = pathlib.Path(folder) / "hole.toml"
         place.write_text(with_whole_root(text, root if given else ROOT / root))
-        start, where = command(str(place))
+        start, where = command(program, str(place))
         print("Starting:", " ".join(start[:2]), ".. (without a proved program this takes a minute)", flush=True)
         return serve(start, where, host, port, hints(host, port, given))
 
