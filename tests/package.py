@@ -126,7 +126,7 @@ class Machine:
     def dpkg(self, *words):
         env = {"PATH": "/usr/sbin:/usr/bin:/sbin:/bin", "LC_ALL": "C", "DEBIAN_FRONTEND": "noninteractive"}
         how = ("--force-script-chrootless", "--force-depends", "--force-confdef", "--force-confold", "--log=/dev/null")
-        return run("dpkg", f"--root={self.root}", *how, *words, env=env)
+        return run("dpkg", f"--root={self.root}", *how, *words, env=env, umask=0o077)
 
     def hole(self, *words, user=NOBODY):
         return ["chroot", f"--userspec={user}", str(self.root), "/usr/bin/hole", *words]
@@ -139,6 +139,8 @@ def check_installed(tally, machine, package):
     ran = machine.dpkg("--install", package)
     tally.expect("it installs", (ran.returncode, "error" in ran.stderr.lower()), (0, False))
     tally.expect("the first site is there", files_below(machine.root / "srv/gopher"), files_below(SITE))
+    modes = {path.stat().st_mode & 0o777 for path in (machine.root / "srv/gopher").rglob("*") if path.is_file()}
+    tally.expect("everybody may read it", modes, {0o644})
     shown = run(*machine.hole("--version")).stdout.split()
     for page in machine.root.glob("usr/share/man/*/*.gz"):
         text = gzip.decompress(page.read_bytes()).decode()
