@@ -38,6 +38,7 @@ MISSING = ("nothing is there", "make the folder, or correct root in the settings
 NOT_FOLDER = ("a folder is wanted, and this is none", "correct root in the settings")
 LOOP = ("links lead to one another without an end", "take the link away")
 NOT_TOML = ("the settings are not TOML", "mend this line: texts stand in quotation marks")
+TWICE = ("the key on this line was given before", "take one of the two lines away")
 NO_KEY = ("the key is missing, or one that its tables need", "add it: hole.toml(5) tells the keys")
 WRONG_KIND = (
     "the value is of another kind, or one in its tables",
@@ -101,7 +102,9 @@ class Checked:
         return ran.stdout, ran.stderr, ran.returncode
 
     def check(self):
-        return self.run("check", str(self.settings))
+        """What is told, without the addresses of the host, which are the system's (tests/listen.py)."""
+        output, error, status = self.run("check", str(self.settings))
+        return b"".join(line for line in output.splitlines(True) if not line.startswith(b"resolves to")), error, status
 
     def serve(self):
         """How a server ends that takes no connection: its line on standard error, and its status."""
@@ -195,6 +198,8 @@ FAULTS = {
         lambda site: [site.add(b"x"), say(HEAD + 'root = "ROOT/x"\n')(site)], "26", told(26, "ROOT/x/", NOT_FOLDER)
     ),
     "no TOML": (say(HEAD + "\nroot = ROOT\n"), "30", told(30, "FILE", NOT_TOML, "line: 3")),
+    "a key twice": (more("port = 71\n"), "30", told(30, "FILE", TWICE, "line: 4", "key: port")),
+    "a table twice": (more('[[allow]]\nhost = "a"\n[allow]\n'), "30", told(30, "FILE", TWICE, "line: 6", "key: [allow]")),
     "no host": (say('root = "ROOT"\n'), "31 host", told(31, "FILE", NO_KEY, "key: host")),
     "no root": (say(HEAD), "31 root", told(31, "FILE", NO_KEY, "key: root")),
     "a seed without a host": (more('[[seeds]]\nselector = "/"\n'), "31 seeds", told(31, "FILE", NO_KEY, "key: seeds")),

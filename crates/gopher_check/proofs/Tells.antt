@@ -18,6 +18,7 @@ tells_text path text words settings (Some (fault.Settings why)) is tells = absur
 tells_text path text words settings (Some (fault.Tree why how)) is tells = (settings, is, tells)
 tells_text path text words settings (Some (fault.SeedOutOfScope seed)) is tells = (settings, is, tells)
 tells_text path text words settings (Some fault.SettingsUnreadable) is tells = absurd tells
+tells_text path text words settings (Some fault.KeyTwice) is tells = absurd tells
 
 -- the report on a folder that doesn't make a tree
 pub tells_folder : (path : List ℕ) (settings : SettingsData) (words below : List ℕ) (why : TreeFault) (how : Obstacle)
@@ -30,3 +31,8 @@ pub tells_refused : (path text words : List ℕ) (why : SettingsFault) (line : O
     → (why ≢ settings_fault.NoMemory → settings_of (parse_document text) ≡ Err why) → words ≡ fault_report (fault.Settings why) path line unknown
     → TellsText path text words (Some (fault.Settings why))
 tells_refused path text words why line unknown refused is = (refused, (line, unknown, is))
+
+-- what is told of settings that give a key twice
+pub tells_twice : (path text words : List ℕ) (line : Option ℕ) (key : List ℕ) → settings_of (parse_document text) ≡ Err settings_fault.NotToml
+    → words ≡ fault_report fault.KeyTwice path line key → TellsText path text words (Some fault.KeyTwice)
+tells_twice path text words line key refused is = (refused, (line, key, is))

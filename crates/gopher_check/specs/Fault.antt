@@ -16,6 +16,7 @@ site_fault_code (fault.Settings why) = settings_fault_code why
 site_fault_code (fault.Tree why how) = tree_fault_code why
 site_fault_code (fault.SeedOutOfScope seed) = 50
 site_fault_code fault.SettingsUnreadable = 80
+site_fault_code fault.KeyTwice = settings_fault_code settings_fault.NotToml
 
 -- the reason why a file or folder can't be read
 abbrev pub obstacle_cause : Obstacle → List ℕ
@@ -76,6 +77,7 @@ cause (fault.Settings why) = settings_cause why
 cause (fault.Tree why how) = tree_cause why how
 cause (fault.SeedOutOfScope seed) = codes "no rule of allow covers this seed, or a rule of deny does"
 cause fault.SettingsUnreadable = codes "the settings cannot be read, have over 1048576 bytes, or are not UTF-8"
+cause fault.KeyTwice = codes "the key on this line was given before"
 
 -- the remedy in words
 abbrev pub remedy : SiteFault → List ℕ
@@ -83,3 +85,4 @@ remedy (fault.Settings why) = settings_remedy why
 remedy (fault.Tree why how) = tree_remedy why how
 remedy (fault.SeedOutOfScope seed) = codes "add a rule with its host, its port and a beginning of its selector, or take the seed away"
 remedy fault.SettingsUnreadable = codes "correct the path, its rights or the text"
+remedy fault.KeyTwice = codes "take one of the two lines away"

@@ -32,18 +32,20 @@ settings_detail (settings_fault.OutOfRange key) unknown = words_line (codes "key
 settings_detail settings_fault.UnknownKey unknown = unknown_detail unknown
 settings_detail why unknown = []
 
--- the line of the key or the seed that a fault names; `unknown` is an unknown key
+-- the line of the key or the seed that a fault names; `unknown` is a key that isn't known, or is
+-- given twice
 abbrev pub detail : SiteFault → List ℕ → List ℕ
 detail (fault.Settings why) unknown = settings_detail why unknown
 detail (fault.SeedOutOfScope seed) unknown = number_line (codes "seed: ") seed
+detail fault.KeyTwice unknown = unknown_detail unknown
 detail why unknown = []
 
 abbrev pub line_detail : Option ℕ → List ℕ
 line_detail None = []
 line_detail (Some line) = number_line (codes "line: ") line
 
--- the report of a fault of the file or folder at a path, or of a line in it; `unknown` is an
--- unknown key
+-- the report of a fault of the file or folder at a path, or of a line in it; `unknown` is a key that
+-- isn't known, or is given twice
 abbrev pub fault_report : SiteFault → List ℕ → Option ℕ → List ℕ → List ℕ
 fault_report why path line unknown =
     number_line (codes "fault: ") (site_fault_code why) ++ words_line (codes "path: ") path ++ line_detail line ++ detail why unknown
@@ -100,4 +102,7 @@ abbrev pub TellsText : List ℕ → List ℕ → List ℕ → Option SiteFault �
 TellsText path text words (Some (fault.Settings why)) =
     (why ≢ settings_fault.NoMemory → settings_of (parse_document text) ≡ Err why)
     × ((line : Option ℕ) × (unknown : List ℕ) × (words ≡ fault_report (fault.Settings why) path line unknown))
+TellsText path text words (Some fault.KeyTwice) =
+    (settings_of (parse_document text) ≡ Err settings_fault.NotToml)
+    × ((line : Option ℕ) × (key : List ℕ) × (words ≡ fault_report fault.KeyTwice path line key))
 TellsText path text words found = (settings : SettingsData) × (settings_of (parse_document text) ≡ Ok settings) × TellsSite path settings words found

@@ -19,6 +19,8 @@ pub enum SiteFault {
     SeedOutOfScope(usize),
     /// 80: the settings file can't be read, has over 1,048,576 bytes, or isn't UTF-8.
     SettingsUnreadable,
+    /// 30: a line of the settings gives a key, or begins a table, that was given before.
+    KeyTwice,
 }
 
 fn tree_cause(fault: TreeFault, obstacle: Obstacle) -> &'static str
@@ -99,6 +101,7 @@ impl SiteFault {
             SiteFault::Tree(fault, _) => fault.code(),
             SiteFault::SeedOutOfScope(_) => 50,
             SiteFault::SettingsUnreadable => 80,
+            SiteFault::KeyTwice => SettingsFault::NotToml.code(),
         }
     }
 
@@ -115,6 +118,7 @@ impl SiteFault {
             SiteFault::SettingsUnreadable => {
                 "the settings cannot be read, have over 1048576 bytes, or are not UTF-8"
             }
+            SiteFault::KeyTwice => "the key on this line was given before",
         }
     }
 
@@ -129,6 +133,7 @@ impl SiteFault {
                 "add a rule with its host, its port and a beginning of its selector, or take the seed away"
             }
             SiteFault::SettingsUnreadable => "correct the path, its rights or the text",
+            SiteFault::KeyTwice => "take one of the two lines away",
         }
     }
 }

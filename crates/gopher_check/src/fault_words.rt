@@ -43,6 +43,7 @@ fn push_detail(fault: SiteFault, unknown: &[u8], out: &mut Vec<u8>) -> Result<()
     match fault {
         SiteFault::Settings(fault) => push_settings_detail(fault, unknown, out),
         SiteFault::SeedOutOfScope(seed) => push_number(b"seed: ", seed, out),
+        SiteFault::KeyTwice => push_unknown(unknown, out),
         SiteFault::Tree(..) | SiteFault::SettingsUnreadable => Ok(()),
     }
 }
@@ -59,7 +60,7 @@ fn push_line(line: Option<usize>, out: &mut Vec<u8>) -> Result<(), AllocError>
 
 /// Makes the report of a fault of the file or folder at `path`, or of a line in it. It names the
 /// fault's number, the path, the line, the key or seed, the cause and the remedy, each on its own
-/// line. `unknown` is an unknown key, or empty.
+/// line. `unknown` is a key that isn't known, or is given twice, or empty.
 pub(crate) fn fault_report(
     alloc: Global,
     fault: SiteFault,

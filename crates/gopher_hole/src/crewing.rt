@@ -202,7 +202,7 @@ pub fn serve<
         shares,
     } = open::<C, R>(rt, alloc, settings, blank)?;
     let pairs = pairs_of(alloc, shares)?;
-    let listeners = listen(rt, alloc, replies.home(), &[])?;
+    let listeners = listen(rt, alloc, replies.home(), &serving.addresses)?;
     tell_listening(alloc, replies.home(), output)?;
     let log = start_log_at(rt, alloc, serving.log);
     let service = Service {

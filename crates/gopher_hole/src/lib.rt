@@ -8,6 +8,7 @@
 //! is said by `gopher_serve`, and what a crawl leaves by `gopher_crew`.
 #![tactic(auto)]
 
+mod address_check;
 mod announcing;
 mod checking;
 mod crewing;

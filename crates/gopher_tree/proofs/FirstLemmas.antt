@@ -1,11 +1,11 @@
 -- The fault of a file that comes first: its nodes are few, and nothing has its path.
-use Rattle.std.proofs.Common.{◌≡◌, ℕ, zero, suc, ◌+◌, ◌<◌, ◌≤◌, Bool, true, false, cond, ◌||◌, eqb, ltb, List, [], ◌∷◌, ◌++◌, length, get_or, take, fold, Option, None, Some, refl, sym, ap, ◌∙◌, arith, lt-ltb, le-ltb}
+use Rattle.std.proofs.Common.{◌≡◌, ℕ, zero, suc, ◌+◌, ◌<◌, ◌≤◌, Bool, true, false, cond, ◌||◌, eqb, ltb, List, [], ◌∷◌, ◌++◌, length, get_or, take, fold, Option, None, Some, refl, ap, ◌∙◌, arith, lt-ltb, le-ltb}
 use Rattle.std.proofs.lemmas.Bool.{ltb-false}
 use Rattle.std.proofs.lemmas.List.{length-append}
 use Rattle.std.proofs.Math.Dec.{eqb-suc-zero}
 use Rattle.gopher_tree.specs.Path.{folders_within, folders_of}
 use Rattle.gopher_tree.specs.Files.{File, is_among, add_path, paths_of, nodes, total_bytes}
-use Rattle.gopher_tree.specs.Fault.{path_fault, is_too_big, is_twice, menu_fault, twice_fault, or_fault, file_fault, first_fault}
+use Rattle.gopher_tree.specs.Fault.{path_fault, is_too_big, is_twice, menu_fault, twice_fault, or_fault, file_fault}
 use Rattle.gopher_tree.specs.declared.fault.TreeFault.{TreeFault}
 use Rattle.gopher_tree.specs.declared.fault.TreeFault.TheVariants.{TooBig, Twice}
 use Rattle.gopher_tree.proofs.FaultLemmas.{path_fault-none, total_bytes-push}

@@ -113,10 +113,10 @@ pub loads_some : (path : List ℕ) (fault : TreeFault) → LoadsTo path (Err fau
 loads_some path fault loads = (path, loads)
 
 -- the known bytes that a reader with a limit gives
-pub taken : {R : Type 0} (remaining : R → Option (List ℕ)) (reader : R) (limited : Take R) (bytes : List ℕ) → take_limit limited ≡ 16777217 → take_inner limited ≡ reader
-    → IfSome (take_remaining remaining limited) (λ all. bytes ≡ all) → IfSome (remaining reader) (λ all. bytes ≡ take 16777217 all)
-taken remaining reader limited bytes limit inner is =
-    subst (λ r. IfSome (remaining r) (λ all. bytes ≡ take 16777217 all)) inner
+pub taken : {R : Type 0} (remaining : R → Option (List ℕ)) (reader : R) (most : ℕ) (limited : Take R) (bytes : List ℕ) → take_limit limited ≡ most → take_inner limited ≡ reader
+    → IfSome (take_remaining remaining limited) (λ all. bytes ≡ all) → IfSome (remaining reader) (λ all. bytes ≡ take most all)
+taken remaining reader most limited bytes limit inner is =
+    subst (λ r. IfSome (remaining r) (λ all. bytes ≡ take most all)) inner
     (subst (λ n. IfSome (remaining (take_inner limited)) (λ all. bytes ≡ take n all)) limit (within (remaining (take_inner limited)) is))
   where
     within : (known : Option (List ℕ)) → IfSome (option_map (take (take_limit limited)) known) (λ all. bytes ≡ all) → IfSome known (λ all. bytes ≡ take (take_limit limited) all)

@@ -18,6 +18,10 @@ folder_fault number nodes path =
     if nat_lt 254 (length path) then Some (LongSelector number) else
     (if nat_lt 4095 nodes then Some (TooBig number) else None)
 
+-- how many bytes are read of a file of this length: one more than a file may have, at most
+abbrev pub most_read : ℕ → ℕ
+most_read length_of_file = if nat_lt length_of_file 16777217 then length_of_file else 16777217
+
 -- something behind so many files can't be read, or memory was refused
 abbrev pub IsUnreadable : ℕ → TreeFault → Type 0
 IsUnreadable number fault = (fault ≡ Unreadable number) ⊎ (fault ≡ NoMemory)

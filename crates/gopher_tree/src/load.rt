@@ -88,7 +88,7 @@ impl Walk {
         })
     }
 
-    // Reads a file and lists it.
+    // Reads a file and lists it, unless it has vanished.
     fn through_file<R: Files>(
         self,
         rt: &R,
@@ -98,8 +98,10 @@ impl Walk {
     ) -> Result<Walk, TreeFault>
         ensures { WalksTo (λ walk. walk.tree) self.tree path.items result }
     {
-        let bytes = read_file(rt, alloc, file, self.tree.number_of_files())?;
-        self.with_file(alloc, path, bytes)
+        match read_file(rt, alloc, file, self.tree.number_of_files())? {
+            Some(bytes) => self.with_file(alloc, path, bytes),
+            None => Ok(self),
+        }
     }
 
     // Lists what a folder has, and what its folders have, name by name. Where that fails, `at` is the
@@ -116,7 +118,8 @@ impl Walk {
         requires { length path.now ≤ 254 }
         ensures { WalksTo (λ walk. walk.tree) self.tree at.new.items result }
     {
-        let names = names_in(rt, alloc, folder, self.tree.number_of_files())?;
+        let number = self.tree.number_of_files();
+        let names = names_in(rt, alloc, folder, path.is_empty(), number)?;
         let mut walk = self;
         for name in names {
             walk = walk.through_name(rt, alloc, folder, path, name.as_str(), at)?;
@@ -166,9 +169,10 @@ impl Tree {
     ///
     /// The files are listed depth first, the names of each folder in the order of their bytes. A link
     /// counts as what it leads to. Names that begin with a period are left out, but for `.menu`, and so
-    /// is what is neither a file nor a folder, as a link that leads nowhere or through a file. No more of
-    /// a file is read than one byte over what a file may have. A folder without files has no place in the
-    /// tree.
+    /// is what is neither a regular file nor a folder, as a link that leads nowhere or through a file, a
+    /// device or a pipe. A name that vanishes while the folder is read is left out too. No more of a file
+    /// is read than its length when it is opened, and than one byte over what a file may have. A folder
+    /// without files has no place in the tree.
     ///
     /// # Errors
     ///

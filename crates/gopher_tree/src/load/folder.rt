@@ -1,17 +1,20 @@
 //! Folders of the file system: their names, what these lead to, and the bytes of files.
+//!
+//! A name can vanish between any two calls, because other programs change the folder while it is
+//! read. What has vanished counts as a link that leads nowhere.
 
-ghost use Rattle.std.specs.Prelude.{◌≡◌, ◌≢◌, true, IfErr, IfOk, IfSome, MatchResult, take, string_bytes, string_cmp};
+ghost use Rattle.std.specs.Prelude.{◌≡◌, ◌≢◌, true, IfErr, IfOk, IfSome, None, Some, take, string_bytes, string_cmp};
 ghost use Rattle.std.specs.List.{All};
 ghost use Rattle.std.specs.List.Sorted.{IsSorted};
-ghost use Rattle.std.specs.Fs.{IsDir, IsFile, file_type};
+ghost use Rattle.std.specs.Fs.{IsDir, IsFile, file_type, metadata_len};
 ghost use Rattle.std.specs.IoError.{error_kind};
-ghost use Rattle.gopher_tree.specs.Load.{is_shown, IsUnreadable};
+ghost use Rattle.gopher_tree.specs.Load.{is_shown, IsUnreadable, most_read};
 
 use crate::fault::TreeFault;
 use crate::tree::alone::LARGEST_FILE;
 use crate::tree::path::is_menu_name;
 use std::alloc::{AllocError, Global};
-use std::fs::Files;
+use std::fs::{Files, OpenFile};
 use std::io::{ErrorKind, Read};
 use std::path::{Path, PathBuf};
 use std::{fs, io};
@@ -63,40 +66,50 @@ fn push_shown(alloc: Global, name: &str, names: &mut Vec<String>) -> Result<(), 
 }
 
 // The names in a folder that are listed.
-fn shown_names<R: Files>(
-    rt: &R,
-    alloc: Global,
-    folder: Path<'_>,
-    number: usize,
-) -> Result<Vec<String>, TreeFault>
-    ensures { MatchResult result
-        (λ names. All (λ name. is_shown (string_bytes name) ≡ true) names.items)
-        (IsUnreadable number) }
+fn shown_names<R: Files>(rt: &R, alloc: Global, folder: Path<'_>) -> io::Result<Vec<String>>
+    ensures { IfOk result (λ names.
+        All (λ name. is_shown (string_bytes name) ≡ true) names.items) }
 {
-    let entries = match fs::read_dir(&(rt, alloc), folder) {
-        Ok(entries) => entries,
-        Err(error) => return Err(read_fault(error, number)),
-    };
     let mut names = Vec::new(alloc);
-    for entry in entries {
-        match entry {
-            Ok(entry) => {
-                let Ok(()) = push_shown(alloc, entry.file_name(), &mut names) else {
-                    return Err(TreeFault::NoMemory);
-                };
-            }
-            Err(error) => return Err(read_fault(error, number)),
-        }
+    for entry in fs::read_dir(&(rt, alloc), folder)? {
+        push_shown(alloc, entry?.file_name(), &mut names)?;
     }
     Ok(names)
 }
 
+// Whether nothing is there: a link leads nowhere or through a file, or a name has vanished.
+fn is_missing(kind: ErrorKind) -> bool {
+    matches!(kind, ErrorKind::NotFound | ErrorKind::NotADirectory)
+}
+
+// The names in a folder that are listed, in no order. A folder that has vanished has none, except for
+// the root.
+fn names_there<R: Files>(
+    rt: &R,
+    alloc: Global,
+    folder: Path<'_>,
+    is_root: bool,
+    number: usize,
+) -> Result<Vec<String>, TreeFault>
+    ensures shown { IfOk result (λ names.
+        All (λ name. is_shown (string_bytes name) ≡ true) names.items) }
+    ensures refused { IfErr result (IsUnreadable number) }
+{
+    match shown_names(rt, alloc, folder) {
+        Ok(names) => Ok(names),
+        Err(error) if !is_root && is_missing(error.kind()) => Ok(Vec::new(alloc)),
+        Err(error) => Err(read_fault(error, number)),
+    }
+}
+
 // The names in a folder that are listed, in the order of their bytes. A name that is not UTF-8 can't
-// be read, hidden or not. `number` files were listed before.
+// be read, hidden or not. A folder that has vanished has none, except for the root. `number` files were
+// listed before.
 pub(crate) fn names_in<R: Files>(
     rt: &R,
     alloc: Global,
     folder: Path<'_>,
+    is_root: bool,
     number: usize,
 ) -> Result<Vec<String>, TreeFault>
     ensures shown { IfOk result (λ names.
@@ -104,7 +117,7 @@ pub(crate) fn names_in<R: Files>(
     ensures order { IfOk result (λ names. IsSorted string_cmp names.items) }
     ensures refused { IfErr result (IsUnreadable number) }
 {
-    let mut names = shown_names(rt, alloc, folder, number)?;
+    let mut names = names_there(rt, alloc, folder, is_root, number)?;
     let Ok(()) = names.sort() else {
         return Err(TreeFault::NoMemory);
     };
@@ -112,7 +125,7 @@ pub(crate) fn names_in<R: Files>(
 }
 
 // What a path leads to, through links; one that leads nowhere, as a link through a file does, leads to
-// neither a file nor a folder.
+// neither a file nor a folder. It is found out without opening it: opening a device or a pipe can wait.
 pub(crate) fn target_of<R: Files>(
     rt: &R,
     path: Path<'_>,
@@ -122,9 +135,7 @@ pub(crate) fn target_of<R: Files>(
 {
     match fs::metadata(rt, path) {
         Ok(found) => Ok(target_found(found)),
-        Err(error) if matches!(error.kind(), ErrorKind::NotFound | ErrorKind::NotADirectory) => {
-            Ok(Target::Neither)
-        }
+        Err(error) if is_missing(error.kind()) => Ok(Target::Neither),
         Err(error) => Err(read_fault(error, number)),
     }
 }
@@ -161,28 +172,73 @@ pub(crate) fn without_links<R: Files>(
     }
 }
 
-// The bytes of a file, but no more than one over the largest file.
+// How many bytes of an open file are read: at most its length, and one over the largest file. None
+// where it is no regular file.
+fn most_read(found: &fs::Metadata) -> Option<u64>
+    ensures file { IsFile (file_type found.now)
+        → result ≡ Some (most_read (metadata_len found.now)) }
+    ensures other { (IsFile (file_type found.now) → ⊥) → result ≡ None }
+{
+    if !found.is_file() {
+        return None;
+    }
+    let length = found.len();
+    if length < MOST_READ {
+        Some(length)
+    } else {
+        Some(MOST_READ)
+    }
+}
+
+// The bytes of a file. None where it has vanished, or something else than a regular file is at its path
+// by now.
 pub(crate) fn read_file<R: Files>(
     rt: &R,
     alloc: Global,
     path: Path<'_>,
     number: usize,
-) -> Result<Vec<u8>, TreeFault>
+) -> Result<Option<Vec<u8>>, TreeFault>
     ensures { IfErr result (IsUnreadable number) }
 {
     match fs::open(rt, path) {
-        Ok(file) => read_most(alloc, file, number),
+        Ok(file) => read_open(alloc, file, number),
+        Err(error) if is_missing(error.kind()) => Ok(None),
         Err(error) => Err(read_fault(error, number)),
     }
 }
 
-fn read_most<R: Read + Drop>(alloc: Global, reader: R, number: usize) -> Result<Vec<u8>, TreeFault>
+// The bytes of an open file, but none past its length: some files of the kernel, which say that they
+// have none, make a reader wait. None where it is no regular file.
+fn read_open<F: Read + OpenFile + Drop>(
+    alloc: Global,
+    file: F,
+    number: usize,
+) -> Result<Option<Vec<u8>>, TreeFault>
+    ensures { IfErr result (IsUnreadable number) }
+{
+    let found = match file.metadata() {
+        Ok(found) => found,
+        Err(error) => return Err(read_fault(error, number)),
+    };
+    match most_read(&found) {
+        Some(most) => Ok(Some(read_most(alloc, file, most, number)?)),
+        None => Ok(None),
+    }
+}
+
+// So many bytes of a reader, or all of them where it has fewer.
+fn read_most<R: Read + Drop>(
+    alloc: Global,
+    reader: R,
+    most: u64,
+    number: usize,
+) -> Result<Vec<u8>, TreeFault>
     ensures read { IfSome (R.remaining reader) (λ all.
-        IfOk result (λ bytes. bytes.items ≡ take 16777217 all)) }
+        IfOk result (λ bytes. bytes.items ≡ take most all)) }
     ensures refused { IfErr result (IsUnreadable number) }
 {
     let mut bytes = Vec::new(alloc);
-    match reader.take(MOST_READ).read_to_end(&mut bytes) {
+    match reader.take(most).read_to_end(&mut bytes) {
         Ok(_) => {
             bytes.shrink_to_fit();
             Ok(bytes)
