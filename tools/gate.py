@@ -88,7 +88,7 @@ def parts():
         *(Part(it.stem, SCRIPTS, (f"tools/{it.name}",), is_quick=True) for it in tests),
         program_part("program.sh"),
         program_part("serving.py"),
-        program_part("replays.py", unproved=("--scripts", "200", "--pages", "1025")),
+        program_part("replays.py", unproved=("--scripts", "200", "--pages", "257")),
         program_part("requests.py", "--lines", "500"),
         program_part("check.py"),
         program_part("log.py", unproved=("--ratio", "0")),
