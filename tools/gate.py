@@ -188,6 +188,11 @@ def table(rows):
     return [*lines, *failed, f"{whole.passed} passed, {whole.failed} failed"]
 
 
+def kit():
+    """The toolchain's own line of which it is."""
+    return subprocess.run(["rt", "version"], stdout=subprocess.PIPE, text=True).stdout.strip()
+
+
 def main(words):
     options = argparse.ArgumentParser(description=__doc__, formatter_class=argparse.RawDescriptionHelpFormatter)
     options.add_argument("--quick", action="store_true")
@@ -205,7 +210,7 @@ def main(words):
     with tempfile.TemporaryDirectory(prefix="gate-") as room:
         program = unproved.Program(pathlib.Path(room)) if given.quick else lambda: (unproved.PROVED, True)
         rows = run_all(chosen, program, 2 if given.quick else 1)
-    print(*table(rows), sep="\n")
+    print(f"== with {kit()}", *table(rows), sep="\n")
     return 1 if any(row.failed for row in rows.values()) else 0
 
 
