@@ -30,6 +30,8 @@ ROOT = pathlib.Path(__file__).resolve().parent.parent
 PROGRAM = "PROGRAM"
 SCRIPTS = "scripts and documents"
 ROWS = ("proofs", "must-fail edits", "wrong bodies", "tests of crates", "tests of the program", SCRIPTS)
+# tests that want what a machine may lack
+BY_HAND = {"tests/clients.py"}
 COUNTS = re.compile(r"(?m)^(?:.*: )?(\d+) (?:passed|runs), (\d+) failed$")
 OF_UNITTEST = re.compile(r"(?m)^Ran (\d+) tests? in [\d.]+s$")
 FAILED_OF_UNITTEST = re.compile(r"(?m)^FAILED \((.*)\)$")
@@ -78,14 +80,14 @@ def program_part(script, *words, quick=True, unproved=()):
 
 
 def parts():
-    """All parts, in the order in which they run."""
-    tests = sorted((ROOT / "tools").glob("test_*.py"))
-    return [
+    """All parts, in the order in which they run. A test in tests/ that isn't named here runs with the others of the program."""
+    scripts = sorted((ROOT / "tools").glob("test_*.py"))
+    named = [
         Part("ci", "proofs", ("rt", "ci")),
         Part("wrong_bodies", "wrong bodies", ("tools/wrong_bodies.py", "--after-ci")),
         Part("layout", SCRIPTS, ("tools/check_layout.py",), is_quick=True),
         Part("links", SCRIPTS, ("tools/check_links.py",), is_quick=True),
-        *(Part(it.stem, SCRIPTS, (f"tools/{it.name}",), is_quick=True) for it in tests),
+        *(Part(it.stem, SCRIPTS, (f"tools/{it.name}",), is_quick=True) for it in scripts),
         program_part("program.sh"),
         program_part("serving.py"),
         program_part("replays.py", unproved=("--scripts", "200", "--pages", "257")),
@@ -95,6 +97,9 @@ def parts():
         program_part("attack.py", unproved=("--memory", "100000")),
         Part("refusals", "tests of crates", ("tests/refusals.sh",)),
     ]
+    taken = {part.words[0] for part in named} | BY_HAND
+    others = [it.name for it in sorted((ROOT / "tests").iterdir()) if it.is_file() and os.access(it, os.X_OK)]
+    return [*named, *(program_part(it, quick=False) for it in others if f"tests/{it}" not in taken)]
 
 
 def counted(said, status):
