@@ -79,6 +79,7 @@ def crawl_of_many_words():
 
 def scripts_of_sizes(pages):
     yield b"\n".join(crawl_of(pages, SIZES, LARKS))
-    yield b"\n".join(crawl_of_many_words())
+    if pages >= 1025:
+        yield b"\n".join(crawl_of_many_words())
     # Words that stand more often in a page than sixteen bits count.
     yield b"\n".join(crawl_of(20, (9, 20), {3: 65535, 7: 65536, 8: 70_000}))

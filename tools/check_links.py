@@ -1,5 +1,5 @@
 #!/usr/bin/env python3
-"""Looks after the links, pictures and paths that README.md and docs/ name.
+"""Looks after the links, pictures and paths that the documents at the top and in docs/ name.
 
     tools/check_links.py [ROOT]
 
@@ -77,7 +77,7 @@ def fault_of_path(root, path):
 def main(words):
     root = pathlib.Path(words[0]) if words else ROOT
     passed, failed = 0, 0
-    for document in [root / "README.md", *sorted((root / "docs").rglob("*.md"))]:
+    for document in [*sorted(root.glob("*.md")), *sorted((root / "docs").rglob("*.md"))]:
         text = document.read_text()
         faults = [fault_of_link(document, target) for target in targets(text)]
         faults += [fault_of_path(root, path) for path in paths(text)]

@@ -30,6 +30,8 @@ ROOT = pathlib.Path(__file__).resolve().parent.parent
 PROGRAM = "PROGRAM"
 SCRIPTS = "scripts and documents"
 ROWS = ("proofs", "must-fail edits", "wrong bodies", "tests of crates", "tests of the program", SCRIPTS)
+# tests that want what a machine may lack
+BY_HAND = {"tests/clients.py"}
 COUNTS = re.compile(r"(?m)^(?:.*: )?(\d+) (?:passed|runs), (\d+) failed$")
 OF_UNITTEST = re.compile(r"(?m)^Ran (\d+) tests? in [\d.]+s$")
 FAILED_OF_UNITTEST = re.compile(r"(?m)^FAILED \((.*)\)$")
@@ -78,23 +80,26 @@ def program_part(script, *words, quick=True, unproved=()):
 
 
 def parts():
-    """All parts, in the order in which they run."""
-    tests = sorted((ROOT / "tools").glob("test_*.py"))
-    return [
+    """All parts, in the order in which they run. A test in tests/ that isn't named here runs with the others of the program."""
+    scripts = sorted((ROOT / "tools").glob("test_*.py"))
+    named = [
         Part("ci", "proofs", ("rt", "ci")),
         Part("wrong_bodies", "wrong bodies", ("tools/wrong_bodies.py", "--after-ci")),
         Part("layout", SCRIPTS, ("tools/check_layout.py",), is_quick=True),
         Part("links", SCRIPTS, ("tools/check_links.py",), is_quick=True),
-        *(Part(it.stem, SCRIPTS, (f"tools/{it.name}",), is_quick=True) for it in tests),
+        *(Part(it.stem, SCRIPTS, (f"tools/{it.name}",), is_quick=True) for it in scripts),
         program_part("program.sh"),
         program_part("serving.py"),
-        program_part("replays.py", unproved=("--scripts", "200", "--pages", "1025")),
+        program_part("replays.py", unproved=("--scripts", "200", "--pages", "257")),
         program_part("requests.py", "--lines", "500"),
         program_part("check.py"),
         program_part("log.py", unproved=("--ratio", "0")),
         program_part("attack.py", unproved=("--memory", "100000")),
         Part("refusals", "tests of crates", ("tests/refusals.sh",)),
     ]
+    taken = {part.words[0] for part in named} | BY_HAND
+    others = [it.name for it in sorted((ROOT / "tests").iterdir()) if it.is_file() and os.access(it, os.X_OK)]
+    return [*named, *(program_part(it, quick=False) for it in others if f"tests/{it}" not in taken)]
 
 
 def counted(said, status):
@@ -188,6 +193,11 @@ def table(rows):
     return [*lines, *failed, f"{whole.passed} passed, {whole.failed} failed"]
 
 
+def kit():
+    """The toolchain's own line of which it is."""
+    return subprocess.run(["rt", "version"], stdout=subprocess.PIPE, text=True).stdout.strip()
+
+
 def main(words):
     options = argparse.ArgumentParser(description=__doc__, formatter_class=argparse.RawDescriptionHelpFormatter)
     options.add_argument("--quick", action="store_true")
@@ -205,7 +215,7 @@ def main(words):
     with tempfile.TemporaryDirectory(prefix="gate-") as room:
         program = unproved.Program(pathlib.Path(room)) if given.quick else lambda: (unproved.PROVED, True)
         rows = run_all(chosen, program, 2 if given.quick else 1)
-    print(*table(rows), sep="\n")
+    print(f"== with {kit()}", *table(rows), sep="\n")
     return 1 if any(row.failed for row in rows.values()) else 0
 
 

@@ -123,11 +123,20 @@ class Parts(unittest.TestCase):
             self.assertIn(it.row, gate.ROWS)
             self.assertTrue(it.words[0] == "rt" or os.access(gate.ROOT / it.words[0], os.X_OK), it.words[0])
 
-    def test_each_test_of_the_program_that_ends_by_itself_is_a_part(self):
-        run = {it.words[0] for it in gate.parts()}
-        for script in (gate.ROOT / "tests").iterdir():
-            if script.is_file() and os.access(script, os.X_OK) and script.name != "clients.py":
-                self.assertIn(f"tests/{script.name}", run)
+    def test_a_script_that_is_added_to_tests_is_a_part(self):
+        with tempfile.TemporaryDirectory() as room:
+            kept, gate.ROOT = gate.ROOT, pathlib.Path(room)
+            try:
+                for name, rights in (("later.py", 0o755), ("model.py", 0o644), ("clients.py", 0o755), ("log.py", 0o755)):
+                    (gate.ROOT / "tests").mkdir(exist_ok=True)
+                    (gate.ROOT / "tests" / name).touch()
+                    (gate.ROOT / "tests" / name).chmod(rights)
+                names = [it.name for it in gate.parts()]
+                self.assertEqual(names.count("log"), 1)
+                self.assertEqual([name for name in names if name in ("later", "model", "clients")], ["later"])
+                self.assertFalse([it for it in gate.parts() if it.name == "later"][0].is_quick)
+            finally:
+                gate.ROOT = kept
 
     def test_no_proof_is_quick(self):
         quick = {it.name for it in gate.parts() if it.is_quick}
