@@ -36,6 +36,14 @@ wrong-bodies:
 audit:
 	@tools/audit.py $(PROMISE)
 
+# Writes the parts of the documents that come from the sources: counts, the table of audits, pictures.
+.PHONY: documents
+documents:
+	tools/numbers_of_code.py --write
+	tools/audit.py --write
+	tools/draw_crates.py
+	tools/draw_ratios.py
+
 # Gopher clients that are installed, each asking a server of the example's site for a menu, a text, a search and an image.
 .PHONY: clients
 clients: crates/hole/out/hole

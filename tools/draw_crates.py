@@ -13,7 +13,7 @@ import sys
 from html import escape
 
 ROOT = pathlib.Path(__file__).resolve().parent.parent
-WIDTH, BOX, HEIGHT, ROW, MARGIN = 940, 132, 34, 74, 20
+WIDTH, BOX, HEIGHT, ROW, MARGIN = 940, 152, 34, 74, 20
 STYLE = """<style>
 text { font: 13px sans-serif; fill: #1a1a1a; text-anchor: middle }
 .note { fill: #7d8590; font-size: 12px }

@@ -2,7 +2,7 @@
 """Counts what README.md says of the size of the code and of its proofs.
 
     tools/numbers_of_code.py            prints the counts
-    tools/numbers_of_code.py --write    puts them into README.md, between its marks
+    tools/numbers_of_code.py --write    puts them into README.md: the table between its marks, and the numbers in its text
 
 The product is the program and the libraries below it: crates of tests, timings and examples don't count. A line counts
 unless it is empty or a comment. Lines are rounded to hundreds, definitions to tens.
@@ -10,6 +10,8 @@ unless it is empty or a comment. Lines are rounded to hundreds, definitions to t
 import pathlib
 import re
 import sys
+
+import audit
 
 ROOT = pathlib.Path(__file__).resolve().parent.parent
 PAGE = ROOT / "README.md"
@@ -77,9 +79,30 @@ def table(counts):
     return "\n".join(["| the program and its libraries | count |", "|---|---|", *rows])
 
 
+def in_text():
+    """The sentences of README that have numbers: a pattern with a group for each, and the numbers."""
+    tree = audit.Tree()
+    roots = [root for name in audit.PROMISES for root in audit.roots_of(tree, name)]
+    first = audit.text_of(tree, audit.roots_of(tree, "search"))[1]
+    return {
+        r"refuse each of ([\d,]+) deliberately wrong functions": [counted()["wrong bodies"]],
+        r"([\d,]+) lines for the first promise and ([\d,]+) for all five": [first, audit.text_of(tree, roots)[1]],
+    }
+
+
+def written(page):
+    """The README with the counts as they are."""
+    page = MARKS.sub(lambda found: f"{found[1]}{table(counted())}\n{found[2]}", page)
+    for pattern, numbers in in_text().items():
+        found = re.search(pattern, page)
+        for group, number in reversed([*enumerate(numbers, 1)]):
+            page = f"{page[:found.start(group)]}{number:,}{page[found.end(group):]}"
+    return page
+
+
 def main(words):
     if words == ["--write"]:
-        PAGE.write_text(MARKS.sub(lambda found: f"{found[1]}{table(counted())}\n{found[2]}", PAGE.read_text()))
+        PAGE.write_text(written(PAGE.read_text()))
     else:
         for name, count in counted().items():
             print(f"{count:7,} {name}")

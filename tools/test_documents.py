@@ -51,7 +51,7 @@ class Documents(unittest.TestCase):
     def test_named_crates_exist(self):
         for page in PAGES:
             for name in re.findall(r"\b((?:gopher|test|bench|example)_[a-z_]+)\b", page.read_text()):
-                known = (ROOT / "crates" / name).is_dir() or [*ROOT.glob(f"t*/{name}*")] or name in ALLOWED
+                known = (ROOT / "crates" / name).is_dir() or [*ROOT.glob(f"t*/{name}*")]
                 self.assertTrue(known, f"{page.name}: {name}")
 
     def test_the_pictures_are_current(self):
@@ -59,9 +59,6 @@ class Documents(unittest.TestCase):
             self.assertEqual((ROOT / name).read_text(), draw(), f"run tools/draw_crates.py for {name}")
         self.assertEqual(draw_ratios.PICTURE.read_text(), draw_ratios.picture(draw_ratios.ratios()), "run tools/draw_ratios.py")
 
-
-# words of the documents that look like names of crates
-ALLOWED = {"gopher_bytes", "test_", "bench_"}
 
 if __name__ == "__main__":
     unittest.main()

@@ -6,7 +6,6 @@ import sys
 import unittest
 
 sys.path.insert(0, str(pathlib.Path(__file__).resolve().parent))
-import audit
 import numbers_of_code as numbers
 
 ROOT = pathlib.Path(__file__).resolve().parent.parent
@@ -29,16 +28,11 @@ class Readme(unittest.TestCase):
             else:
                 self.assertAlmostEqual(stated[name] / count, 1, delta=OFF_BY, msg=f"{name}: run tools/numbers_of_code.py --write")
 
-    def test_wrong_bodies_are_counted_in_the_text_too(self):
-        named = re.search(r"refuse each of ([\d,]+) deliberately wrong functions", README)
-        self.assertEqual(plain(named[1]), numbers.counted()["wrong bodies"])
-
-    def test_lines_to_read_are_those_of_the_audit(self):
-        tree = audit.Tree()
-        first = audit.text_of(tree, audit.roots_of(tree, "search"))[1]
-        roots = [root for name in audit.PROMISES for root in audit.roots_of(tree, name)]
-        named = re.search(r"([\d,]+) lines for the first promise and ([\d,]+) for all five", README)
-        self.assertEqual([plain(one) for one in named.groups()], [first, audit.text_of(tree, roots)[1]])
+    def test_numbers_in_sentences_are_those_of_the_tree(self):
+        for pattern, wanted in numbers.in_text().items():
+            found = re.search(pattern, README)
+            self.assertIsNotNone(found, pattern)
+            self.assertEqual([plain(one) for one in found.groups()], wanted, "run tools/numbers_of_code.py --write")
 
     def test_quoted_code_is_in_the_file_that_is_named_last(self):
         for found in re.finditer(r"(?ms)^```(?:rust)?\n(.*?)^```", README):
@@ -65,8 +59,7 @@ class Readme(unittest.TestCase):
 
     def test_the_version_is_the_programs(self):
         version = re.search(r"This is version (\d+\.\d+\.\d+)\.", README)[1]
-        sources = [path.read_text() for path in ROOT.glob("crates/gopher_hole/src/**/*.rt")]
-        self.assertTrue(any(f'"{version}"' in text for text in sources), version)
+        self.assertTrue(any(f'"{version}"' in text for text in numbers.texts("src/**/*.rt")), version)
 
 
 if __name__ == "__main__":
