@@ -1,9 +1,10 @@
 # The commands of the README, the wrong bodies of one crate, and the timings of bench/.
 
-# Serves the example's site on localhost, built without its proofs, and tells how to ask it. Ctrl-C ends it.
+# Serves the example's site on localhost, built without its proofs, and prints how to ask it. Ctrl-C ends it.
+# make run SETTINGS=my.toml serves a folder of one's own.
 .PHONY: run
 run:
-	tools/run_example.py
+	tools/run_example.py $(SETTINGS)
 
 # Proves everything that the program stands on, and leaves it in crates/hole/out/hole.
 .PHONY: build
@@ -21,6 +22,7 @@ quick:
 	tools/gate.py --quick
 
 # The program beside the plain models of tests/, on scripts, folders and request lines that are drawn anew each time.
+# If there is no proved program, it begins with an hour of proofs.
 .PHONY: fuzz
 fuzz: crates/hole/out/hole
 	tests/replays.py --scripts 10000 --seed "$$(date)"
@@ -45,6 +47,7 @@ documents:
 	tools/draw_ratios.py
 
 # Gopher clients that are installed, each asking a server of the example's site for a menu, a text, a search and an image.
+# If there is no proved program, it begins with an hour of proofs.
 .PHONY: clients
 clients: crates/hole/out/hole
 	tests/clients.py
@@ -60,8 +63,11 @@ PREFIX = /usr/local
 DESTDIR =
 PROGRAM = crates/hole/out/hole
 SHARED = $(DESTDIR)$(PREFIX)/share
-INSTALLED_DOCUMENTS = README.md docs/OPERATING.md docs/SPECIFICATION.md
+INSTALLED_DOCUMENTS = packaging/README.md docs/OPERATING.md docs/SPECIFICATION.md CHANGELOG.md
 INSTALLED_EXAMPLES = $(shell find examples -type f)
+UNITS = $(DESTDIR)$(PREFIX)/lib/systemd/system
+UNIT_EXAMPLES = hole.path hole-restart.service hole.socket hole.logrotate
+WITH_PREFIX = sed 's|/usr/local/bin/|$(PREFIX)/bin/|g'
 
 .PHONY: install
 install:
@@ -69,20 +75,27 @@ install:
 	install -D -m 755 $(PROGRAM) $(DESTDIR)$(PREFIX)/bin/hole
 	install -D -m 755 tools/gophermap_to_menu.py $(DESTDIR)$(PREFIX)/bin/gophermap_to_menu
 	install -D -m 644 man/hole.1 $(SHARED)/man/man1/hole.1
+	install -D -m 644 man/gophermap_to_menu.1 $(SHARED)/man/man1/gophermap_to_menu.1
 	install -D -m 644 man/hole.toml.5 $(SHARED)/man/man5/hole.toml.5
 	install -D -m 644 -t $(SHARED)/doc/hole $(INSTALLED_DOCUMENTS)
 	for file in $(INSTALLED_EXAMPLES); do install -D -m 644 $$file $(SHARED)/doc/hole/$$file || exit 1; done
-	install -d $(DESTDIR)$(PREFIX)/lib/systemd/system
-	sed 's|^ExecStart=/usr/local/|ExecStart=$(PREFIX)/|' packaging/hole.service > $(DESTDIR)$(PREFIX)/lib/systemd/system/hole.service
-	chmod 644 $(DESTDIR)$(PREFIX)/lib/systemd/system/hole.service
+	install -d $(UNITS)
+	for file in $(UNIT_EXAMPLES); do \
+	    $(WITH_PREFIX) packaging/$$file > $(SHARED)/doc/hole/examples/$$file \
+	        && chmod 644 $(SHARED)/doc/hole/examples/$$file || exit 1; \
+	done
+	$(WITH_PREFIX) packaging/hole.service > $(UNITS)/hole.service
+	chmod 644 $(UNITS)/hole.service
 
 # Takes away what `make install` with the same PREFIX and DESTDIR put there, and nothing else: no settings, no site.
 .PHONY: uninstall
 uninstall:
 	rm -f $(DESTDIR)$(PREFIX)/bin/hole $(DESTDIR)$(PREFIX)/bin/gophermap_to_menu
-	rm -f $(SHARED)/man/man1/hole.1 $(SHARED)/man/man5/hole.toml.5
+	rm -f $(SHARED)/man/man1/hole.1 $(SHARED)/man/man1/gophermap_to_menu.1 $(SHARED)/man/man5/hole.toml.5
 	rm -rf $(SHARED)/doc/hole
 	rm -f $(DESTDIR)$(PREFIX)/lib/systemd/system/hole.service
 
 crates/hole/out/hole:
 	cd crates/hole && rt run -- replay < stdin > /dev/null
+
+include packaging/dist.mk
