@@ -1,7 +1,7 @@
-//! Folders of the file system: their names, what these lead to, and the bytes of files.
+//! Folders of the file system: their names, the targets of names, and the bytes of files.
 //!
 //! A name can vanish between any two calls, because other programs change the folder while it is
-//! read. What has vanished counts as a link that leads nowhere.
+//! read. A name that has vanished counts as a link that leads nowhere.
 
 ghost use Rattle.std.specs.Prelude.{◌≡◌, ◌≢◌, true, IfErr, IfOk, IfSome, None, Some, take, string_bytes, string_cmp};
 ghost use Rattle.std.specs.List.{All};
@@ -19,10 +19,10 @@ use std::io::{ErrorKind, Read};
 use std::path::{Path, PathBuf};
 use std::{fs, io};
 
-// How many bytes of a file are read: at most one more than a file may have.
+// The most bytes of a file that are read: one more than a file may have.
 const MOST_READ: u64 = LARGEST_FILE as u64 + 1;
 
-// What an entry of a folder leads to.
+// The target of an entry of a folder.
 #[derive(Clone, Copy)]
 pub(crate) enum Target {
     File,
@@ -30,7 +30,7 @@ pub(crate) enum Target {
     Neither,
 }
 
-// The fault of what can't be read; `number` files were listed before.
+// The fault of a file or folder that can't be read; `number` files were listed before.
 fn read_fault(error: io::Error, number: usize) -> TreeFault
     ensures memory { error_kind error ≡ ErrorKind.OutOfMemory → result ≡ TreeFault.NoMemory }
     ensures unreadable { error_kind error ≢ ErrorKind.OutOfMemory
@@ -43,7 +43,7 @@ fn read_fault(error: io::Error, number: usize) -> TreeFault
     }
 }
 
-// Whether a name is listed: a hidden one is not, but for `.menu`.
+// Whether a name is listed. Hidden names aren't, except `.menu`.
 fn is_shown(name: &[u8]) -> bool
     ensures { result ≡ is_shown name.now }
 {
@@ -54,7 +54,7 @@ fn is_shown(name: &[u8]) -> bool
     }
 }
 
-// Adds the name, where it is listed.
+// Appends the name if it is listed.
 fn push_shown(alloc: Global, name: &str, names: &mut Vec<String>) -> Result<(), AllocError>
     requires { All (λ shown. is_shown (string_bytes shown) ≡ true) names.old.items }
     ensures { All (λ shown. is_shown (string_bytes shown) ≡ true) names.new.items }
@@ -65,7 +65,7 @@ fn push_shown(alloc: Global, name: &str, names: &mut Vec<String>) -> Result<(), 
     Ok(())
 }
 
-// The names in a folder that are listed.
+// The listed names of a folder.
 fn shown_names<R: Files>(rt: &R, alloc: Global, folder: Path<'_>) -> io::Result<Vec<String>>
     ensures { IfOk result (λ names.
         All (λ name. is_shown (string_bytes name) ≡ true) names.items) }
@@ -77,13 +77,12 @@ fn shown_names<R: Files>(rt: &R, alloc: Global, folder: Path<'_>) -> io::Result<
     Ok(names)
 }
 
-// Whether nothing is there: a link leads nowhere or through a file, or a name has vanished.
+// Whether nothing exists: a link leads nowhere or through a file, or a name has vanished.
 fn is_missing(kind: ErrorKind) -> bool {
     matches!(kind, ErrorKind::NotFound | ErrorKind::NotADirectory)
 }
 
-// The names in a folder that are listed, in no order. A folder that has vanished has none, except for
-// the root.
+// The listed names of a folder in no order. A folder that has vanished has none, except the root.
 fn names_there<R: Files>(
     rt: &R,
     alloc: Global,
@@ -102,9 +101,8 @@ fn names_there<R: Files>(
     }
 }
 
-// The names in a folder that are listed, in the order of their bytes. A name that is not UTF-8 can't
-// be read, hidden or not. A folder that has vanished has none, except for the root. `number` files were
-// listed before.
+// The listed names of a folder in byte order. A name that isn't UTF-8 can't be read, hidden or not.
+// A folder that has vanished has none, except the root. `number` files were listed before.
 pub(crate) fn names_in<R: Files>(
     rt: &R,
     alloc: Global,
@@ -124,8 +122,8 @@ pub(crate) fn names_in<R: Files>(
     Ok(names)
 }
 
-// What a path leads to, through links; one that leads nowhere, as a link through a file does, leads to
-// neither a file nor a folder. It is found out without opening it: opening a device or a pipe can wait.
+// The target of a path, through links. A link that leads nowhere or through a file leads to neither
+// a file nor a folder. The path isn't opened, because opening a device or a pipe can block.
 pub(crate) fn target_of<R: Files>(
     rt: &R,
     path: Path<'_>,
@@ -140,7 +138,7 @@ pub(crate) fn target_of<R: Files>(
     }
 }
 
-// What it is that was found.
+// The target by its metadata.
 fn target_found(found: fs::Metadata) -> Target
     ensures folder { IsDir (file_type found) → result ≡ Target.Folder }
     ensures file { IsFile (file_type found) → result ≡ Target.File }
@@ -156,8 +154,8 @@ fn target_found(found: fs::Metadata) -> Target
     }
 }
 
-// The folder's path without links, so that a path through a link to a folder above it stays openable;
-// the path itself where that can't be found out.
+// The folder's path without links, so that a path through a link to a folder above stays short
+// enough to open. If it can't be computed, the path itself.
 pub(crate) fn without_links<R: Files>(
     rt: &R,
     alloc: Global,
@@ -172,8 +170,8 @@ pub(crate) fn without_links<R: Files>(
     }
 }
 
-// How many bytes of an open file are read: at most its length, and one over the largest file. None
-// where it is no regular file.
+// How many bytes of an open file are read: at most its length, and one over the largest file;
+// `None` if it isn't a regular file.
 fn most_read(found: &fs::Metadata) -> Option<u64>
     ensures file { IsFile (file_type found.now)
         → result ≡ Some (most_read (metadata_len found.now)) }
@@ -190,8 +188,7 @@ fn most_read(found: &fs::Metadata) -> Option<u64>
     }
 }
 
-// The bytes of a file. None where it has vanished, or something else than a regular file is at its path
-// by now.
+// The bytes of a file; `None` if it has vanished, or its path leads to no regular file by now.
 pub(crate) fn read_file<R: Files>(
     rt: &R,
     alloc: Global,
@@ -207,8 +204,8 @@ pub(crate) fn read_file<R: Files>(
     }
 }
 
-// The bytes of an open file, but none past its length: some files of the kernel, which say that they
-// have none, make a reader wait. None where it is no regular file.
+// The bytes of an open file up to its length, because reading can block at files of the kernel that
+// have length 0; `None` if it isn't a regular file.
 fn read_open<F: Read + OpenFile + Drop>(
     alloc: Global,
     file: F,
@@ -226,7 +223,7 @@ fn read_open<F: Read + OpenFile + Drop>(
     }
 }
 
-// So many bytes of a reader, or all of them where it has fewer.
+// The first `most` bytes of a reader, or all bytes if there are fewer.
 fn read_most<R: Read + Drop>(
     alloc: Global,
     reader: R,
