@@ -17,6 +17,7 @@ mod merging;
 mod occurrences;
 mod one_term;
 mod picking;
+mod plan;
 mod search;
 
 pub use due::Due;
