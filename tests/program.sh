@@ -91,5 +91,6 @@ count ends_well site examples/site
 count too_long
 count full_device
 count tests/serving.py "$program"
+count tests/streams.py "$program"
 echo "program: $passed passed, $failed failed"
 [ "$failed" = 0 ]
