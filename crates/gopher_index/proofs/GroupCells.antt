@@ -1,8 +1,8 @@
 -- What groups of terms say of the pages of a segment.
-use Rattle.std.proofs.Common.{◌≡◌, ℕ, zero, suc, ◌+◌, ◌*◌, ◌≤◌, Bool, true, List, [], ◌∷◌, ◌++◌, length, map, max, take, replicate, refl, sym, ap, ◌∙◌, arith}
+use Rattle.std.proofs.Common.{◌≡◌, ℕ, zero, suc, ◌+◌, ◌*◌, ◌≤◌, Bool, true, List, [], ◌∷◌, ◌++◌, length, map, max, replicate, refl, sym, ◌∙◌, arith}
 use Rattle.std.specs.List.{All}
 use Rattle.gopher_page.specs.Page.{PageData}
-use Rattle.gopher_page.specs.Query.{TermData, count_of_term, matches, score}
+use Rattle.gopher_page.specs.Query.{TermData, count_of_term, score}
 use Rattle.gopher_index.specs.Cells.{AreCells, term_counts, zipped}
 use Rattle.gopher_index.specs.Plan.{is_match, verdict_by, verdict, total, AreGroups, AreGroupCells}
 use Rattle.gopher_index.specs.declared.plan.Group.{Group}

@@ -1,9 +1,9 @@
 -- Terms of a query in groups of equal ones.
-use Rattle.std.proofs.Common.{◌≡◌, ℕ, zero, suc, ◌+◌, ◌*◌, ◌%◌, ◌≤◌, ◌<◌, Bool, true, false, cond, List, [], ◌∷◌, ◌++◌, length, map, max, take, get_or, set, refl, sym, ap, subst, ◌∙◌, arith, length-append, mul-le-mul_left}
+use Rattle.std.proofs.Common.{◌≡◌, ℕ, zero, suc, ◌+◌, ◌*◌, ◌%◌, ◌≤◌, ◌<◌, Bool, true, false, cond, List, [], ◌∷◌, ◌++◌, length, max, take, get_or, set, refl, sym, ap, subst, ◌∙◌, arith, length-append, mul-le-mul_left}
 use Rattle.std.specs.Prelude.{◌==◌, nat_lt}
 use Rattle.std.proofs.lemmas.List.{take_more}
 use Rattle.gopher_page.specs.Counts.{count_meant}
-use Rattle.gopher_page.specs.Query.{TermData, count_of_term, is_not, joined, matches, score}
+use Rattle.gopher_page.specs.Query.{TermData, count_of_term, is_not, joined}
 use Rattle.gopher_page.specs.declared.query.Operator.{Operator}
 use Rattle.gopher_page.specs.declared.query.Operator.TheVariants.{And, Or, Not}
 use Rattle.gopher_page.proofs.OneMoreTerm.{matches_one_more, score_one_more, score_of_none, all_match}

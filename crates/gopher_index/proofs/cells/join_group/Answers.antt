@@ -1,4 +1,4 @@
-use Rattle.std.proofs.Common.{◌≡◌, ◌+◌, ◌*◌, ◌≤◌, sym, subst}
+use Rattle.std.proofs.Common.{◌+◌, ◌*◌, ◌≤◌, sym, subst}
 use Rattle.std.specs.List.{All}
 use Rattle.gopher_index.proofs.GroupCells.{one_group, group_few}
 use Rattle.gopher_index.proofs.cells.join_group.Goals as goal

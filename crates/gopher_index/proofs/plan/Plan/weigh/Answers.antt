@@ -1,6 +1,6 @@
-use Rattle.std.proofs.Common.{◌≡◌, ◌+◌, ◌*◌, ◌≤◌, length, max, ap, sym, ◌∙◌, arith}
+use Rattle.std.proofs.Common.{◌≡◌, ◌+◌, ◌*◌, ◌≤◌, max, ap, sym, ◌∙◌, arith}
 use Rattle.gopher_page.specs.Query.{count_of_term}
-use Rattle.gopher_index.specs.Plan.{verdict_by, verdict, total, wanted_in}
+use Rattle.gopher_index.specs.Plan.{verdict_by, wanted_in}
 use Rattle.gopher_index.proofs.Groups.{next_verdict, next_total, next_wanted, times_few, wanted_first}
 use Rattle.gopher_index.proofs.plan.Plan.weigh.Goals as goal
 
