@@ -5,7 +5,6 @@ The last line is 'layout: N passed, M failed', of files; the status is 1 if any 
 """
 import pathlib
 import re
-import shutil
 import subprocess
 import sys
 
@@ -13,8 +12,9 @@ ROOT = pathlib.Path(__file__).resolve().parent.parent
 
 
 def main():
-    # `rt fmt` rewrites files, and what it calls for that also compares
-    rattle = pathlib.Path(shutil.which("rt")).resolve().parent / "rattle"
+    # `rt fmt` rewrites files, and what it calls for that also compares; `rt doc` prints a path in the toolchain's folder
+    page = subprocess.run(["rt", "doc"], stdout=subprocess.PIPE, text=True, check=True).stdout.strip()
+    rattle = pathlib.Path(page).parent / "bin" / "rattle"
     files = [it for folder in ("src", "specs", "proofs") for it in (ROOT / "crates").glob(f"*/{folder}/**/*") if it.suffix in (".rt", ".antt")]
     how = {"stdin": subprocess.DEVNULL, "stdout": subprocess.DEVNULL, "stderr": subprocess.PIPE, "text": True}
     ran = subprocess.run([rattle, "fmt", "--check", *sorted(files)], cwd=ROOT, **how)

@@ -21,7 +21,7 @@ import tempfile
 import threading
 import time
 from concurrent.futures import ThreadPoolExecutor
-from dataclasses import dataclass, field
+from dataclasses import dataclass, field, replace
 
 import shares
 import unproved
@@ -100,6 +100,14 @@ def parts():
     taken = {part.words[0] for part in named} | BY_HAND
     others = [it.name for it in sorted((ROOT / "tests").iterdir()) if it.is_file() and os.access(it, os.X_OK)]
     return [*named, *(program_part(it, quick=False) for it in others if f"tests/{it}" not in taken)]
+
+
+def chosen_of(names, is_quick):
+    """The parts of these names, or all, or the quick ones. Libraries count as left by `rt ci` only if it runs before."""
+    chosen = [it for it in parts() if it.name in names or not names and (it.is_quick or not is_quick)]
+    if any(it.name == "ci" for it in chosen):
+        return chosen
+    return [replace(it, words=tuple(word for word in it.words if word != "--after-ci")) for it in chosen]
 
 
 def counted(said, status):
@@ -204,11 +212,10 @@ def main(words):
     options.add_argument("--list", action="store_true")
     options.add_argument("parts", nargs="*", metavar="PART")
     given = options.parse_args(words)
-    every = parts()
-    unknown = set(given.parts) - {part.name for part in every}
+    unknown = set(given.parts) - {part.name for part in parts()}
     if unknown:
         options.error(f"no part is named {', '.join(sorted(unknown))}: --list prints them")
-    chosen = [part for part in every if part.name in given.parts or not given.parts and (part.is_quick or not given.quick)]
+    chosen = chosen_of(given.parts, given.quick)
     if given.list:
         print(*(part.name for part in chosen), sep="\n")
         return 0

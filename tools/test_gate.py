@@ -138,6 +138,11 @@ class Parts(unittest.TestCase):
             finally:
                 gate.ROOT = kept
 
+    def test_libraries_are_those_of_rt_ci_only_if_it_ran(self):
+        words = lambda names: [it.words for it in gate.chosen_of(names, False) if it.name == "wrong_bodies"][0]
+        self.assertEqual(words([]), ("tools/wrong_bodies.py", "--after-ci"))
+        self.assertEqual(words(["wrong_bodies"]), ("tools/wrong_bodies.py",))
+
     def test_no_proof_is_quick(self):
         quick = {it.name for it in gate.parts() if it.is_quick}
         self.assertFalse(quick & {"ci", "wrong_bodies", "refusals"})

@@ -275,7 +275,7 @@ def try_crate(edits, built):
 def mark_left():
     """Marks the libraries that `rt ci` has left as built of these sources. It leaves them without a mark, since they hold
     statements alone, and a check would build each anew."""
-    sys.path.insert(0, str(pathlib.Path(shutil.which("rt")).resolve().parent))
+    sys.path.insert(0, str(pathlib.Path(run(["rt", "doc"], ROOT).stdout.strip()).parent / "bin"))
     import rtlib
 
     for library in rtlib.crates_below(str(ROOT)):
