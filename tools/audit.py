@@ -38,7 +38,7 @@ PROMISES = {
         ("gopher_crew", "Kept::fail", ""),
         ("gopher_crew", "Pass::search", ""),
     ],
-    "requests": [("gopher_conversation gopher_serve", "advance", ""), ("gopher_serve", "Site: Answers", ""), ("gopher_serve", "answer", "")],
+    "requests": [("gopher_conversation", "advance", ""), ("gopher_serve", "Site: Answers", ""), ("gopher_serve", "answer_kept", "")],
     "closure": [
         ("gopher_catalogue", "closure::finished_crawl_gives_final_answers", ""),
         ("gopher_catalogue", "closure::finished_crawls_answer_alike", ""),

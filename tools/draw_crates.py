@@ -30,9 +30,9 @@ marker path { fill: #808080; stroke: none }
 # crates the first that has the function counts
 WAY = [
     ("socket", "bytes come in, in pieces", None, "pieces"),
-    ("server thread", "polls its connections", ("gopher_server gopher_hole", "serve_at"), "a ready stream"),
-    ("conversation", "finds the first line", ("gopher_conversation gopher_serve", "advance"), "a request line"),
-    ("answer", "makes the reply to a line", ("gopher_serve", "answer"), "a query"),
+    ("server thread", "polls its connections", ("gopher_server", "serve"), "a ready stream"),
+    ("conversation", "finds the first line", ("gopher_conversation", "advance"), "a request line"),
+    ("answer", "makes the reply to a line", ("gopher_serve", "answer_kept"), "a query"),
     ("snapshot", "takes the newest published record", ("gopher_crew", "Pass::search"), "a query"),
     ("index", "finds the first 50 hits", ("gopher_index", "Index::search"), ""),
 ]
