@@ -17,19 +17,14 @@ lacks the proof of a goal: not if the function only calls a refused one or passe
 file only names what the edit took away. What isn't refused in company is tried alone, with no blank body: 'NOT REFUSED' is
 then said of a function that is proved, and 'NOT PROVED, BY NAMES ALONE' of one whose proof file no longer fits, which shows
 nothing either way. The last line is 'N passed, M failed'; the status is 1 if any failed.
-
-A check is ended once it has said what each function lacks: it would go on to write out the open goals.
 """
-import contextlib
 import os
 import pathlib
 import re
 import shutil
-import signal
 import subprocess
 import sys
 import tempfile
-import time
 from concurrent.futures import ThreadPoolExecutor
 
 ROOT = pathlib.Path(os.environ.get("ROOT") or pathlib.Path(__file__).resolve().parent.parent)
@@ -150,26 +145,9 @@ def run(words, folder):
 
 
 def check(folder, functions):
-    """What a check of these functions says, up to what each of them lacks, and whether it came so far."""
-    times, only = folder.parent.parent / "times", [word for function in functions for word in ("--only", function)]
-    times.unlink(missing_ok=True)
-    words = ["rt", "check", "--jobs", "1", "--stage-times", str(times), *only]
-    is_judged = lambda: times.exists() and "\nstage lines " in times.read_text()
-    with tempfile.TemporaryFile() as said:
-        # (it is read where it stands: the check writes on behind it)
-        text = lambda: os.pread(said.fileno(), os.fstat(said.fileno()).st_size, 0).decode(errors="replace")
-        is_said = lambda: is_judged() and all(f"\nfn {folder.name}::{function}: " in text() for function in functions)
-        checking = subprocess.Popen(
-            words, cwd=folder, stdin=subprocess.DEVNULL, stdout=said, stderr=subprocess.STDOUT, start_new_session=True
-        )
-        try:
-            while checking.poll() is None and not is_said():
-                time.sleep(0.3)
-        finally:
-            with contextlib.suppress(ProcessLookupError):
-                os.killpg(checking.pid, signal.SIGTERM)
-            checking.wait()
-        return text(), is_judged()
+    """What a check of these functions says, and whether it judged them."""
+    said = run(["rt", "check", "--jobs", "1", *(word for function in functions for word in ("--only", function))], folder).stdout
+    return said, re.search(r"(?m)^only=", said) is not None
 
 
 def copy_of(crate, built, room):
