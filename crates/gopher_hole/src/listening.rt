@@ -11,10 +11,10 @@ use std::net::{Net, SocketAddr, ToSocketAddrs};
 use std::str;
 
 // The first descriptor that systemd's socket activation hands to a process (sd_listen_fds(3)).
-const FIRST_INHERITED: i32 = 3;
+const FIRST_INHERITED: u8 = 3;
 
 // How many of its sockets are listened at.
-const MAX_INHERITED: i32 = 64;
+const MAX_INHERITED: u8 = 64;
 
 // Tells on the error stream what the system said of an address.
 fn tell<R: Eprint>(rt: &R, host: &str, error: io::Error) {
@@ -75,23 +75,29 @@ fn number_of<R: Env + AllocGlobal>(rt: &R, name: &str) -> Option<i32> {
 }
 
 // How many sockets systemd's socket activation hands to this process (sd_listen_fds(3)).
-fn inherited_count<R: Env + AllocGlobal>(rt: &R) -> i32 {
+fn inherited_count<R: Env + AllocGlobal>(rt: &R) -> u8 {
     if number_of(rt, "LISTEN_PID") != Some(libc::getpid()) {
         return 0;
     }
-    number_of(rt, "LISTEN_FDS").unwrap_or(0).min(MAX_INHERITED)
+    let count = number_of(rt, "LISTEN_FDS").unwrap_or(0);
+    u8::try_from(count).unwrap_or(0).min(MAX_INHERITED)
 }
 
-// The sockets that systemd's socket activation hands to this process. No other value owns them.
+// The socket of a descriptor that no other value owns, as a listener whose `accept` waits for nobody.
+fn listener_of(descriptor: u8) -> TcpListener {
+    let socket = i32::from(descriptor);
+    let _refused = os::set_nonblocking(socket, true);
+    unsafe { TcpListener::from_raw_fd(socket) }
+}
+
+// The sockets that systemd's socket activation hands to this process.
 fn inherited<R: Env + AllocGlobal>(
     rt: &R,
     alloc: Global,
 ) -> Result<Vec<TcpListener>, ProgramFault> {
     let mut listeners = Vec::new(alloc);
     for index in 0..inherited_count(rt) {
-        let socket = FIRST_INHERITED.saturating_add(index);
-        let _refused = os::set_nonblocking(socket, true);
-        let listener = unsafe { TcpListener::from_raw_fd(socket) };
+        let listener = listener_of(FIRST_INHERITED.saturating_add(index));
         if listeners.push(listener).is_err() {
             return Err(ProgramFault::NoMemory);
         }
