@@ -308,6 +308,9 @@ def try_all(edits, below, is_built):
 
 
 def main(words):
+    if unknown := [word for word in words if word.startswith("-") and word not in ("--reasons", "--after-ci")]:
+        print(__doc__)
+        return 0 if unknown[0] in ("-h", "--help") else 2
     below = libraries_below()
     edits, failed = read_edits([word for word in words if not word.startswith("--")])
     if "--after-ci" in words:
