@@ -1,5 +1,5 @@
 #!/usr/bin/env python3
-"""Reads what the built program logs of requests (docs/SPECIFICATION.md, section 11), and what it tells of its crawl.
+"""Reads what the built program logs of requests (docs/SPECIFICATION.md, appendix B), and what it tells of its crawl.
 
     tests/log.py [--ratio R] [PROGRAM]
 
