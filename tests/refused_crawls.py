@@ -100,7 +100,7 @@ def is_end(line):
 
 def main():
     parser = argparse.ArgumentParser(description=__doc__.splitlines()[0])
-    parser.add_argument("--program", type=pathlib.Path, default=PROGRAM)
+    parser.add_argument("program", nargs="?", type=pathlib.Path, default=PROGRAM)
     words = parser.parse_args()
     tally = Tally("refused crawls")
     with tempfile.TemporaryDirectory() as folder:

@@ -99,12 +99,13 @@ def check_threads(tally, streams):
         tally.expect(f"of {threads} threads, {refused} don't start", (error, status), wanted)
 
 
+NO_THREAD = b"hole: a server thread can't be started\nhole: 82\n"
 # The number of server threads, which of the threads don't start, requests, and how the server ends.
 THREADS = [
-    (1, "1", "1", (b"hole: 82\n", 1)),
-    (2, "11", "1", (b"hole: 82\n", 1)),
-    (2, "01", "0", (b"hole: 82\n", 1)),
-    (2, "10", "0", (b"hole: 82\n", 1)),
+    (1, "1", "1", (NO_THREAD, 1)),
+    (2, "11", "1", (NO_THREAD, 1)),
+    (2, "01", "0", (NO_THREAD, 1)),
+    (2, "10", "0", (NO_THREAD, 1)),
 ]
 
 
