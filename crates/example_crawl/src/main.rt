@@ -12,7 +12,7 @@
 //!   of the blank.
 #![tactic(auto)]
 
-ghost use Rattle.std.specs.Prelude.{◌≡◌, []};
+ghost use Rattle.std.specs.Prelude.{◌≡◌, [], ◌≤◌, length};
 
 mod burrow;
 mod failed;
@@ -70,12 +70,15 @@ fn pairs<C: Crew>(alloc: Global, shares: Vec<Share<C>>) -> Result<Vec<(Burrow, S
     Ok(pairs)
 }
 
-// A search takes no lock: it could as well run in another thread, while the workers crawl.
+// A search takes no lock: it could as well run in another thread, while the workers crawl. The text of a
+// query has at most 1,024 bytes.
 fn print_hits<C: Crew, R: Print + AllocGlobal>(
     rt: &R,
     pass: &mut Pass<C>,
     text: &[u8],
-) -> Result<(), Failed> {
+) -> Result<(), Failed>
+    requires { length text.now ≤ 1024 }
+{
     let Ok(query) = Query::read(rt.alloc(), text) else {
         return Err(Failed::Refused);
     };
