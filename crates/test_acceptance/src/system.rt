@@ -1,6 +1,7 @@
 // The system of a test, as one on which the program runs.
 use gopher_hole::OpenLog;
 use std::alloc::{AllocError, Global};
+use std::env::Env;
 use std::fs::{File, Files};
 use std::net::{Net, TcpListener, TcpStream};
 use std::process::Abort;
@@ -15,6 +16,7 @@ pub trait Host: Files<File = File>
     + Threads
     + Wait
     + Clock
+    + Env
     + Eprint
     + AllocGlobal
     + Clone
@@ -31,6 +33,7 @@ impl<
         + Threads
         + Wait
         + Clock
+        + Env
         + Eprint
         + AllocGlobal
         + Clone

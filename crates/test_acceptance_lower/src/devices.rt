@@ -1,4 +1,6 @@
 // A reader and a writer in memory that are interrupted, that give or take little, and that fail.
+ghost use Rattle.std.specs.Prelude.{◌≡◌, length, IfOk};
+
 use std::io;
 use std::io::{Error, ErrorKind, Read, Write};
 
@@ -61,7 +63,9 @@ pub struct Narrow<'a> {
 }
 
 impl Narrow<'_> {
-    fn take(&mut self, bytes: &[u8]) -> io::Result<usize> {
+    fn take(&mut self, bytes: &[u8]) -> io::Result<usize>
+        ensures { IfOk result (λ count. count ≡ length bytes.now) }
+    {
         match self.left.strip_prefix(bytes) {
             Some(rest) => {
                 self.left = rest;
