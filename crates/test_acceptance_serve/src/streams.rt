@@ -1,10 +1,10 @@
-// Readers, writers and connections in memory that give or take little at a time, and that fail.
+// A stream in memory that gives and takes little at a time, and that fails.
 ghost use Rattle.std.specs.Prelude.{◌≡◌, IfOk};
 
 use std::io;
 use std::io::{Error, ErrorKind, Read, Write};
 
-/// How a device goes on once it has given or taken its bytes.
+/// How a stream goes on once it has given or taken its bytes.
 #[derive(Clone, Copy)]
 pub enum Ending {
     Ends,
@@ -24,28 +24,45 @@ impl Ending {
     }
 }
 
-/// Gives these bytes, so many a read, one of which is interrupted before each; then it goes on as
-/// `ending` says.
+/// Gives `bytes` and takes `room` bytes, which have to be those that `left` begins with, at most `size` a call, of
+/// which every other is interrupted. Then it goes on as `ending` says.
 #[derive(Clone, Copy)]
-pub struct Pieces<'a> {
+pub struct Stream<'a> {
     pub bytes: &'a [u8],
+    pub left: &'a [u8],
+    pub room: usize,
     pub size: usize,
-    pub interrupted: bool,
     pub ending: Ending,
+    pub interrupted: bool,
 }
 
-impl<'a> Pieces<'a> {
-    pub fn new(bytes: &'a [u8], size: usize, ending: Ending) -> Pieces<'a> {
-        Pieces {
+impl<'a> Stream<'a> {
+    /// One that gives these bytes.
+    pub fn giving(bytes: &'a [u8], size: usize, ending: Ending) -> Stream<'a> {
+        Stream {
             bytes,
+            left: b"",
+            room: 0,
             size,
-            interrupted: false,
             ending,
+            interrupted: false,
+        }
+    }
+
+    /// One that takes so many of these bytes, three at a time.
+    pub fn taking(left: &'a [u8], room: usize, ending: Ending) -> Stream<'a> {
+        Stream {
+            bytes: b"",
+            left,
+            room,
+            size: 3,
+            ending,
+            interrupted: false,
         }
     }
 }
 
-impl Read for Pieces<'_> {
+impl Read for Stream<'_> {
     fn read(&mut self, buf: &mut [u8]) -> io::Result<usize> {
         if self.bytes.is_empty() {
             return self.ending.answer();
@@ -59,30 +76,7 @@ impl Read for Pieces<'_> {
     }
 }
 
-/// Takes `room` bytes, so many a write, one of which is interrupted before each; then it goes on as
-/// `ending` says.
-#[derive(Drop)]
-pub struct Narrow {
-    pub held: Vec<u8>,
-    pub room: usize,
-    pub size: usize,
-    pub interrupted: bool,
-    pub ending: Ending,
-}
-
-impl Narrow {
-    pub fn new(held: Vec<u8>, room: usize, size: usize, ending: Ending) -> Narrow {
-        Narrow {
-            held,
-            room,
-            size,
-            interrupted: false,
-            ending,
-        }
-    }
-}
-
-impl Write for Narrow {
+impl Write for Stream<'_> {
     fn write(&mut self, buf: &[u8]) -> io::Result<usize> {
         if self.room == 0 {
             return self.ending.answer();
@@ -92,32 +86,12 @@ impl Write for Narrow {
             return Err(Error::new(ErrorKind::Interrupted, "again"));
         }
         let count = buf.len().min(self.size).min(self.room);
-        self.held.extend_from_slice(&buf[..count])?;
+        let Some(rest) = self.left.strip_prefix(&buf[..count]) else {
+            return Err(Error::other("other bytes"));
+        };
+        self.left = rest;
         self.room -= count;
         Ok(count)
-    }
-
-    fn flush(&mut self) -> io::Result<()> {
-        Ok(())
-    }
-}
-
-/// A connection to a server in memory: it gives what `reader` gives, and holds what it is sent.
-#[derive(Drop)]
-pub struct Connection<'a> {
-    pub reader: Pieces<'a>,
-    pub writer: Narrow,
-}
-
-impl Read for Connection<'_> {
-    fn read(&mut self, buf: &mut [u8]) -> io::Result<usize> {
-        self.reader.read(buf)
-    }
-}
-
-impl Write for Connection<'_> {
-    fn write(&mut self, buf: &[u8]) -> io::Result<usize> {
-        self.writer.write(buf)
     }
 
     fn flush(&mut self) -> io::Result<()> {
