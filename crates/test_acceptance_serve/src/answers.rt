@@ -9,7 +9,7 @@ use crate::sites::{
 use crate::streams::{Ending, Stream};
 use gopher_crew::{Blank, Crew, Pass};
 use gopher_replies::Replies;
-use gopher_serve::{Answers, ServeFault, Site, answer, serve_one, serve_with};
+use gopher_serve::{Answers, ServeFault, Site, answer, serve_one};
 use gopher_text::Watched;
 use std::alloc::Global;
 use std::marker::Brand;
@@ -61,27 +61,39 @@ fn answers_all<C: Crew>(alloc: Global, site: &mut Site<'_, C>, rows: Rows) -> bo
     true
 }
 
+// Whether a line has this reply.
+fn has_reply<C: Crew>(alloc: Global, site: &mut Site<'_, C>, line: &[u8], wanted: &[u8]) -> bool {
+    match site.answer(alloc, line) {
+        Ok(reply) => reply.as_slice() == wanted,
+        Err(_) => false,
+    }
+}
+
 // Whether a line of 1,024 bytes is answered, and one of 1,025 is a bad request.
 fn bounds_a_line<C: Crew>(alloc: Global, site: &mut Site<'_, C>) -> bool {
     let mut line = [b'x'; 1_025];
     line[..7].copy_from_slice(b"/a.txt\t");
-    let short = site.answer(alloc, &line[..1_024]);
-    let long = site.answer(alloc, &line);
-    short.is_ok_and(|reply| reply.as_slice() == HELLO)
-        && long.is_ok_and(|reply| reply.as_slice() == BAD_REQUEST)
+    has_reply(alloc, site, &line[..1_024], HELLO) && has_reply(alloc, site, &line, BAD_REQUEST)
 }
 
-// How `serve_with` ends, how much of these bytes it leaves unread, and how much of the reply it leaves unsent.
+// How `serve_one` ends, how much of these bytes it leaves unread, and how much of the reply it leaves unsent.
 fn served<C: Crew>(
     alloc: Global,
-    site: &mut Site<'_, C>,
-    bytes: &[u8],
-    ending: Ending,
+    replies: &Replies,
+    pass: &mut Pass<C>,
+    given: (&[u8], Ending),
     reply: &[u8],
 ) -> (Option<ServeFault>, usize, usize) {
-    let mut reader = Watched::new(Stream::giving(bytes, 1, ending));
+    let mut reader = Watched::new(Stream::giving(given.0, 1, given.1));
     let mut writer = Watched::new(Stream::taking(reply, 100, Ending::Fails));
-    let end = serve_with(alloc, site, &mut reader, &mut writer);
+    let end = serve_one(
+        alloc,
+        replies.tree(),
+        replies.home(),
+        pass,
+        &mut reader,
+        &mut writer,
+    );
     (
         end.err(),
         reader.into_inner().bytes.len(),
@@ -90,11 +102,14 @@ fn served<C: Crew>(
 }
 
 // Whether one line is served and the rest isn't read, and a line too long or a read that fails writes nothing.
-fn serves<C: Crew>(alloc: Global, site: &mut Site<'_, C>) -> bool {
-    let long = [b'a'; 1_026];
-    served(alloc, site, b"/a.txt\r\nextra", Ending::Ends, HELLO) == (None, 5, 0)
-        && served(alloc, site, &long, Ending::Ends, b"") == (Some(ServeFault::LineTooLong), 0, 0)
-        && served(alloc, site, b"/a.t", Ending::Fails, b"") == (Some(ServeFault::ReadFailed), 0, 0)
+fn serves<C: Crew>(alloc: Global, replies: &Replies, pass: &mut Pass<C>) -> bool {
+    let one = (b"/a.txt\r\nextra".as_slice(), Ending::Ends);
+    let long = ([b'a'; 1_026], Ending::Ends);
+    let failing = (b"/a.t".as_slice(), Ending::Fails);
+    served(alloc, replies, pass, one, HELLO) == (None, 5, 0)
+        && served(alloc, replies, pass, (&long.0, long.1), b"")
+            == (Some(ServeFault::LineTooLong), 0, 0)
+        && served(alloc, replies, pass, failing, b"") == (Some(ServeFault::ReadFailed), 0, 0)
 }
 
 // Whether each of the lines has its reply from the tree, not from replies that are kept.
@@ -108,27 +123,12 @@ fn makes_all<C: Crew>(alloc: Global, replies: &Replies, pass: &mut Pass<C>, rows
     true
 }
 
-// Whether `serve_one` sends the reply to one line, and reads no more.
-fn serves_one<C: Crew>(alloc: Global, replies: &Replies, pass: &mut Pass<C>) -> bool {
-    let mut reader = Watched::new(Stream::giving(b"/a.txt\r\nextra", 1, Ending::Ends));
-    let mut writer = Watched::new(Stream::taking(HELLO, 100, Ending::Fails));
-    let end = serve_one(
-        alloc,
-        replies.tree(),
-        replies.home(),
-        pass,
-        &mut reader,
-        &mut writer,
-    );
-    end.is_ok() && reader.into_inner().bytes.len() == 5 && writer.into_inner().left.is_empty()
-}
-
 // Whether lines are answered by a desk with one pass and one share.
 fn answers_at_a_desk<C: Crew, R: Wait + AllocGlobal>(
     rt: &R,
     replies: &Replies,
     blank: Blank,
-) -> Option<[bool; 8]>
+) -> Option<[bool; 7]>
     requires name { blank.name ≡ C.name }
     requires parts { blank.parts ≡ C.parts }
     requires history { blank.history ≡ C.history }
@@ -139,10 +139,9 @@ fn answers_at_a_desk<C: Crew, R: Wait + AllocGlobal>(
     let mut site = Site::new(replies, pass);
     let early = answers_all(alloc, &mut site, EARLY);
     let is_bounded = bounds_a_line(alloc, &mut site);
-    let is_served = serves(alloc, &mut site);
     let mut pass = site.into_pass();
     let is_made = makes_all(alloc, replies, &mut pass, EARLY);
-    let is_sent = serves_one(alloc, replies, &mut pass);
+    let is_served = serves(alloc, replies, &mut pass);
     let is_found = finds_docs(rt, alloc, &desk, &mut share, &mut pass);
     let mut site = Site::new(replies, pass);
     let late = answers_all(alloc, &mut site, LATE);
@@ -150,9 +149,8 @@ fn answers_at_a_desk<C: Crew, R: Wait + AllocGlobal>(
     Some([
         early,
         is_bounded,
-        is_served,
         is_made,
-        is_sent,
+        is_served,
         is_found && late,
         is_closed,
         answers_all(alloc, &mut site, CLOSED),
@@ -165,5 +163,5 @@ fn lines_are_answered(rt: HostRuntime) {
         panic!(rt; "no replies");
     };
     let answered = answers_at_a_desk::<Brand, _>(&rt, &replies, Blank::new());
-    assert!(rt; answered == Some([true; 8]));
+    assert!(rt; answered == Some([true; 7]));
 }
