@@ -1,31 +1,28 @@
 # The commands of the README, the wrong bodies of one crate, and the timings of bench/.
 
-# Serves the example's site on localhost, built without its proofs, and tells how to ask it. Ctrl-C ends it.
+# Serves the example's site on localhost, built without its proofs, and prints how to ask it. Ctrl-C ends it.
+# make run SETTINGS=my.toml serves a folder of one's own.
 .PHONY: run
 run:
-	tools/run_example.py
+	tools/run_example.py $(SETTINGS)
 
 # Proves everything that the program stands on, and leaves it in crates/hole/out/hole.
 .PHONY: build
 build:
 	cd crates/hole && rt run -- --version
 
-# Every proof and test from nothing, the wrong bodies, and the program as a user runs it.
+# Every proof and test from nothing, the wrong bodies, and the program as a user runs it; a table of all of it at the end.
 .PHONY: test
 test:
-	rt ci
-	tools/test_wrong_bodies.py
-	tools/test_gophermap_to_menu.py
-	tools/wrong_bodies.py --after-ci
-	tests/program.sh
-	tests/replays.py
-	tests/requests.py --lines 500
-	tests/check.py
-	tests/log.py
-	tests/attack.py
-	tests/refusals.sh
+	tools/gate.py
+
+# What needs no proof, in minutes: layout, scripts, links, and the tests of the program, built without its proofs if need be.
+.PHONY: quick
+quick:
+	tools/gate.py --quick
 
 # The program beside the plain models of tests/, on scripts, folders and request lines that are drawn anew each time.
+# If there is no proved program, it begins with an hour of proofs.
 .PHONY: fuzz
 fuzz: crates/hole/out/hole
 	tests/replays.py --scripts 10000 --seed "$$(date)"
@@ -36,7 +33,21 @@ fuzz: crates/hole/out/hole
 wrong-bodies:
 	tools/wrong_bodies.py --reasons $(CRATE)
 
+# What has to be read to believe a promise: its clauses and the definitions that they reach. make audit PROMISE=search
+.PHONY: audit
+audit:
+	@tools/audit.py $(PROMISE)
+
+# Writes the parts of the documents that come from the sources: counts, the table of audits, pictures.
+.PHONY: documents
+documents:
+	tools/numbers_of_code.py --write
+	tools/audit.py --write
+	tools/draw_crates.py
+	tools/draw_ratios.py
+
 # Gopher clients that are installed, each asking a server of the example's site for a menu, a text, a search and an image.
+# If there is no proved program, it begins with an hour of proofs.
 .PHONY: clients
 clients: crates/hole/out/hole
 	tests/clients.py
@@ -52,8 +63,11 @@ PREFIX = /usr/local
 DESTDIR =
 PROGRAM = crates/hole/out/hole
 SHARED = $(DESTDIR)$(PREFIX)/share
-INSTALLED_DOCUMENTS = README.md docs/OPERATING.md docs/SPECIFICATION.md
+INSTALLED_DOCUMENTS = packaging/README.md docs/OPERATING.md docs/SPECIFICATION.md CHANGELOG.md
 INSTALLED_EXAMPLES = $(shell find examples -type f)
+UNITS = $(DESTDIR)$(PREFIX)/lib/systemd/system
+UNIT_EXAMPLES = hole.path hole-restart.service hole.socket hole.logrotate
+WITH_PREFIX = sed 's|/usr/local/bin/|$(PREFIX)/bin/|g'
 
 .PHONY: install
 install:
@@ -61,20 +75,27 @@ install:
 	install -D -m 755 $(PROGRAM) $(DESTDIR)$(PREFIX)/bin/hole
 	install -D -m 755 tools/gophermap_to_menu.py $(DESTDIR)$(PREFIX)/bin/gophermap_to_menu
 	install -D -m 644 man/hole.1 $(SHARED)/man/man1/hole.1
+	install -D -m 644 man/gophermap_to_menu.1 $(SHARED)/man/man1/gophermap_to_menu.1
 	install -D -m 644 man/hole.toml.5 $(SHARED)/man/man5/hole.toml.5
 	install -D -m 644 -t $(SHARED)/doc/hole $(INSTALLED_DOCUMENTS)
 	for file in $(INSTALLED_EXAMPLES); do install -D -m 644 $$file $(SHARED)/doc/hole/$$file || exit 1; done
-	install -d $(DESTDIR)$(PREFIX)/lib/systemd/system
-	sed 's|^ExecStart=/usr/local/|ExecStart=$(PREFIX)/|' packaging/hole.service > $(DESTDIR)$(PREFIX)/lib/systemd/system/hole.service
-	chmod 644 $(DESTDIR)$(PREFIX)/lib/systemd/system/hole.service
+	install -d $(UNITS)
+	for file in $(UNIT_EXAMPLES); do \
+	    $(WITH_PREFIX) packaging/$$file > $(SHARED)/doc/hole/examples/$$file \
+	        && chmod 644 $(SHARED)/doc/hole/examples/$$file || exit 1; \
+	done
+	$(WITH_PREFIX) packaging/hole.service > $(UNITS)/hole.service
+	chmod 644 $(UNITS)/hole.service
 
 # Takes away what `make install` with the same PREFIX and DESTDIR put there, and nothing else: no settings, no site.
 .PHONY: uninstall
 uninstall:
 	rm -f $(DESTDIR)$(PREFIX)/bin/hole $(DESTDIR)$(PREFIX)/bin/gophermap_to_menu
-	rm -f $(SHARED)/man/man1/hole.1 $(SHARED)/man/man5/hole.toml.5
+	rm -f $(SHARED)/man/man1/hole.1 $(SHARED)/man/man1/gophermap_to_menu.1 $(SHARED)/man/man5/hole.toml.5
 	rm -rf $(SHARED)/doc/hole
 	rm -f $(DESTDIR)$(PREFIX)/lib/systemd/system/hole.service
 
 crates/hole/out/hole:
 	cd crates/hole && rt run -- replay < stdin > /dev/null
+
+include packaging/dist.mk

@@ -1,8 +1,9 @@
 #!/usr/bin/env bash
 # Every timing: scripts replayed, menus and texts read and written, beside a plain C program that splits
-# them, settings read, a site loaded and its replies made, a host in memory of 16,384 texts crawled by 4, 2
-# and 1 workers, and a catalogue of 65,536 pages built and searched, beside a plain C program that makes the
-# same pages, adds them to postings and searches these.
+# them, settings and a site of 4,006 files checked, requests and searches of the server, beside a plain C
+# server of the same replies, a host in memory of 16,384 texts crawled by 4, 2 and 1 workers, and a
+# catalogue of 65,536 pages built and searched, beside a plain C program that makes the same pages, adds
+# them to postings and searches these.
 set -euo pipefail
 cd "$(dirname "$0")/.."
 (cd crates/hole && rt run -- replay < stdin > /dev/null)
@@ -17,9 +18,11 @@ for file in menu reply text; do
     crates/bench_measure/out/bench_measure "$kind" "$folder/$file"
     "$folder/splits" "$kind" "$folder/$file"
 done
-crates/bench_measure/out/bench_measure settings examples/hole.toml
-crates/bench_measure/out/bench_measure site "$folder/site"
-crates/bench_measure/out/bench_measure replies "$folder/site"
+printf 'host = "localhost"\nroot = "%s"\n' "$folder/site" > "$folder/site.toml"
+bench/check.sh crates/hole/out/hole examples/hole.toml "$folder/site.toml"
+cc -O2 -pthread -o "$folder/plain_server" bench/plain_server.c
+cc -O2 -pthread -o "$folder/clients" bench/clients.c
+bench/speeds.py crates/hole/out/hole "$folder/plain_server" "$folder/clients"
 bench/pages.py "$folder/pages"
 crates/bench_measure/out/bench_measure search "$folder/pages"
 bench/pages.py "$folder/crawled" 16384

@@ -5,14 +5,16 @@
 
 A crowd of clients that say nothing, send a byte a second, read nothing of 8 MiB, or reset in mid-reply stays for N seconds
 (7 without N). Then come lines at and over the limit, lines that ask for what lies outside of the folder or is hidden, lines
-without an end, clients that send on, and more silent clients than there are seats. Every ordinary client has to be
+without an end, clients that send on, more silent clients than there are places, descriptors that are short, and clients
+that ask for 8 MiB and read nothing. Every ordinary client has to be
 answered whole within SOON seconds, the program's memory has to stay below KIB (24,576 without it; a build with an address
 sanitizer, as `rt try` makes, takes some 64,000), and the program has to end well. The last line is
-'attack: N passed, M failed'. It takes about N + 2 seconds, and at most some minutes where the program fails, since a server
+'attack: N passed, M failed'. It takes about N + 30 seconds, and at most some minutes where the program fails, since a server
 that goes on for too long is killed.
 """
 import argparse
 import contextlib
+import os
 import pathlib
 import resource
 import socket
@@ -30,7 +32,9 @@ SILENT, SLOW, DEAF, ORDINARY = 1_000, 200, 50, 4
 RESETS_A_SECOND = 15
 SOON = 5.0
 MOST_MEMORY = 24_576  # KiB, of a server whose files have 9 MiB
-SEATED = 100
+PLACES = 100
+MAX_HELD = 300_000_000
+MIB = 1 << 20
 LARGE = bytes(range(256)) * 32_768
 MIDDLE = bytes(range(256)) * 256
 WIDE = b"moon and sun\n" * 20_000
@@ -230,18 +234,44 @@ def eager_reply(port, line, replies):
         replies.append(b"")
 
 
+def slow_reply(port, line, replies, rate):
+    """Asks, sends on, and reads so many bytes a second, of which its own system holds few."""
+    try:
+        with socket.socket() as client:
+            client.setsockopt(socket.SOL_SOCKET, socket.SO_RCVBUF, 65_536)
+            client.settimeout(WAIT)
+            client.connect((HOST, port))
+            with contextlib.suppress(OSError):
+                client.sendall(line + b"more\r\n" * 3_000)
+            parts = []
+            with contextlib.suppress(ConnectionResetError):
+                while part := client.recv(65_536):
+                    parts.append(part)
+                    with contextlib.suppress(OSError):
+                        client.sendall(b"more\r\n")
+                    time.sleep(len(part) / rate)
+            replies.append(b"".join(parts))
+    except OSError:
+        replies.append(b"")
+
+
 def attack_by_senders(tally, folder, root, files, given):
     """Clients that send on without an end, and clients that send on after their line."""
     asked = [(b"/large.png\r\n", LARGE)] * 12 + [(b"/middle.png\r\n", MIDDLE)] * 12
-    with Server(given.program, folder, root, words=("--requests", str(len(asked) + 12))) as server:
+    with Server(given.program, folder, root, words=("--requests", str(len(asked) + 13))) as server:
         server.started()
         tally.expect("endless lines that were closed", sum(flood(server.port) for _ in range(10)), 10)
         replies = {LARGE: [], MIDDLE: []}
+        slow = []
+        reading = threading.Thread(target=slow_reply, args=(server.port, b"/large.png\r\n", slow, MIB))
+        reading.start()
         clients = [threading.Thread(target=eager_reply, args=(server.port, line, replies[reply])) for line, reply in asked]
         for client in clients:
             client.start()
         for client in clients:
             client.join(2 * WAIT)
+        reading.join(2 * WAIT)
+        tally.expect("a whole reply to a client that sends on and reads 1 MiB a second", slow == [LARGE], True)
         tally.expect("whole replies of 8 MiB to clients that send on", replies[LARGE].count(LARGE), 12)
         tally.expect("whole replies of 64 KiB to clients that send on", replies[MIDDLE].count(MIDDLE), 12)
         check_memory(tally, server, given.memory)
@@ -261,22 +291,122 @@ def is_closed(client):
         return True
 
 
-def attack_by_seats(tally, folder, root, files, given):
-    """More silent clients than there are seats; the quietest go. The server is then ended by a signal."""
-    few_files = ("sh", "-c", f'ulimit -n {SEATED + 64}; exec "$@"', "sh")
+def closed_among(clients):
+    """The places in the list of the clients whose connections are closed."""
+    return [place for place, client in enumerate(clients) if is_closed(client)]
+
+
+def settled(clients, wanted):
+    """The places of the closed clients, once they are as many as wanted or some seconds are over."""
+    until = time.monotonic() + SOON
+    while len(closed_among(clients)) < wanted and time.monotonic() < until:
+        time.sleep(0.05)
+    time.sleep(0.3)
+    return closed_among(clients)
+
+
+def with_few_files(files):
+    """What starts a program that may hold open so many files."""
+    return ("sh", "-c", f'ulimit -n {files}; exec "$@"', "sh")
+
+
+def attack_by_waiting(tally, folder, root, files, given):
+    """As many silent clients as there are places, and more: as many are closed as are too many, the longest idle first."""
+    for threads in (1, 2, 4, 8):
+        with contextlib.ExitStack() as ends:
+            more = f"threads = {threads}\n"
+            server = ends.enter_context(Server(given.program, folder, root, more=more, before=with_few_files(PLACES + 64)))
+            server.started()
+            site = Site(HOST.encode(), server.port, files)
+            silent = [ends.enter_context(connect(server.port)) for _ in range(PLACES)]
+            tally.expect(f"clients closed at {threads} threads while there is room", settled(silent, 1), [])
+            silent += [ends.enter_context(connect(server.port)) for _ in range(3 * PLACES)]
+            closed = settled(silent, 3 * PLACES)
+            tally.expect(f"clients closed at {threads} threads", len(closed), 3 * PLACES)
+            if threads == 1:
+                tally.expect("the longest idle are closed", closed, list(range(3 * PLACES)))
+            ordinary = [Ordinary(site, 20, 0.0) for _ in range(ORDINARY)]
+            for client in ordinary:
+                client.join(2 * SOON)
+            answered = sum(client.answered for client in ordinary)
+            tally.expect(f"ordinary clients answered at {threads} threads", answered, 20 * ORDINARY)
+            closed = len(closed_among(silent))
+            tally.expect(f"{closed} silent clients went for them", closed <= 3 * PLACES + 2 * ORDINARY, True)
+            server.process.terminate()
+            tally.expect("a server that is ended by SIGTERM", server.end(), (b"", b"", -15))
+
+
+def attack_by_use(tally, folder, root, _files, given):
+    """A client that sends on is not the longest idle."""
     with contextlib.ExitStack() as ends:
-        server = ends.enter_context(Server(given.program, folder, root, before=few_files))
+        server = ends.enter_context(Server(given.program, folder, root, more="threads = 1\n", before=with_few_files(PLACES + 64)))
+        server.started()
+        slow = ends.enter_context(connect(server.port))
+        silent = [ends.enter_context(connect(server.port)) for _ in range(PLACES - 1)]
+        for byte in b"/a.txt":
+            time.sleep(0.3)
+            slow.sendall(bytes([byte]))
+            time.sleep(0.3)
+            silent += [ends.enter_context(connect(server.port)) for _ in range(PLACES // 2)]
+        slow.sendall(b"\r\n")
+        tally.expect("a client that sends on is answered", read_all(slow), b"hello\r\n.\r\n")
+
+
+def attack_by_refused_accepts(tally, folder, root, files, given):
+    """Descriptors are short for a moment: a client waits, or the one idle longest is closed; no thread ends."""
+    with contextlib.ExitStack() as ends:
+        server = ends.enter_context(Server(given.program, folder, root, more="threads = 2\n", words=("--requests", "14")))
         server.started()
         site = Site(HOST.encode(), server.port, files)
-        silent = [ends.enter_context(connect(server.port)) for _ in range(4 * SEATED)]
-        ordinary = [Ordinary(site, 20, 0.0) for _ in range(ORDINARY)]
-        for client in ordinary:
-            client.join(2 * SOON)
-        tally.expect("ordinary clients answered where seats are short", sum(client.answered for client in ordinary), 20 * ORDINARY)
-        closed = sum(map(is_closed, silent))
-        tally.expect(f"{closed} silent clients were closed, at least {3 * SEATED}", closed >= 3 * SEATED, True)
-        server.process.terminate()
-        tally.expect("a server that is ended by SIGTERM", server.end(), (b"", b"", -15))
+        number = server.process.pid
+        _, most = resource.prlimit(number, resource.RLIMIT_NOFILE)
+        resource.prlimit(number, resource.RLIMIT_NOFILE, (len(os.listdir(f"/proc/{number}/fd")), most))
+        waiting = ends.enter_context(connect(server.port))
+        waiting.sendall(b"/a.txt\r\n")
+        time.sleep(0.2)
+        resource.prlimit(number, resource.RLIMIT_NOFILE, (1_024, most))
+        began = time.monotonic()
+        tally.expect("a client that waited for a descriptor", read_all(waiting), b"hello\r\n.\r\n")
+        tally.expect("it is answered soon", time.monotonic() - began < 1.0, True)
+        silent = [ends.enter_context(connect(server.port)) for _ in range(10)]
+        tally.expect("a client beside silent ones", ask_whole(server.port, b"/a.txt\r\n"), b"hello\r\n.\r\n")
+        resource.prlimit(number, resource.RLIMIT_NOFILE, (len(os.listdir(f"/proc/{number}/fd")), most))
+        tally.expect("a client while descriptors are short", ask_whole(server.port, b"/a.txt\r\n"), site.reply(b"/a.txt\r\n"))
+        closed = settled(silent, 1)
+        tally.expect(f"silent clients closed for it: {closed}", 1 <= len(closed) <= 4, True)
+        resource.prlimit(number, resource.RLIMIT_NOFILE, (1_024, most))
+        tally.expect("a client after that", ask_whole(server.port, b"/a.txt\r\n"), b"hello\r\n.\r\n")
+        for client in silent:
+            client.close()
+        tally.expect("no thread has ended by it", server.end()[1:], (b"", 0))
+
+
+def kernel_bytes():
+    """How many bytes the system holds for connections."""
+    lines = pathlib.Path("/proc/net/sockstat").read_text().splitlines()
+    fields = next(line.split() for line in lines if line.startswith("TCP:"))
+    return int(fields[fields.index("mem") + 1]) * resource.getpagesize()
+
+
+def attack_by_deaf(tally, folder, root, files, given):
+    """Many clients ask for 8 MiB and read nothing: the system holds little for each, and ordinary clients are answered."""
+    with contextlib.ExitStack() as ends:
+        server = ends.enter_context(Server(given.program, folder, root))
+        server.started()
+        site = Site(HOST.encode(), server.port, files)
+        before = kernel_bytes()
+        deaf = [ends.enter_context(connect(server.port)) for _ in range(SILENT)]
+        for client in deaf:
+            client.sendall(b"/large.png\r\n")
+        times = []
+        for _ in range(200):
+            began = time.monotonic()
+            tally.expect("an ordinary client beside deaf ones", ask_whole(server.port, b"/a.txt\r\n"), site.reply(b"/a.txt\r\n"))
+            times.append(time.monotonic() - began)
+        held = kernel_bytes() - before
+        tally.expect(f"{held} bytes of the system are below {MAX_HELD}", held < MAX_HELD, True)
+        tally.expect(f"{sorted(times)[197]:.3f} s are soon", sorted(times)[197] < 0.5, True)
+        print(f"attack: {held} bytes of the system for {SILENT} deaf clients; p99 {sorted(times)[197]:.3f} s", flush=True)
 
 
 def raise_limit():
@@ -299,7 +429,8 @@ def main():
     with tempfile.TemporaryDirectory() as place:
         folder = pathlib.Path(place)
         root, files = lay_out(folder)
-        for attack in (attack_by_crowd, attack_by_lines, attack_by_senders, attack_by_seats):
+        attacks = (attack_by_crowd, attack_by_lines, attack_by_senders, attack_by_waiting, attack_by_use, attack_by_refused_accepts, attack_by_deaf)
+        for attack in attacks:
             try:
                 attack(tally, folder, root, files, given)
             except OSError as error:

@@ -38,6 +38,7 @@ MISSING = ("nothing is there", "make the folder, or correct root in the settings
 NOT_FOLDER = ("a folder is wanted, and this is none", "correct root in the settings")
 LOOP = ("links lead to one another without an end", "take the link away")
 NOT_TOML = ("the settings are not TOML", "mend this line: texts stand in quotation marks")
+TWICE = ("the key on this line was given before", "take one of the two lines away")
 NO_KEY = ("the key is missing, or one that its tables need", "add it: hole.toml(5) tells the keys")
 WRONG_KIND = (
     "the value is of another kind, or one in its tables",
@@ -101,7 +102,9 @@ class Checked:
         return ran.stdout, ran.stderr, ran.returncode
 
     def check(self):
-        return self.run("check", str(self.settings))
+        """What is told, without the addresses of the host, which are the system's (tests/listen.py)."""
+        output, error, status = self.run("check", str(self.settings))
+        return b"".join(line for line in output.splitlines(True) if not line.startswith(b"resolves to")), error, status
 
     def serve(self):
         """How a server ends that takes no connection: its line on standard error, and its status."""
@@ -195,6 +198,8 @@ FAULTS = {
         lambda site: [site.add(b"x"), say(HEAD + 'root = "ROOT/x"\n')(site)], "26", told(26, "ROOT/x/", NOT_FOLDER)
     ),
     "no TOML": (say(HEAD + "\nroot = ROOT\n"), "30", told(30, "FILE", NOT_TOML, "line: 3")),
+    "a key twice": (more("port = 71\n"), "30", told(30, "FILE", TWICE, "line: 4", "key: port")),
+    "a table twice": (more('[[allow]]\nhost = "a"\n[allow]\n'), "30", told(30, "FILE", TWICE, "line: 6", "key: [allow]")),
     "no host": (say('root = "ROOT"\n'), "31 host", told(31, "FILE", NO_KEY, "key: host")),
     "no root": (say(HEAD), "31 root", told(31, "FILE", NO_KEY, "key: root")),
     "a seed without a host": (more('[[seeds]]\nselector = "/"\n'), "31 seeds", told(31, "FILE", NO_KEY, "key: seeds")),
@@ -223,6 +228,54 @@ FAULTS = {
         lambda site: [site.settings.unlink(), site.settings.mkdir()], "80", told(80, "FILE", UNREADABLE)
     ),
 }
+FAULTS |= {
+    "the fourth file, behind a menu file": (
+        lambda site: [site.add(path) for path in (b"a/.menu", b"a/x", b"a.txt", b"b\tc")], "20 file 3",
+        told(20, "ROOT/b\\tc", BAD_NAME),
+    ),
+    "a link to its own folder": (put_link("a", "."), "22 file 0", told(22, "ROOT/" + "/".join("a" * 128), LONG)),
+}
+# Settings, some on lines of their own, with the line of their fault.
+SETTINGS = {
+    "host =": "30",
+    "port = 70": "31 host",
+    "host = 1": "32 host",
+    'host = "h"\nport = 0': "33 port",
+    'host = "h"\nroot = "r"\nseeds = [{ port = 70 }]': "31 seeds",
+    'host = "h"\nroot = "r"\nallow = [1]': "32 allow",
+    "colour = 1": "34",
+    "": "31 host",
+    'host = ""\nroot = 1': "33 host",
+    'host = "h"\nport = 70.0': "32 port",
+    'host = "h"\nport = -1': "33 port",
+    'host = "h"\nport = 65536': "33 port",
+    'host = "h"': "31 root",
+    'host = "h"\nroot = ""': "33 root",
+    'tries = 9\n[[deny]]\nhost = "h"\nselector = ""': "34",
+}
+# The same behind a host and a root.
+MORE_SETTINGS = {
+    "seeds = {}": "32 seeds",
+    'seeds = [{ host = "h" }, { host = "h", type = "2" }]': "33 seeds",
+    'seeds = [{ host = 1, type = "2" }]': "33 seeds",
+    'seeds = [{ host = "h", selector = "\\t" }]': "33 seeds",
+    "allow = [{ host = 1, port = 0 }]": "32 allow",
+    'deny = [{ host = "h", prefix = 7 }]\nplaces = 0': "32 deny",
+    "places = 0": "33 places",
+    "places = 65537": "33 places",
+    "workers = 17": "33 workers",
+    "threads = 9\ntries = 0": "33 threads",
+    "tries = 0": "33 tries",
+    "tries = 6": "33 tries",
+    'tries = "1"': "32 tries",
+    '[[allow]]\nhost = "h"\n' * 257: "33 allow",
+}
+# Lines that a menu file may not have, and some that it may.
+BAD_LINES = [
+    b"0x\ta\tb", b"0x\ta\tb\t70x", b"0x\ta\tb\t65536", b"0x\ta\tb\t", b"0x\ta\tb\t70\t+", b"0x\ta\tb c\t70", b"0x\ta\t\t70",
+    b"x\0", b"x\r", b"0x\ta\0", b"0x\ra\tb", b".x\ta", b" x\ta", b"\ta", b"0x\t" + b"a" * 256,
+]
+GOOD_LINES = [b"0x\t" + b"a" * 255, b".", b".\r\n", b"\n", b"0x\ta\t b \t 70 ", b"0x\ta\tb\t0\n"]
 CLOSED = {
     "a folder that may not be listed": (put_closed("shut"), "26", told(26, "ROOT/shut", DENIED)),
     "a file that may not be read": (put_closed("shut.txt", b"a\n"), "26", told(26, "ROOT/shut.txt", DENIED)),
@@ -243,6 +296,45 @@ def check_faults(tally, program, faults, user=None):
             for shut in site.root.rglob("*"):
                 if not shut.is_symlink():
                     shut.chmod(0o755)
+
+
+def check_lines(tally, program):
+    """Settings by the line of their fault, and lines of menu files."""
+    with tempfile.TemporaryDirectory() as place:
+        site = Checked(pathlib.Path(place), program)
+        behind = {f'host = "h"\nroot = "{site.root}"\n{text}': line for text, line in MORE_SETTINGS.items()}
+        for text, line in (SETTINGS | behind).items():
+            site.write(text + "\n")
+            tally.expect(f"{text[:80]!r}: ends a server so", site.serve(), (f"hole: {line}\n".encode(), 1))
+        site.write(f'host = "h"\nroot = "{site.root}"\n' + '[[allow]]\nhost = "h"\n' * 256)
+        tally.expect("256 rules", site.check()[1:], (b"", 0))
+        for line in BAD_LINES:
+            site.add(b".menu", line)
+            tally.expect(f"{line[:20]} in a menu file", site.check()[1:], (b"hole: 24 file 0 line 1\n", 1))
+        for line in GOOD_LINES:
+            site.add(b".menu", line)
+            tally.expect(f"{line[:20]} in a menu file", site.check()[1:], (b"", 0))
+
+
+def check_limits(tally, program):
+    """Folders that are as large as they may be, and one file more."""
+    with tempfile.TemporaryDirectory() as place:
+        site = Checked(pathlib.Path(place), program)
+        put_folders(MOST_NODES - 2)(site)
+        (site.root / "search").mkdir()
+        tally.expect("the most folders, one of them named search", site.check()[1:], (b"", 0))
+        site.add(b"zz")
+        tally.expect("the most folders and a file", site.check()[1:], (b"hole: 23 file 0\n", 1))
+    with tempfile.TemporaryDirectory() as place:
+        site = Checked(pathlib.Path(place), program)
+        put_sparse(*[LARGEST_FILE] * (MOST_BYTES // LARGEST_FILE), 0)(site)
+        tally.expect("the most bytes, and an empty file", site.check()[1:], (b"", 0))
+    with tempfile.TemporaryDirectory() as place:
+        site = Checked(pathlib.Path(place), program)
+        put_folders(40)(site)
+        for name in ("a", "b"):
+            put_link(name, "../root")(site)
+        tally.expect("two links to a wide folder", site.check()[1:], (b"hole: 23 file 0\n", 1))
 
 
 def check_sound(tally, program):
@@ -300,6 +392,8 @@ def main():
     tally = Tally("check")
     check_sound(tally, program)
     check_faults(tally, program, FAULTS)
+    check_lines(tally, program)
+    check_limits(tally, program)
     check_closed(tally, program)
     check_words(tally, program)
     return tally.status()

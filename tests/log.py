@@ -1,5 +1,5 @@
 #!/usr/bin/env python3
-"""Reads what the built program logs of requests (docs/SPECIFICATION.md, section 11), and what it tells of its crawl.
+"""Reads what the built program logs of requests (docs/SPECIFICATION.md, appendix B), and what it tells of its crawl.
 
     tests/log.py [--ratio R] [PROGRAM]
 
@@ -25,7 +25,7 @@ import tempfile
 import time
 from concurrent.futures import ThreadPoolExecutor
 
-from server import HOST, PROGRAM, ROOT, WAIT, Server, Tally, ask, connect
+from server import HOST, PROGRAM, ROOT, WAIT, Server, Tally, ask, connect, refusing
 
 LARGE = bytes(range(256)) * 32_768
 LINE = re.compile(rb"(\d{4})-(\d\d)-(\d\d)T(\d\d):(\d\d):(\d\d)\.(\d{6})Z\t([^\t]*)\t([^\t]*)\t([^\t]*)\t(\d+)\t(\d+)")
@@ -109,6 +109,78 @@ def check_escapes(tally, room):
         ask(server.port, odd + b"\t" + odd + b"\t" + odd + b"\r\n")
         server.end()
     tally.expect("each byte is escaped", [request[2:4] for request in logged(path)], [(escaped(odd), escaped(odd))])
+
+
+def check_idle(tally, room):
+    """A server that logs sleeps while nobody asks."""
+    with room.serve("--log", room.folder / "idle") as server:
+        server.started()
+        ask(server.port, b"/a.txt\r\n")
+        time.sleep(1.0)
+        before = switches(server.process.pid)
+        time.sleep(2.0)
+        tally.expect("wakes of an idle server in 2 s are few", switches(server.process.pid) - before <= 2, True)
+
+
+def switches(number):
+    """How often the threads of a process went to sleep so far."""
+    return sum(
+        int(line.split()[1])
+        for status in pathlib.Path(f"/proc/{number}/task").glob("*/status")
+        for line in status.read_text().splitlines()
+        if line.startswith("voluntary_ctxt_switches:")
+    )
+
+
+def check_refused_watch(tally, room):
+    """A connection that the system refuses to watch has its line."""
+    path = room.folder / "unwatched"
+    before = refusing(room.folder, REFUSED_WATCHES=1)
+    words = ["--log", str(path), "--requests", "1"]
+    with Server(room.program, room.folder, room.root, more="threads = 1\n", words=words, before=before) as server:
+        server.started()
+        with connect(server.port) as client:
+            client.sendall(b"/large.png\r\n")
+            time.sleep(0.5)
+            with contextlib.suppress(OSError):
+                while client.recv(65_536):
+                    pass
+        tally.expect("a server that can't watch ends well", server.end(), (SIZES, b"", 0))
+    found = logged(path)
+    tally.expect("the line of a connection that isn't watched", [request[2] for request in found], [b"/large.png"])
+    tally.expect("its bytes", 0 < found[0][4] < len(LARGE), True)
+
+
+def check_closed(tally, room):
+    """A connection that is closed since all places are taken has its line."""
+    path = room.folder / "closed"
+    before = ("sh", "-c", 'ulimit -n 66; exec "$@"', "sh")
+    words = ["--log", str(path)]
+    with Server(room.program, room.folder, room.root, more="threads = 1\n", words=words, before=before) as server:
+        server.started()
+        with connect(server.port) as deaf, connect(server.port) as second:
+            deaf.sendall(b"/large.png\r\n")
+            time.sleep(0.3)
+            with connect(server.port) as third:
+                time.sleep(0.3)
+                time.sleep(1.0)
+                tally.expect("lines while the others wait", [request[2] for request in logged(path)], [b"/large.png"])
+                tally.expect("clients that wait", [is_open(deaf), is_open(second), is_open(third)], [False, True, True])
+        server.process.terminate()
+        server.end()
+
+
+def is_open(client):
+    """Whether the server hasn't closed the connection of a client; what it was sent is read."""
+    client.setblocking(False)
+    try:
+        while client.recv(1 << 20):
+            pass
+        return False
+    except BlockingIOError:
+        return True
+    except OSError:
+        return False
 
 
 def check_silence(tally, room):
@@ -263,7 +335,10 @@ def check_ratio(tally, room, least):
     tally.expect("each request was logged", len(logged(path)), REQUESTS * (ROUNDS + 1))
 
 
-CHECKS = (check_fields, check_escapes, check_silence, check_reset, check_threads, check_unread, check_never_read, check_progress)
+CHECKS = (
+    check_fields, check_escapes, check_idle, check_refused_watch, check_closed, check_silence, check_reset, check_threads,
+    check_unread, check_never_read, check_progress,
+)
 
 
 def main():

@@ -102,14 +102,15 @@ class Page:
         titled = [shown(line) for line in lines if words_of(line)]
         self.title = (titled + [shown(selector) or host[:69]])[0]
         self.counts = Counter(word for line in lines for word in words_of(line))
-        self.links = []
+        links = {}
         for _, item in entries:
             try:
                 link = place_of(*item) if item else None
             except Refused:
                 continue
-            if link and is_allowed(link) and link not in self.links:
-                self.links.append(link)
+            if link and is_allowed(link):
+                links[link] = None
+        self.links = list(links)
 
     def count(self, term):
         _, word, is_prefix = term

@@ -1,11 +1,9 @@
 #!/usr/bin/env bash
-# Runs the built program as a user would, and compares what it writes and how it ends.
+# Runs the built program as a user would, and compares what it writes and how it ends: tests/program.sh [PROGRAM].
 set -euo pipefail
 cd "$(dirname "$0")/.."
-program=crates/hole/out/hole
-measure=crates/bench_measure/out/bench_measure
+program=${1:-crates/hole/out/hole}
 [ -x "$program" ] || (cd crates/hole && rt run -- replay < stdin > /dev/null)
-[ -x "$measure" ] || (cd crates/bench_measure && rt run > /dev/null)
 folder=$(mktemp -d)
 trap 'rm -rf "$folder"' EXIT
 passed=0
@@ -30,11 +28,6 @@ as_wanted() {
   return 1
 }
 
-# The examples are read without a fault.
-ends_well() {
-  "$measure" "$@" > "$folder/written" && [ -s "$folder/written" ]
-}
-
 # Words that aren't the program's: status 2, and a text on the error stream.
 refused() {
   local code=0
@@ -44,7 +37,7 @@ refused() {
   return 1
 }
 
-# Help and the version: status 0, and a text on the output stream.
+# Help, the version and a check of the example's site: status 0, and a text on the output stream.
 shown() {
   "$program" "$@" > "$folder/written" 2> "$folder/told" < /dev/null && [ -s "$folder/written" ] && [ ! -s "$folder/told" ]
 }
@@ -86,10 +79,8 @@ count as_wanted "$(cat examples/whole_search.script)\n" \
   0 'ok\nknown 1 waiting 1 out 0 done 0 dropped 0\ntake\t0\t1\th.example\t70\t\nidle\nadded 2 0\nknown 3 waiting 2 out 0 done 1 dropped 0\ntake\t1\t1\th.example\t70\t/moon\nrefused 53\ntake\t2\t0\th.example\t70\t/sun.txt\nidle\nadded 0 0\nok\nfinished\nrefused 52\nrefused 52\nhits 2\nhit\t3\t1\th.example\t70\t\tMoon pages\nhit\t3\t0\th.example\t70\t/sun.txt\tThe sun and the moon.\nhits 1\nhit\t1\t0\th.example\t70\t/sun.txt\tThe sun and the moon.\nrefused 40\nhits 0\nplaces 2\nat\t3\t1\th.example\t70\t\nat\t3\t0\th.example\t70\t/sun.txt\nknown 3 waiting 0 out 0 done 3 dropped 0\n' '' replay
 count as_wanted "$(cat examples/first_crawl.script)\n" \
   0 'ok\ntake\t0\t1\tlocalhost\t70\t\nadded 1 0\ntake\t1\t1\tlocalhost\t70\t/docs\nok\nfinished\nknown 2 waiting 0 out 0 done 2 dropped 0\n' '' replay
-count ends_well settings examples/hole.toml
-count ends_well site examples/site
+count shown check examples/hole.toml
 count too_long
 count full_device
-count tests/serving.py "$program"
 echo "program: $passed passed, $failed failed"
 [ "$failed" = 0 ]

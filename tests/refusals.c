@@ -1,36 +1,51 @@
-/* Loaded before a program: refuses the allocation whose number, from 1, is in REFUSED, and writes the number of all
-   allocations to the file that COUNTED names. */
+/* Loaded before a program: refuses allocations, and writes the number of all that it counted to the file that COUNTED
+   names, if there is one. Counted are the allocations of at least LEAST bytes, without it all of them. Of these it refuses
+   the one whose number, from 1, is in REFUSED, or each one where REFUSED is `all`. */
 #define _GNU_SOURCE
 #include <dlfcn.h>
 #include <fcntl.h>
 #include <stdatomic.h>
 #include <stdio.h>
 #include <stdlib.h>
+#include <string.h>
+#include <sys/syscall.h>
 #include <unistd.h>
 
 static atomic_long count;
 
-static int is_refused(void) {
-  const char *refused = getenv("REFUSED");
-  return atomic_fetch_add(&count, 1) + 1 == (refused ? atol(refused) : 0);
+static int is_refused(size_t size) {
+  const char *refused = getenv("REFUSED"), *least = getenv("LEAST");
+  if (least && size < strtoul(least, NULL, 10)) return 0;
+  long number = atomic_fetch_add(&count, 1) + 1;
+  return refused && (!strcmp(refused, "all") || number == atol(refused));
 }
 
 void *malloc(size_t size) {
   static void *(*real)(size_t);
   if (!real) real = dlsym(RTLD_NEXT, "malloc");
-  return is_refused() ? NULL : real(size);
+  return is_refused(size) ? NULL : real(size);
 }
 
 void *realloc(void *old, size_t size) {
   static void *(*real)(void *, size_t);
   if (!real) real = dlsym(RTLD_NEXT, "realloc");
-  return is_refused() ? NULL : real(old, size);
+  return is_refused(size) ? NULL : real(old, size);
 }
 
 /* takes no memory itself */
-__attribute__((destructor)) static void tell(void) {
+static void tell(void) {
   char text[32];
+  const char *counted = getenv("COUNTED");
+  if (!counted) return;
   int length = snprintf(text, sizeof text, "%ld\n", atomic_load(&count));
-  int file = open(getenv("COUNTED"), O_WRONLY | O_CREAT | O_TRUNC, 0600);
-  if (file < 0 || write(file, text, (size_t)length) != length) _exit(2);
+  int file = open(counted, O_WRONLY | O_CREAT | O_TRUNC, 0600);
+  if (file < 0 || write(file, text, (size_t)length) != length) syscall(SYS_exit_group, 2);
+}
+
+__attribute__((destructor)) static void tell_at_exit(void) { tell(); }
+
+void _exit(int status) {
+  tell();
+  syscall(SYS_exit_group, status);
+  __builtin_unreachable();
 }

@@ -65,15 +65,25 @@ def ask(port, line, host=HOST):
         return read_all(client)
 
 
-class Server:
-    """A server of a folder, by the settings and more words; `before` stands before the program's name."""
+def refusing(folder, **variables):
+    """What starts a program with tests/refusing.c loaded before it, and these variables in its environment."""
+    library = folder / "refusing.so"
+    if not library.exists():
+        subprocess.run(["cc", "-O2", "-shared", "-fPIC", "-o", str(library), str(ROOT / "tests/refusing.c")], check=True)
+    return ("env", f"LD_PRELOAD={library}", *(f"{name}={value}" for name, value in variables.items()))
 
-    def __init__(self, program, folder, root, more="", words=(), port=None, host=HOST, before=(), seconds=MOST_SECONDS):
+
+class Server:
+    """A server of a folder, by the settings and more words; `before` stands before the program's name, and it has the
+    sockets `fds`."""
+
+    def __init__(self, program, folder, root, more="", words=(), port=None, host=HOST, before=(), seconds=MOST_SECONDS, fds=()):
         self.port = port or free_port()
         settings = folder / f"settings-{self.port}.toml"
         settings.write_text(f'host = "{host}"\nport = {self.port}\nroot = "{root}"\n{more.replace("PORT", str(self.port))}')
         self.process = subprocess.Popen(
-            [*before, str(program), "serve", str(settings), *words], stdout=subprocess.PIPE, stderr=subprocess.PIPE
+            [*before, str(program), "serve", str(settings), *words],
+            stdout=subprocess.PIPE, stderr=subprocess.PIPE, pass_fds=[each.fileno() for each in fds],
         )
         self.watchdog = threading.Timer(seconds, self.process.kill)
         self.watchdog.daemon = True

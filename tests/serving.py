@@ -151,6 +151,24 @@ def check_crawl(folder, root):
         expect("the crawl", (output, error, status), (b"known 3 waiting 0 out 0 done 3 dropped 0\n", b"", 0))
 
 
+def check_hits(folder, _root):
+    """A served search has at most 50 hits: of as many words each, the first in the order of places."""
+    root = folder / "moons"
+    root.mkdir()
+    for number in range(60):
+        (root / f"m{number:02}.txt").write_text(f"moon {number:02}\n")
+    rules = f'places = 100\nseeds = [{{ host = "{HOST}", port = PORT }}]\nallow = [{{ host = "{HOST}", port = PORT }}]\n'
+    with Server(folder, root, more=rules) as server:
+        server.started()
+        where = f"\t{HOST}\t{server.port}\r\n"
+        wanted = "".join(f"0moon {number:02}\t/m{number:02}.txt{where}" for number in range(50)).encode() + b".\r\n"
+        reply, until = b"", time.monotonic() + WAIT
+        while reply != wanted and time.monotonic() < until:
+            time.sleep(0.3)
+            reply = ask(server.port, b"/search\tmoon\r\n")
+        expect("a search with 50 hits", reply, wanted)
+
+
 def check_example(folder, _root):
     """The site of examples/, as its settings have it, but for the host and the port."""
     rules = f'''places = 1000
@@ -172,13 +190,92 @@ allow = [{{ host = "{HOST}", port = PORT }}]
         expect("a text of the example", ask(port, b"/frogs/common-frog.txt\r\n"), text)
 
 
+def hand_over(sockets):
+    """What starts a program with these sockets as those of socket activation, sd_listen_fds(3)."""
+    numbers = [str(each.fileno()) for each in sockets]
+    code = (
+        "import fcntl, os, sys\n"
+        "kept = [fcntl.fcntl(int(number), fcntl.F_DUPFD, 100) for number in sys.argv[1].split(',')]\n"
+        "for place, number in enumerate(kept):\n    os.dup2(number, 3 + place)\n"
+        "os.environ.update(LISTEN_PID=str(os.getpid()), LISTEN_FDS=str(len(kept)))\n"
+        "os.execv(sys.argv[2], sys.argv[2:])\n"
+    )
+    return (sys.executable, "-c", code, ",".join(numbers))
+
+
+def check_addresses(folder, root):
+    """Each address of a host is served, and one that can be bound is enough."""
+    found = {info[4][0] for info in socket.getaddrinfo("localhost", None, type=socket.SOCK_STREAM)}
+    with Server(folder, root, host="localhost", words=("--requests", str(len(found)))) as server:
+        expect("the line of a host", server.started(), f"listening localhost {server.port}\n".encode())
+        for address in sorted(found):
+            expect(f"a text at {address}", ask(server.port, b"/a.txt\r\n", address), b"hello\r\n.\r\n")
+        expect("the end of a host", server.end()[1:], (b"", 0))
+    if len(found) < 2:
+        print(f"serving: localhost has one address here: {found}")
+        return
+    with socket.socket() as taken:
+        taken.bind(("127.0.0.1", 0))
+        taken.listen()
+        with Server(folder, root, host="localhost", port=taken.getsockname()[1], words=("--requests", "1")) as server:
+            expect("the line of half a host", server.started(), f"listening localhost {server.port}\n".encode())
+            expect("a text at ::1", ask(server.port, b"/a.txt\r\n", "::1"), b"hello\r\n.\r\n")
+            error = server.end()[1]
+            expect("what is told of the other", error.startswith(f"hole: can't listen at 127.0.0.1:{server.port}: ".encode()), True)
+
+
+def check_activation(folder, root):
+    """Sockets that are handed over are served in place of the settings' address; one that is no listener ends the threads."""
+    with socket.socket() as first, socket.socket() as second, socket.socket() as other:
+        for each in (first, second):
+            each.bind((HOST, 0))
+            each.listen()
+        ports = [each.getsockname()[1] for each in (first, second)]
+        for each in (first, second, other):
+            each.set_inheritable(True)
+        server = Server(folder, root, before=hand_over((first, second)), words=("--requests", "2"), fds=(first, second))
+        with server:
+            server.started()
+            for port in ports:
+                expect("a text at a socket that was handed over", ask(port, b"/a.txt\r\n"), b"hello\r\n.\r\n")
+            expect("the end of handed over sockets", server.end()[1:], (b"", 0))
+        other.bind((HOST, 0))
+        with Server(folder, root, before=hand_over((other,)), fds=(other,)) as server:
+            output, error, status = server.end()
+            expect("a socket that doesn't listen", (error.splitlines()[-1], status), (b"hole: 81", 1))
+            told = error.startswith(b"hole: connections can't be accepted: ")
+            expect("what is told of it", told, True)
+
+
+def check_refused_threads(folder, root):
+    """Threads that the system refuses: for the progress of the crawl, for one of two servers, for the only one."""
+    sizes = b"known 0 waiting 0 out 0 done 0 dropped 0\n"
+    before = serving.refusing(folder, REFUSED_THREADS=2)
+    with Server(folder, root, more="threads = 1\n", before=before, words=("--progress", "--requests", "1")) as server:
+        server.started()
+        expect("a text without a thread for the progress", ask(server.port, b"/a.txt\r\n"), b"hello\r\n.\r\n")
+        expect("the end without it", server.end(), (sizes, sizes, 0))
+    told = b"hole: a server thread can't be started\nhole: 82\n"
+    with Server(folder, root, more="threads = 2\n", before=before, words=("--requests", "1")) as server:
+        server.started()
+        expect("a text by one of two threads", ask(server.port, b"/a.txt\r\n"), b"hello\r\n.\r\n")
+        expect("the end of one of two threads", server.end(), (b"", told, 1))
+    before = serving.refusing(folder, REFUSED_THREADS=1)
+    with Server(folder, root, more="threads = 1\n", before=before) as server:
+        server.started()
+        expect("the end without a thread", server.end(), (b"", told, 1))
+
+
 def check_faults(folder, root):
     """The line of each fault, and its status."""
     taken = socket.socket()
     taken.bind((HOST, 0))
     taken.listen()
     with Server(folder, root, port=taken.getsockname()[1]) as server:
-        expect("a port that is taken", server.end(), (b"", b"hole: 81\n", 1))
+        told = f"hole: can't listen at {HOST}:{server.port}: ".encode()
+        output, error, status = server.end()
+        expect("a port that is taken", (output, error.startswith(told), status), (b"", True, 1))
+        expect("its fault", error.splitlines()[1:], [b"hole: 81"])
     taken.close()
     with Server(folder, folder / "absent") as server:
         expect("no folder", server.end(), (b"", b"hole: 26\n", 1))
@@ -197,7 +294,8 @@ def main():
     with tempfile.TemporaryDirectory() as name:
         folder = pathlib.Path(name)
         root = site(folder)
-        checks = (check_replies, check_lines, check_large, check_silent, check_crawl, check_example, check_faults)
+        checks = (check_replies, check_lines, check_large, check_silent, check_crawl, check_hits, check_example, check_addresses, check_activation)
+        checks += (check_refused_threads, check_faults)
         for check in checks:
             check(folder, root)
     return tally.status()

@@ -21,7 +21,7 @@ NOWHERE = [
     b"/./", b"/./a", b"//", b"//a", b"/a//b", b"/docs//a", b"/docs/", b"/docs/sub/", b"/.menu", b"/docs/.menu", b"/.hidden",
     b"/docs/.hidden", b"/.secrets/a", b"/...", b"/..x", b"/.gif", b"/search/", b"/Search", b"search", b"/searchx", b"/%2e%2e/secret.txt",
     b"/etc/passwd", b"../../../../etc/passwd", b"/proc/self/environ", b"a", b"docs", b"+", b"$", b"\xff\xfe", b"\0", b"/a\0",
-    b"/a\0.txt", b"/.\0hidden", b"/a\r", b"/\ra", b"\r", b" ", b"/a ", b" /a", b"GET / HTTP/1.1", b"/b.TXT", b"/DOCS", b".", b"/pipe", b"/lost",
+    b"/a\0.txt", b"/.\0hidden", b"/a\r", b"/\ra", b"\r", b" ", b"/a ", b" /a", b"GET / HTTP/1.1", b"/b.TXT", b"/DOCS", b".", b"/pipe", b"/lost", b"/device", b"/through",
 ]
 
 
@@ -85,6 +85,7 @@ def lay_out(draw, root, outside, files):
     os.makedirs(root + b"/empty/nested", exist_ok=True)
     os.mkfifo(root + b"/pipe")
     os.symlink(b"nowhere", root + b"/lost")
+    os.symlink(b"/dev/null", root + b"/device")
     os.symlink(b"../outside/secret.txt/x", root + b"/through")
     if draw.random() < 0.5:
         write(outside + b"/given.txt", b"given by the owner\n")

@@ -1,7 +1,8 @@
 """Scripts of catalogues whose pages end around each size at which the segments of the index change: the first segment,
 those that are merged from four, at once or once a fifth follows, and the largest; with words that every other page
 has, that one page has, and that stand in a page about as often as a byte counts, and far more often; with long words
-that differ late; and of pages with so many words that their segment is made otherwise.
+that differ late; and of pages with so many words that their segment is made otherwise. Then scripts of what is as large as it
+may be: a page, the places of a crawl, its pages, and the terms of a search.
 """
 import itertools
 import random
@@ -10,6 +11,7 @@ SIZES = (
     *(7, 8, 9, 15, 16, 17, 63, 64, 65, 255, 256, 257, 1023, 1024, 1025),
     *(5119, 5120, 5121, 16383, 16384, 16385, 16390),
 )
+MOST_PAGES = 16390
 # Pages that have the word `lark` so often, by their numbers.
 LARKS = {0: 254, 3: 255, 7: 256, 8: 300, 63: 255, 64: 256, 1023: 254, 1024: 300, 16383: 256, 16384: 255}
 # Words that have 15 bytes alike, of which each seventh page has one: a script is at most 1,048,576 bytes.
@@ -52,16 +54,16 @@ def crawl_of(pages, sizes, larks):
     yield b"status"
 
 
-def short_words():
-    """4,170 words of at most three bytes."""
+def short_names(count):
+    """So many words of letters and digits, the shortest first."""
     signs = "abcdefghijklmnopqrstuvwxyz0123456789"
-    sizes = (itertools.product(signs, repeat=size) for size in (1, 2, 3))
-    return ["".join(word).encode() for word in itertools.islice(itertools.chain(*sizes), 4170)]
+    sizes = (itertools.product(signs, repeat=size) for size in itertools.count(1))
+    return ["".join(word).encode() for word in itertools.islice(itertools.chain.from_iterable(sizes), count)]
 
 
 def crawl_of_many_words():
     """A crawl of 66 pages with over 4,100 words each, so many that a segment of 64 is made page by page."""
-    words = short_words()
+    words = short_names(4170)
     yield b"allow\th\t7\t"
     yield from (b"seed\t0\th\t7\t%d" % number for number in range(66))
     yield b"start\t66"
@@ -76,8 +78,55 @@ def crawl_of_many_words():
     yield b"status"
 
 
-def scripts_of_sizes():
-    yield b"\n".join(crawl_of(16390, SIZES, LARKS))
-    yield b"\n".join(crawl_of_many_words())
+def scripts_of_sizes(pages):
+    yield b"\n".join(crawl_of(pages, SIZES, LARKS))
+    if pages >= 1025:
+        yield b"\n".join(crawl_of_many_words())
     # Words that stand more often in a page than sixteen bits count.
     yield b"\n".join(crawl_of(20, (9, 20), {3: 65535, 7: 65536, 8: 70_000}))
+
+
+def crawl_of_a_large_page():
+    """One page of as many different words as a script has room for, of up to four bytes each."""
+    questions = [b"search\ta", b"search\tzz*", b"occurs\t9999", b"occurs\ta", b"search\tabc not b", b"status"]
+    words = b" ".join(short_names(210_000))
+    return [b"allow\th\t7\t", b"seed\t0\th\t7\t", b"start\t1", b"claim", b"found\t0\t0\th\t7\t", b"|" + words, *questions]
+
+
+def crawl_of_most_places():
+    """A menu of one place more than a catalogue may know, with one of them twice."""
+    names = short_names(65_536)
+    yield from (b"allow\th\t7\t", b"seed\t1\th\t7\t", b"start\t65536", b"claim", b"found\t0\t1\th\t7\t")
+    yield from (b"|0\t%s\th\t7" % name for name in [*names, names[0]])
+    yield from (b"status", b"claim", b"fail\t1\t1", b"claim", b"status")
+
+
+def crawl_of_many_pages():
+    """As many pages as a script has room for, of which every thousandth has words."""
+    names = short_names(25_000)
+    yield from (b"allow\th\t7\t", b"seed\t1\th\t7\t", b"start\t65536", b"claim", b"found\t0\t1\th\t7\t")
+    yield from (b"|0\t%s\th\t7" % name for name in names)
+    for number, name in enumerate(names, 1):
+        yield from (b"claim", b"found\t%d\t0\th\t7\t%s" % (number, name))
+        if number % 1_000 == 0:
+            yield b"|moon p%d" % number
+    yield from (b"search\tmoon", b"search\tp25000", b"search\tp* not p1000", b"occurs\tmoon", b"status")
+
+
+def crawl_of_many_terms():
+    """Searches of 512 terms, the most that a text has room for, over as many pages as two segments have, and some more."""
+    yield b"allow\th\t7\t"
+    yield from (b"seed\t0\th\t7\t%d" % number for number in range(130))
+    yield b"start\t130"
+    for number in range(130):
+        yield from (b"claim", b"found\t%d\t0\th\t7\t%d" % (number, number), b"|" + b"m a b "[: 2 + number % 5] + b"p%d" % number)
+        if number in (63, 64, 128, 129):
+            yield from (b"search\t" + b"m " * 512, b"search\t" + b"b a " * 256, b"search\t" + b"p*" + b" m" * 511)
+    yield b"status"
+
+
+def scripts_of_limits():
+    for crawl in (crawl_of_a_large_page, crawl_of_most_places, crawl_of_many_pages, crawl_of_many_terms):
+        script = b"\n".join(crawl())
+        assert len(script) <= 1_048_576, crawl.__name__
+        yield script

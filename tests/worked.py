@@ -1,4 +1,8 @@
-"""Scripts that were worked out by hand, each with the answers that it has to get."""
+"""Scripts that were worked out by hand, each with the answers that it has to get.
+
+`SCRIPTS` has scripts with their whole output and the number of their bad line, if there is one; `WORKED` has scripts with the
+end of their output.
+"""
 
 HEAD = b"allow\th.example\t70\t\ndeny\th.example\t70\t/private\n"
 
@@ -136,11 +140,155 @@ ORDER = (
         ]
     )
     + b"start\t10\n" + b"claim\n" * 5
-    + b"found\t0\t0\th\t7070\t\n|x\nfound\t1\t1\th\t70\t/a\n|ix\nfound\t2\t0\th\t70\t/b\n|x\nfound\t3\t1\ta\t70\t/z\n|x\n"
+    + b"found\t0\t0\th\t7070\t\n|x\nfound\t1\t1\th\t70\t/a\n|x\nfound\t2\t0\th\t70\t/b\n|x\nfound\t3\t1\ta\t70\t/z\n|x\n"
     + b"found\t4\t0\th\t70\t/a\n|x\noccurs\tx\n",
     b"ok\ntake\t0\t0\th\t7070\t\ntake\t1\t1\th\t70\t/a\ntake\t2\t0\th\t70\t/b\ntake\t3\t1\ta\t70\t/z\ntake\t4\t0\th\t70\t/a\n"
     + b"added 0 0\n" * 5
-    + b"places 4\nat\t1\t1\ta\t70\t/z\nat\t1\t0\th\t70\t/a\nat\t1\t0\th\t70\t/b\nat\t1\t0\th\t7070\t\n",
+    + b"places 5\nat\t1\t1\ta\t70\t/z\nat\t1\t0\th\t70\t/a\nat\t1\t1\th\t70\t/a\nat\t1\t0\th\t70\t/b\nat\t1\t0\th\t7070\t\n",
 )
 
 WORKED = [*TITLES, *SCORES, COUNTS, WORDS, LINKS, SPACES, REFUSALS, ORDER]
+
+FIRST_CRAWL = (
+    b"allow\tlocalhost\t70\t\nseed\t1\tlocalhost\t70\t\nstart\t10\nclaim\nfound\t0\t1\tlocalhost\t70\t\n"
+    b"|1Docs\t/docs\tlocalhost\t70\n|.\nclaim\nfail\t1\t1\nclaim\nstatus\n",
+    b"ok\ntake\t0\t1\tlocalhost\t70\t\nadded 1 0\ntake\t1\t1\tlocalhost\t70\t/docs\nok\nfinished\n"
+    b"known 2 waiting 0 out 0 done 2 dropped 0\n",
+    None,
+)
+
+PLACE_LIMIT = (
+    b"allow\th\t70\t\nseed\t1\th\t70\t\nstart\t2\nclaim\nfound\t0\t1\th\t70\t\n|1A\t/a\th\t70\n|1B\t/b\th\t70\n"
+    b"|1C\t/c\th\t70\n|1A once more\t/a\th\t70\nstatus\nclaim\nfound\t1\t1\th\t70\t/a\n|1B\t/b\th\t70\nstatus\n"
+    b"claim\n",
+    b"ok\ntake\t0\t1\th\t70\t\nadded 1 2\nknown 2 waiting 1 out 0 done 1 dropped 2\ntake\t1\t1\th\t70\t/a\n"
+    b"added 0 1\nknown 2 waiting 0 out 0 done 2 dropped 3\nfinished\n",
+    None,
+)
+
+REFUSED_START = (
+    b"seed\t1\th\t70\t\nstart\t2\nallow\th\t70\t\nstart\t0\nstart\t2\nclaim\nfail\t0\t6\n",
+    b"refused 50\nrefused 51\nok\ntake\t0\t1\th\t70\t\n",
+    7,
+)
+
+DENY_RULE = (
+    b"allow\th\t70\t\ndeny\tH\t70\t/p\nseed\t1\th\t70\t\nstart\t5\nclaim\nfound\t0\t1\th\t70\t\n|0X\t/p/x\th\t70\n"
+    b"|0Y\t/q\th\t70\nstatus\n",
+    b"ok\ntake\t0\t1\th\t70\t\nadded 1 0\nknown 2 waiting 1 out 0 done 1 dropped 0\n",
+    None,
+)
+
+TWO_TRIES = (
+    b"allow\th\t70\t\nseed\t1\th\t70\t\nseed\t1\th\t70\t/b\nstart\t5\t2\nclaim\nfail\t0\t1\nstatus\nclaim\nclaim\n"
+    b"status\nfail\t0\t2\nclaim\nfound\t1\t1\th\t70\t/b\nstatus\nclaim\n",
+    b"ok\ntake\t0\t1\th\t70\t\nok\nknown 2 waiting 2 out 0 done 0 dropped 0\ntake\t1\t1\th\t70\t/b\n"
+    b"take\t0\t1\th\t70\t\nknown 2 waiting 0 out 2 done 0 dropped 0\nok\nidle\nadded 0 0\n"
+    b"known 2 waiting 0 out 0 done 2 dropped 0\nfinished\n",
+    None,
+)
+
+REFUSED_PAGES = (
+    b"# rules\nallow\th\t70\t\ndeny\tH\t70\t/p\n\nseed\t1\th\t70\t\nstart\t5\t2\nclaim\nfound\t0\t7\th\t70\t\n|x\n"
+    b"found\t0\t1\th\t70\t/q\n|y\nfound\t9\t1\th\t70\t\nfound\t0\t1\th\t70\t\n|0X\t/p/x\th\t70\n|0Y\t/q\th\t70\n"
+    b"status\nclaim\nfail\t1\t5\nclaim",
+    b"ok\ntake\t0\t1\th\t70\t\nrefused 1\nrefused 53\nrefused 52\nadded 1 0\n"
+    b"known 2 waiting 1 out 0 done 1 dropped 0\ntake\t1\t0\th\t70\t/q\nok\ntake\t1\t0\th\t70\t/q\n",
+    None,
+)
+
+WHOLE_SEARCH = (
+    b"allow\th.example\t70\t\ndeny\th.example\t70\t/private\nseed\t1\th.example\t70\t\nstart\t10\nstatus\nclaim\n"
+    b"claim\nfound\t0\t1\th.example\t70\t\n|1Moon pages\t/moon\tH.Example\t70\n"
+    b"|0Sun and moon\t/sun.txt\th.example\t70\n|1Moon again\t/moon\th.example\t70\t+\n"
+    b"|0Secret\t/private/x\th.example\t70\n|0Elsewhere\t/x\tother.example\t70\n|iHello\tfake\t(NULL)\t0\n"
+    b"|1Home\t\th.example\t70\n|.\nstatus\nclaim\nfound\t1\t0\th.example\t70\t/sun.txt\nclaim\nclaim\n"
+    b"found\t2\t0\th.example\t70\t/sun.txt\n|The sun and the moon.\n|..moon moon\n|.\nfail\t1\t1\nclaim\n"
+    b"found\t2\t0\th.example\t70\t/sun.txt\nfail\t7\t1\nsearch\tmoon\nsearch\tsun not home\nsearch\t -- \n"
+    b"search\tmars\noccurs\tmoon\nstatus\n",
+    b"ok\nknown 1 waiting 1 out 0 done 0 dropped 0\ntake\t0\t1\th.example\t70\t\nidle\nadded 2 0\n"
+    b"known 3 waiting 2 out 0 done 1 dropped 0\ntake\t1\t1\th.example\t70\t/moon\nrefused 53\n"
+    b"take\t2\t0\th.example\t70\t/sun.txt\nidle\nadded 0 0\nok\nfinished\nrefused 52\nrefused 52\nhits 2\n"
+    b"hit\t3\t1\th.example\t70\t\tMoon pages\nhit\t3\t0\th.example\t70\t/sun.txt\tThe sun and the moon.\nhits 1\n"
+    b"hit\t1\t0\th.example\t70\t/sun.txt\tThe sun and the moon.\nrefused 40\nhits 0\nplaces 2\n"
+    b"at\t3\t1\th.example\t70\t\nat\t3\t0\th.example\t70\t/sun.txt\nknown 3 waiting 0 out 0 done 3 dropped 0\n",
+    None,
+)
+
+PREFIXES = (
+    b"search\tse*\nsearch\ts* not h*\nsearch\tmo* or an*\nsearch\tand*\nsearch\tsun and* moon\nsearch\t*\n"
+    b"occurs\tmo*\n",
+    b"hits 1\nhit\t1\t1\th.example\t70\t\tMoon pages\nhits 1\n"
+    b"hit\t1\t0\th.example\t70\t/sun.txt\tThe sun and the moon.\nhits 2\nhit\t4\t1\th.example\t70\t\tMoon pages\n"
+    b"hit\t4\t0\th.example\t70\t/sun.txt\tThe sun and the moon.\nhits 2\nhit\t1\t1\th.example\t70\t\tMoon pages\n"
+    b"hit\t1\t0\th.example\t70\t/sun.txt\tThe sun and the moon.\nhits 2\nhit\t5\t1\th.example\t70\t\tMoon pages\n"
+    b"hit\t5\t0\th.example\t70\t/sun.txt\tThe sun and the moon.\nrefused 40\nplaces 0\n",
+    None,
+)
+
+# Short scripts, each for one rule of the language.
+SHORT = [
+    (b"allow\ta b\t70\t\n", b"refused 3\n", None),
+    (b"seed\t7\th\t70\t\n", b"refused 1\n", None),
+    (b"claim\n", b"", 1),
+    (b"start\t2\t0\n", b"refused 54\n", None),
+    (b"start\t2\t6\n", b"refused 54\n", None),
+    (b"start\t0\t0\n", b"refused 51\n", None),
+    (b"", b"", None),
+    (b"\n# a comment\n\n", b"", None),
+    (b"start\t2\nclaim\r", b"ok\n", 2),
+    (b"start\t4294967295\n", b"refused 51\n", None),
+    (b"start\t4294967296\n", b"", 1),
+    (b"start\t00000000002\n", b"", 1),
+    (b"start\t0000000002\n", b"ok\n", None),
+    (b"start\t2\t\n", b"", 1),
+    (b"start\t2\t4294967296\n", b"", 1),
+    (b"seed\t1\th\t0\t\n", b"refused 4\n", None),
+    (b"seed\t1\th\t000070\t\n", b"", 1),
+    (b"seed\t1\th\t65536\t\n", b"", 1),
+    (b"seed\t11\th\t70\t\n", b"", 1),
+    (b"seed\t\th\t70\t\n", b"", 1),
+    (b"|x\n", b"", 1),
+    (b"start\t2\n|x\n", b"ok\n", 2),
+    (b"start\t2\n\n|x\n", b"ok\n", 3),
+    (b"start\t2\nclaim x\n", b"ok\n", 2),
+    (b"allow\ta b\t70\t\nseed\t1\th\t0\t\nstart\t2\t6\nstatus\n", b"refused 3\nrefused 4\nrefused 54\n", 4),
+    (b"start\t2\nstart\t2\n", b"ok\n", 2),
+    (b"start\t2\nallow\th\t70\t\n", b"ok\n", 2),
+    (b"search\tx\n", b"", 1),
+    (b"start\t2\nstatus\t\n", b"ok\n", 2),
+    (b"start\t2\nfail\t0\t1\n", b"ok\nrefused 52\n", None),
+    (b"start\t2\nfail\t0\t6\n", b"ok\n", 2),
+    (
+        b"start\t2\nfound\t0\t1\th\t70\t\n|x\n|y\nstatus\n",
+        b"ok\nrefused 52\nknown 0 waiting 0 out 0 done 0 dropped 0\n",
+        None,
+    ),
+    (
+        b"start\t2\nfound\t0\t7\th\t70\t\n|x\nstatus\n",
+        b"ok\nrefused 1\nknown 0 waiting 0 out 0 done 0 dropped 0\n",
+        None,
+    ),
+    (b"start\t2\nfound\tx\t7\th\t70\t\n|x\nstatus\n", b"ok\n", 2),
+    (b"start\t2\nfound\t0\t1\th\t70\t\n|x\n\n|y\n", b"ok\nrefused 52\n", 5),
+    (b"start\t2\nfound\t0\t1\th\t70\t\n|x\n#\n|y\n", b"ok\nrefused 52\n", 5),
+    (
+        b"allow\th\t70\t\nseed\t1\th\t70\t\nstart\t2\nclaim\nfound\t0\t1\th\t70\t/x\nstatus\n",
+        b"ok\ntake\t0\t1\th\t70\t\nrefused 53\nknown 1 waiting 0 out 1 done 0 dropped 0\n",
+        None,
+    ),
+]
+
+# Texts of 1,024 bytes and of one more; a word to occur may be longer.
+LIMITS = [
+    (b"start\t2\nsearch\t" + b"-" * 1_024, b"ok\nrefused 40\n", None),
+    (b"start\t2\nsearch\t" + b"-" * 1_025, b"ok\n", 2),
+    (b"start\t2\noccurs\t" + b"-" * 1_025, b"ok\nplaces 0\n", None),
+    (b"start\t2\nsearch\ta\t-", b"ok\n", 2),
+]
+
+SEARCHED = (WHOLE_SEARCH[0] + PREFIXES[0], WHOLE_SEARCH[1] + PREFIXES[1], None)
+
+SCRIPTS = [
+    FIRST_CRAWL, PLACE_LIMIT, REFUSED_START, DENY_RULE, TWO_TRIES, REFUSED_PAGES, WHOLE_SEARCH, SEARCHED, *SHORT, *LIMITS,
+]

@@ -1,11 +1,16 @@
 #!/usr/bin/env python3
-"""Makes the `.menu` file of a folder (docs/SPECIFICATION.md, section 9) of its gophermap, as gophernicus 3.1 has it.
+"""Makes the `.menu` file of a folder (SPECIFICATION.md, section 9) of its gophermap, as gophernicus 3.1 has it, or of its
+link file, as pygopherd has it.
 
-    tools/gophermap_to_menu.py [--root FOLDER] GOPHERMAP > .menu
+    gophermap_to_menu [--root FOLDER] FILE > .menu.new && mv .menu.new .menu
 
-FOLDER is the folder that is served (without --root, the gophermap's own), from which selectors count. The `.menu` goes to
+FOLDER is the folder that is served (without --root, the file's own), from which selectors count. The `.menu` goes to
 standard output. What is left out or changed, and what a client won't find, is told on standard error, a line each:
-`GOPHERMAP:LINE: what`. The status is 0, or 1 where the gophermap can't be read, is a script, or doesn't lie in FOLDER.
+`FILE:LINE: what`. The status is 0, or 1 if the file can't be read, is a script, or isn't below FOLDER.
+
+A file whose name begins with a period, such as `.Links`, is a link file. Any other file is a gophermap.
+
+In a gophermap:
 
 - A line without TAB is a line of text, and stays. (Text that holds a CR or a NUL is left out.)
 - `#..` is a comment, and goes without a word.
@@ -13,9 +18,9 @@ standard output. What is left out or changed, and what a client won't find, is t
 - A line with a TAB is type and name, selector, host, port. Where the selector is empty and nothing follows it, the name is
   the selector. Where a host is given and no port, the port is 70. Fields behind the port are left out. A line whose type,
   selector, host or port this server would refuse (24) is left out.
-- On this server (no host, or an empty one, which is told) a selector that doesn't begin with `/` counts from the gophermap's folder, and
-  `.`, `..` and slashes at the end or twice are resolved, since this server knows each selector in one spelling. Lines of
-  type i and 3, and selectors that begin with `URL:`, stay as they are. Where the selector names nothing in FOLDER, or what
+- On this server (no host, or an empty one, which is told) a selector that doesn't begin with `/` counts from the gophermap's
+  folder, and `.`, `..` and slashes at the end or twice are resolved, since this server knows each selector in one spelling.
+  Lines of type i and 3, and selectors that begin with `URL:`, stay as they are. Where the selector names nothing in FOLDER, or what
   isn't served, the line stays and that is told.
 - `=file` is replaced by the lines of that file, which counts from the gophermap's folder; its selectors do too. One that is
   absent or a script is left out, and so is one that is included eight files deep.
@@ -23,6 +28,18 @@ standard output. What is left out or changed, and what a client won't find, is t
   since it changes no more with the folder. It ends the gophermap. In an included file it ends that file and lists nothing.
 - A line that begins with `.` ends the file that it stands in.
 - `:ext=type`, `~` and `%` have no counterpart, and are left out.
+
+In a link file:
+
+- An empty line ends an entry, and so does a `#` line behind a `Path=` line. An entry without `Path=` is left out.
+- The menu has the folder's listing and the entries: first those with a positive `Numb=`, by that number; then those without,
+  by name; then those with a negative one. It changes no more with the folder, which is told.
+- `Path=./NAME` of a name in the folder gives that name's line in the listing another name, type, host or port; with `Type=X`
+  it hides the line. Other paths are lines of their own. A path that begins with neither `/` nor `URL:` counts from the folder,
+  if the entry has no host.
+- `Host=+` and `Port=+` mean this server. `Name=` is the path where it is absent, and `Type=` is 0.
+- `Abstract=`, `Admin=`, `TTL=`, `URL=` and any other key have no counterpart, and are left out.
+- Files of `.cap` folders aren't read.
 """
 import argparse
 import functools
@@ -32,6 +49,7 @@ import sys
 MOST_DEEP = 8
 LONGEST = 255
 MENU, MAP, INLINE = b".menu", b"gophermap", b".gophermap"
+LINK_KEYS = (b"Path", b"Name", b"Type", b"Host", b"Port", b"Numb")
 RAW = ((b".gif", b"g"), (b".png", b"I"), (b".jpg", b"I"), (b".jpeg", b"I"))
 NO_COUNTERPART = {b":": "a file's type can't be set", b"~": "there are no users' folders", b"%": "there is one host"}
 
@@ -102,7 +120,7 @@ def kind_of(path):
 
 
 class Menu:
-    """The lines of a menu that is made of a gophermap, and what is told of it."""
+    """The lines of a folder's menu, and what is told of them."""
 
     def __init__(self, path, root):
         self.root = os.path.realpath(root)
@@ -114,10 +132,82 @@ class Menu:
         inside = os.path.relpath(self.folder, self.root)
         self.selector = one_spelling(b"" if inside == b"." else inside)
         self.lines, self.told, self.hidden = [], [], set()
-        self.add_file(path, 1)
+        self.read(path)
 
     def tell(self, path, number, text):
         self.told.append(b"%s:%d: %s" % (path, number, text.encode()))
+
+    def add_item(self, fields, tell):
+        """Adds a line of type and name, selector, and perhaps host and port."""
+        first, selector, *server = fields
+        kind, name = first[:1], first[1:]
+        if not kind or has_control(kind) or kind in b" .":
+            return tell("left out: it has no type")
+        if not server:
+            selector = selector or name
+        host, port = [part.strip(b" ") for part in (server + [b"", b""])[:2]]
+        if len(server) > 2:
+            tell("changed: fields behind the port are left out")
+        if host:
+            return self.add_foreign(first, selector, host, port or b"70", tell)
+        if server:
+            tell("changed: it has no host, and leads to this server")
+        if kind not in b"i3" and not selector.startswith(b"URL:"):
+            selector = self.own_selector(kind, selector, tell)
+        if len(selector) > LONGEST:
+            return tell(f"left out: its selector has more than {LONGEST} bytes")
+        self.lines.append(b"%s\t%s" % (first, selector))
+
+    def add_foreign(self, first, selector, host, port, tell):
+        if len(selector) > LONGEST:
+            return tell(f"left out: its selector has more than {LONGEST} bytes")
+        if len(host) > LONGEST or has_control(host) or b" " in host:
+            return tell("left out: its host isn't one")
+        if not port.isdigit() or len(port.lstrip(b"0")) > 5 or int(port[-5:]) > 65535:
+            return tell("left out: its port isn't one")
+        self.lines.append(b"\t".join((first, selector, host, port)))
+
+    def own_selector(self, kind, selector, tell):
+        """A selector of this server, in its one spelling."""
+        start = b"" if selector.startswith(b"/") else self.selector + b"/"
+        own = one_spelling(start + selector)
+        shown = own.decode(errors="backslashreplace")
+        if kind == b"7" and own != b"/search":
+            tell(f"{shown} is no search: this server's is /search")
+        elif own != b"/search" and not self.is_served(own):
+            tell(f"{shown} names nothing that is served")
+        return own
+
+    def is_served(self, selector):
+        path = os.path.join(self.root, selector[1:])
+        is_shown = all(is_served_name(name) for name in selector.split(b"/"))
+        return is_shown and (os.path.isfile(path) or os.path.isdir(path) and has_files(path))
+
+    def listing(self, tell):
+        """The names of the folder that are listed, each with its type."""
+        tell("changed: this is the folder's listing of now, which doesn't change with the folder")
+        for name in sorted(os.listdir(self.folder)):
+            shown = name.decode(errors="backslashreplace")
+            if name == MAP or name.startswith(b".") or name in self.hidden:
+                continue
+            try:
+                kind = kind_of(os.path.join(self.folder, name))
+            except OSError:
+                tell(f"left out: {shown}, which can't be read")
+                continue
+            if not is_served_name(name) or not is_utf8(name):
+                tell(f"left out: {shown}, a name that this server refuses")
+            elif name.endswith(INLINE):
+                tell(f"left out: {shown}, whose lines gophernicus would show here")
+            elif kind:
+                yield kind, name, one_spelling(self.selector + b"/" + name)
+
+
+class MapMenu(Menu):
+    """The menu of a gophermap."""
+
+    def read(self, path):
+        self.add_file(path, 1)
 
     def add_file(self, path, depth):
         """Adds the lines of a gophermap; `depth` is 1 for the folder's own."""
@@ -162,81 +252,112 @@ class Menu:
         else:
             self.add_file(path, depth + 1)
 
-    def add_item(self, fields, tell):
-        """Adds a line of type and name, selector, and perhaps host and port."""
-        first, selector, *server = fields
-        kind, name = first[:1], first[1:]
-        if not kind or has_control(kind) or kind == b" ":
-            return tell("left out: it has no type")
-        if not server:
-            selector = selector or name
-        host, port = [part.strip(b" ") for part in (server + [b"", b""])[:2]]
-        if len(server) > 2:
-            tell("changed: fields behind the port are left out")
-        if host:
-            return self.add_foreign(first, selector, host, port or b"70", tell)
-        if server:
-            tell("changed: it has no host, and leads to this server")
-        if kind not in b"i3" and not selector.startswith(b"URL:"):
-            selector = self.own_selector(kind, selector, tell)
-        if len(selector) > LONGEST:
-            return tell(f"left out: its selector has more than {LONGEST} bytes")
-        self.lines.append(b"%s\t%s" % (first, selector))
-
-    def add_foreign(self, first, selector, host, port, tell):
-        if len(selector) > LONGEST:
-            return tell(f"left out: its selector has more than {LONGEST} bytes")
-        if len(host) > LONGEST or has_control(host) or b" " in host:
-            return tell("left out: its host isn't one")
-        if not port.isdigit() or len(port.lstrip(b"0")) > 5 or int(port[-5:]) > 65535:
-            return tell("left out: its port isn't one")
-        self.lines.append(b"\t".join((first, selector, host, port)))
-
-    def own_selector(self, kind, selector, tell):
-        """A selector of this server, in its one spelling."""
-        start = b"" if selector.startswith(b"/") else self.selector + b"/"
-        own = one_spelling(start + selector)
-        shown = own.decode(errors="backslashreplace")
-        if kind == b"7" and own != b"/search":
-            tell(f"{shown} is no search: this server's is /search")
-        elif own != b"/search" and not self.is_served(own):
-            tell(f"{shown} names nothing that is served")
-        return own
-
-    def is_served(self, selector):
-        path = os.path.join(self.root, selector[1:])
-        is_shown = all(is_served_name(name) for name in selector.split(b"/"))
-        return is_shown and (os.path.isfile(path) or os.path.isdir(path) and has_files(path))
-
     def add_listing(self, tell):
-        tell("changed: this is the folder's listing of now, which doesn't change with the folder")
-        for name in sorted(os.listdir(self.folder)):
-            shown = name.decode(errors="backslashreplace")
-            if name == MAP or name.startswith(b".") or name in self.hidden:
-                continue
-            try:
-                kind = kind_of(os.path.join(self.folder, name))
-            except OSError:
-                tell(f"left out: {shown}, which can't be read")
-                continue
-            if not is_served_name(name) or not is_utf8(name):
-                tell(f"left out: {shown}, a name that this server refuses")
-            elif name.endswith(INLINE):
-                tell(f"left out: {shown}, whose lines gophernicus would show here")
-            elif kind:
-                self.lines.append(b"%s%s\t%s" % (kind, name, one_spelling(self.selector + b"/" + name)))
+        for kind, name, selector in self.listing(tell):
+            self.lines.append(b"%s%s\t%s" % (kind, name, selector))
+
+
+class Entry:
+    """An entry of a link file, or a name of the folder's listing."""
+
+    def __init__(self, number, **fields):
+        self.number, self.fields, self.names_own_file = number, fields, False
+
+    def order(self):
+        """Where it stands in the menu: by a positive number, by name, or by a negative number."""
+        place = int(self.fields.get("Numb", 0))
+        name = self.fields.get("Name", self.fields["Path"])
+        return (0 if place > 0 else 2 if place < 0 else 1, place, name)
+
+
+class LinkMenu(Menu):
+    """The menu of a link file, with the folder's listing."""
+
+    def read(self, path):
+        self.path = path
+        with open(path, "rb") as file:
+            lines = lines_of(file.read())
+        listing = self.listing(functools.partial(self.tell, path, 1))
+        listed = {selector: Entry(1, Type=kind, Name=name, Path=selector) for kind, name, selector in listing}
+        found = [entry for entry in self.entries(lines) if entry]
+        own = [entry for entry in found if not self.merge(entry, listed)]
+        for entry in sorted([*listed.values(), *own], key=Entry.order):
+            self.add_entry(entry)
+
+    def entries(self, lines):
+        """The entries; None for what has no path."""
+        fields, first = {}, 1
+        for number, line in enumerate([*lines, b""], 1):
+            line = line.strip()
+            if not line or line.startswith(b"#") and "Path" in fields:
+                yield self.entry(first, fields)
+                fields, first = {}, number + 1
+            elif not line.startswith(b"#"):
+                self.add_field(fields, line, functools.partial(self.tell, self.path, number))
+
+    def add_field(self, fields, line, tell):
+        key, _, value = line.partition(b"=")
+        if key not in LINK_KEYS:
+            return tell(f"left out: {key.decode(errors='backslashreplace')} has no counterpart")
+        if key == b"Numb" and not value.lstrip(b"+-").isdigit():
+            return tell("left out: Numb isn't a number")
+        if any(byte in value for byte in b"\t\r\0"):
+            return tell("left out: it holds a TAB, a CR or a NUL")
+        if key not in (b"Host", b"Port") or value != b"+":
+            fields[key.decode()] = value
+
+    def entry(self, number, fields):
+        if "Path" not in fields:
+            if fields:
+                self.tell(self.path, number, "left out: it has no Path")
+            return None
+        entry = Entry(number, **fields)
+        if fields["Path"][:2] in (b"./", b"~/"):
+            entry.names_own_file = True
+            entry.fields["Path"] = one_spelling(self.selector + b"/" + fields["Path"][2:])
+        return entry
+
+    @staticmethod
+    def merge(entry, listed):
+        """Changes or hides the line of the listing that an entry names. False if it names none."""
+        selector = entry.fields["Path"]
+        if not entry.names_own_file or selector not in listed:
+            return False
+        if entry.fields.get("Type", b"")[:1] == b"X":
+            del listed[selector]
+        else:
+            listed[selector].number = entry.number
+            listed[selector].fields.update(entry.fields)
+        return True
+
+    def add_entry(self, entry):
+        tell = functools.partial(self.tell, self.path, entry.number)
+        fields = entry.fields
+        kind, path = fields.get("Type", b"0")[:1], fields["Path"]
+        if kind == b"X":
+            return tell("left out: it hides what the folder doesn't have")
+        server = [fields.get("Host", b""), fields.get("Port", b"")] if "Host" in fields else []
+        if "Port" in fields and not server:
+            tell("changed: it has a port and no host, and leads to this server")
+        self.add_item([kind + fields.get("Name", path), path, *server], tell)
+
+
+def menu_of(path, root):
+    """The menu of a gophermap or of a link file."""
+    kind = LinkMenu if os.path.basename(path).startswith(b".") else MapMenu
+    return kind(path, root)
 
 
 def main():
-    words = argparse.ArgumentParser(description="Makes the .menu file of a folder of its gophermap.")
-    words.add_argument("--root", metavar="FOLDER", help="the folder that is served; without it, the gophermap's own")
-    words.add_argument("gophermap", metavar="GOPHERMAP")
+    words = argparse.ArgumentParser(description="Makes the .menu file of a folder of its gophermap or link file.")
+    words.add_argument("--root", metavar="FOLDER", help="the folder that is served; without it, the file's own")
+    words.add_argument("file", metavar="FILE", help="a gophermap, or a link file, whose name begins with a period")
     given = words.parse_args()
-    root = given.root if given.root is not None else os.path.dirname(given.gophermap) or "."
+    root = given.root if given.root is not None else os.path.dirname(given.file) or "."
     try:
-        menu = Menu(os.fsencode(given.gophermap), os.fsencode(root))
+        menu = menu_of(os.fsencode(given.file), os.fsencode(root))
     except (OSError, Refused) as fault:
-        sys.stderr.write(f"{given.gophermap}: {fault.strerror if isinstance(fault, OSError) else fault}\n")
+        sys.stderr.write(f"{given.file}: {fault.strerror if isinstance(fault, OSError) else fault}\n")
         return 1
     sys.stderr.buffer.write(b"".join(line + b"\n" for line in menu.told))
     sys.stdout.buffer.write(b"".join(line + b"\n" for line in menu.lines))

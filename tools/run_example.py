@@ -1,72 +1,108 @@
 #!/usr/bin/env python3
-"""Serves examples/site by examples/hole.toml on localhost, and tells how to ask it. Ctrl-C ends it.
+"""Serves a folder by its settings, and prints how to ask it. Ctrl-C ends it.
 
-The program is built without its proofs, by `rt try`, unless `make build` has left a proved one.
+    tools/run_example.py [--program FILE] [SETTINGS]
+
+Without SETTINGS it serves examples/site by examples/hole.toml. A relative root in them starts at the working directory.
+
+Without --program it runs the one that `make build` has left, or else builds one without its proofs, by `rt try`. The server ends with this
+script, whatever ends the script: a guard in a session of its own waits for that.
 """
+import argparse
 import os
 import pathlib
+import re
 import signal
-import socket
 import subprocess
 import sys
 import tempfile
 import time
 import tomllib
 
-ROOT = pathlib.Path(__file__).resolve().parent.parent
-PROVED = ROOT / "crates/hole/out/hole"
-DAY = "86400"
-STEPS = "1000000000000000"
+from unproved import PROVED, ROOT, is_up
+from unproved import command as unproved_command
 
-
-def is_up(port):
-    """Whether a server listens at the port."""
+ENDING = (signal.SIGTERM, signal.SIGHUP)
+# Waits for a line that says that the server has ended, or for the end of the script, and then ends the server.
+GUARD = """
+import os, signal, sys
+if not sys.stdin.read():
     try:
-        socket.create_connection(("localhost", port), timeout=1).close()
-        return True
-    except OSError:
-        return False
+        os.killpg(int(sys.argv[1]), signal.SIGTERM)
+    except ProcessLookupError:
+        pass
+"""
 
 
-def command(settings):
+def command(program, settings):
     """What starts the server, and where."""
-    if os.access(PROVED, os.X_OK):
-        return [str(PROVED), "serve", settings], ROOT
-    return ["rt", "try", "--seconds", DAY, "--steps", STEPS, "--", "serve", settings], ROOT / "crates/hole"
+    if os.access(program, os.X_OK):
+        return [str(program), "serve", settings], ROOT
+    return unproved_command("serve", settings), ROOT / "crates/hole"
+
+
+def with_whole_root(text, root):
+    """The settings, with the root as a whole path."""
+    line = f"root = '{pathlib.Path(root).absolute()}'"
+    return re.sub(r"(?m)^\s*root\s*=.*$", lambda _: line, text, count=1)
+
+
+def hints(host, port, settings):
+    """How to ask the server."""
+    place = f"{f'[{host}]' if ':' in host else host}:{port}"
+    text = "" if settings else f"    curl gopher://{place}/0/frogs/common-frog.txt\n"
+    return (
+        f"It serves at {host}, port {port}. Ask it from another terminal:\n\n"
+        f"    curl gopher://{place}/\n{text}"
+        f"    printf '/search\\tfrog\\r\\n' | nc {host} {port}\n\n"
+        "Ctrl-C ends it."
+    )
+
+
+def serve(words, place, host, port, hint):
+    """Starts the server with its guard, and waits until it ends."""
+    server = subprocess.Popen(words, cwd=place, start_new_session=True)
+    guard = subprocess.Popen(
+        [sys.executable, "-c", GUARD, str(server.pid)], stdin=subprocess.PIPE, start_new_session=True
+    )
+    try:
+        while server.poll() is None and not is_up(host, port):
+            time.sleep(0.5)
+        if server.poll() is None:
+            print(hint, flush=True)
+        return server.wait()
+    except KeyboardInterrupt:
+        return 0
+    finally:
+        if server.poll() is None:
+            os.killpg(server.pid, signal.SIGTERM)
+            server.wait()
+        guard.communicate(b"ended\n")
 
 
 def main():
-    text = (ROOT / "examples/hole.toml").read_text()
-    port = tomllib.loads(text)["port"]
-    if is_up(port):
-        print(f"Something listens at port {port} already.")
+    words = argparse.ArgumentParser(description="Serves a folder by its settings, and prints how to ask it.")
+    words.add_argument("settings", nargs="?", metavar="SETTINGS", help="examples/hole.toml without it")
+    words.add_argument("--program", type=pathlib.Path, default=PROVED, help="what `make build` left without it")
+    program, given = words.parse_args().program.resolve(), words.parse_args().settings
+    for number in ENDING:
+        signal.signal(number, lambda number, _: sys.exit(128 + number))
+    try:
+        text = pathlib.Path(given or ROOT / "examples/hole.toml").read_text()
+        settings = tomllib.loads(text)
+        host, port, root = settings["host"], settings.get("port", 70), settings["root"]
+    except (OSError, KeyError, tomllib.TOMLDecodeError) as fault:
+        print(f"{given}: {fault}", file=sys.stderr)
+        return 1
+    if is_up(host, port):
+        print(f"Something listens at port {port} already.", file=sys.stderr)
         return 1
     with tempfile.TemporaryDirectory() as folder:
-        settings = pathlib.Path(folder) / "hole.toml"
-        settings.write_text(text.replace('root = "examples/site"', f'root = "{ROOT}/examples/site"'))
-        words, place = command(str(settings))
-        print("Starting:", " ".join(words[:2]), ".. (without a proved program this takes a minute)", flush=True)
-        server = subprocess.Popen(words, cwd=place, start_new_session=True)
-        try:
-            while server.poll() is None and not is_up(port):
-                time.sleep(0.5)
-            if server.poll() is None:
-                print(
-                    f"It serves examples/site at port {port}. Ask it from another terminal:\n\n"
-                    f"    curl gopher://localhost:{port}/\n"
-                    f"    curl gopher://localhost:{port}/0/frogs/common-frog.txt\n"
-                    f"    printf '/search\\tfrog\\r\\n' | nc localhost {port}\n\n"
-                    "Ctrl-C ends it.",
-                    flush=True,
-                )
-            server.wait()
-        except KeyboardInterrupt:
-            pass
-        finally:
-            if server.poll() is None:
-                os.killpg(server.pid, signal.SIGTERM)
-                server.wait()
-    return 0
+        place = pathlib.Path(folder) / "hole.toml"
+        place.write_text(with_whole_root(text, root if given else ROOT / root))
+        start, where = command(program, str(place))
+        print("Starting:", " ".join(start[:2]), ".. (without a proved program this takes a minute)", flush=True)
+        return serve(start, where, host, port, hints(host, port, given))
 
 
 if __name__ == "__main__":

@@ -1,5 +1,5 @@
 #!/usr/bin/env python3
-"""Tests tools/gophermap_to_menu.py on worked gophermaps, and on drawn ones for lines that this server would refuse."""
+"""Tests tools/gophermap_to_menu.py on worked gophermaps and link files, and on drawn ones for lines that this server would refuse."""
 import os
 import pathlib
 import random
@@ -50,16 +50,19 @@ class GophermapToMenu(unittest.TestCase):
             (self.root / path).write_bytes(content)
         (self.root / "empty").mkdir()
 
-    def made(self, content, folder="."):
+    def made(self, content, folder=".", name="gophermap"):
         """The lines that are made of a gophermap in a folder, and what is told, without the path before it."""
-        path = self.root / folder / "gophermap"
+        path = self.root / folder / name
         path.write_bytes(content)
-        menu = gophermap_to_menu.Menu(os.fsencode(path), os.fsencode(self.root))
+        menu = gophermap_to_menu.menu_of(os.fsencode(path), os.fsencode(self.root))
         told = (line.decode().replace(f"{path}:", "").replace(f"{self.root}/", "") for line in menu.told)
         return menu.lines, list(told)
 
     def expect(self, content, lines, told=(), folder="."):
         self.assertEqual(self.made(content, folder), (lines, list(told)))
+
+    def expect_links(self, content, lines, told=(), folder="."):
+        self.assertEqual(self.made(content, folder, ".Links"), (lines, [f"1: {LISTED}", *told]))
 
     def test_text_and_comments(self):
         self.expect(b"Welcome\r\n\n  two spaces\n# gone\n1no TAB\n", [b"Welcome", b"", b"  two spaces", b"1no TAB"])
@@ -166,12 +169,12 @@ class GophermapToMenu(unittest.TestCase):
     def test_what_makes_no_menu(self):
         path = self.root / "gophermap"
         with self.assertRaises(FileNotFoundError):
-            gophermap_to_menu.Menu(os.fsencode(path), os.fsencode(self.root))
+            gophermap_to_menu.menu_of(os.fsencode(path), os.fsencode(self.root))
         path.write_bytes(b"text\n")
         for mode, root in ((0o755, self.root), (0o644, self.root / "docs")):
             path.chmod(mode)
             with self.assertRaises(gophermap_to_menu.Refused):
-                gophermap_to_menu.Menu(os.fsencode(path), os.fsencode(root))
+                gophermap_to_menu.menu_of(os.fsencode(path), os.fsencode(root))
 
     def test_the_program(self):
         path = self.root / "gophermap"
@@ -183,10 +186,58 @@ class GophermapToMenu(unittest.TestCase):
             ran = subprocess.run([sys.executable, TOOL, *words], capture_output=True)
             self.assertEqual((ran.stdout, ran.stderr, ran.returncode), wanted)
 
+    def test_links_among_the_listing(self):
+        """As UMN gopherd orders them: positive numbers, names, negative numbers."""
+        self.expect_links(
+            b"Name=Last\nType=1\nPath=/x\nHost=h.example\nPort=7070\nNumb=-1\n\n"
+            b"Name=Before the last\nNumb=-2\nType=0\nPath=0/x\nHost=h.example\nPort=70\n\n"
+            b"Name=Second\nNumb=2\nPath=./a.txt\n\n"
+            b"# a comment\nName=First\nType=1\nNumb=1\nPath=./docs\nHost=+\nPort=+\n\n"
+            b"Name=m\nType=h\nPath=URL:http://h.example/\n",
+            [
+                b"1First\t/docs", b"0Second\t/a.txt", b"9data\t/data", b"hm\tURL:http://h.example/", b"Ipicture.PNG\t/picture.PNG",
+                b"0Before the last\t0/x\th.example\t70", b"1Last\t/x\th.example\t7070",
+            ],
+        )
+
+    def test_links_that_hide_and_rename(self):
+        self.expect_links(
+            b"Type=X\nPath=./b.txt\n\nName=A part\nType=9\nPath=./part\n",
+            [b"9A part\t/docs/part"], folder="docs",
+        )
+
+    def test_links_from_a_folder(self):
+        self.expect_links(
+            b"Type=X\nPath=./b.txt\n\nType=X\nPath=~/part\n\nName=B\nPath=b.txt\n\nName=A\nPath=/a.txt\n",
+            [b"0A\t/a.txt", b"0B\t/docs/b.txt"], folder="docs",
+        )
+
+    def test_links_that_have_no_counterpart(self):
+        hide = b"".join(b"Type=X\nPath=./%s\n\n" % name for name in (b"a.txt", b"data", b"docs", b"picture.PNG"))
+        self.expect_links(
+            hide + b"Name=No path\n\nName=A\nPath=/a.txt\nAbstract=about it\nNumb=many\n\nPath=/gone\nPort=7070\n\n"
+            b"Type=X\nPath=/a.txt\n\nName=F\nPath=/x\nHost=h h\n# an end\nName=T\tT\nPath=/a.txt\n",
+            [b"0/a.txt\t/a.txt", b"0/gone\t/gone", b"0A\t/a.txt"],
+            [
+                "13: left out: it has no Path", "17: left out: Abstract has no counterpart", "18: left out: Numb isn't a number",
+                "30: left out: it holds a TAB, a CR or a NUL", "23: left out: it hides what the folder doesn't have",
+                "20: changed: it has a port and no host, and leads to this server", "20: /gone names nothing that is served",
+                "26: left out: its host isn't one",
+            ],
+        )
+
     def test_drawn_gophermaps_make_lines_that_are_not_refused(self):
         draw = random.Random("gophermaps")
         drawn = (b"".join(draw.choices(PIECES, k=draw.randrange(9))) + b"\n" for _ in range(3_000))
         lines, _ = self.made(b"".join(line for line in drawn if not line.startswith(b".")))
+        self.assertEqual([line for line in lines if not is_menu_line(line)], [])
+        self.assertGreater(sum(b"\t" in line for line in lines), 100)
+
+    def test_drawn_link_files_make_lines_that_are_not_refused(self):
+        draw = random.Random("link files")
+        keys = (b"Path=", b"Path=./", b"Name=", b"Type=", b"Host=", b"Port=", b"Numb=", b"#", b"")
+        drawn = (draw.choice(keys) + b"".join(draw.choices(PIECES, k=draw.randrange(3))) + b"\n" for _ in range(5_000))
+        lines, _ = self.made(b"".join(drawn), name=".Links")
         self.assertEqual([line for line in lines if not is_menu_line(line)], [])
         self.assertGreater(sum(b"\t" in line for line in lines), 100)
 

@@ -5,6 +5,7 @@ import pathlib
 import subprocess
 import sys
 import tempfile
+import types
 import unittest
 
 TOOLS = pathlib.Path(__file__).resolve().parent
@@ -107,10 +108,17 @@ class WrongBodies(unittest.TestCase):
     def test_a_blank_function_keeps_its_contract(self):
         after_next = wrong_bodies.pieces(SOURCE)[3]
         signature = after_next[: after_next.index("{\n    next") + 1]
-        self.assertEqual(wrong_bodies.blank(after_next), signature + "\n    unreachable!()\n}\n")
-        method = "    fn of() -> u32 {\n        1\n    }\n"
-        declared = "    fn of() -> u32;\n}\n\nimpl Of for Small {\n"
-        self.assertEqual(wrong_bodies.blank(declared + method), declared + method.replace("1", "unreachable!()"))
+        self.assertEqual(wrong_bodies.blank(after_next), f"#[tactic(none)]\n{signature}\n    unreachable!()\n}}\n")
+        declared, head = "    fn of() -> u32;\n}\n\nimpl Of for Small {\n", "    fn of() -> u32 {\n"
+        blank = f"{declared}    #[tactic(none)]\n{head}\n        unreachable!()\n    }}\n"
+        self.assertEqual(wrong_bodies.blank(f"{declared}{head}        1\n    }}\n"), blank.replace("{\n\n", "{\n"))
+
+    def test_a_blank_function_asks_for_no_other_tactic(self):
+        attribute = "    #[tactic(auto, using(crate::proofs::Low::less))]\n"
+        self.assertEqual(wrong_bodies.without_tactic(f"}}\n\n    /// Less.\n{attribute}"), "}\n\n    /// Less.\n")
+        self.assertEqual(wrong_bodies.without_tactic(f"{attribute}    #[inline]\n"), "    #[inline]\n")
+        other = f"{attribute}    struct Low;\n\n"
+        self.assertEqual(wrong_bodies.without_tactic(other), other)
 
     def test_a_function_of_a_cycle_is_known(self):
         calls_itself = "fn halved(x: u32) -> u32 {\n    halved(x / 2)\n}\n"
@@ -121,16 +129,41 @@ class WrongBodies(unittest.TestCase):
 
     def test_a_proof_file_that_only_lacks_names_shows_nothing(self):
         said = "./proofs/a/f/Answers.antt:7:9: error: `returns`: `c.gone` is not in scope\nfn small::a::f: not proved\nonly=1 proved=0\n"
-        self.assertEqual(wrong_bodies.lacking("small", said), {})
+        self.assertEqual(wrong_bodies.lacking("small", said, {}), {})
+        self.assertFalse(wrong_bodies.is_proved("small", "a::f", said))
         said = "./proofs/a/f/Answers.antt:7:9: error: `returns`: the two types differ\n" + said
-        self.assertEqual(wrong_bodies.lacking("small", said), {"a::f": "`returns`: the two types differ"})
+        self.assertEqual(wrong_bodies.lacking("small", said, {}), {"a::f": "`returns`: the two types differ"})
+
+    def test_a_note_of_an_open_goal_in_the_edited_function_is_a_lack(self):
+        edit = types.SimpleNamespace(function="a::f")
+        gone = "./proofs/a/f/Answers.antt:7:9: error: `returns`: `c.gone` is not in scope\nfn small::a::f: not proved\n"
+        said = "note: src/a.rt:12:5: it is not proved that what the function ensures holds when it returns (`returns`)\n" + gone
+        open_goal = "it is not proved that what the function ensures holds when it returns (`returns`)"
+        self.assertEqual(wrong_bodies.lacking("small", said, {("src/a.rt", 12): edit}), {"a::f": open_goal})
+        self.assertEqual(wrong_bodies.lacking("small", said, {("src/a.rt", 13): edit}), {})
 
     def test_a_function_that_only_passes_a_refused_impl_lacks_nothing(self):
         passes = "it calls `small::PlainNext::next`, which is not proved; it passes the block `small::PlainNext`, which is not proved"
         said = f"fn small::third: no proof: {passes}\nonly=2 proved=1\n"
-        self.assertEqual(wrong_bodies.lacking("small", said), {})
+        self.assertEqual(wrong_bodies.lacking("small", said, {}), {})
         said = f"fn small::third: no proof: `search` did not prove `returns`; {passes}\nonly=2 proved=1\n"
-        self.assertEqual(wrong_bodies.lacking("small", said), {"third": "`search` did not prove `returns`"})
+        self.assertEqual(wrong_bodies.lacking("small", said, {}), {"third": "`search` did not prove `returns`"})
+
+    def test_a_copy_has_the_places_of_its_edits_and_the_proofs_of_what_is_left(self):
+        with tempfile.TemporaryDirectory() as room:
+            wrong_bodies.ROOT = root = pathlib.Path(room) / "root"
+            crate, copy = root / "crates" / "small", pathlib.Path(room) / "copy" / "small"
+            write_crate(crate, SOURCE, {"one": ONE_TOO_MANY})
+            (copy / "src").mkdir(parents=True)
+            for name in ("next/Answers", "after_next/Answers", "Lemmas"):
+                (crate / "proofs" / name).parent.mkdir(parents=True, exist_ok=True)
+                (crate / "proofs" / f"{name}.antt").write_text("")
+            one = wrong_bodies.Edit(crate / "wrong-bodies" / "one.edit")
+            stands = wrong_bodies.write([one], copy, is_alone=False)
+            self.assertEqual(sorted(stands), [("src/lib.rt", line) for line in range(7, 13)])
+            self.assertEqual((copy / "src" / "lib.rt").read_text().count("unreachable!()"), 1)
+            left = sorted(str(file.relative_to(copy)) for file in (copy / "proofs").rglob("*.antt"))
+            self.assertEqual(left, ["proofs/Lemmas.antt", "proofs/next/Answers.antt"])
 
 
 if __name__ == "__main__":

@@ -12,10 +12,11 @@ stands exactly once in the file, as the pairs before it left that, and only bodi
 
 Edits of different functions are tried in one check of a copy of the crate, since the prover goes on after a refusal and
 says of each function what it lacks. Every other function is blank there, with a body whose proof fails at once: callers
-are judged by its contract, and what it calls isn't proved again. An edit counts as refused only where its own function
-lacks the proof of a goal: not where the function only calls a refused one or passes an impl that has one, and not where a
-proof file only names what the edit took away. What isn't refused in company is tried alone, with no blank body. The last
-line is 'N passed, M failed'; the status is 0 where none failed.
+are judged by its contract, and what it calls isn't proved again. An edit counts as refused only if its own function
+lacks the proof of a goal: not if the function only calls a refused one or passes an impl that has one, and not if a proof
+file only names what the edit took away. What isn't refused in company is tried alone, with no blank body: 'NOT REFUSED' is
+then said of a function that is proved, and 'NOT PROVED, BY NAMES ALONE' of one whose proof file no longer fits, which shows
+nothing either way. The last line is 'N passed, M failed'; the status is 1 if any failed.
 """
 import os
 import pathlib
@@ -55,11 +56,18 @@ def is_in_cycle(function, before):
 
 
 def blank(function):
-    """A function with a body that no contract allows. A piece may begin with methods of a trait that have no body."""
+    """A function with a body that no contract allows, for which no proof is sought. A piece may begin with methods of a trait
+    that have no body."""
     indent = re.match(" *", function)[0]
     last = [*re.finditer(rf"(?m)^{indent}{HEAD}", function)][-1].start()
     opened = re.compile(rf"(?m)^{indent}\{{$").search(function, last) or re.compile(r"(?m) \{$").search(function, last)
-    return f"{function[:opened.end()]}\n{indent}    unreachable!()\n{indent}}}\n"
+    head = f"{function[:last]}{indent}#[tactic(none)]\n{function[last:opened.end()]}"
+    return f"{head}\n{indent}    unreachable!()\n{indent}}}\n"
+
+
+def without_tactic(before):
+    """What stands before a function, without the tactic that it asks for."""
+    return re.sub(r"(?m)^ *#\[tactic\([^\]]*\)\]\n(?=(?: *(?:#\[|//).*\n)*\Z)", "", before)
 
 
 class Edit:
@@ -136,59 +144,103 @@ def run(words, folder):
     return subprocess.run(words, cwd=folder, **how)
 
 
+def check(folder, functions):
+    """What a check of these functions says, and whether it judged them."""
+    said = run(["rt", "check", "--jobs", "1", *(word for function in functions for word in ("--only", function))], folder).stdout
+    return said, re.search(r"(?m)^only=", said) is not None
+
+
 def copy_of(crate, built, room):
     """Copies what checks of the crate read, with the proofs that were kept."""
     for name in ("crates.txt", "HANDLES"):
         shutil.copy(ROOT / name, room / name)
     for other in (ROOT / "crates").iterdir():
-        skipped = ["wrong-bodies"] if other.name == crate else ["incremental"] if other.name in built else ["out"]
+        skipped = ["proofs"] if other.name == crate else ["incremental"] if other.name in built else ["out"]
+        skipped += ["wrong-bodies", "must-fail"]
         shutil.copytree(other, room / "crates" / other.name, ignore=shutil.ignore_patterns(*skipped))
     return room / "crates" / crate
 
 
+def names_in(piece):
+    return re.findall(rf"(?m)^ *{HEAD}(\w+)", piece)
+
+
 def write(edits, folder, is_alone):
-    """Writes the sources of the copy with these edits. A function of a cycle is never blank, since its cycle names it."""
-    crate = ROOT / "crates" / folder.name
+    """Writes the sources of the copy with these edits. A function of a cycle is never blank, since its cycle names it.
+
+    Gives where the functions that are edited stand: for each edit and line of its file, counted from 1."""
+    crate, left, stands = ROOT / "crates" / folder.name, set(), {}
     for path in (crate / "src").rglob("*.rt"):
         file, text = path.relative_to(crate), pieces(path.read_text())
-        edited = {at: new for edit in edits if edit.file == str(file) for at, new in edit.changes.items()}
+        by_piece = {at: (edit, new) for edit in edits if edit.file == str(file) for at, new in edit.changes.items()}
         for at in range(1, len(text), 2):
             is_left = is_alone or is_in_cycle(text[at], text[at - 1])
-            text[at] = edited[at] if at in edited else text[at] if is_left else blank(text[at])
+            if at in by_piece or is_left:
+                left.update(names_in(text[at]))
+            if at in by_piece:
+                text[at] = by_piece[at][1]
+            elif not is_left:
+                text[at - 1 : at + 1] = without_tactic(text[at - 1]), blank(text[at])
+        for at, (edit, _) in by_piece.items():
+            first = sum(piece.count("\n") for piece in text[:at]) + 1
+            stands.update({(str(file), line): edit for line in range(first, first + text[at].count("\n"))})
         (folder / file).write_text("".join(text))
+    write_proofs(crate, folder, left)
+    return stands
 
 
-def lacking(crate, said):
-    """What each function lacks by itself, from what a check said; None where it judged no function."""
-    if not re.search(r"(?m)^only=", said):
-        return None
-    lacks = {}
+def write_proofs(crate, folder, left):
+    """Writes the proofs of the copy: the lemmas, and of functions' own files those of the functions that are left."""
+    shutil.rmtree(folder / "proofs", ignore_errors=True)
+    if (crate / "proofs").is_dir():
+        shutil.copytree(crate / "proofs", folder / "proofs")
+        for name in ("Answers", "Invariants", "Proof"):
+            for file in (folder / "proofs").rglob(f"{name}.antt"):
+                if not left & set(file.relative_to(folder / "proofs").parts):
+                    file.unlink()
+
+
+def lacking(crate, said, stands):
+    """What each function, or each edit by its place, lacks by itself, from what a check said; names that are gone are no goal."""
+    lacks, errors_of = {}, {}
     for function, reason in re.findall(rf"(?m)^fn {crate}::(\S+): no proof: (.*)$", said):
         own = [part for part in reason.split("; ") if not NO_GOAL.search(part)]
         lacks[function] = "" if "the borrow checker does not cover" in reason else "; ".join(own)
     for function in re.findall(rf"(?m)^fn {crate}::(\S+): not proved", said):
         folder = re.escape(function.replace("::", "/"))
-        errors = re.findall(rf"(?m)^\./proofs/{folder}/\w+\.antt:\d+:\d+: error: (.*)$", said)
-        lacks[function] = "; ".join(error[:200] for error in errors if not NAMES_ALONE.search(error))
+        errors_of[function] = re.findall(rf"(?m)^\./proofs/{folder}/\w+\.antt:\d+:\d+: error: (.*)$", said)
+        lacks[function] = "; ".join(error[:200] for error in errors_of[function] if not NAMES_ALONE.search(error))
+    for file, line, note in re.findall(r"(?m)^note: (src/\S+?):(\d+):\d+: (it is not proved that .*)$", said):
+        edit = stands.get((file, int(line)))
+        if edit and not lacks.get(edit.function) and edit.function in errors_of:
+            lacks[edit.function] = note[:200]
     return {function: lack for function, lack in lacks.items() if lack}
+
+
+def is_proved(crate, function, said):
+    return re.search(rf"(?m)^fn {crate}::{re.escape(function)}: proved", said) is not None
 
 
 def try_group(edits, folder, is_alone):
     """What the check of the copy with these edits says: for each edit what its function lacks, or why it isn't refused."""
-    write(edits, folder, is_alone)
-    only = [word for edit in edits for word in ("--only", edit.function)]
-    said = run(["rt", "check", "--jobs", "1", *only], folder).stdout
-    lacks = lacking(folder.name, said)
-    if lacks is None:
+    stands = write(edits, folder, is_alone)
+    said, is_judged = check(folder, [edit.function for edit in edits])
+    if not is_judged:
         return {edit: (False, "NOTHING JUDGED, the check said:\n" + said[-2000:]) for edit in edits}
-    return {edit: (edit.function in lacks, lacks.get(edit.function, "NOT REFUSED")) for edit in edits}
+    lacks = lacking(folder.name, said, stands)
+    is_whole = lambda edit: is_proved(folder.name, edit.function, said)
+    why = lambda edit: "NOT REFUSED" if is_whole(edit) else "NOT PROVED, BY NAMES ALONE"
+    return {edit: (edit.function in lacks, lacks.get(edit.function) or why(edit)) for edit in edits}
 
 
 def try_crate(edits, built):
     """Tries the edits of a crate in groups, and alone those that weren't refused in company. The checks follow one another
     in one copy, so that each begins with the lemmas that those before it proved."""
-    crate, built = edits[0].crate, [library.result() for library in built]
-    tried = {}
+    crate, tried = edits[0].crate, {}
+    lacking_library = [why for why in (library.exception() for library in built) if why]
+    if lacking_library:
+        return {edit: (False, f"NOT TRIED: {lacking_library[0]}") for edit in edits}
+    built = [library.result() for library in built]
     with tempfile.TemporaryDirectory(prefix="wrong-bodies-") as room:
         folder = copy_of(crate, built, pathlib.Path(room))
         for group in groups_of(edits):
@@ -201,7 +253,7 @@ def try_crate(edits, built):
 def mark_left():
     """Marks the libraries that `rt ci` has left as built of these sources. It leaves them without a mark, since they hold
     statements alone, and a check would build each anew."""
-    sys.path.insert(0, str(pathlib.Path(shutil.which("rt")).resolve().parent))
+    sys.path.insert(0, str(pathlib.Path(run(["rt", "doc"], ROOT).stdout.strip()).parent / "bin"))
     import rtlib
 
     for library in rtlib.crates_below(str(ROOT)):
@@ -236,15 +288,16 @@ def lanes():
     return max(1, min(len(os.sched_getaffinity(0)), int(free[1]) // MEMORY_OF_A_CHECK))
 
 
-def try_all(edits, below):
-    """Tries the edits of several crates at once.
+def try_all(edits, below, is_built):
+    """Tries the edits of several crates at once, the most edits first if the libraries are built.
 
-    The libraries are built meanwhile, one after another. A crate waits for those that it stands on, and for its own where
-    that is one of them: a folder that is being written can't be copied."""
+    Else these are built meanwhile, one after another. A crate waits for those that it stands on, and for its own if that is
+    one of them: a folder that is being written can't be copied."""
     order = list(dict.fromkeys(low for edit in edits for low in below[edit.crate]))
     awaited = {crate: [low for low in order if low == crate or low in below[crate]] for crate in below}
-    last = lambda crate: max(map(order.index, awaited[crate]), default=-1)
-    crates, tried = sorted({edit.crate for edit in edits}, key=lambda crate: (last(crate), crate)), {}
+    last = lambda crate: 0 if is_built else max(map(order.index, awaited[crate]), default=-1)
+    count = lambda crate: sum(edit.crate == crate for edit in edits)
+    crates, tried = sorted({edit.crate for edit in edits}, key=lambda crate: (last(crate), -count(crate))), {}
     with ThreadPoolExecutor(1) as builder, ThreadPoolExecutor(lanes()) as pool:
         libraries = {crate: builder.submit(build, crate) for crate in order}
         of_crate = lambda crate: [edit for edit in edits if edit.crate == crate]
@@ -255,11 +308,14 @@ def try_all(edits, below):
 
 
 def main(words):
+    if unknown := [word for word in words if word.startswith("-") and word not in ("--reasons", "--after-ci")]:
+        print(__doc__)
+        return 0 if unknown[0] in ("-h", "--help") else 2
     below = libraries_below()
     edits, failed = read_edits([word for word in words if not word.startswith("--")])
     if "--after-ci" in words:
         mark_left()
-    tried = try_all(edits, below)
+    tried = try_all(edits, below, "--after-ci" in words)
     refused = [f"{edit}: {why}" for edit, (is_refused, why) in tried.items() if is_refused]
     failed += [f"{edit}: {why}" for edit, (is_refused, why) in tried.items() if not is_refused]
     for line in [*(refused if "--reasons" in words else []), *failed]:

@@ -1,9 +1,8 @@
 //! A crew that crawls a host in memory: pages a second beside the same pages made without a catalogue,
-//! the best of several rounds of both in turn, its memory for each page, and how long searches take beside it.
+//! the best of several rounds of both in turn, and its memory for each page.
 
 ghost use Rattle.std.specs.Prelude.{◌≡◌, []};
 
-use crate::beside::{print_spans, spans_beside};
 use crate::desks::{Pairs, opened_desk};
 use crate::failed::Failed;
 use crate::files;
@@ -13,8 +12,6 @@ use crate::printing::{Figure, print};
 use crate::timing::{Best, ROUNDS, now};
 use gopher_crew::{Blank, Crew, Desk, crawl};
 use gopher_item::Place;
-use gopher_page::Query;
-use std::alloc::Global;
 use std::marker::Brand;
 use std::rt::Runtime;
 use std::sync::Wait;
@@ -103,42 +100,14 @@ fn compare<R: Runtime + AllocGlobal + Threads + Wait + Sync>(
     print_crawled(rt, name, left, (crawls, alone), places.len())
 }
 
-fn query(alloc: Global) -> Result<Query, Failed> {
-    match Query::read(alloc, b"rarely") {
-        Ok(query) => Ok(query),
-        Err(_) => Err(Failed::Refused),
-    }
-}
-
-// Crawls the host with so many workers, while another thread searches. Prints what the searches took.
-fn crawled_beside_searches<C: Crew + Send + Sync, R: Runtime + AllocGlobal + Threads + Wait + Sync>(
-    rt: &R,
-    blank: Blank,
-    host: &Host,
-    workers: u32,
-) -> Result<(), Failed>
-    requires name { blank.name ≡ C.name }
-    requires parts { blank.parts ≡ C.parts }
-    requires history { blank.history ≡ C.history }
-    requires begun { blank.begun ≡ [] }
-{
-    let query = query(rt.alloc())?;
-    let (desk, mut passes, pairs) = opened_desk::<C, R>(rt, blank, host, workers)?;
-    let Some(mut pass) = passes.pop() else {
-        return Err(Failed::Refused);
-    };
-    let mut spans = spans_beside(rt, &desk, pairs, &mut pass, &query);
-    print_spans(rt, &mut spans)
-}
-
 fn read_host<R: Runtime + AllocGlobal>(rt: &R, path: &str) -> Result<Host, Failed> {
     let bytes = files::bytes(rt, path)?;
     let texts = files::pages(rt.alloc(), &bytes)?;
     Ok(Host::new(rt.alloc(), &texts)?)
 }
 
-/// Prints how fast 4, 2 and 1 workers crawl the file's texts, what they hold in memory, and how long
-/// searches take beside 4. The first crawl's memory counts: later ones use again what it gave back.
+/// Prints how fast 4, 2 and 1 workers crawl the file's texts, and what they hold in memory. The first
+/// crawl's memory counts: later ones use again what it gave back.
 pub fn measure<R: Runtime + AllocGlobal + Threads + Wait + Sync>(
     rt: &R,
     path: &str,
@@ -148,5 +117,5 @@ pub fn measure<R: Runtime + AllocGlobal + Threads + Wait + Sync>(
     for workers in WORKERS {
         compare(rt, &host, &places, workers)?;
     }
-    crawled_beside_searches::<Brand, R>(rt, Blank::new(), &host, 4)
+    Ok(())
 }

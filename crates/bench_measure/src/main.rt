@@ -1,12 +1,10 @@
-//! Times the crates on a file or a folder: `bench_measure menu|text|settings|search|crawl FILE`, or
-//! `bench_measure site|replies FOLDER`.
+//! Times the crates on a file: `bench_measure menu|text|search|crawl FILE`.
 //!
-//! A line gives the best of several rounds: for menus, texts and replies in megabytes a second, beside
-//! a plain copy of the same bytes in the same run, for the others in microseconds. The building of a
-//! catalogue alone has one round.
+//! A line gives the best of several rounds: for menus and texts in megabytes a second, beside a plain copy
+//! of the same bytes in the same run, for the others in microseconds. The building of a catalogue alone
+//! has one round.
 #![tactic(auto)]
 
-mod beside;
 mod crawls;
 mod desks;
 mod failed;
@@ -16,10 +14,7 @@ mod links;
 mod making;
 mod opening;
 mod printing;
-mod replies;
 mod searches;
-mod settings;
-mod site;
 mod timing;
 
 use failed::Failed;
@@ -45,20 +40,13 @@ fn measure(rt: &HostRuntime, what: &str, path: &str) -> Option<Result<(), Failed
     match what {
         "menu" => Some(formats::measure(rt, Format::Menu, path)),
         "text" => Some(formats::measure(rt, Format::Text, path)),
-        "settings" => Some(settings::measure(rt, path)),
-        "site" => Some(site::measure(rt, path)),
-        "replies" => Some(replies::measure(rt, path)),
         "search" => Some(searches::measure(rt, path)),
         _ => None,
     }
 }
 
 fn print_usage(rt: &HostRuntime) -> Result<(), Failed> {
-    print(
-        rt,
-        "usage: bench_measure menu|text|settings|search|crawl FILE, or bench_measure site|replies FOLDER",
-        &[],
-    )
+    print(rt, "usage: bench_measure menu|text|search|crawl FILE", &[])
 }
 
 fn main(rt: HostRuntime) -> Result<(), Failed> {

@@ -1,4 +1,4 @@
--- An answer holds each page that matches, once, and there is one such list.
+-- An answer contains each matching page once, and only one list is an answer.
 use Rattle.std.proofs.Common.{◌≡◌, ◌⊎◌, suc, Bool, true, false, cond, List, [], ◌∷◌, ◌++◌, take, ◌↔◌, inl, inr, refl, sym, ◌∙◌, ap, subst, arith}
 use Rattle.std.specs.List.{flat_map, All, Contains}
 use Rattle.std.specs.Ordering.{nat_cmp, ordering_then, is_eq}
@@ -31,11 +31,11 @@ second_tied Less s e = absurd (false≢true (ap is_eq e))
 second_tied Equal s e = e
 second_tied Greater s e = absurd (false≢true (ap is_eq e))
 
--- pages of one place are one
+-- two pages of one place are equal
 abbrev pub IsOnePerPlace : (PageData → Type 0) → Type 0
 IsOnePerPlace IsPage = (a b : PageData) → IsPage a → IsPage b → a.place ≡ b.place → a ≡ b
 
--- hits that tie are one
+-- two hits that tie are equal
 hits_tied : (IsPage : PageData → Type 0) (query : List TermData) → IsOnePerPlace IsPage → (a b : Hit) → IsHitAmong IsPage query a → IsHitAmong IsPage query b → rank_cmp a b ≡ Equal → a ≡ b
 hits_tied IsPage query one a b from from' e =
     let place : a.place ≡ b.place = place_tied a.place b.place (second_tied (nat_cmp b.score a.score) (place_cmp a.place b.place) e) in
@@ -75,7 +75,7 @@ hits_have query (first ∷ pages) page has match' = by (contains_cases first pag
 
 -- ---- answers
 
--- the answer over pages of places that differ
+-- the answer over pages of distinct places
 pub answer_among : (pages : List PageData) (query : List TermData) → IsOnePerPlace (Contains pages) → IsAnswerAmong (Contains pages) query (answer_of pages query)
 unfolding answer_of ranked
 answer_among pages query one =
@@ -93,7 +93,7 @@ answer_among pages query one =
       first = refl;
     }
 
--- the same over the same pages, told in another way
+-- answers over two equivalent sets of pages
 pub answer_same : (P Q : PageData → Type 0) (query : List TermData) (hits : List Hit) → ((page : PageData) → P page ↔ Q page) → IsAnswerAmong P query hits → IsAnswerAmong Q query hits
 answer_same P Q query hits same answer =
     record {

@@ -1,4 +1,5 @@
--- The pages that a record holds, after one more event, how many they are, and that an index takes all.
+-- The pages of a record: after one more event, their number, and that the index contains all of
+-- them.
 use Rattle.std.proofs.Common.{◌≡◌, ℕ, suc, zero, ◌≤◌, ◌<◌, List, [], ◌∷◌, ◌++◌, length, take, append_assoc, inl, inr, refl, sym, ◌∙◌, ap, arith}
 use Rattle.std.specs.Arc.{arc_value}
 use Rattle.std.specs.List.{flat_map}
@@ -41,7 +42,7 @@ pages-append : (events more : List EventData) → pages_found (events ++ more) �
 unfolding pages_found
 pages-append events more = flat_map-append page_of_event events more
 
--- pages that stand among those of a record stand among those of each record that begins with it
+-- a run of a record's pages is a run of the pages of each longer record
 pub stands_on : (run : SegmentData) (events more : List EventData) → IsPrefix events more → StandsIn run (pages_found events) → StandsIn run (pages_found more)
 stands_on run events more grows stands =
     let rest : List PageData = pages_found grows.0 in
@@ -56,7 +57,7 @@ stands_on run events more grows stands =
       number = stands.number;
     }
 
--- what an index takes of pages and more of them
+-- truncating before appending doesn't change the truncated result
 take-more : {X : Type 0} (n : ℕ) (xs ys : List X) → take n (xs ++ ys) ≡ take n (take n xs ++ ys)
 take-more zero xs ys = refl
 take-more (suc n) [] ys = refl
@@ -69,14 +70,14 @@ indexed-none = refl
 pub indexed-push : (events : List EventData) (event : EventData) → pages_indexed (events ++ event ∷ []) ≡ take 65536 (pages_indexed events ++ page_of_event event)
 indexed-push events event = ap (take 65536) (pages-push events event) ∙ take-more 65536 (pages_found events) (page_of_event event)
 
--- an event without a page leaves the index as it is
+-- an event without a page doesn't change the index
 pub indexed-no_page : (events : List EventData) (event : EventData) → page_of_event event ≡ [] → pages_indexed (events ++ event ∷ []) ≡ pages_indexed events
 indexed-no_page events event none = ap (take 65536) (pages-push events event ∙ ap (λ l. pages_found events ++ l) none ∙ append-nil (pages_found events))
 
 pub few_indexed : (events : List EventData) → length (pages_indexed events) ≤ 65536
 few_indexed events = omega (arith, length-take 65536 (pages_found events))
 
--- ---- what an index takes of an event
+-- ---- the page of an event
 
 no_page : (event : Event) → ((n : ℕ) (page : Arc PageData Global) → event ≡ FoundEvent n page → ⊥) → page_of_event (event_data event) ≡ []
 no_page (OpenedEvent opening) none = refl
@@ -97,12 +98,12 @@ module _ (event : Event) (pages : List PageData) where
       ap (λ p. pages ++ p ∷ []) same
       ∙ sym (ap (λ more. take 65536 (pages ++ more)) more ∙ take_all 65536 (pages ++ arc_value page ∷ []) (omega (arith, length_push pages (arc_value page))))
 
--- ---- how many
+-- ---- the number of pages
 
 none_found : (events : List EventData) (event : EventData) → page_of_event event ≡ [] → length (pages_found (events ++ event ∷ [])) ≡ length (pages_found events)
 none_found events event none = ap length (pages-push events event ∙ ap (λ l. pages_found events ++ l) none ∙ append-nil (pages_found events))
 
--- each page found is of a number that is done
+-- a record finds at most as many pages as places are done
 pub pages_are_done : (opening : OpeningData) (events : List EventData) → IsLegal (Opened opening ∷ events) → length (pages_found events) ≤ length (done opening events)
 pages_are_done opening events legal = legal_ind (λ es. length (pages_found es) ≤ length (done opening es)) opening base step events legal.1 where
   base : length (pages_found []) ≤ length (done opening [])
@@ -119,7 +120,7 @@ pages_are_done opening events legal = legal_ind (λ es. length (pages_found es) 
         | inr last ↦ omega (arith, ih, none_found es (Failed n why) refl, legal_failed_last-done opening es n why (legal.0, follows) may.is_out last)
       ]
 
--- an index takes each page that a legal record found
+-- the index contains each page that a legal record found
 pub all_indexed : (events : List EventData) → IsLegal events → pages_indexed events ≡ pages_found events
 all_indexed [] legal = absurd legal
 all_indexed (Opened opening ∷ events) legal =

@@ -1,4 +1,4 @@
--- What one call does to a legal record, gathered: a claim, a failure, a find, and the beginning.
+-- The effects of one call on a legal record: a claim, a failure, a find, and opening.
 use Rattle.std.proofs.Common.{◌≡◌, ◌≢◌, ℕ, ◌+◌, ◌-◌, ◌≤◌, ◌<◌, true, false, not, List, [], ◌∷◌, ◌++◌, length, drop, Some, refl, sym, ◌∙◌, ap, arith}
 use Rattle.std.specs.List.{slice_get, range_with_len}
 use Rattle.std.proofs.lemmas.Bool.{lt-leb}
@@ -19,7 +19,7 @@ use Rattle.gopher_catalogue.proofs.Sizes.{out_is, done_is}
 use Rattle.gopher_catalogue.proofs.States.{waits_at, unknown_at, length-entries}
 use Rattle.gopher_catalogue.proofs.LegalSizes.{legal_claim-out, legal_claim-done, legal_found-out, legal_found-done, legal_found-waiting, legal_failed-out, legal_failed_again-waiting, legal_failed_again-done, legal_failed_last-done, length-entries_fits, length-record_fits, out_nil}
 
--- (a field's name may not be that of a word of the frontier)
+-- (a field's name may not be that of a definition of the frontier)
 pub record ClaimStep (opening : OpeningData) (events : List EventData) (n : ℕ) : Type 0 where
   pub legal : IsLegal (Opened opening ∷ (events ++ Claimed n ∷ []))
   pub is_known : n < length (known opening events)

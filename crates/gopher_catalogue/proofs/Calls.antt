@@ -1,5 +1,5 @@
--- The calls of the sequential catalogue on a legal record: what each answers, and that the record it
--- leaves is legal.
+-- The calls of the sequential catalogue on a legal record: their results, and that the record after
+-- each is legal.
 use Rattle.std.proofs.Common.{◌≡◌, ◌≢◌, ℕ, Bool, true, false, ◌&&◌, not, List, [], ◌∷◌, ◌++◌, length, ◌⊎◌, inl, inr, Option, Some, None, refl, sym, ◌∙◌, ap, eqb, ltb}
 use Rattle.std.specs.Prelude.{if◌then◌else◌}
 use Rattle.std.specs.List.{slice_get}
@@ -31,7 +31,7 @@ pub turn-finished : (opening : OpeningData) (events : List EventData) → slice_
 unfolding turn_of
 turn-finished opening events none no_more = rw (none, eq-eqb (length (out opening events)) 0 no_more) refl
 
--- on a legal record a claim that answers a number claims the first that waits
+-- on a legal record, a claim that takes a number takes the first waiting one
 pub turn-cases : (opening : OpeningData) (events : List EventData) → IsLegal (Opened opening ∷ events) → ((n : ℕ) × (place : PlaceData) × (turn_of (Opened opening ∷ events) ≡ Take n place) × (slice_get (waiting opening events) 0 ≡ Some n) × (slice_get (known opening events) n ≡ Some place)) ⊎ ((slice_get (waiting opening events) 0 ≡ None) × (after_turn (Opened opening ∷ events) (turn_of (Opened opening ∷ events)) ≡ Opened opening ∷ events))
 turn-cases opening events legal = cases (slice_get (waiting opening events) 0) refl where
   cases : (first : Option ℕ) → slice_get (waiting opening events) 0 ≡ first → ((n : ℕ) × (place : PlaceData) × (turn_of (Opened opening ∷ events) ≡ Take n place) × (slice_get (waiting opening events) 0 ≡ Some n) × (slice_get (known opening events) n ≡ Some place)) ⊎ ((slice_get (waiting opening events) 0 ≡ None) × (after_turn (Opened opening ∷ events) (turn_of (Opened opening ∷ events)) ≡ Opened opening ∷ events))
@@ -45,7 +45,7 @@ turn-cases opening events legal = cases (slice_get (waiting opening events) 0) r
       )
   cases (Some n) first = let at' = place_waiting opening events legal n first in inl (n, at'.0, turn-take opening events n at'.0 first at'.1, first, at'.1)
 
--- the record that a claim leaves is legal
+-- the record after a claim is legal
 pub IsLegal-turn : (record_ : List EventData) → IsLegal record_ → IsLegal (after_turn record_ (turn_of record_))
 IsLegal-turn [] legal = absurd legal
 IsLegal-turn (Opened opening ∷ events) legal =
@@ -86,7 +86,7 @@ found_fault-none true true h = (refl, refl)
 found_fault-none true false h = cc
 found_fault-none false p h = cc
 
--- an accepted page leaves a legal record
+-- the record after an accepted page is legal
 pub MayFollow-found : (opening : OpeningData) (events : List EventData) (n : ℕ) (page : PageData) → found_fault (Opened opening ∷ events) n page.place ≡ None → MayFollow opening events (Found n page)
 MayFollow-found opening events n page h =
     let tests = found_fault-none (is_out_in (Opened opening ∷ events) n) (is_place_in (Opened opening ∷ events) n page.place) h in
@@ -99,7 +99,7 @@ IsLegal-found (Claimed number ∷ events) n page legal h = absurd legal
 IsLegal-found (Found number other ∷ events) n page legal h = absurd legal
 IsLegal-found (Failed number why ∷ events) n page legal h = absurd legal
 
--- and so does a failure of a number that is out
+-- the record after a failure of a number that is out is legal
 pub IsLegal-failed : (record_ : List EventData) (n : ℕ) (why : Why) → IsLegal record_ → is_out_in record_ n ≡ true → IsLegal (record_ ++ Failed n why ∷ [])
 IsLegal-failed [] n why legal h = absurd legal
 IsLegal-failed (Opened opening ∷ events) n why legal h = IsLegal-push opening events (Failed n why) legal (IsOut-from_test opening events n h)

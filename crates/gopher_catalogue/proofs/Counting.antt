@@ -1,5 +1,5 @@
--- The counting law of legal records: how often a number was claimed, found and failed, and how often
--- it entered the frontier.
+-- The counting law of legal records: how often a number was claimed, found and failed, and how
+-- often it entered the queue.
 use Rattle.std.proofs.Common.{◌≡◌, ◌≢◌, ℕ, suc, zero, ◌+◌, ◌-◌, ◌≤◌, ◌<◌, min, true, false, cond, List, [], ◌∷◌, ◌++◌, length, drop, ◌⊎◌, inl, inr, Some, refl, sym, ◌∙◌, ap, arith, eqb}
 use Rattle.std.specs.List.{range_with_len, count_by, slice_get, flat_map}
 use Rattle.std.proofs.lemmas.Bool.{eq-eqb, ne_eqb, cases_eq, cases_lt}
@@ -14,7 +14,7 @@ use Rattle.gopher_catalogue.specs.Legal.{MayFollow, FollowEachOther, IsLegal}
 use Rattle.gopher_catalogue.proofs.Legal.{legal_ind}
 use Rattle.gopher_catalogue.proofs.Steps.{claims_made, claims-claimed, claims-claimed_other, claims-found, claims-failed, finds-claimed, finds-found, finds-found_other, finds-failed, failures-claimed, failures-found, failures-failed, failures-failed_other, known-claimed, known-failed, length-known_push, entries_push, entries-claimed, entries-found, entries-failed_again, entries-failed_last, waiting_is, waiting-claimed, is_out-claims, claims_made_push}
 
--- how often a number stands in a list
+-- how often a list contains a number
 unfoldable pub times : ℕ → List ℕ → ℕ
 times n ns = count_by (λ m. eqb n m) ns
 
@@ -57,7 +57,7 @@ times-range_within n a (suc len) l u =
           omega (arith, times-cons n a (range_with_len (a + 1) len), times-one_other n a ne)
     ]
 
--- a number at a place of a list stands in it
+-- a list contains the number at each of its indexes
 pub times_at : (ns : List ℕ) (k n : ℕ) → slice_get ns k ≡ Some n → 1 ≤ times n ns
 times_at [] k n h = cc
 times_at (m ∷ ns) zero n h =
@@ -76,7 +76,7 @@ claimed events = flat_map claimed_by events
 
 -- ---- the law
 
--- what the counts of one number are in a legal record
+-- the counts of one number in a legal record
 pub record Counts (opening : OpeningData) (events : List EventData) (n : ℕ) : Type 0 where
   pub outcomes_le : finds events n + failures events n ≤ claims events n
   pub claims_le : claims events n ≤ finds events n + failures events n + 1
@@ -88,7 +88,7 @@ pub record Counts (opening : OpeningData) (events : List EventData) (n : ℕ) : 
   pub all_ended : 1 ≤ finds events n → claims events n ≡ finds events n + failures events n
   pub unknown : length (known opening events) ≤ n → times n (entries opening events) ≡ 0
 
--- a legal record's frontier: what entered it is what was claimed, and then what waits
+-- the queue of a legal record: the entries are the claimed numbers, and then the waiting ones
 pub record Counted (opening : OpeningData) (events : List EventData) : Type 0 where
   pub frontier : entries opening events ≡ claimed events ++ waiting opening events
   pub numbers : (n : ℕ) → Counts opening events n
@@ -121,7 +121,7 @@ times-claimed (Claimed m ∷ events) n = times-cons n m (flat_map claimed_by eve
 times-claimed (Found m page ∷ events) n = times-claimed events n ∙ sym (claims-cons n (Found m page) events ∙ omega arith)
 times-claimed (Failed m why ∷ events) n = times-claimed events n ∙ sym (claims-cons n (Failed m why) events ∙ omega arith)
 
--- ---- the frontier after one more event
+-- ---- the queue after one more event
 
 pub first_and_rest : (ns : List ℕ) (n : ℕ) → slice_get ns 0 ≡ Some n → ns ≡ n ∷ drop 1 ns
 first_and_rest [] n h = cc

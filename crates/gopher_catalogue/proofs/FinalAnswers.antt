@@ -24,12 +24,12 @@ use Rattle.gopher_catalogue.proofs.OccurrenceMembers.{of_same_place, occurrences
 
 -- ---- the pages of a whole record
 
--- the opening holds no page
+-- an opening has no page
 pub pages_found-opened : (opening : OpeningData) (events : List EventData) → pages_found (Opened opening ∷ events) ≡ pages_found events
 unfolding pages_found
 pages_found-opened opening events = refl
 
--- pages found of one place are one
+-- two found pages of one place are equal
 one_per_place : (opening : OpeningData) (events : List EventData) → IsLegal (Opened opening ∷ events) → IsOnePerPlace (Contains (pages_found events))
 one_per_place opening events legal a b has has' same =
     let first : slice_get (pages_found events) has.0 ≡ Some a = slice_get-get_or (pages_found events) has.0 a has.1 ∙ ap Some has.2 in
@@ -37,7 +37,7 @@ one_per_place opening events legal a b has has' same =
     let index : has.0 ≡ has'.0 = page_once opening events has.0 has'.0 a b legal first second same in
     same_Some a b (sym first ∙ ap (slice_get (pages_found events)) index ∙ second)
 
--- no two pages found are of the same place
+-- no two found pages are of one place
 pages_distinct : (opening : OpeningData) (events : List EventData) → IsLegal (Opened opening ∷ events) → IsDistinct of_same_place (pages_found events)
 pages_distinct opening events legal =
     IsDistinct-from_apart of_same_place (pages_found events)
@@ -56,7 +56,7 @@ answers_hold opening events legal query = answer_among (pages_found events) quer
 pub occurrences_hold : (opening : OpeningData) (events : List EventData) → IsLegal (Opened opening ∷ events) → (word : List ℕ) → AreOccurrencesAmong (Contains (pages_found events)) word (occurrences_of (pages_found events) word)
 occurrences_hold opening events legal word = occurrences_inserted (pages_found events) word (one_per_place opening events legal)
 
--- the occurrences as they are sorted
+-- the occurrences in place order
 sorted_occurrences : (opening : OpeningData) (events : List EventData) → IsLegal (Opened opening ∷ events) → (word : List ℕ) (list : List (PlaceData × ℕ)) → AreOccurrences (pages_found events) word list → list ≡ occurrences_of (pages_found events) word
 sorted_occurrences opening events legal word list are =
     occurrences_one (Contains (pages_found events)) word list (occurrences_of (pages_found events) word) (occurrences_are (pages_found events) word list (pages_distinct opening events legal) are)
@@ -94,7 +94,7 @@ record_final_occurrences record_ word legal opening events table is complete agr
     subst (λ pages'. FinalOccurrences opening.scope opening.seeds table word (occurrences_of pages' word)) (sym pages)
     (final_occurrences opening events table word (subst IsLegal is legal) (subst IsComplete is complete) agrees)
 
--- the occurrences as they are sorted
+-- the occurrences of a word in a record, in place order
 pub record_occurrences : (record_ : List EventData) (word : List ℕ) (list : List (PlaceData × ℕ)) → IsLegal record_ → AreOccurrences (pages_found record_) word list → list ≡ occurrences_of (pages_found record_) word
 unfolding pages_found
 record_occurrences (Opened opening ∷ events) word list legal are = sorted_occurrences opening events legal word list are
@@ -103,7 +103,7 @@ record_occurrences (Claimed n ∷ events) word list legal are = absurd legal
 record_occurrences (Found n page ∷ events) word list legal are = absurd legal
 record_occurrences (Failed n why ∷ events) word list legal are = absurd legal
 
--- ---- what calls answer on a record
+-- ---- the results of calls on a record
 
 pub record_reach : (record_ : List EventData) → IsLegal record_ → HoldsReachOnceComplete record_
 record_reach record_ legal opening events table is complete agrees = holds_reach opening events table (subst IsLegal is legal) (subst IsComplete is complete) agrees
@@ -113,12 +113,12 @@ pub hits_final : {V E : Type 0} (items : V → List Hit) (record_ : List EventDa
 hits_final items record_ query (Ok v) legal is = subst (IsFinalOnceComplete record_ query) (sym is) (record_final_answer record_ query legal)
 hits_final items record_ query (Err e) legal is = tt
 
--- occurrences that were sorted are in order
+-- occurrences in order are those of the record
 pub occurrences_sorted : {V E : Type 0} (items : V → List (PlaceData × ℕ)) (record_ : List EventData) (word : List ℕ) (r : Result V E) → IsLegal record_ → IfOk r (λ v. AreOccurrences (pages_found record_) word (items v)) → IfOk r (λ v. items v ≡ occurrences_of (pages_found record_) word)
 occurrences_sorted items record_ word (Ok v) legal are = record_occurrences record_ word (items v) legal are
 occurrences_sorted items record_ word (Err e) legal are = tt
 
--- and final once the record is complete
+-- occurrences of the record are final once the record is complete
 pub occurrences_final : {V E : Type 0} (items : V → List (PlaceData × ℕ)) (record_ : List EventData) (word : List ℕ) (r : Result V E) → IsLegal record_ → IfOk r (λ v. items v ≡ occurrences_of (pages_found record_) word) → IfOk r (λ v. AreFinalOnceComplete record_ word (items v))
 occurrences_final items record_ word (Ok v) legal is = subst (AreFinalOnceComplete record_ word) (sym is) (record_final_occurrences record_ word legal)
 occurrences_final items record_ word (Err e) legal is = tt

@@ -1,4 +1,5 @@
--- Finished crawls of one table agree; a place has one page; with one try the last outcomes are all.
+-- Finished crawls with one table agree; a place has one page; with one try all outcomes are last
+-- outcomes.
 use Rattle.std.proofs.Common.{◌≡◌, ℕ, ◌≤◌, List, [], ◌∷◌, ◌++◌, inl, inr, ◌↔◌, Option, Some, None, refl, sym, ◌∙◌, ap, subst, arith}
 use Rattle.std.specs.List.{slice_get, flat_map, Contains}
 use Rattle.std.proofs.lemmas.Bool.{eq-eqb}
@@ -22,7 +23,7 @@ use Rattle.gopher_catalogue.proofs.Reach.{holds_reach, page_found_at, known_stay
 
 -- ---- two crawls
 
--- what the seeds reach, equal seeds reach
+-- equal seeds reach equal places
 pub reach_same : (scope : ScopeData) (seeds seeds' : List PlaceData) (table : OutcomeTable) → SamePlaces seeds seeds' → (p : PlaceData) → IsReachable scope seeds table p → IsReachable scope seeds' table p
 reach_same scope seeds seeds' table same p (seed among) = seed (sym (same p) ∙ among)
 reach_same scope seeds seeds' table same p (link {place} reached among) = link (reach_same scope seeds seeds' table same place reached) among
@@ -74,7 +75,7 @@ pages_found_push events e = flat_map-append page_of_event events (e ∷ []) ∙ 
 IsOnce : List PageData → Type 0
 IsOnce pages = (i j : ℕ) (page other : PageData) → slice_get pages i ≡ Some page → slice_get pages j ≡ Some other → page.place ≡ other.place → i ≡ j
 
--- a page that was found before is of another place than one whose number is out
+-- a page found before is of another place than a number that is out
 found_before : (opening : OpeningData) (events : List EventData) → IsLegal (Opened opening ∷ events) → (n : ℕ) (page other : PageData) (i : ℕ) → MayFollow opening events (Found n page) → slice_get (pages_found events) i ≡ Some other → page.place ≡ other.place → ⊥
 found_before opening events legal n page other i may h same =
     let found = page_found_at events i other h in

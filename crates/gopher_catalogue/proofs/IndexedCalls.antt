@@ -1,4 +1,4 @@
--- What the tables of the catalogue show at each call, and that they are those of the record after it.
+-- The tables of the catalogue at each call, and that they are those of the record after it.
 use Rattle.std.proofs.Common.{◌≡◌, ◌≢◌, ℕ, ◌+◌, ◌-◌, ◌^◌, ◌≤◌, ◌<◌, Bool, true, false, ◌&&◌, List, [], ◌∷◌, ◌++◌, filter, length, replicate, not, position, Option, Some, None, slice_get, inl, inr, refl, sym, ◌∙◌, ap, subst, arith, leb, if◌then◌else◌}
 use Rattle.std.specs.List.{list_all, prefix_len}
 use Rattle.std.specs.Prelude.{Result, Ok, Err, OnErr}
@@ -34,7 +34,7 @@ pub on_err : {T E : Type 0} (r : Result T E) (P : Type 0) → P → OnErr r P
 on_err (Ok x) P p = tt
 on_err (Err e) P p = p
 
--- the same of a limit, a scope and links that are equal
+-- the effect of a page's links, for an equal limit, scope and links
 pub learned_of : (limit limit' : ℕ) (scope scope' : ScopeData) (links links' : List PlaceData) (before after : FrontierData) (dropped_now : ℕ) → limit ≡ limit' → scope ≡ scope' → links ≡ links' → Learned limit (filter (allows scope) links) before after dropped_now
     → Learned limit' (filter (allows scope') links') before after dropped_now
 learned_of limit limit' scope scope' links links' before after dropped_now e f g learned = rw (← e, ← f, ← g) learned
@@ -47,7 +47,7 @@ opened (Claimed number ∷ events) legal = absurd legal
 opened (Found number page ∷ events) legal = absurd legal
 opened (Failed number why ∷ events) legal = absurd legal
 
--- the tables of the same record, once the record and the frontier are known to be its
+-- the tables belong to a record that is equal
 indexed : (opening : OpeningData) (events : List EventData) (record_ : RecordData) (frontier : FrontierData) → record_.events ≡ Opened opening ∷ events → IsLegal (Opened opening ∷ events) → Tells opening events frontier → frontier.out ≤ record_.room → frontier.out ≤ frontier.room
     → length opening.seeds < 2 ^ 63 → IsIndexed record_ frontier
 indexed opening events record_ frontier e legal tells record_room queue_room few =
@@ -124,7 +124,7 @@ module _ (record_ : RecordData) (frontier : FrontierData) (is : IsIndexed record
   pub places_shown : frontier.places ≡ places_of record_.events
   places_shown = places_are ∙ ap places_of (sym begins)
 
-  -- ---- the first that waits
+  -- ---- the first waiting number
 
   module _ (n : ℕ) (first : slice_get frontier.waiting 0 ≡ Some n) where
     first_waits : slice_get (waiting opening later) 0 ≡ Some n
@@ -157,7 +157,7 @@ module _ (record_ : RecordData) (frontier : FrontierData) (is : IsIndexed record
   pub none_waits_idle : slice_get frontier.waiting 0 ≡ None → frontier.out ≢ 0 → turn_of record_.events ≡ Idle
   none_waits_idle none some = ap turn_of begins ∙ turn-idle opening later (ap (λ l. slice_get l 0) (sym is.tells.waiting_is) ∙ none) (λ e. some (is.tells.out_is ∙ e))
 
-  -- ---- what is out
+  -- ---- numbers that are out
 
   out_is_out : (n : ℕ) → is_out_at frontier.standings n ≡ is_out_in (Opened opening ∷ later) n
   out_is_out n =
@@ -196,7 +196,7 @@ module _ (record_ : RecordData) (frontier : FrontierData) (is : IsIndexed record
   pub place_shown : (n : ℕ) (place : PlaceData) → option_map_or (λ other. same_place other place) (slice_get frontier.places n) false ≡ is_place_in record_.events n place
   place_shown n place = place_is n place ∙ ap (λ events. is_place_in events n place) (sym begins)
 
-  -- ---- which fault a page has
+  -- ---- the fault of a page
 
   pub fault_not_out : (n : ℕ) (place : PlaceData) → is_out_at frontier.standings n ≡ false → found_fault record_.events n place ≡ Some NotOut
   fault_not_out n place gone = rw (sym (out_shown n) ∙ gone) refl

@@ -1,4 +1,4 @@
--- The frontier that the catalogue keeps, after each call.
+-- The frontier of the catalogue after each call.
 use Rattle.std.proofs.Common.{◌≡◌, ℕ, suc, zero, ◌+◌, ◌-◌, ◌≤◌, ◌<◌, true, false, cond, List, [], ◌∷◌, ◌++◌, map, filter, length, replicate, set, drop, Option, Some, slice_get, inl, inr, refl, sym, ◌∙◌, ap, arith}
 use Rattle.std.specs.List.{range_with_len}
 use Rattle.std.proofs.lemmas.Bool.{cases_Bool, cases_lt, lt-leb, le-leb, lt-ltb, le-ltb}
@@ -71,7 +71,7 @@ Tells-begin opening frontier legal begins =
       few_dropped = omega (arith, begins.few_dropped);
     }
 
--- ---- how a known place stands
+-- ---- the state of a known place
 
 some_same : {X : Type 0} (o : Option X) (x y : X) → o ≡ Some x → o ≡ Some y → x ≡ y
 some_same o x y e f = cc

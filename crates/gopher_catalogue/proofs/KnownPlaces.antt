@@ -1,4 +1,4 @@
--- The known places: each allowed, each once.
+-- The known places are allowed and distinct.
 use Rattle.std.proofs.Common.{◌≡◌, ℕ, suc, zero, ◌<◌, Bool, true, false, not, List, [], ◌∷◌, take, filter, inl, inr, Some, refl, sym, ◌∙◌, ap, arith}
 use Rattle.std.specs.List.{slice_get, flat_map, All}
 use Rattle.std.proofs.lemmas.Bool.{false≢true, or_parts, or_from, or_left, or_right, cases_Bool}
@@ -54,7 +54,7 @@ at_from_among (x ∷ xs) p h = step (at_from_among xs p) (same_place p x) refl w
   step ih true e = let same = same_place-is p x e in (0, ap Some (sym same))
   step ih false e = let rest : is_among xs p ≡ true = rw e at h in let found = ih rest in (suc found.0, found.1)
 
--- no place of the list is among those after it
+-- no place of the list occurs again after itself
 data IsUnique : List PlaceData → Type 0 where
   none : IsUnique []
   more : {x : PlaceData} {xs : List PlaceData} → is_among xs x ≡ false → IsUnique xs → IsUnique (x ∷ xs)

@@ -15,7 +15,7 @@ use Rattle.gopher_catalogue.proofs.Legal.{legal_ind}
 use Rattle.gopher_catalogue.proofs.Steps.{finds_push, failures_push}
 use Rattle.gopher_catalogue.proofs.States.{out_at}
 
--- what holds of no events, and of one more at the end, holds of all
+-- a property of the empty list that one more element at the end keeps holds for all lists
 pub push_ind : {X : Type 0} (P : List X → Type 0) → P [] → ((xs : List X) (x : X) → P xs → P (xs ++ x ∷ [])) → (xs : List X) → P xs
 push_ind {X = X} P base step xs = subst P (take_all (length xs) xs (omega arith)) (upto (length xs) (omega arith)) where
   upto : (n : ℕ) → n ≤ length xs → P (take n xs)
@@ -121,7 +121,7 @@ find_is_last opening events legal k n page h =
     (λ es j e follows at' o t. false_from_ne_true (is_out es n) (λ out'. omega (arith, finds_at es j n e at' t, (out_at opening es (legal.0, follows) n out').never_found)))
     events legal.1 k (Found n page) h (or_left (eqb n n) false is_find) is_find
 
--- with one try each outcome is its number's last
+-- with one try, each outcome is the last of its number
 pub outcome_is_last : (opening : OpeningData) (events : List EventData) → IsLegal (Opened opening ∷ events) → opening.tries ≡ 1 → (k n : ℕ) (e : EventData) → slice_get events k ≡ Some e → is_outcome_of n e ≡ true → last_outcome events n ≡ Some e
 outcome_is_last opening events legal one k n e h o =
     stays_last opening n (λ x. true)

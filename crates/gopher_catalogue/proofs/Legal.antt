@@ -1,4 +1,4 @@
--- Legal records: one more event, a beginning, and the induction over them.
+-- Legal records: one more event, prefixes, and induction.
 use Rattle.std.proofs.Common.{◌≡◌, ℕ, suc, zero, ◌≤◌, ◌<◌, List, [], ◌∷◌, ◌++◌, length, take, inl, inr, refl, sym, ◌∙◌, subst, arith}
 use Rattle.std.proofs.lemmas.List.{take_all, take-take, take-append-le, take_at, length-take}
 use Rattle.std.proofs.lemmas.Option.{slice_get_within}
@@ -31,7 +31,7 @@ FollowEachOther-before opening events e follows = subst (λ xs. FollowEachOther 
 pub MayFollow-last : (opening : OpeningData) (events : List EventData) (e : EventData) → FollowEachOther opening (events ++ e ∷ []) → MayFollow opening events e
 MayFollow-last opening events e follows = subst (λ xs. MayFollow opening xs e) (take_at events (e ∷ []) (length events) refl) (follows (length events) e (slice_get_last events e))
 
--- what holds at the opening, and after each event that may follow, holds of each legal record
+-- a property of an opened record that each event that may follow keeps holds for all legal records
 pub legal_ind : (P : List EventData → Type 0) (opening : OpeningData) → P [] → ((events : List EventData) (e : EventData) → FollowEachOther opening events → MayFollow opening events e → P events → P (events ++ e ∷ [])) → (events : List EventData) → FollowEachOther opening events → P events
 legal_ind P opening base step events follows = subst P (take_all (length events) events (omega arith)) (upto (length events) (omega arith)) where
   upto : (n : ℕ) → n ≤ length events → P (take n events)
@@ -50,7 +50,7 @@ IsLegal-opened opening legal = (legal, FollowEachOther-nil opening)
 pub IsLegal-push : (opening : OpeningData) (events : List EventData) (e : EventData) → IsLegal (Opened opening ∷ events) → MayFollow opening events e → IsLegal (Opened opening ∷ events ++ e ∷ [])
 IsLegal-push opening events e legal may = (legal.0, FollowEachOther-push opening events e legal.1 may)
 
--- a beginning, with the opening at least
+-- a prefix that contains the opening
 pub IsLegal-take : (record_ : List EventData) (n : ℕ) → IsLegal record_ → IsLegal (take (suc n) record_)
 IsLegal-take [] n legal = legal
 IsLegal-take (Opened opening ∷ events) n legal = (legal.0, FollowEachOther-take opening events n legal.1)

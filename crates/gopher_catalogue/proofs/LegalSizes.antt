@@ -1,4 +1,5 @@
--- The sizes of a legal record after one more event, and how long a legal record can be.
+-- The sizes of a legal record's states after one more event, and the greatest length of a legal
+-- record.
 use Rattle.std.proofs.Common.{◌≡◌, ◌≢◌, mul-le-mul_right, ℕ, suc, zero, ◌+◌, ◌-◌, ◌*◌, ◌≤◌, ◌<◌, true, false, not, List, [], ◌∷◌, ◌++◌, length, filter, inl, inr, Some, refl, sym, ◌∙◌, ap, arith, eqb}
 use Rattle.std.specs.List.{slice_get, range_with_len}
 use Rattle.std.proofs.lemmas.Bool.{cases_eq, eq-eqb, ne_eqb}
@@ -52,7 +53,7 @@ legal_found-waiting opening events n page legal = waiting-found opening events n
 pub legal_failed-out : (opening : OpeningData) (events : List EventData) (n : ℕ) (why : Why) → IsLegal (Opened opening ∷ events) → is_out events n ≡ true → length (out opening events) ≡ length (out opening (events ++ Failed n why ∷ [])) + 1
 legal_failed-out opening events n why legal h = length-out_failed opening events n why (out_at opening events legal n h).is_known h
 
--- with tries left it waits again; at its last try it is done
+-- a number with tries left waits again; after its last try it is done
 pub legal_failed_again-waiting : (opening : OpeningData) (events : List EventData) (n : ℕ) (why : Why) → IsLegal (Opened opening ∷ events) → claims events n < opening.tries → waiting opening (events ++ Failed n why ∷ []) ≡ waiting opening events ++ n ∷ []
 legal_failed_again-waiting opening events n why legal t = waiting-failed_again opening events n why (claims_made_fit opening events legal) t
 
@@ -67,7 +68,7 @@ legal_failed_last-done opening events n why legal h t =
     let out' = out_at opening events legal n h in
     length-done_failed_last opening events n why out'.is_known out'.not_done (is_done-failed_last opening events n why (omega (arith, out'.others_failed)))
 
--- ---- how long a legal record can be
+-- ---- the greatest length of a legal record
 
 pub out_nil : (opening : OpeningData) → out opening [] ≡ []
 unfolding out is_out claims finds failures
@@ -85,7 +86,7 @@ events_and_out opening events legal = legal_ind (λ es. length es + length (out 
   step es (Found n page) follows may ih = omega (arith, length_push es (Found n page), legal_found-out opening es n page (legal.0, follows) may.0.is_out, claims_made-found es n page)
   step es (Failed n why) follows may ih = omega (arith, length_push es (Failed n why), legal_failed-out opening es n why (legal.0, follows) may.is_out, claims_made-failed es n why)
 
--- the other numbers of a list
+-- the numbers of a list that differ from one
 abbrev pub others : ℕ → List ℕ → List ℕ
 others k ns = filter (λ n. not (eqb k n)) ns
 
@@ -111,7 +112,7 @@ times-others_other k m (n ∷ ns) ne =
       | inr differs ↦ rw (ne_eqb k n differs) (omega (arith, times-cons m n ns, times-cons m n (others k ns), times-others_other k m ns ne))
     ]
 
--- so many numbers, each at most so often, make no longer list
+-- a list of `count` numbers, each at most `most` times, has at most their product of elements
 bounded_length : (most count : ℕ) (ns : List ℕ) → ((n : ℕ) → times n ns ≤ most) → ((n : ℕ) → count ≤ n → times n ns ≡ 0) → length ns ≤ count * most
 bounded_length most zero [] few none = omega arith
 bounded_length most zero (n ∷ ns) few none = absurd (omega (arith, none n (omega arith), times-cons n n ns, times-one n))
@@ -133,7 +134,7 @@ pub length-entries_most : (opening : OpeningData) (events : List EventData) → 
 length-entries_most opening events legal =
     bounded_length opening.tries (length (known opening events)) (entries opening events) (λ n. ((counted opening events legal).numbers n).few_entries) (λ n beyond. ((counted opening events legal).numbers n).unknown beyond)
 
--- as long as it can be with these places and tries
+-- the greatest length with these limits of places and tries
 pub length-events_most : (opening : OpeningData) (events : List EventData) → IsLegal (Opened opening ∷ events) → length events ≤ 2 * (opening.limit * opening.tries)
 length-events_most opening events legal =
     let most : length (known opening events) * opening.tries ≤ opening.limit * opening.tries = mul-le-mul_right opening.tries (length-known opening events) in

@@ -1,4 +1,4 @@
--- Elements of a list by their place, as a list grows at its end.
+-- Elements by index in a list that grows at its end.
 use Rattle.std.proofs.Common.{◌≡◌, ℕ, suc, zero, ◌+◌, ◌<◌, List, [], ◌∷◌, ◌++◌, length, take, get_or, ◌⊎◌, inl, inr, Some, refl, sym, ◌∙◌, ap, arith}
 use Rattle.std.specs.List.{slice_get}
 use Rattle.std.proofs.lemmas.Bool.{cases_lt}
@@ -19,7 +19,7 @@ pub slice_get_last : {X : Type 0} (xs : List X) (x : X) → slice_get (xs ++ x �
 slice_get_last [] x = refl
 slice_get_last (y ∷ xs) x = slice_get_last xs x
 
--- an element of a list with one more at its end is one of the list's, or that one
+-- an element of a list with one more at its end is one of the list or the new one
 pub slice_get_push_cases : {X : Type 0} (xs : List X) (x : X) (k : ℕ) (y : X) → slice_get (xs ++ x ∷ []) k ≡ Some y → ((k < length xs) × (slice_get xs k ≡ Some y)) ⊎ ((k ≡ length xs) × (x ≡ y))
 slice_get_push_cases xs x k y h =
     elim (cases_lt k (length xs)) as (λ c. ((k < length xs) × (slice_get xs k ≡ Some y)) ⊎ ((k ≡ length xs) × (x ≡ y))) [
@@ -37,7 +37,7 @@ slice_get-take (suc n) [] k h = refl
 slice_get-take (suc n) (x ∷ xs) zero h = refl
 slice_get-take (suc n) (x ∷ xs) (suc k) h = slice_get-take n xs k (omega arith)
 
--- the next element, and the beginning that ends with it
+-- the next element, and the prefix that ends with it
 pub take_next : {X : Type 0} (xs : List X) (n : ℕ) → n < length xs → (x : X) × (slice_get xs n ≡ Some x) × (take (suc n) xs ≡ take n xs ++ x ∷ [])
 take_next [] n h = absurd (omega arith)
 take_next (x ∷ xs) zero h = (x, refl, refl)
@@ -46,7 +46,7 @@ take_next (x ∷ xs) (suc n) h = let next = take_next xs n (omega arith) in (nex
 pub slice_get_at : {X : Type 0} (xs : List X) (k : ℕ) → k < length xs → (x : X) × (slice_get xs k ≡ Some x)
 slice_get_at xs k h = let next = take_next xs k h in (next.0, next.1)
 
--- the elements that a loop has walked past, and the next
+-- the elements that a loop has passed, and the next
 pub take-next : {X : Type 0} (xs : List X) (n : ℕ) (d : X) → n < length xs → take (n + 1) xs ≡ take n xs ++ get_or xs n d ∷ []
 take-next xs n d within =
     let more : n + 1 ≡ suc n = omega arith in

@@ -1,4 +1,5 @@
--- Occurrences hold each page that has the word, once, and there is one such list.
+-- A list of occurrences contains each page with the word once, and only one list does in place
+-- order.
 use Rattle.std.proofs.Common.{◌≡◌, ◌⊎◌, ℕ, suc, ◌+◌, ◌<◌, Bool, true, false, cond, List, [], ◌∷◌, ◌++◌, get_or, ◌↔◌, inl, inr, refl, sym, ◌∙◌, ap, subst, arith, ltb}
 use Rattle.std.specs.List.{flat_map, All, AllByRecursion, Contains, IsDistinct}
 use Rattle.std.specs.List.Sorted.{IsStrictlySortedBy, IsSorted}
@@ -94,7 +95,7 @@ occurrences_distinct word (page ∷ pages) distinct' = by (ltb 0 (count_meant fa
 
 -- ---- the order
 
--- what doesn't come before another place, and isn't it, comes after it
+-- an occurrence that doesn't come before another one, and is of another place, comes after it
 next_below : (a b : Occurrence) → is_lt (occurrence_cmp b a) ≡ false → at_same_place a b ≡ false → by_place a b ≡ Less
 next_below a b level apart = by (place_cmp b.0 a.0) refl level
   where
@@ -109,7 +110,7 @@ all_below : (a b : Occurrence) (list : List Occurrence) → by_place a b ≡ Les
 all_below a b [] less all = tt
 all_below a b (o ∷ list) less all = (by_place_total.trans a b o less all.0, all_below a b list less all.1)
 
--- sorted occurrences of places that differ are in strict order
+-- sorted occurrences of distinct places are in strict order
 strictly_sorted : (list : List Occurrence) → IsSorted occurrence_cmp list → IsDistinct at_same_place list → IsStrictlySortedBy by_place list
 unfolding IsStrictlySortedBy IsDistinct
 strictly_sorted [] sorted distinct' = tt
@@ -126,7 +127,7 @@ strictly_sorted (a ∷ b ∷ list) sorted distinct' =
 
 -- ---- occurrences
 
--- the occurrences in pages of places that differ
+-- the occurrences in pages of distinct places
 pub occurrences_are : (pages : List PageData) (word : List ℕ) (list : List Occurrence) → IsDistinct of_same_place pages → AreOccurrences pages word list → AreOccurrencesAmong (Contains pages) word list
 occurrences_are pages word list distinct' are =
     let all : List Occurrence = occurrences_among word pages in
@@ -141,14 +142,14 @@ occurrences_are pages word list distinct' are =
           (IsDistinct-IsPermutation at_same_place (λ a b. same_place_equiv.symm a.0 b.0) all list are.permutation (occurrences_distinct word pages distinct'));
     }
 
--- occurrences that tie are one
+-- two occurrences that tie are equal
 occurrences_tied : (IsPage : PageData → Type 0) (word : List ℕ) → IsOnePerPlace IsPage → (a b : Occurrence) → IsOccurrenceAmong IsPage word a → IsOccurrenceAmong IsPage word b → by_place a b ≡ Equal → a ≡ b
 occurrences_tied IsPage word one a b from from' e =
     let place : a.0 ≡ b.0 = place_tied a.0 b.0 e in
     let place' : from.page.place ≡ from'.page.place = ap (λ (o : Occurrence). o.0) (sym from.is_occurrence) ∙ place ∙ ap (λ (o : Occurrence). o.0) from'.is_occurrence in
     from.is_occurrence ∙ ap (occurrence_at word) (one from.page from'.page from.is_page from'.is_page place') ∙ sym from'.is_occurrence
 
--- the same occurrences, put in place order one after another
+-- the occurrences inserted one by one in place order
 pub occurrences_inserted : (pages : List PageData) (word : List ℕ) → IsOnePerPlace (Contains pages) → AreOccurrencesAmong (Contains pages) word (occurrences_of pages word)
 unfolding occurrences_of
 occurrences_inserted pages word one =
@@ -164,7 +165,7 @@ occurrences_inserted pages word one =
       in_order = sorted_inserts by_place_total all;
     }
 
--- the same over the same pages, told in another way
+-- occurrences in two equivalent sets of pages
 pub occurrences_same : (P Q : PageData → Type 0) (word : List ℕ) (list : List Occurrence) → ((page : PageData) → P page ↔ Q page) → AreOccurrencesAmong P word list → AreOccurrencesAmong Q word list
 occurrences_same P Q word list same are =
     record {

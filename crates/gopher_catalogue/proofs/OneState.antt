@@ -1,4 +1,4 @@
--- Each known place is in one state of a legal record.
+-- Each known place has exactly one state in a legal record.
 use Rattle.std.proofs.Common.{◌≡◌, ◌≢◌, ℕ, ◌+◌, ◌<◌, Bool, true, false, cond, List, [], ◌∷◌, length, filter, inl, inr, refl, sym, ◌∙◌, ap, arith, ltb}
 use Rattle.std.specs.List.{range_with_len}
 use Rattle.std.proofs.lemmas.Bool.{cases_Bool, false≢true, lt-ltb, le-ltb}
@@ -10,7 +10,7 @@ use Rattle.gopher_catalogue.proofs.Sizes.{out_is, done_is}
 use Rattle.gopher_catalogue.proofs.Counting.{times, times-nil, times-cons, times-one_other, times-range_within}
 use Rattle.gopher_catalogue.proofs.States.{state}
 
--- a number that passes stands as often among those that pass
+-- a number that passes occurs as often among the numbers that pass
 times-filter_passes : (p : ℕ → Bool) (n : ℕ) (ns : List ℕ) → p n ≡ true → times n (filter p ns) ≡ times n ns
 times-filter_passes p n [] h = refl
 times-filter_passes p n (m ∷ ns) h =
@@ -21,7 +21,7 @@ times-filter_passes p n (m ∷ ns) h =
           rw misses (omega (arith, times-filter_passes p n ns h, times-cons n m ns, times-one_other n m ne))
     ]
 
--- and one that doesn't pass isn't among them
+-- a number that doesn't pass isn't among the numbers that pass
 times-filter_misses : (p : ℕ → Bool) (n : ℕ) (ns : List ℕ) → p n ≡ false → times n (filter p ns) ≡ 0
 times-filter_misses p n [] h = times-nil n
 times-filter_misses p n (m ∷ ns) h =
@@ -32,11 +32,11 @@ times-filter_misses p n (m ∷ ns) h =
       | inr misses ↦ rw misses (times-filter_misses p n ns h)
     ]
 
--- the numbers below one, of which some pass
+-- a number below `count` that passes occurs once among those that pass
 passes_below : (p : ℕ → Bool) (n count : ℕ) → n < count → p n ≡ true → times n (filter p (range_with_len 0 count)) ≡ 1
 passes_below p n count below passes = times-filter_passes p n (range_with_len 0 count) passes ∙ times-range_within n 0 count (omega arith) (omega arith)
 
--- the three lists of states together
+-- the occurrences of a number in the three lists of states together
 among_states : (opening : OpeningData) (events : List EventData) (n : ℕ) → IsLegal (Opened opening ∷ events) → times n (waiting opening events) + times n (out opening events) + times n (done opening events) ≡ cond (ltb n (length (known opening events))) 1 0
 among_states opening events n legal =
     let count : ℕ = length (known opening events) in

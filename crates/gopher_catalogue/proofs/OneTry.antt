@@ -1,4 +1,4 @@
--- A crawl with one try: its frontier holds each known place once, and its states are simple.
+-- A crawl with one try: each known place enters the queue once, and the states are simple.
 use Rattle.std.proofs.Common.{◌≡◌, ℕ, suc, zero, ◌+◌, ◌-◌, ◌≤◌, ◌<◌, Bool, true, false, ◌&&◌, ◌||◌, List, [], ◌∷◌, ◌++◌, length, drop, filter, inl, inr, refl, sym, ◌∙◌, ap, arith, eqb, ltb, leb}
 use Rattle.std.specs.List.{range_with_len}
 use Rattle.std.proofs.lemmas.Bool.{cases_lt, lt-ltb, ltb-true, le-leb, leb-true, eq-eqb, ne_eqb, eqb-true, and_parts, and_from, or_cases, or_left, or_right}
@@ -23,7 +23,7 @@ filter_range_every p a (suc n) h =
     let here : p a ≡ true = h a (omega arith) (omega arith) in
     rw here (ap (λ ns. a ∷ ns) (filter_range_every p (a + 1) n (λ m l u. h m (omega arith) (omega arith))))
 
--- each known number entered the frontier once, in order
+-- each known number entered the queue once, in order
 one_try-entries : (opening : OpeningData) (events : List EventData) → IsLegal (Opened opening ∷ events) → opening.tries ≡ 1 → entries opening events ≡ numbers opening events
 unfolding entries
 one_try-entries opening events legal one = legal_ind (λ es. entries opening es ≡ numbers opening es) opening base step events legal.1 where

@@ -1,4 +1,4 @@
--- Lists of places: which are among them, each once, and the first of them up to a limit.
+-- Lists of places: membership, duplicates, and the first distinct places up to a limit.
 use Rattle.std.proofs.Common.{◌≡◌, ℕ, suc, zero, ◌+◌, ◌-◌, ◌≤◌, ◌<◌, Bool, true, false, ◌&&◌, ◌||◌, not, cond, List, [], ◌∷◌, ◌++◌, length, take, filter, min, inl, inr, refl, sym, ◌∙◌, ap, arith}
 use Rattle.std.specs.List.{count_by}
 use Rattle.std.proofs.lemmas.Bool.{cases_lt}
@@ -85,24 +85,24 @@ distinct-append (x ∷ xs) ys =
     both false true = refl
     both false false = refl
 
--- ---- the first places, up to a limit, of those mentioned
+-- ---- the first distinct places, up to a limit
 
 -- the places known after these mentions
 abbrev pub known_of : ℕ → List PlaceData → List PlaceData
 known_of limit mentions = take limit (distinct mentions)
 
--- how many of these mentions are of places that aren't known
+-- the number of these mentions whose place isn't known
 abbrev pub dropped_of : ℕ → List PlaceData → ℕ
 dropped_of limit mentions = count_by (λ p. not (is_among (known_of limit mentions) p)) mentions
 
 pub length-known_of : (limit : ℕ) (ms : List PlaceData) → length (known_of limit ms) ≤ limit
 length-known_of limit ms = omega (arith, length-take limit (distinct ms))
 
--- with room left, each place mentioned is known
+-- if there is room left, each mentioned place is known
 pub known_of_room : (limit : ℕ) (ms : List PlaceData) → length (known_of limit ms) < limit → known_of limit ms ≡ distinct ms
 known_of_room limit ms h = let fits : length (distinct ms) ≤ limit = omega (arith, length-take limit (distinct ms)) in take_all limit (distinct ms) fits
 
--- what more mentions make known: of their places that aren't known, the first, as many as there is room for
+-- more mentions make the first of their unknown places known, as many as there is room for
 pub known_of-append : (limit : ℕ) (xs ys : List PlaceData) → known_of limit (xs ++ ys) ≡ known_of limit xs ++ take (limit - length (known_of limit xs)) (filter (λ p. not (is_among (known_of limit xs) p)) (distinct ys))
 known_of-append limit xs ys =
     let all : List PlaceData = filter (λ p. not (is_among xs p)) (distinct ys) in
@@ -127,7 +127,7 @@ known_of_full limit xs ys full =
     let e : limit - length (known_of limit xs) ≡ 0 = omega arith in
     known_of-append limit xs ys ∙ rw e (append-nil (known_of limit xs))
 
--- one more mention: of a known place, of another with room left, of another without
+-- one more mention: of a known place, of an unknown one with room left, and without room
 pub known_of_old : (limit : ℕ) (xs : List PlaceData) (p : PlaceData) → is_among (known_of limit xs) p ≡ true → known_of limit (xs ++ p ∷ []) ≡ known_of limit xs
 known_of_old limit xs p old = known_of-append limit xs (p ∷ []) ∙ rw old (ap (λ zs. known_of limit xs ++ zs) (take_none (limit - length (known_of limit xs))) ∙ append-nil (known_of limit xs)) where
   take_none : (n : ℕ) → take n (let none : List PlaceData = [] in none) ≡ []
@@ -141,7 +141,7 @@ known_of_new limit xs p new room = known_of-append limit xs (p ∷ []) ∙ rw ne
   take_one (suc zero) h = refl
   take_one (suc (suc n)) h = refl
 
--- ---- mentions dropped
+-- ---- dropped mentions
 
 count_none : (test : PlaceData → Bool) (xs : List PlaceData) → ((p : PlaceData) → is_among xs p ≡ true → test p ≡ false) → count_by test xs ≡ 0
 count_none test [] h = refl
@@ -157,7 +157,7 @@ count_none test (x ∷ xs) h =
 pub dropped_of_room : (limit : ℕ) (xs : List PlaceData) → length (known_of limit xs) < limit → dropped_of limit xs ≡ 0
 dropped_of_room limit xs room = count_none (λ p. not (is_among (known_of limit xs) p)) xs (λ p m. rw (known_of_room limit xs room, distinct-among xs p, m) refl)
 
--- what was dropped stays dropped
+-- a dropped mention stays dropped
 pub dropped_of-append : (limit : ℕ) (xs ys : List PlaceData) → dropped_of limit (xs ++ ys) ≡ dropped_of limit xs + count_by (λ p. not (is_among (known_of limit (xs ++ ys)) p)) ys
 dropped_of-append limit xs ys =
     let after : PlaceData → Bool = λ p. not (is_among (known_of limit (xs ++ ys)) p) in

@@ -1,4 +1,4 @@
--- A finished crawl holds what can be reached.
+-- A finished crawl knows exactly what can be reached.
 use Rattle.std.proofs.Common.{◌≡◌, ℕ, suc, zero, ◌+◌, ◌≤◌, ◌<◌, Bool, true, false, not, cond, List, [], ◌∷◌, ◌++◌, length, take, drop, filter, get_or, inl, inr, Option, Some, None, refl, sym, ◌∙◌, ap, subst, arith, eqb}
 use Rattle.std.specs.List.{slice_get, flat_map, range_with_len, All, Contains}
 use Rattle.std.proofs.lemmas.Bool.{cases_Bool, false≢true, or_left, or_right, and_parts, eqb-true, cases_eq, not_from_false, true_from_ne_false}
@@ -40,7 +40,7 @@ contains_at xs k x h = (k, slice_get_within xs k x h, get_or_from_slice_get xs k
 at_from_contains : {X : Type 0} (xs : List X) (x : X) → Contains xs x → (k : ℕ) × (slice_get xs k ≡ Some x)
 at_from_contains xs x c = (c.0, slice_get-get_or xs c.0 x c.1 ∙ ap Some c.2)
 
--- what is among a list and passes is among those that pass
+-- an element that passes a test is among those that pass
 among_filter_from : (f : PlaceData → Bool) (xs : List PlaceData) (p : PlaceData) → is_among xs p ≡ true → f p ≡ true → is_among (filter f xs) p ≡ true
 among_filter_from f [] p h t = absurd (false≢true h)
 among_filter_from f (x ∷ xs) p h t = step (among_filter_from f xs p) (same_place p x) refl (f x) refl where
@@ -91,7 +91,7 @@ at_from_found (Found m other ∷ events) (suc k) n page h = let rest = at_from_f
 at_from_found (Failed m why ∷ events) zero n page h = cc
 at_from_found (Failed m why ∷ events) (suc k) n page h = at_from_found events k n page h
 
--- ---- mentions and known places of a beginning
+-- ---- mentions and known places of a prefix
 
 mentions-append : (opening : OpeningData) (es fs : List EventData) → mentions opening (es ++ fs) ≡ mentions opening es ++ flat_map (mentioned opening) fs
 unfolding mentions
@@ -108,7 +108,7 @@ known_stays opening events k n p h =
     ∙ slice_get-append_left (known_of opening.limit early) _ n within
     ∙ known_early
 
--- what a page found mentions is mentioned
+-- the links of a found page are mentioned
 mentions_at : (opening : OpeningData) (events : List EventData) (k n : ℕ) (page : PageData) (p : PlaceData) → slice_get events k ≡ Some (Found n page) → is_among (filter (allows opening.scope) page.links) p ≡ true → is_among (flat_map (mentioned opening) events) p ≡ true
 mentions_at opening [] k n page p h a = cc
 mentions_at opening (Opened other ∷ events) zero n page p h a = cc
@@ -125,7 +125,7 @@ mentions_at opening (Found m other ∷ events) (suc k) n page p h a =
 mentions_at opening (Failed m why ∷ events) zero n page p h a = cc
 mentions_at opening (Failed m why ∷ events) (suc k) n page p h a = mentions_at opening events k n page p h a
 
--- with nothing dropped, what is mentioned is known
+-- if no mention was dropped, each mentioned place is known
 all_known : (opening : OpeningData) (events : List EventData) (p : PlaceData) → dropped opening events ≡ 0 → is_among (mentions opening events) p ≡ true → is_among (known opening events) p ≡ true
 all_known opening events p none h =
     let at' = at_from_among (mentions opening events) p h in
@@ -135,21 +135,21 @@ all_known opening events p none h =
     omega (arith, zero', count_at (λ q. not (is_among (known_of opening.limit (mentions opening events)) q)) (mentions opening events) at'.0 p at'.1 (not_from_false (is_among (known_of opening.limit (mentions opening events)) p) missing))) in
     rw (known_is opening events) among
 
--- ---- what a find tells
+-- ---- the page of a find
 
--- a page found is of its number's place
+-- a found page is of its number's place
 find_place : (opening : OpeningData) (events : List EventData) → IsLegal (Opened opening ∷ events) → (k n : ℕ) (page : PageData) → slice_get events k ≡ Some (Found n page) → slice_get (known opening (take k events)) n ≡ Some page.place
 find_place opening events legal k n page h = (legal.1 k (Found n page) h).1
 
--- a page found is made of the table's bytes of its place
+-- a found page is made of the table's bytes for its place
 find_told : (opening : OpeningData) (events : List EventData) (table : OutcomeTable) → IsLegal (Opened opening ∷ events) → Agrees opening events table → (k n : ℕ) (page : PageData) → slice_get events k ≡ Some (Found n page) → IsTold opening.scope page.place (table page.place) (Some (Found n page))
 find_told opening events table legal agrees k n page h =
     let at' = known_stays opening events k n page.place (find_place opening events legal k n page h) in
     subst (IsTold opening.scope page.place (table page.place)) (find_is_last opening events legal k n page h) (agrees n page.place at')
 
--- ---- what is known can be reached
+-- ---- each known place can be reached
 
--- the places known are among those mentioned
+-- the known places are among the mentioned ones
 All_known : (P : PlaceData → Type 0) (opening : OpeningData) (es : List EventData) → All P (mentions opening es) → All P (known opening es)
 unfolding known
 All_known P opening es all = All-take P opening.limit (distinct (mentions opening es)) (All-distinct P (mentions opening es) all)
@@ -158,7 +158,7 @@ mentions-nil : (opening : OpeningData) → mentions opening [] ≡ opening.seeds
 unfolding mentions
 mentions-nil opening = append-nil opening.seeds
 
--- the links of a page found, once its place is reached
+-- if its place can be reached, so can the links of a found page
 links_reachable : (opening : OpeningData) (table : OutcomeTable) (n : ℕ) (page : PageData) → IsTold opening.scope page.place (table page.place) (Some (Found n page)) → IsReachable opening.scope opening.seeds table page.place → All (IsReachable opening.scope opening.seeds table) (filter (allows opening.scope) page.links)
 links_reachable opening table n page told reached =
     All-filter (allows opening.scope) (IsReachable opening.scope opening.seeds table) page.links
@@ -199,7 +199,7 @@ known_reached opening events table legal agrees p among =
 
 -- ---- a complete record
 
--- nothing waits, nothing is out, and nothing was dropped
+-- no place waits, no place is out, and no mention was dropped
 record Ended (opening : OpeningData) (events : List EventData) : Type 0 where
   none_waiting : waiting opening events ≡ []
   none_out : out opening events ≡ []
@@ -239,7 +239,7 @@ each_done opening events legal end n within =
       | inr s ↦ elim s as (λ q. Done opening events n) [ inl done' ↦ done' | inr unknown ↦ absurd (omega (arith, unknown.is_unknown)) ]
     ]
 
--- ---- what can be reached is known
+-- ---- each place that can be reached is known
 
 -- a known place whose outcome is bytes was found, with the page of these bytes
 found_at : (opening : OpeningData) (events : List EventData) (table : OutcomeTable) → IsLegal (Opened opening ∷ events) → Agrees opening events table → Ended opening events → (place : PlaceData) (bytes : List ℕ) → is_among (known opening events) place ≡ true → table place ≡ Some (Fetched bytes) → (k : ℕ) × (n : ℕ) × (slice_get events k ≡ Some (Found n (page_of opening.scope place bytes)))

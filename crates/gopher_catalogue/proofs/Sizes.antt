@@ -1,4 +1,4 @@
--- How many numbers are out and how many are done, after one more event.
+-- The numbers of places that are out and that are done, after one more event.
 use Rattle.std.proofs.Common.{◌≡◌, ℕ, ◌+◌, ◌≤◌, ◌<◌, Bool, true, false, List, [], ◌∷◌, ◌++◌, length, filter, inl, inr, refl, sym, ◌∙◌, arith}
 use Rattle.std.specs.List.{range_with_len}
 use Rattle.std.proofs.lemmas.Bool.{cases_eq}
@@ -17,7 +17,7 @@ pub done_is : (opening : OpeningData) (events : List EventData) → done opening
 unfolding done
 done_is opening events = refl
 
--- none of the numbers that may still become known passes the test
+-- no number that isn't known yet passes the test
 abbrev pub NoneBeyond : (ℕ → Bool) → ℕ → Type 0
 NoneBeyond test count = (m : ℕ) → count ≤ m → test m ≡ false
 

@@ -1,5 +1,5 @@
--- Lists in strict order: the members of one that elements were put into one after another, and when two
--- such lists are one.
+-- Lists in strict order: the members after elements were inserted one by one, and when two such
+-- lists are equal.
 use Rattle.std.proofs.Common.{◌≡◌, ◌⊎◌, ℕ, zero, suc, ◌<◌, List, [], ◌∷◌, length, inl, inr, refl, sym, ◌∙◌, ap, subst, arith}
 use Rattle.std.specs.Prelude.{slice_index_or}
 use Rattle.std.specs.List.{fold, All, Contains}
@@ -49,7 +49,7 @@ module _ {K : Type 0} {R : K → K → Ordering} (o : IsTotalOrder R) where
       by Equal rest = has
       by Greater rest = behind rest (contains_cases y xs x has)
 
-  -- an element is put in unless another one ties with it
+  -- an element is inserted unless another one ties with it
   inserted_new : (xs : List K) (k : K) → ((y : K) → Contains xs y → R k y ≡ Equal → k ≡ y) → Contains (insert_key R xs k) k
   inserted_new [] k one = contains_here k []
   inserted_new (y ∷ xs) k one = by (R k y) refl (inserted_new xs k (λ z has e. one z (contains_later y xs z has) e))
@@ -63,12 +63,12 @@ module _ {K : Type 0} {R : K → K → Ordering} (o : IsTotalOrder R) where
   kept_along held [] x has = has
   kept_along held (y ∷ xs) x has = kept_along (insert_key R held y) xs x (inserted_old held y x has)
 
-  -- what all elements put in have, all elements there have
+  -- a property of all inserted elements holds for all members
   pub All-inserts : (P : K → Type 0) (held xs : List K) → All P held → All P xs → All P (fold (insert_key R) held xs)
   All-inserts P held [] old all = old
   All-inserts P held (x ∷ xs) old all = All-inserts P (insert_key R held x) xs (All-insert_key R x P held old (All-head P x xs all)) (All-tail P x xs all)
 
-  -- where those that tie are one, each element that is put in is there
+  -- if elements that tie are equal, each inserted element is a member
   pub contains_inserts : (P : K → Type 0) → ((a b : K) → P a → P b → R a b ≡ Equal → a ≡ b) → (held xs : List K) (x : K) → All P held → All P xs → Contains xs x → Contains (fold (insert_key R) held xs) x
   contains_inserts P one held [] x old all has = absurd (contains_none x has)
   contains_inserts P one held (y ∷ xs) x old all has =
@@ -90,7 +90,7 @@ module _ {K : Type 0} {R : K → K → Ordering} (o : IsTotalOrder R) where
   below : (x : K) (xs : List K) (y : K) → IsStrictlySortedBy R (x ∷ xs) → Contains xs y → R x y ≡ Less
   below x xs y sorted has = All-contains (λ z. R x z ≡ Less) xs y (All-after_first R x xs sorted) has
 
-  -- the first of two sorted lists of the same members are one
+  -- two sorted lists with the same members have the same first element
   first_same : (x y : K) (xs ys : List K) → IsStrictlySortedBy R (x ∷ xs) → IsStrictlySortedBy R (y ∷ ys) → Contains (y ∷ ys) x → Contains (x ∷ xs) y → x ≡ y
   first_same x y xs ys sorted sorted' has has' = by (contains_cases y ys x has) (contains_cases x xs y has')
     where
@@ -99,7 +99,7 @@ module _ {K : Type 0} {R : K → K → Ordering} (o : IsTotalOrder R) where
       by (inr later) (inl e) = e
       by (inr later) (inr later') = absurd (not_both x y (below x xs y sorted later') (below y ys x sorted' later))
 
-  -- a later member of one is a later member of the other
+  -- the members after the first are the same in both lists
   later_same : (x y : K) (xs ys : List K) → x ≡ y → IsStrictlySortedBy R (x ∷ xs) → (z : K) → Contains (y ∷ ys) z → Contains xs z → Contains ys z
   later_same x y xs ys same sorted z has later = by (contains_cases y ys z has)
     where
@@ -109,7 +109,7 @@ module _ {K : Type 0} {R : K → K → Ordering} (o : IsTotalOrder R) where
           absurd (not_both z z (subst (λ w. R w z ≡ Less) (same ∙ e) less) (subst (λ w. R w z ≡ Less) (same ∙ e) less))
       by (inr there) = there
 
-  -- lists in strict order that have the same members are one
+  -- two lists in strict order with the same members are equal
   pub sorted_one : (xs ys : List K) → IsStrictlySortedBy R xs → IsStrictlySortedBy R ys → ((x : K) → Contains xs x → Contains ys x) → ((x : K) → Contains ys x → Contains xs x) → xs ≡ ys
   sorted_one [] [] sorted sorted' to from = refl
   sorted_one [] (y ∷ ys) sorted sorted' to from = absurd (contains_none y (from y (contains_here y ys)))

@@ -1,4 +1,4 @@
--- Lists of what a function says of each number, as the standings of the known places are.
+-- Lists of a function's values for each number, as the states of the known places are.
 use Rattle.std.proofs.Common.{◌≡◌, ◌≢◌, ℕ, suc, zero, ◌+◌, ◌≤◌, ◌<◌, ◌∷◌, ◌++◌, map, length, replicate, set, Some, slice_get, refl, sym, ◌∙◌, ap, arith}
 use Rattle.std.specs.List.{range_with_len}
 use Rattle.std.proofs.lemmas.List.{map-append}
@@ -20,11 +20,11 @@ module _ {X : Type 0} (f g : ℕ → X) where
       let rest = set_map_range_from (a + 1) n i v (e ∙ ap g (omega arith)) (λ k ne. h k (λ same. ne (omega arith))) in
       λ j. here j ∷ rest j
 
-  -- one number stands otherwise
+  -- a function that differs at one number
   pub set_map_range : (n i : ℕ) (v : X) → v ≡ g i → ((k : ℕ) → k ≢ i → f k ≡ g k) → set (map f (range_with_len 0 n)) i v ≡ map g (range_with_len 0 n)
   set_map_range n i v e h = set_map_range_from 0 n i v (e ∙ ap g (omega arith)) (λ k ne. h k (λ same. ne (omega arith)))
 
--- what a function says of the number k
+-- the value at the number k
 slice_get-map_range_from : {X : Type 0} (f : ℕ → X) (a n k : ℕ) → k < n → slice_get (map f (range_with_len a n)) k ≡ Some (f (a + k))
 slice_get-map_range_from f a zero k h = absurd (omega arith)
 slice_get-map_range_from f a (suc n) zero h = ap (λ m. Some (f m)) (omega arith)
@@ -37,14 +37,14 @@ pub length-map_range : {X : Type 0} (f : ℕ → X) (a n : ℕ) → length (map 
 length-map_range f a zero = refl
 length-map_range f a (suc n) = ap suc (length-map_range f (a + 1) n)
 
--- numbers of which it says the same
+-- numbers with the same value
 pub replicate_map_range : {X : Type 0} (f : ℕ → X) (u : X) (a n : ℕ) → ((k : ℕ) → a ≤ k → f k ≡ u) → replicate n u ≡ map f (range_with_len a n)
 replicate_map_range f u a zero h = refl
 replicate_map_range f u a (suc n) h =
     let rest = replicate_map_range f u (a + 1) n (λ k l. h k (omega arith)) in
     λ i. sym (h a (omega arith)) i ∷ rest i
 
--- more numbers, of which it says the same
+-- more numbers with the same value
 pub extend_map_range : {X : Type 0} (f : ℕ → X) (u : X) (n m : ℕ) → ((k : ℕ) → n ≤ k → f k ≡ u) → map f (range_with_len 0 n) ++ replicate m u ≡ map f (range_with_len 0 (n + m))
 extend_map_range f u n m h =
     let at : n ≡ 0 + n = omega arith in

@@ -1,4 +1,4 @@
--- The sizes of the states of a legal record add up to the number of known places.
+-- The sizes of a legal record's states add up to the number of known places.
 use Rattle.std.proofs.Common.{◌≡◌, ℕ, suc, zero, ◌+◌, ◌≤◌, ◌<◌, Bool, true, false, cond, List, [], ◌∷◌, length, filter, inl, inr, refl, ◌∙◌, ap, arith, eqb}
 use Rattle.std.specs.List.{range_with_len}
 use Rattle.std.proofs.lemmas.Bool.{cases_eq, ne_eqb}
@@ -13,7 +13,7 @@ use Rattle.gopher_catalogue.proofs.Counting.{times, times-cons, times-one}
 use Rattle.gopher_catalogue.proofs.LegalSizes.{others, length-others, times-others_same, times-others_other}
 use Rattle.gopher_catalogue.proofs.States.{state}
 
--- the numbers below one more that pass
+-- the numbers that pass in a range with one number more
 filter_range_more : (p : ℕ → Bool) (n : ℕ) → length (filter p (range_with_len 0 (suc n))) ≡ length (filter p (range_with_len 0 n)) + cond (p n) 1 0
 filter_range_more p n =
     let e1 : suc n ≡ n + 1 = omega arith in
@@ -25,7 +25,7 @@ filter_range_more p n =
     ∙ length-append (filter p (range_with_len 0 n)) (filter p (range_with_len (0 + n) 1))
     ∙ rw e2 (ap (λ k. length (filter p (range_with_len 0 n)) + k) last)
 
--- a list without repeats, of numbers below one, is as long as those below it that stand in it
+-- a list of distinct numbers below a bound has as many elements as numbers below it are in the list
 length_from_once : (count : ℕ) (ns : List ℕ) → ((n : ℕ) → times n ns ≤ 1) → ((n : ℕ) → count ≤ n → times n ns ≡ 0) → length ns ≡ length (filter (λ n. eqb (times n ns) 1) (range_with_len 0 count))
 length_from_once zero [] few none = refl
 length_from_once zero (n ∷ ns) few none = absurd (omega (arith, none n (omega arith), times-cons n n ns, times-one n))
@@ -51,7 +51,7 @@ length_from_once (suc count) ns few none =
     ] in
     omega (arith, length-others count ns, below, ap length agree, filter_range_more (λ n. eqb (times n ns) 1) count, here)
 
--- three tests, of which exactly one passes at each number
+-- three tests of which exactly one passes for each number
 three_parts : (p q r : ℕ → Bool) (count : ℕ) → ((n : ℕ) → n < count → ◌≡◌ {A = ℕ} (cond (p n) 1 0 + cond (q n) 1 0 + cond (r n) 1 0) 1) → length (filter p (range_with_len 0 count)) + length (filter q (range_with_len 0 count)) + length (filter r (range_with_len 0 count)) ≡ count
 three_parts p q r zero h = refl
 three_parts p q r (suc count) h =

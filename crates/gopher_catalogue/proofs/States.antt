@@ -1,4 +1,4 @@
--- The states of a number in a legal record: it waits, it is out, or it is done.
+-- The states of a number in a legal record: it waits, is out, or is done.
 use Rattle.std.proofs.Common.{◌≡◌, ℕ, ◌+◌, ◌≤◌, ◌<◌, true, false, List, ◌∷◌, length, ◌⊎◌, inl, inr, Some, refl, ◌∙◌, ap, arith, ltb, leb}
 use Rattle.std.specs.List.{slice_get}
 use Rattle.std.proofs.lemmas.Bool.{cases_lt, cases_eq, lt-ltb, le-leb, or_right, or_left}
@@ -20,7 +20,7 @@ pub length-entries : (opening : OpeningData) (events : List EventData) → IsLeg
 length-entries opening events legal =
     ap length (counted opening events legal).frontier ∙ length-append (claimed events) (waiting opening events) ∙ rw (length-claimed events) refl
 
--- there are no more claims than entries
+-- there are at most as many claims as entries
 pub claims_made_fit : (opening : OpeningData) (events : List EventData) → IsLegal (Opened opening ∷ events) → claims_made events ≤ length (entries opening events)
 claims_made_fit opening events legal = omega (arith, length-entries opening events legal)
 
@@ -136,7 +136,7 @@ state opening events legal n =
           }))
     ]
 
--- ---- what decides the state
+-- ---- deciding the state
 
 pub waits_at : (opening : OpeningData) (events : List EventData) → IsLegal (Opened opening ∷ events) → (k n : ℕ) → slice_get (waiting opening events) k ≡ Some n → Waits opening events n
 waits_at opening events legal k n h =
@@ -167,6 +167,6 @@ unknown_at opening events legal n h =
       | inr s ↦ elim s as (λ q. Unknown opening events n) [ inl done' ↦ absurd (omega (arith, done'.is_known)) | inr unknown ↦ unknown ]
     ]
 
--- the first number that waits has its place
+-- the first waiting number has a place
 pub place_waiting : (opening : OpeningData) (events : List EventData) → IsLegal (Opened opening ∷ events) → (n : ℕ) → slice_get (waiting opening events) 0 ≡ Some n → (place : PlaceData) × (slice_get (known opening events) n ≡ Some place)
 place_waiting opening events legal n h = slice_get_at (known opening events) n (waits_at opening events legal 0 n h).is_known

@@ -1,4 +1,4 @@
--- What one more event does to what a record says: an equation for each word and each kind of event.
+-- The effects of one more event on each definition of a record: an equation for each kind of event.
 use Rattle.std.proofs.Common.{◌≡◌, ◌≢◌, ℕ, ◌+◌, ◌-◌, ◌≤◌, ◌<◌, true, false, ◌||◌, not, cond, List, [], ◌∷◌, ◌++◌, length, take, drop, filter, refl, sym, ◌∙◌, ap, arith, eqb, ltb, leb}
 use Rattle.std.specs.List.{range_with_len, count_by, flat_map}
 use Rattle.std.proofs.lemmas.Bool.{eqb-true, eq-eqb, ne_eqb, lt-ltb, le-ltb, lt-leb, le-leb, or_right}
@@ -69,7 +69,7 @@ failures-failed events n why = failures_push events (Failed n why) n ∙ rw (sam
 pub failures-failed_other : (events : List EventData) (n : ℕ) (why : Why) (m : ℕ) → m ≢ n → failures (events ++ Failed n why ∷ []) m ≡ failures events m
 failures-failed_other events n why m ne = failures_push events (Failed n why) m ∙ rw (other_number m n ne) (omega arith)
 
--- ---- the places known and the mentions dropped
+-- ---- known places and dropped mentions
 
 pub mentions_push : (opening : OpeningData) (events : List EventData) (e : EventData) → mentions opening (events ++ e ∷ []) ≡ mentions opening events ++ mentioned opening e
 unfolding mentions
@@ -102,13 +102,13 @@ pub known-failed : (opening : OpeningData) (events : List EventData) (n : ℕ) (
 unfolding known
 known-failed opening events n why = ap (known_of opening.limit) (mentions-failed opening events n why)
 
--- a page makes known the first of its allowed links that aren't known, each once, as many as there is room for
+-- a page makes its first allowed and unknown links known, each once, as many as there is room for
 pub known-found : (opening : OpeningData) (events : List EventData) (n : ℕ) (page : PageData) → known opening (events ++ Found n page ∷ []) ≡ known opening events ++ take (opening.limit - length (known opening events)) (filter (λ p. not (is_among (known opening events) p)) (distinct (filter (allows opening.scope) page.links)))
 unfolding known
 known-found opening events n page =
     ap (known_of opening.limit) (mentions-found opening events n page) ∙ known_of-append opening.limit (mentions opening events) (filter (allows opening.scope) page.links)
 
--- the same by the mentions, link by link
+-- the places known after a page, mention by mention
 pub known-found_mentions : (opening : OpeningData) (events : List EventData) (n : ℕ) (page : PageData) → known opening (events ++ Found n page ∷ []) ≡ known_of opening.limit (mentions opening events ++ filter (allows opening.scope) page.links)
 unfolding known
 known-found_mentions opening events n page = ap (known_of opening.limit) (mentions-found opening events n page)
@@ -122,7 +122,7 @@ dropped-claimed opening events n = dropped_is opening (events ++ Claimed n ∷ [
 pub dropped-failed : (opening : OpeningData) (events : List EventData) (n : ℕ) (why : Why) → dropped opening (events ++ Failed n why ∷ []) ≡ dropped opening events
 dropped-failed opening events n why = dropped_is opening (events ++ Failed n why ∷ []) ∙ ap (dropped_of opening.limit) (mentions-failed opening events n why) ∙ sym (dropped_is opening events)
 
--- what is known stays known, at its number
+-- a known place stays known, with its number
 pub known_push : (opening : OpeningData) (events : List EventData) (e : EventData) → (more : List PlaceData) × (known opening (events ++ e ∷ []) ≡ known opening events ++ more)
 unfolding known
 known_push opening events e =
@@ -138,7 +138,7 @@ pub length-known : (opening : OpeningData) (events : List EventData) → length 
 unfolding known
 length-known opening events = length-known_of opening.limit (mentions opening events)
 
--- ---- the frontier
+-- ---- the queue
 
 entered_along_push : (opening : OpeningData) (before events : List EventData) (e : EventData) → entered_along opening before (events ++ e ∷ []) ≡ entered_along opening before events ++ entered opening (before ++ events) e
 entered_along_push opening before [] e = rw (append-nil before, append-nil (entered opening before e)) refl
@@ -164,7 +164,7 @@ entries-failed_again opening events n why h = entries_push opening events (Faile
 pub entries-failed_last : (opening : OpeningData) (events : List EventData) (n : ℕ) (why : Why) → opening.tries ≤ claims events n → entries opening (events ++ Failed n why ∷ []) ≡ entries opening events
 entries-failed_last opening events n why h = entries_push opening events (Failed n why) ∙ rw (le-ltb (claims events n) opening.tries h) (append-nil (entries opening events))
 
--- the claims of all numbers
+-- the number of claims
 abbrev pub claims_made : List EventData → ℕ
 claims_made events = count_by is_claim events
 
@@ -184,12 +184,12 @@ pub waiting_is : (opening : OpeningData) (events : List EventData) → waiting o
 unfolding waiting
 waiting_is opening events = refl
 
--- a claim takes the first number that waits
+-- a claim takes the first waiting number
 pub waiting-claimed : (opening : OpeningData) (events : List EventData) (n : ℕ) → waiting opening (events ++ Claimed n ∷ []) ≡ drop 1 (waiting opening events)
 waiting-claimed opening events n =
     rw (waiting_is opening (events ++ Claimed n ∷ []), waiting_is opening events, claims_made-claimed events n, entries-claimed opening events n) (sym (drop-drop 1 (claims_made events) (entries opening events)))
 
--- what enters the frontier waits behind the others
+-- new numbers wait behind the others
 pub waiting-found : (opening : OpeningData) (events : List EventData) (n : ℕ) (page : PageData) → claims_made events ≤ length (entries opening events) → waiting opening (events ++ Found n page ∷ []) ≡ waiting opening events ++ range_with_len (length (known opening events)) (length (known opening (events ++ Found n page ∷ [])) - length (known opening events))
 waiting-found opening events n page h =
     rw (waiting_is opening (events ++ Found n page ∷ []), waiting_is opening events, claims_made-found events n page, entries-found opening events n page) (drop-append-le (claims_made events) (entries opening events) (range_with_len (length (known opening events)) (length (known opening (events ++ Found n page ∷ [])) - length (known opening events))) h)
@@ -202,7 +202,7 @@ pub waiting-failed_last : (opening : OpeningData) (events : List EventData) (n :
 waiting-failed_last opening events n why t =
     rw (waiting_is opening (events ++ Failed n why ∷ []), waiting_is opening events, claims_made-failed events n why, entries-failed_last opening events n why t) refl
 
--- ---- what is out
+-- ---- numbers that are out
 
 pub is_out_is : (events : List EventData) (n : ℕ) → is_out events n ≡ eqb (claims events n) (finds events n + failures events n + 1)
 unfolding is_out
@@ -229,7 +229,7 @@ pub is_out-failed_other : (events : List EventData) (n : ℕ) (why : Why) (m : �
 is_out-failed_other events n why m ne =
     rw (is_out_is (events ++ Failed n why ∷ []) m, is_out_is events m, claims-failed events n why m, finds-failed events n why m, failures-failed_other events n why m ne) refl
 
--- a number with as many outcomes as claims is out once it is claimed
+-- a number with as many outcomes as claims is out after a claim
 pub is_out-claimed : (events : List EventData) (n : ℕ) → claims events n ≡ finds events n + failures events n → is_out (events ++ Claimed n ∷ []) n ≡ true
 is_out-claimed events n h =
     is_out_from_claims (events ++ Claimed n ∷ []) n (omega (arith, claims-claimed events n, finds-claimed events n n, failures-claimed events n n))
@@ -242,7 +242,7 @@ pub is_out-failed : (events : List EventData) (n : ℕ) (why : Why) → is_out e
 is_out-failed events n why h =
     not_out_from_claims (events ++ Failed n why ∷ []) n (λ e. omega (arith, is_out-claims events n h, claims-failed events n why n, finds-failed events n why n, failures-failed events n why))
 
--- ---- what is done
+-- ---- numbers that are done
 
 pub is_done_is : (opening : OpeningData) (events : List EventData) (n : ℕ) → is_done opening events n ≡ (ltb 0 (finds events n) || leb opening.tries (failures events n))
 unfolding is_done

@@ -1,5 +1,5 @@
--- What a finished crawl holds, where the last outcome of each place is that of one table: exactly the
--- places that can be reached from the seeds, and their pages.
+-- What a finished crawl contains if its record agrees with a table of outcomes: exactly the places
+-- that can be reached from the seeds, and their pages.
 use Rattle.std.specs.Prelude.{◌≡◌, ℕ, Bool, ◌||◌, ◌↔◌, List, [], ◌∷◌, Option, None, Some, slice_get, IsTrue, if◌then◌else◌}
 use Rattle.std.specs.List.{fold, Contains}
 use Rattle.gopher_item.specs.Place.{PlaceData, is_among}
@@ -15,26 +15,26 @@ use Rattle.gopher_catalogue.specs.Pages.{pages_found}
 
 -- ---- the table
 
--- what a fetch of a place can give: the bytes of a reply, or why there are none
+-- the outcome of a fetch: the bytes of a reply, or the reason why there are none
 pub data OutcomeData : Type 0 where
   Fetched : (bytes : List ℕ) → OutcomeData
   Unfetched : (why : Why) → OutcomeData
 
--- the one outcome of each place that has one. No record occurs in it.
+-- the outcome of each place that has one; it doesn't depend on any record
 abbrev pub OutcomeTable : Type 0
 OutcomeTable = PlaceData → Option OutcomeData
 
--- the links of the page of a place: none where its outcome isn't bytes
+-- the links of the page of a place; none if its outcome isn't bytes
 abbrev pub links_after : ScopeData → PlaceData → Option OutcomeData → List PlaceData
 links_after scope place (Some (Fetched bytes)) = (page_of scope place bytes).links
 links_after scope place outcome = []
 
--- what ends a chain that starts in a seed, each next place a link of the page before
+-- reachable: the place is a seed, or a link on the page of a reachable place
 pub data IsReachable (scope : ScopeData) (seeds : List PlaceData) (table : OutcomeTable) : PlaceData → Type 0 where
   seed : {place : PlaceData} → IsTrue (is_among seeds place) → IsReachable scope seeds table place
   link : {place : PlaceData} {next : PlaceData} → IsReachable scope seeds table place → IsTrue (is_among (links_after scope place (table place)) next) → IsReachable scope seeds table next
 
--- the page of a place that can be reached, made of its bytes in the table
+-- the page of a reachable place, made of its bytes in the table
 pub record IsReachedPage (scope : ScopeData) (seeds : List PlaceData) (table : OutcomeTable) (page : PageData) : Type 0 where
   pub place : PlaceData
   pub bytes : List ℕ
@@ -44,7 +44,7 @@ pub record IsReachedPage (scope : ScopeData) (seeds : List PlaceData) (table : O
 
 -- ---- agreement
 
--- an event that is an outcome of the number
+-- the event is an outcome of the number
 abbrev pub is_outcome_of : ℕ → EventData → Bool
 is_outcome_of number event = is_find_of number event || is_failure_of number event
 
@@ -52,7 +52,7 @@ is_outcome_of number event = is_find_of number event || is_failure_of number eve
 unfoldable pub last_outcome : List EventData → ℕ → Option EventData
 last_outcome events number = fold (λ last event. if is_outcome_of number event then Some event else last) None events
 
--- the event is what the table tells of the place
+-- the event is the outcome that the table gives for the place
 abbrev pub IsTold : ScopeData → PlaceData → Option OutcomeData → Option EventData → Type 0
 IsTold scope place outcome (Some (Found number page)) = (bytes : List ℕ) × (outcome ≡ Some (Fetched bytes)) × (page ≡ page_of scope place bytes)
 IsTold scope place outcome (Some (Failed number why)) = outcome ≡ Some (Unfetched why)
@@ -63,12 +63,12 @@ abbrev pub Agrees : OpeningData → List EventData → OutcomeTable → Type 0
 Agrees opening events table =
     (number : ℕ) (place : PlaceData) → slice_get (known opening events) number ≡ Some place → IsTold opening.scope place (table place) (last_outcome events number)
 
--- the table gives every outcome of the record
+-- the table gives every outcome in the record
 abbrev pub GivesEachOutcome : OpeningData → List EventData → OutcomeTable → Type 0
 GivesEachOutcome opening events table =
     (k number : ℕ) (event : EventData) (place : PlaceData) → slice_get events k ≡ Some event → IsTrue (is_outcome_of number event) → slice_get (known opening events) number ≡ Some place → IsTold opening.scope place (table place) (Some event)
 
--- with one try, to agree with the last outcomes is to give every outcome
+-- with one try, a table agrees with the last outcomes exactly if it gives every outcome
 abbrev pub OneTryAgreesThroughout : Type 0
 OneTryAgreesThroughout =
     (opening : OpeningData) (events : List EventData) (table : OutcomeTable) → IsLegal (Opened opening ∷ events) → opening.tries ≡ 1 → Agrees opening events table ↔ GivesEachOutcome opening events table
@@ -80,7 +80,7 @@ pub record IsComplete (record_ : List EventData) : Type 0 where
   pub is_finished : IsTrue (is_finished record_)
   pub none_dropped : (status_of record_).dropped ≡ 0
 
--- the known places are those that can be reached, all allowed and all done; the pages found are theirs
+-- the known places are the reachable ones, all allowed and all done; the pages found are theirs
 pub record HoldsReach (opening : OpeningData) (events : List EventData) (table : OutcomeTable) : Type 0 where
   pub known_reachable : (place : PlaceData) → IsTrue (is_among (known opening events) place) ↔ IsReachable opening.scope opening.seeds table place
   pub reachable_allowed : (place : PlaceData) → IsReachable opening.scope opening.seeds table place → IsAllowed opening.scope place
@@ -91,18 +91,17 @@ abbrev pub FinishedCrawlHoldsReach : Type 0
 FinishedCrawlHoldsReach =
     (opening : OpeningData) (events : List EventData) (table : OutcomeTable) → IsLegal (Opened opening ∷ events) → IsComplete (Opened opening ∷ events) → Agrees opening events table → HoldsReach opening events table
 
--- what this record is to the law: once it is complete, it holds what can be reached, for each table that
--- it agrees with
+-- once this record is complete, it contains what can be reached, for each table that it agrees with
 abbrev pub HoldsReachOnceComplete : List EventData → Type 0
 HoldsReachOnceComplete record_ =
     (opening : OpeningData) (events : List EventData) (table : OutcomeTable) → record_ ≡ Opened opening ∷ events → IsComplete record_ → Agrees opening events table → HoldsReach opening events table
 
--- the same places are in both, in whatever order and however often
+-- both lists contain the same places, in any order and any number of times
 abbrev pub SamePlaces : List PlaceData → List PlaceData → Type 0
 SamePlaces places places' = (place : PlaceData) → is_among places place ≡ is_among places' place
 
--- two finished crawls of one table, with one scope and the same seeds, hold the same places and pages,
--- whatever the order of their seeds and of their events, their limits and their tries
+-- two finished crawls with the same table, scope and seeds contain the same places and pages,
+-- whatever the order of their seeds and events, their limits and their tries
 abbrev pub FinishedCrawlsAgree : Type 0
 FinishedCrawlsAgree =
     (scope : ScopeData) (seeds seeds' : List PlaceData) (table : OutcomeTable) (limit tries limit' tries' : ℕ) (events events' : List EventData) →
@@ -114,7 +113,7 @@ FinishedCrawlsAgree =
     SamePlaces (known opening events) (known opening' events') ×
     ((page : PageData) → Contains (pages_found events) page ↔ Contains (pages_found events') page)
 
--- no place has two pages
+-- a record contains at most one page of each place
 abbrev pub EachPageIsFoundOnce : Type 0
 EachPageIsFoundOnce =
     (opening : OpeningData) (events : List EventData) (i j : ℕ) (page other : PageData) → IsLegal (Opened opening ∷ events) →

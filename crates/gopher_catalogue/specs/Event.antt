@@ -1,5 +1,5 @@
--- The events of a crawl, as data: what each says, a page and an opening by their contents. The number of
--- a place is its index among the known places.
+-- The events of a crawl as data, with the contents of pages and openings. The number of a place is
+-- its index, from 0, among the known places.
 use Rattle.std.specs.Prelude.{ℕ}
 use Rattle.gopher_catalogue.specs.declared.event.Why.{Why}
 use Rattle.gopher_catalogue.specs.declared.event.Why.TheVariants.{Connect, Read, Write, TooLong, NoMemory}

@@ -1,4 +1,4 @@
--- The numbers of the faults of the catalogue, and which fault a refused call has.
+-- The numbers of the catalogue's faults, and the fault of a call that fails.
 use Rattle.std.specs.Prelude.{◌≡◌, ℕ, Option, None, Some}
 use Rattle.gopher_catalogue.specs.declared.fault.OpenFault.{OpenFault}
 use Rattle.gopher_catalogue.specs.declared.fault.OpenFault.TheVariants.{SeedOutOfScope, BadPlaces, BadTries, NoMemory}
@@ -18,7 +18,7 @@ found_fault_code NotOut = 52
 found_fault_code WrongPlace = 53
 found_fault_code NoMemoryFound = 90
 
--- the fault answered is the one that the arguments have, and want of memory where they have none
+-- a call fails with the fault of its arguments, or, if they have none, because it is out of memory
 abbrev pub IsOpenFault : Option OpenFault → OpenFault → Type 0
 IsOpenFault (Some fault) answered = answered ≡ fault
 IsOpenFault None answered = answered ≡ NoMemory

@@ -1,5 +1,5 @@
--- What a finished crawl answers, said of its table of outcomes alone: no record, no number of a place
--- and no state occurs in the final answer and the final occurrences.
+-- The results of searches of a finished crawl. The definitions mention only the table of outcomes:
+-- no record, no number of a place and no state.
 use Rattle.std.specs.Prelude.{◌≡◌, ℕ, ◌<◌, false, ◌↔◌, List, ◌∷◌, take, IsTrue}
 use Rattle.std.specs.List.{Contains}
 use Rattle.std.specs.List.Sorted.{IsStrictlySortedBy}
@@ -17,52 +17,52 @@ use Rattle.gopher_catalogue.specs.Pages.{pages_found}
 use Rattle.gopher_index.specs.Answer.{rank_cmp, answer_of, occurrences_of}
 use Rattle.gopher_catalogue.specs.Closure.{OutcomeTable, IsReachedPage, Agrees, IsComplete, SamePlaces}
 
--- ---- the answer over any pages
+-- ---- the answer over a set of pages
 
--- how a page stands in an answer
+-- the hit of a page
 abbrev pub hit_at : List TermData → PageData → Hit
 hit_at query page = record { place = page.place; title = page.title; score = score query page.counts }
 
--- the hit of one of these pages, which the query matches
+-- the hit of a page of this set that matches the query
 pub record IsHitAmong (IsPage : PageData → Type 0) (query : List TermData) (hit : Hit) : Type 0 where
   pub page : PageData
   pub is_page : IsPage page
   pub is_match : IsTrue (matches query page.counts)
   pub is_hit : hit ≡ hit_at query page
 
--- the first 50 hits of those of these pages that match: the highest score first, and hits of one score
--- in place order
+-- the first 50 hits of the matching pages of this set: by score, highest first, and hits of equal
+-- score in place order
 pub record IsAnswerAmong (IsPage : PageData → Type 0) (query : List TermData) (hits : List Hit) : Type 0 where
   pub all : List Hit
   pub members : (hit : Hit) → Contains all hit ↔ IsHitAmong IsPage query hit
   pub in_order : IsStrictlySortedBy rank_cmp all
   pub first : hits ≡ take 50 all
 
--- ---- the occurrences over any pages
+-- ---- the occurrences over a set of pages
 
--- the place of one of these pages, which has the word, and how often
+-- the place of a page of this set that contains the word, with the number of times
 pub record IsOccurrenceAmong (IsPage : PageData → Type 0) (word : List ℕ) (occurrence : PlaceData × ℕ) : Type 0 where
   pub page : PageData
   pub is_page : IsPage page
   pub some : 0 < count_meant false word page.counts
   pub is_occurrence : occurrence ≡ (page.place, count_meant false word page.counts)
 
--- the occurrences of the word in these pages, each place once, in place order
+-- the occurrences of the word in the pages of this set, each place once, in place order
 pub record AreOccurrencesAmong (IsPage : PageData → Type 0) (word : List ℕ) (list : List (PlaceData × ℕ)) : Type 0 where
   pub members : (occurrence : PlaceData × ℕ) → Contains list occurrence ↔ IsOccurrenceAmong IsPage word occurrence
   pub in_order : IsStrictlySortedBy (on (λ occurrence. occurrence.0) place_cmp) list
 
 -- ---- the final answer
 
--- the answer over the pages of the places that can be reached from the seeds
+-- the answer over the pages of the reachable places
 abbrev pub FinalAnswer : ScopeData → List PlaceData → OutcomeTable → List TermData → List Hit → Type 0
 FinalAnswer scope seeds table query hits = IsAnswerAmong (IsReachedPage scope seeds table) query hits
 
--- the occurrences in the pages of the places that can be reached from the seeds
+-- the occurrences in the pages of the reachable places
 abbrev pub FinalOccurrences : ScopeData → List PlaceData → OutcomeTable → List ℕ → List (PlaceData × ℕ) → Type 0
 FinalOccurrences scope seeds table word list = AreOccurrencesAmong (IsReachedPage scope seeds table) word list
 
--- there is at most one final answer to a query, and one list of final occurrences of a word
+-- a query has at most one final answer, and a word at most one final list of occurrences
 abbrev pub FinalAnswerIsOne : Type 0
 FinalAnswerIsOne =
     (scope : ScopeData) (seeds : List PlaceData) (table : OutcomeTable) (query : List TermData) (hits other : List Hit) →
@@ -75,7 +75,8 @@ FinalOccurrencesAreOne =
 
 -- ---- the laws
 
--- at each moment of a crawl, finished or not: the answer holds each page found that matches, once
+-- at each moment of a crawl, finished or not, the answer contains each matching page once, and the
+-- occurrences of a word contain each page with the word once
 abbrev pub AnswersAreOfPagesFound : Type 0
 AnswersAreOfPagesFound =
     (opening : OpeningData) (events : List EventData) → IsLegal (Opened opening ∷ events) →
@@ -83,7 +84,7 @@ AnswersAreOfPagesFound =
     ((query : List TermData) → IsAnswerAmong (Contains pages) query (answer_of pages query)) ×
     ((word : List ℕ) → AreOccurrencesAmong (Contains pages) word (occurrences_of pages word))
 
--- what these hits are to this record, once it is complete, for each table that it agrees with
+-- once this record is complete, these hits are the final answer, for each table that it agrees with
 abbrev pub IsFinalOnceComplete : List EventData → List TermData → List Hit → Type 0
 IsFinalOnceComplete record_ query hits =
     (opening : OpeningData) (events : List EventData) (table : OutcomeTable) → record_ ≡ Opened opening ∷ events →
@@ -94,26 +95,26 @@ AreFinalOnceComplete record_ word list =
     (opening : OpeningData) (events : List EventData) (table : OutcomeTable) → record_ ≡ Opened opening ∷ events →
     IsComplete record_ → Agrees opening events table → FinalOccurrences opening.scope opening.seeds table word list
 
--- of hits and occurrences as the program has them
+-- the hits and the occurrences in the vectors that calls return
 abbrev pub AreFinalHits : List EventData → List TermData → Vec Hit → Type 0
 AreFinalHits record_ query hits = IsFinalOnceComplete record_ query hits.items
 
 abbrev pub AreFinalOccurrences : List EventData → List ℕ → Vec (PlaceData × ℕ) → Type 0
 AreFinalOccurrences record_ word list = AreFinalOnceComplete record_ word list.items
 
--- a finished crawl answers each query with the final answer
+-- a finished crawl gives the final answer to each query
 abbrev pub FinishedCrawlGivesFinalAnswers : Type 0
 FinishedCrawlGivesFinalAnswers =
     (record_ : List EventData) (query : List TermData) → IsLegal record_ → IsFinalOnceComplete record_ query (answer_of (pages_found record_) query)
 
--- and each word with the final occurrences
+-- a finished crawl gives the final occurrences of each word
 abbrev pub FinishedCrawlGivesFinalOccurrences : Type 0
 FinishedCrawlGivesFinalOccurrences =
     (record_ : List EventData) (word : List ℕ) → IsLegal record_ → AreFinalOnceComplete record_ word (occurrences_of (pages_found record_) word)
 
--- two finished crawls of one table, with one scope and the same seeds, give equal answers to every
--- query and equal occurrences of every word, whatever the order of their seeds and of their events, their
--- limits and their tries
+-- two finished crawls with the same table, scope and seeds give equal answers to every query and
+-- equal occurrences of every word, whatever the order of their seeds and events, their limits and
+-- their tries
 abbrev pub FinishedCrawlsAnswerAlike : Type 0
 FinishedCrawlsAnswerAlike =
     (scope : ScopeData) (seeds seeds' : List PlaceData) (table : OutcomeTable) (limit tries limit' tries' : ℕ) (events events' : List EventData) →

@@ -1,5 +1,5 @@
 -- The crawl frontier: what a record says of places. A record is an opening and the events after it,
--- the oldest first. Nothing here is kept by the code; each word is computed from the whole record.
+-- oldest first. Each definition reads the whole record; the code keeps tables instead.
 use Rattle.std.specs.Prelude.{ℕ, ◌+◌, ◌-◌, Bool, true, false, ◌||◌, not, List, [], ◌∷◌, ◌++◌, length, take, drop, filter, count_by, ◌==◌, nat_lt, nat_le, if◌then◌else◌}
 use Rattle.std.specs.List.{flat_map, range_with_len}
 use Rattle.gopher_item.specs.Place.{PlaceData, distinct, is_among}
@@ -17,11 +17,11 @@ mentioned opening event = []
 unfoldable pub mentions : OpeningData → List EventData → List PlaceData
 mentions opening events = opening.seeds ++ flat_map (mentioned opening) events
 
--- the places known: the distinct places mentioned, in the order of first mention, up to the limit
+-- the known places: the distinct places mentioned, in the order of first mention, up to the limit
 unfoldable pub known : OpeningData → List EventData → List PlaceData
 known opening events = take opening.limit (distinct (mentions opening events))
 
--- how many mentions are of places that aren't known; repeats count
+-- the number of mentions of places that aren't known, with repeats
 unfoldable pub dropped : OpeningData → List EventData → ℕ
 dropped opening events = count_by (λ place. not (is_among (known opening events) place)) (mentions opening events)
 
@@ -43,7 +43,7 @@ abbrev pub is_claim : EventData → Bool
 is_claim (Claimed number) = true
 is_claim event = false
 
--- how often a number was claimed, found and failed
+-- how often a number was claimed, found or failed
 unfoldable pub claims : List EventData → ℕ → ℕ
 claims events number = count_by (is_claim_of number) events
 
@@ -55,8 +55,8 @@ failures events number = count_by (is_failure_of number) events
 
 -- ---- states
 
--- the numbers that an event puts at the back of the frontier, after the events before it: those of
--- the places that become known, or its own, where it failed with tries left
+-- the numbers that an event appends to the queue, after the events before it: those of the places
+-- that become known, or its own if it failed with tries left
 abbrev pub entered : OpeningData → List EventData → EventData → List ℕ
 entered opening before (Found number page) =
     let old = length (known opening before) in
@@ -68,11 +68,11 @@ abbrev pub entered_along : OpeningData → List EventData → List EventData →
 entered_along opening before [] = []
 entered_along opening before (event ∷ events) = entered opening before event ++ entered_along opening (before ++ event ∷ []) events
 
--- every number that ever entered the frontier, in order: the seeds' first
+-- every number that ever entered the queue, in order: the seeds first
 unfoldable pub entries : OpeningData → List EventData → List ℕ
 entries opening events = range_with_len 0 (length (known opening [])) ++ entered_along opening [] events
 
--- the numbers that wait to be claimed: each claim takes the first
+-- the numbers that wait to be claimed; each claim takes the first
 unfoldable pub waiting : OpeningData → List EventData → List ℕ
 waiting opening events = drop (count_by is_claim events) (entries opening events)
 

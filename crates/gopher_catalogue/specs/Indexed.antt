@@ -1,4 +1,4 @@
--- What the catalogue keeps beside its record says what the record says.
+-- The relation between the record and the tables that the catalogue keeps beside it.
 use Rattle.std.specs.Prelude.{◌≡◌, ℕ, ◌+◌, ◌*◌, ◌^◌, ◌<◌, ◌≤◌, List, length, map}
 use Rattle.std.specs.List.{range_with_len}
 use Rattle.gopher_frontier.specs.declared.known.Standing.{Standing}
@@ -8,11 +8,11 @@ use Rattle.gopher_catalogue.specs.Legal.{IsLegal}
 use Rattle.gopher_frontier.specs.Tables.{FrontierData}
 use Rattle.gopher_catalogue.specs.History.{RecordData, opening_in, later_in}
 
--- how a number stands after these events
+-- the state of a number after these events
 abbrev pub standing_of : List EventData → ℕ → Standing
 standing_of events number = record { claims = claims events number; is_out = is_out events number }
 
--- the frontier is that of the record; no page has more than 1,048,576 mentions
+-- the tables are those of the record; a page has at most 1,048,576 mentions
 pub record Tells (opening : OpeningData) (events : List EventData) (frontier : FrontierData) : Type 0 where
   pub places_is : frontier.places ≡ known opening events
   pub standings_is : frontier.standings ≡ map (standing_of events) (range_with_len 0 (length (known opening events)))
@@ -22,8 +22,8 @@ pub record Tells (opening : OpeningData) (events : List EventData) (frontier : F
   pub dropped_is : frontier.dropped ≡ dropped opening events
   pub few_dropped : frontier.dropped ≤ length opening.seeds + 1048576 * length events
 
--- the record is legal, the frontier is its frontier, and there is room for each outcome that is due,
--- in the record and in the queue
+-- the record is legal, the tables are its own, and the record and the queue have room for the
+-- outcome of each place that is out
 pub record IsIndexed (record_ : RecordData) (frontier : FrontierData) : Type 0 where
   pub legal : IsLegal record_.events
   pub tells : Tells (opening_in record_.events) (later_in record_.events) frontier

@@ -1,4 +1,4 @@
--- What holds of every legal record. Each law is the contract of a function of `laws`.
+-- Laws of every legal record. Each one is the contract of a function of `laws`.
 use Rattle.std.specs.Prelude.{◌≡◌, ℕ, ◌+◌, ◌≤◌, ◌&&◌, List, ◌∷◌, length, take, filter, count_by, Some, slice_get, ◌==◌, nat_lt, if◌then◌else◌}
 use Rattle.std.specs.List.{All, range_with_len}
 use Rattle.gopher_item.specs.Place.{PlaceData}
@@ -13,22 +13,23 @@ use Rattle.gopher_catalogue.specs.Legal.{IsLegal}
 abbrev pub KnownPlacesAreAllowed : Type 0
 KnownPlacesAreAllowed = (opening : OpeningData) (events : List EventData) → IsLegal (Opened opening ∷ events) → All (IsAllowed opening.scope) (known opening events)
 
--- no place has two numbers
+-- each known place has one number
 abbrev pub KnownPlacesAreDistinct : Type 0
 KnownPlacesAreDistinct = (opening : OpeningData) (events : List EventData) (i j : ℕ) (place : PlaceData) → slice_get (known opening events) i ≡ Some place → slice_get (known opening events) j ≡ Some place → i ≡ j
 
 -- ---- claims
 
--- how many outcomes a number had
+-- the number of outcomes of a place
 abbrev pub outcomes : List EventData → ℕ → ℕ
 outcomes events number = finds events number + failures events number
 
--- no place is out twice at once: each claim but the last has its outcome, and no claim has two
+-- a place is out at most once at a time: each claim but the last has its outcome, and no claim has
+-- two
 abbrev pub NoPlaceIsOutTwice : Type 0
 NoPlaceIsOutTwice =
     (opening : OpeningData) (events : List EventData) (number : ℕ) → IsLegal (Opened opening ∷ events) → (claims events number ≤ outcomes events number + 1) × (outcomes events number ≤ claims events number)
 
--- when a place is claimed, it was not found before
+-- a place that is claimed was not found before
 abbrev pub NoClaimAfterAFind : Type 0
 NoClaimAfterAFind =
     (opening : OpeningData) (events : List EventData) (k number : ℕ) → IsLegal (Opened opening ∷ events) → slice_get events k ≡ Some (Claimed number) → finds (take k events) number ≡ 0
@@ -40,12 +41,12 @@ NoMoreClaimsThanTries =
 
 -- ---- states
 
--- how often a number stands in a list
+-- how often a list contains a number
 abbrev pub times_listed : List ℕ → ℕ → ℕ
 times_listed list number = count_by (λ other. number == other) list
 
--- the number of each known place stands once in one of the three lists, and not in the others; no other
--- number stands in any
+-- exactly one of the three lists contains the number of each known place, once; none contains any
+-- other number
 abbrev pub EachKnownPlaceHasOneState : Type 0
 EachKnownPlaceHasOneState =
     (opening : OpeningData) (events : List EventData) (number : ℕ) → IsLegal (Opened opening ∷ events) →
@@ -66,8 +67,8 @@ OneTryIsOneClaim = (opening : OpeningData) (events : List EventData) (number : �
 abbrev pub numbers : OpeningData → List EventData → List ℕ
 numbers opening events = range_with_len 0 (length (known opening events))
 
--- the states with one try: what waits was never claimed, what is out was claimed and has no outcome,
--- and what is done was found or failed
+-- the states with one try: a waiting place was never claimed, a place that is out was claimed and
+-- has no outcome, and a place that is done was found or failed
 pub record HasSimpleStates (opening : OpeningData) (events : List EventData) : Type 0 where
   pub waiting_is : waiting opening events ≡ filter (λ number. claims events number == 0) (numbers opening events)
   pub out_is : out opening events ≡ filter (λ number. nat_lt 0 (claims events number) && (outcomes events number == 0)) (numbers opening events)
@@ -78,7 +79,7 @@ OneTryHasSimpleStates = (opening : OpeningData) (events : List EventData) → Is
 
 -- ---- the record
 
--- a beginning of a legal record, with its opening, is legal
+-- a prefix of a legal record that contains its opening is legal
 abbrev pub BeginningsAreLegal : Type 0
 BeginningsAreLegal = (record_ : List EventData) (n : ℕ) → IsLegal record_ → 1 ≤ n → IsLegal (take n record_)
 

@@ -18,8 +18,8 @@ pub record IsOut (opening : OpeningData) (events : List EventData) (number : ℕ
   pub is_known : number < length (known opening events)
   pub is_out : is_out events number ≡ true
 
--- an event may follow these: a claim of the first number that waits, or an outcome of one that is
--- out, a page being of its number's place
+-- an event may follow these if it claims the first waiting number, or is an outcome of a number
+-- that is out; a page must be of the number's place
 abbrev pub MayFollow : OpeningData → List EventData → EventData → Type 0
 MayFollow opening before (Opened other) = ⊥
 MayFollow opening before (Claimed number) = slice_get (waiting opening before) 0 ≡ Some number
@@ -30,7 +30,7 @@ MayFollow opening before (Failed number why) = IsOut opening before number
 abbrev pub FollowEachOther : OpeningData → List EventData → Type 0
 FollowEachOther opening events = (k : ℕ) (event : EventData) → slice_get events k ≡ Some event → MayFollow opening (take k events) event
 
--- a whole record: its first event opens it, and each later one may follow those before it
+-- a legal record: its first event is a legal opening, and each later one may follow those before it
 abbrev pub IsLegal : List EventData → Type 0
 IsLegal (Opened opening ∷ events) = IsLegalOpening opening × FollowEachOther opening events
 IsLegal record_ = ⊥

@@ -1,9 +1,9 @@
--- What a crawl begins with, as data.
+-- The arguments with which a crawl begins, as data.
 use Rattle.std.specs.Prelude.{ℕ, List}
 use Rattle.gopher_item.specs.Place.{PlaceData}
 use Rattle.gopher_scope.specs.Scope.{ScopeData}
 
--- its scope, its seeds, and how many places and tries it may have
+-- the scope, the seeds, the most places that become known, and the most claims of a place
 pub record OpeningData : Type 0 where
   pub scope : ScopeData
   pub seeds : List PlaceData

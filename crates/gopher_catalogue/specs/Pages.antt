@@ -1,4 +1,4 @@
--- The pages that a record holds.
+-- The pages that a record found.
 use Rattle.std.specs.Prelude.{◌≡◌, ℕ, List, [], ◌∷◌, ◌++◌, take}
 use Rattle.std.specs.List.{flat_map}
 use Rattle.std.specs.Global.{Vec}
@@ -13,19 +13,19 @@ abbrev pub page_of_event : EventData → List PageData
 page_of_event (Found number page) = page ∷ []
 page_of_event event = []
 
--- the pages found, in the order in which they were
+-- the pages found, in the order of their events
 unfoldable pub pages_found : List EventData → List PageData
 pages_found events = flat_map page_of_event events
 
--- the pages of an index, which takes 65,536, after one more event
+-- the pages of an index, which contains at most 65,536, after one more event
 abbrev pub with_page_of : List PageData → EventData → List PageData
 with_page_of pages event = take 65536 (pages ++ page_of_event event)
 
--- those of a record that an index takes; a record that a catalogue can have found no others
+-- the pages of a record that the index contains: all pages of a legal record
 abbrev pub pages_indexed : List EventData → List PageData
 pages_indexed events = take 65536 (pages_found events)
 
--- what a search of a record finds, and where a word occurs in it
+-- the result of a search, and of a request for the occurrences of a word, over a record
 abbrev pub AreHitsIn : List EventData → List TermData → Vec Hit → Type 0
 AreHitsIn events query hits = hits.items ≡ answer_of (pages_found events) query
 

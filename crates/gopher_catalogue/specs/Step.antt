@@ -1,5 +1,5 @@
--- The sequential catalogue: what each call answers on a record, and the record that it leaves, where
--- memory is ample.
+-- The sequential catalogue: the result of each call on a record, and the record after it, if memory
+-- suffices.
 use Rattle.std.specs.Prelude.{◌≡◌, ℕ, ◌-◌, Bool, false, ◌&&◌, not, List, [], ◌∷◌, ◌++◌, length, Option, None, Some, slice_get, position, ◌==◌, nat_lt, nat_le, if◌then◌else◌}
 use Rattle.std.specs.Option.{option_map, option_and_then, option_map_or}
 use Rattle.gopher_item.specs.Place.{PlaceData, same_place}
@@ -17,13 +17,13 @@ pub use Rattle.gopher_frontier.specs.declared.sizes.Status.{Status}
 
 -- ---- open
 
--- the first fault of what a crawl is to begin with, if there is one
+-- the first fault of the arguments of an opening, if they have one
 abbrev pub open_fault : ScopeData → List PlaceData → ℕ → ℕ → Option OpenFault
 open_fault scope seeds limit tries =
     option_map_or (λ index. Some (SeedOutOfScope index)) (position (λ seed. not (allows scope seed)) seeds)
     (if not (nat_le 1 limit && nat_le limit 65536) then Some BadPlaces else (if not (nat_le 1 tries && nat_le tries 5) then Some BadTries else None))
 
--- the record of a crawl that begins
+-- the record of a new crawl
 abbrev pub opened_record : ScopeData → List PlaceData → ℕ → ℕ → List EventData
 opened_record scope seeds limit tries = Opened (opening_of scope seeds limit tries) ∷ []
 
@@ -32,13 +32,13 @@ IsOpenedRecord scope seeds limit tries events = events ≡ opened_record scope s
 
 -- ---- claim
 
--- what a claim answers, as data
+-- the result of a claim, as data
 pub data TurnData : Type 0 where
   Take : (number : ℕ) (place : PlaceData) → TurnData
   Idle : TurnData
   Finished : TurnData
 
--- the first number that waits, and its place
+-- the first waiting number, and its place
 abbrev pub next_claim : OpeningData → List EventData → Option (ℕ × PlaceData)
 next_claim opening events =
     option_and_then (λ number. option_map (λ place. (number, place)) (slice_get (known opening events) number)) (slice_get (waiting opening events) 0)
@@ -54,12 +54,12 @@ after_turn events turn = events
 
 -- ---- found
 
--- whether the number is of a known place that is out
+-- the number is of a known place that is out
 unfoldable pub is_out_in : List EventData → ℕ → Bool
 is_out_in (Opened opening ∷ events) number = nat_lt number (length (known opening events)) && is_out events number
 is_out_in events number = false
 
--- whether the place is that of the number
+-- the place is that of the number
 unfoldable pub is_place_in : List EventData → ℕ → PlaceData → Bool
 is_place_in (Opened opening ∷ events) number place = option_map_or (λ other. same_place other place) (slice_get (known opening events) number) false
 is_place_in events number place = false

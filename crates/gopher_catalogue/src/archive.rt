@@ -1,4 +1,4 @@
-//! The record of a crawl with the index of its pages.
+//! The record of a crawl, with the index of its pages.
 
 ghost use Rattle.std.specs.Prelude.{◌≡◌, ◌+◌, ◌<◌, ◌≤◌, [], ◌∷◌, ◌++◌, length, map, IfOk, IfErr, IfSome, OnOk, OnErr};
 ghost use Rattle.std.specs.Arc.{arc_value};
@@ -18,10 +18,10 @@ use std::alloc::Global;
 use std::marker::Model;
 use std::sync::Arc;
 
-// How many pages an index takes. No record that a catalogue can have found more.
+// The most pages that the index contains. No legal record finds more.
 const MOST_PAGES: usize = 65_536;
 
-/// Events, and the index of the pages that they found: of the first 65,536 of these.
+/// A record of events, with an index of the first 65,536 pages that they found.
 #[derive(Debug, Drop)]
 pub(crate) struct Archive {
     history: History,
@@ -41,7 +41,7 @@ impl Model for Archive {
     ghost invariant = { λ a. a.index ≡ pages_indexed a.history.events };
 }
 
-// Adds the page that an event found, where there is one and the index takes more.
+// Adds the page of an event to the index, unless the event has no page or the index is full.
 fn index_page(index: &mut Index, event: &Event) -> Result<(), NoMemory>
     requires { length index.old ≤ 65536 }
     ensures ok { OnOk result (index.new ≡ with_page_of index.old (event_data event.now)) }
@@ -58,7 +58,7 @@ fn index_page(index: &mut Index, event: &Event) -> Result<(), NoMemory>
 }
 
 impl Archive {
-    /// No events. Takes no memory.
+    /// An archive without events.
     pub fn empty(alloc: Global) -> Archive
         ensures { result.events ≡ [] }
     {
@@ -68,7 +68,7 @@ impl Archive {
         }
     }
 
-    /// The record of a crawl that begins. A refusal of memory hands the opening back.
+    /// Starts the record of a crawl with its opening, which the error returns.
     pub fn begin(alloc: Global, opening: Opening) -> Result<Archive, Opening>
         ensures begun { IfOk result (λ archive. archive.events ≡ Opened opening ∷ []) }
         ensures opening_back { IfErr result (λ refused. refused ≡ opening) }
@@ -86,7 +86,7 @@ impl Archive {
         }
     }
 
-    /// The same events, and an index of the same pages. Refused only where memory is (90).
+    /// Copies the events and the index, which share their pages with `self`.
     pub fn again(&self, alloc: Global) -> Result<Archive, NoMemory>
         ensures { IfOk result (λ archive. archive.events ≡ self.now.events) }
     {
@@ -96,14 +96,14 @@ impl Archive {
         })
     }
 
-    /// How many events there are.
+    /// Returns the number of events.
     pub fn len(&self) -> usize
         ensures { result ≡ length self.now.events }
     {
         self.history.len()
     }
 
-    /// What the crawl began with, where the first event opened it.
+    /// Returns the opening, which the first event contains.
     pub fn opening(&self) -> &Arc<Opening>
         requires { IsOpened self.now.events }
         ensures { arc_value result.now ≡ opening_in self.now.events }
@@ -111,21 +111,21 @@ impl Archive {
         self.history.opening()
     }
 
-    /// The events.
+    /// Returns the events, oldest first.
     pub fn as_slice(&self) -> &[Event]
         ensures { map event_data result.now ≡ self.now.events }
     {
         self.history.as_slice()
     }
 
-    /// The index of the pages found.
+    /// Returns the index of the pages found.
     pub fn index(&self) -> &Index
         ensures { result.now ≡ pages_indexed self.now.events }
     {
         &self.index
     }
 
-    /// Pages that are due to be merged, as `Index::due` has it. Refused only where memory is (90).
+    /// Takes a run of pages to be merged, as `Index::due` does.
     pub fn due(&mut self) -> Result<Option<Due>, NoMemory>
         ensures same { self.new ≡ self.old }
         ensures stands { IfOk result (λ due.
@@ -134,7 +134,7 @@ impl Archive {
         self.index.due()
     }
 
-    /// Puts the segment of pages that were due in their place, as `Index::install` does.
+    /// Puts a merged run in its place in the index, as `Index::install` does.
     pub fn install(&mut self, due: Due) -> Option<Due>
         requires { StandsIn due (pages_indexed self.old.events) }
         ensures same { self.new ≡ self.old }
@@ -143,14 +143,15 @@ impl Archive {
         self.index.install(due)
     }
 
-    /// Merges what is due, as `Index::settle` does.
+    /// Merges all runs that are ready, as `Index::settle` does.
     pub fn settle(&mut self)
         ensures { self.new ≡ self.old }
     {
         self.index.settle();
     }
 
-    /// Makes room for `additional` more events. A refusal (90) keeps the room that there was.
+    /// Reserves room for at least `additional` more events. Even a failed call never reduces the
+    /// room.
     pub fn reserve(&mut self, additional: usize) -> Result<(), NoMemory>
         ensures events { self.new.events ≡ self.old.events }
         ensures room { self.old.room ≤ self.new.room }
@@ -159,7 +160,7 @@ impl Archive {
         self.history.reserve(additional)
     }
 
-    /// Adds an event at the end, for which there is room, and which found no page.
+    /// Appends an event without a page. There must be room for it.
     pub fn push(&mut self, event: Event)
         requires room { 0 < self.old.room }
         requires no_page { page_of_event (event_data event) ≡ [] }
@@ -169,8 +170,8 @@ impl Archive {
         self.history.push(event);
     }
 
-    /// Adds an event at the end, for which there is room, and the page that it found to the index, which
-    /// takes 65,536. Refused only where memory is (90), and then all is as it was.
+    /// Appends an event and adds its page, if it has one, to the index. There must be room for the
+    /// event.
     pub fn add(&mut self, event: Event) -> Result<(), NoMemory>
         requires { 0 < self.old.room }
         ensures ok { OnOk result (Grown self.old (event_data event) self.new) }
@@ -181,8 +182,9 @@ impl Archive {
         Ok(())
     }
 
-    /// Adds at the end that the page of a number was found, for which there is room. A refusal of memory
-    /// hands the page back, and leaves all as it was.
+    /// Appends the event that `page` was found for `number`. There must be room for it.
+    ///
+    /// The error returns the page.
     pub fn add_found(&mut self, alloc: Global, number: u32, page: Page) -> Result<(), Page>
         requires { 0 < self.old.room }
         ensures ok { OnOk result (Grown self.old (Found number page) self.new) }

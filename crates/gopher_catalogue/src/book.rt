@@ -1,4 +1,4 @@
-//! A record of events that anyone may make, and its search.
+//! A searchable record of events that any caller can build.
 
 ghost use Rattle.std.specs.Prelude.{◌≡◌, [], ◌∷◌, ◌++◌, length, IfOk, OnOk, OnErr};
 ghost use Rattle.gopher_catalogue.specs.Legal.{IsLegal};
@@ -13,10 +13,10 @@ use gopher_page::Query;
 use std::alloc::Global;
 use std::marker::Model;
 
-/// A record that takes in the events of another, one by one, and answers from the pages that they found.
+/// A record of events that is built one event at a time and can be searched.
 ///
-/// Contracts see a book as the list of its events. It doesn't ask whether they follow each other: what
-/// it answers is promised where its record is one that a catalogue can have.
+/// Contracts see a book as the list of its events. The book doesn't check that its record is legal,
+/// and its contracts promise search results only for a legal record.
 #[derive(Debug, Drop)]
 pub struct Book {
     alloc: Global,
@@ -33,7 +33,7 @@ impl Model for Book {
 }
 
 impl Book {
-    /// No events. Takes no memory.
+    /// An empty book.
     pub fn empty(alloc: Global) -> Book
         ensures { result ≡ [] }
     {
@@ -43,9 +43,9 @@ impl Book {
         }
     }
 
-    /// Adds an event at the end. Refused only where memory is (90), and then the record is what it was.
+    /// Appends an event.
     ///
-    /// The pages of the first 65,536 finds are searched; a record that a catalogue can have has no more.
+    /// Searches cover the first 65,536 pages found. A legal record contains no more.
     pub fn take_in(&mut self, event: &Event) -> Result<(), NoMemory>
         ensures ok { OnOk result (self.new ≡ self.old ++ event_data event.now ∷ []) }
         ensures err { OnErr result (self.new ≡ self.old) }
@@ -57,7 +57,7 @@ impl Book {
         Ok(())
     }
 
-    /// A second book with the same events. Refused only where memory is (90).
+    /// Copies the book.
     pub fn clone(&self) -> Result<Book, NoMemory>
         ensures { IfOk result (λ book. book ≡ self.now) }
     {
@@ -67,23 +67,22 @@ impl Book {
         })
     }
 
-    /// How many events there are. Takes no memory.
+    /// Returns the number of events.
     pub fn len(&self) -> usize
         ensures { result ≡ length self.now }
     {
         self.archive.len()
     }
 
-    /// What a search finds: the pages that match the query, by score descending, then in place order;
-    /// the first 50. Refused only where memory is (90).
+    /// Returns at most 50 hits for `query`: by score, highest first, and hits of equal score in
+    /// place order.
     pub fn search(&self, query: &Query) -> Result<Vec<Hit>, NoMemory>
         ensures { IsLegal self.now → IfOk result (AreHitsIn self.now query.now) }
     {
         self.archive.index().search(self.alloc, query)
     }
 
-    /// The places of the pages in which `word` stands, with how often, in place order. Refused only
-    /// where memory is (90).
+    /// Returns each place whose page contains `word`, with the number of times, in place order.
     pub fn occurrences(&self, word: &[u8]) -> Result<Vec<(Place, u32)>, NoMemory>
         ensures { IsLegal self.now → IfOk result (AreOccurrencesIn self.now word.now) }
     {

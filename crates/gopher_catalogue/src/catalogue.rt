@@ -1,4 +1,4 @@
-//! The catalogue of a crawl: its steps, and the search of its pages.
+//! The catalogue of a crawl: its steps and its searches.
 
 ghost use Rattle.std.specs.Prelude.{◌≡◌, ℕ, true, false, None, Some, [], ◌∷◌, ◌++◌, map, not, position, slice_get, IfOk, IfErr, IfSome, OnOk, OnErr};
 ghost use Rattle.std.specs.Arc.{arc_value};
@@ -28,10 +28,10 @@ use std::alloc::Global;
 use std::marker::Model;
 use std::sync::Arc;
 
-/// The catalogue of a crawl: its record, and beside it the frontier and the postings of the words of
-/// the pages found, so that neither a step nor a search goes over the record again.
+/// The catalogue of a crawl.
 ///
-/// Contracts see a catalogue as its record, which is always one that a crawl can have.
+/// Contracts see a catalogue as its record, which is always legal. The frontier and the index
+/// beside the record let a step or a search run without reading the record again.
 #[derive(Debug, Drop)]
 pub struct Catalogue {
     alloc: Global,
@@ -89,12 +89,18 @@ fn refused(fault: OpenFault, scope: Scope, seeds: Vec<Place>) -> OpenRefused
 }
 
 impl Catalogue {
-    /// The catalogue of a crawl that begins: at most `places` places may become known, and each may
-    /// be claimed at most `tries` times.
+    /// Opens the catalogue of a new crawl.
     ///
-    /// Refused, in this order: `SeedOutOfScope` (50) with the index of the first seed that the scope
-    /// doesn't allow; `BadPlaces` (51) where `places` is not 1 to 65,536; `BadTries` (54) where
-    /// `tries` is not 1 to 5; `NoMemory` (90). The scope and the seeds come back.
+    /// At most `places` places become known, and each can be claimed at most `tries` times.
+    ///
+    /// # Errors
+    ///
+    /// The first fault in this order; the error contains the scope and the seeds:
+    /// - `SeedOutOfScope` (50): the scope doesn't allow a seed; contains the index of the first
+    ///   such seed
+    /// - `BadPlaces` (51): `places` isn't 1 to 65,536
+    /// - `BadTries` (54): `tries` isn't 1 to 5
+    /// - `NoMemory` (90)
     pub fn open(
         alloc: Global,
         scope: Scope,
@@ -128,11 +134,10 @@ impl Catalogue {
         }
     }
 
-    /// Claims the first place that waits. It is out until `found` or `fail` tells its outcome.
+    /// Claims the first waiting place, which is out until `found` or `fail` records its outcome.
     ///
-    /// Room for the outcome is kept, so that `fail` takes no memory. Without a place that waits,
-    /// nothing changes and no memory is taken. Refused only where memory is (90); then nothing
-    /// changes.
+    /// A claim reserves room for the outcome, so that `fail` never allocates. If no place waits,
+    /// the call changes nothing and allocates nothing.
     pub fn claim(&mut self) -> Result<Turn, NoMemory>
         ensures turn { IfOk result (λ turn. turn_data turn ≡ turn_of self.old) }
         ensures after { OnOk result (self.new ≡ after_turn self.old (turn_of self.old)) }
@@ -156,11 +161,17 @@ impl Catalogue {
         Ok(Turn::Take(Claim { number, place }))
     }
 
-    /// Takes in the page of a place that is out. Those of its links that the scope allows and that
-    /// aren't known yet become known, up to the limit, and wait.
+    /// Records the page of a place that is out.
     ///
-    /// Refused, in this order: `NotOut` (52) where the number is not out; `WrongPlace` (53) where the
-    /// page is of another place; `NoMemory` (90). Then nothing changes, and the page comes back.
+    /// Links of the page that the scope allows and that aren't known yet become known, up to the
+    /// limit of places, and wait.
+    ///
+    /// # Errors
+    ///
+    /// The first fault in this order; the record stays unchanged and the error contains the page:
+    /// - `NotOut` (52): the number isn't out
+    /// - `WrongPlace` (53): the page is of another place
+    /// - `NoMemory` (90)
     pub fn found(&mut self, number: u32, page: Page) -> Result<Added, FoundRefused>
         ensures ok { OnOk result (found_fault self.old number page.place ≡ None) }
         ensures added { IfOk result (λ added. added ≡ added_by self.old number page) }
@@ -199,10 +210,12 @@ impl Catalogue {
         }
     }
 
-    /// Notes that a place that is out could not be fetched. It waits once more, behind the others,
-    /// where it has tries left.
+    /// Records that a place that is out could not be fetched. If it has tries left, it waits again,
+    /// behind all others. Allocates nothing.
     ///
-    /// Refused (52) exactly where the number is not out; then nothing changes. Takes no memory.
+    /// # Errors
+    ///
+    /// `FailRefused` (52): the number isn't out; the record stays unchanged.
     pub fn fail(&mut self, number: u32, why: Why) -> Result<(), FailRefused>
         ensures ok { OnOk result (is_out_in self.old number ≡ true) }
         ensures after { OnOk result (self.new ≡ self.old ++ Failed number why ∷ []) }
@@ -219,8 +232,11 @@ impl Catalogue {
         Ok(())
     }
 
-    /// Pages found that are due to be merged into one segment of the index, unless none are. They can be
-    /// merged (`Due::merge`) while the catalogue goes on. Refused only where memory is (90).
+    /// Takes a run of pages that is ready to be merged into one segment of the index, if there is
+    /// one.
+    ///
+    /// `Due::merge` merges it while the catalogue goes on; `install` then puts the segment in its
+    /// place.
     pub fn due(&mut self) -> Result<Option<Due>, NoMemory>
         ensures same { self.new ≡ self.old }
         ensures stands { IfOk result (λ due.
@@ -230,11 +246,10 @@ impl Catalogue {
         self.archive.due()
     }
 
-    /// Puts the segment of pages that were due in their place in the index, or leaves them to be due
-    /// again where they weren't merged. The record stays, and so does what searches find.
+    /// Puts a merged run in its place in the index. A run that wasn't merged becomes ready again.
     ///
-    /// Merged pages come back where some before them still stand in no segment: they are put in their
-    /// place once those are.
+    /// Neither the record nor the result of any search changes. A merged run is returned if pages
+    /// before it aren't in a segment yet: install it after those.
     pub fn install(&mut self, due: Due) -> Option<Due>
         requires { StandsIn due (pages_found self.old) }
         ensures same { self.new ≡ self.old }
@@ -243,15 +258,16 @@ impl Catalogue {
         self.archive.install(due)
     }
 
-    /// Merges the pages that are due, unless memory is refused: whoever has nobody to merge them calls
-    /// it after `found`. The record stays, and so does what searches find.
+    /// Merges all pages that are ready. Single-threaded callers call it after `found`.
+    ///
+    /// Neither the record nor the result of any search changes.
     pub fn settle(&mut self)
         ensures { self.new ≡ self.old }
     {
         self.archive.settle();
     }
 
-    /// The sizes of the frontier. Takes no memory.
+    /// Returns the number of places in each state, and of dropped mentions.
     pub fn status(&self) -> Status
         ensures status { result ≡ status_of self.now }
         ensures legal { IsLegal self.now }
@@ -259,11 +275,10 @@ impl Catalogue {
         self.frontier.status()
     }
 
-    /// Whether the crawl is at its end: no place waits, and none is out. Takes no memory.
+    /// Returns whether the crawl is finished: no place waits and none is out.
     ///
-    /// Where it is, and `status` tells that no mention was dropped, `search` and `occurrences` answer
-    /// what every such crawl with the same scope and seeds does, if both agree with one table of what
-    /// the servers reply (`closure`).
+    /// If also no mention was dropped (`Status::dropped` is 0), the places known and the results of
+    /// searches depend only on the scope, the seeds and what the servers reply: see `closure`.
     pub fn is_finished(&self) -> bool
         ensures finished { result ≡ is_finished self.now }
         ensures legal { IsLegal self.now }
@@ -272,7 +287,7 @@ impl Catalogue {
         status.waiting == 0 && status.out == 0
     }
 
-    /// The record: every event of the crawl, the oldest first. Takes no memory.
+    /// Returns the record: every event of the crawl, oldest first.
     pub fn record(&self) -> &[Event]
         ensures events { map event_data result.now ≡ self.now }
         ensures legal { IsLegal self.now }
@@ -280,11 +295,11 @@ impl Catalogue {
         self.archive.as_slice()
     }
 
-    /// The known places, each at its number. Takes no memory.
+    /// Returns the known places, each at the index that is its number.
     ///
-    /// Once the crawl is finished and no mention was dropped, they are the places that can be reached
-    /// from the seeds, by any table of what the servers reply with which the crawl agrees, whatever the
-    /// order of its events.
+    /// If the crawl is finished and dropped no mention, these are exactly the places that can be
+    /// reached from the seeds, for any table of server replies that the record agrees with
+    /// (`closure`).
     pub fn places(&self) -> &[Arc<Place>]
         ensures places { map arc_value result.now ≡ places_of self.now }
         ensures reach { HoldsReachOnceComplete self.now }
@@ -293,7 +308,7 @@ impl Catalogue {
         self.frontier.places()
     }
 
-    /// What the crawl began with: the opening of its first event. Takes no memory.
+    /// Returns the opening of the crawl, which the first event contains.
     pub fn opening(&self) -> &Arc<Opening>
         ensures first { slice_get self.now 0 ≡ Some (Opened (arc_value result.now)) }
         ensures legal { IsLegal self.now }
@@ -301,7 +316,7 @@ impl Catalogue {
         self.archive.opening()
     }
 
-    /// The index of the pages found, in the order in which they were. Takes no memory.
+    /// Returns the index of the pages found, in the order of their events.
     pub fn index(&self) -> &Index
         ensures pages { result.now ≡ pages_found self.now }
         ensures legal { IsLegal self.now }
@@ -309,11 +324,11 @@ impl Catalogue {
         self.archive.index()
     }
 
-    /// What a search finds: the pages that match the query, by score descending, then in place order;
-    /// the first 50. Refused only where memory is (90).
+    /// Returns at most 50 hits for `query`: by score, highest first, and hits of equal score in
+    /// place order.
     ///
-    /// Once the crawl is finished and no mention was dropped, these are the hits of the pages of all
-    /// places that can be reached, as `places` tells.
+    /// If the crawl is finished and dropped no mention, the search covers the pages of exactly the
+    /// places that can be reached, as in `places`.
     pub fn search(&self, query: &Query) -> Result<Vec<Hit>, NoMemory>
         ensures hits { IfOk result (AreHitsIn self.now query.now) }
         ensures once_complete { IfOk result (AreFinalHits self.now query.now) }
@@ -322,11 +337,10 @@ impl Catalogue {
         self.index().search(self.alloc, query)
     }
 
-    /// The places of the pages in which `word` stands, with how often, in place order. Refused only
-    /// where memory is (90).
+    /// Returns each place whose page contains `word`, with the number of times, in place order.
     ///
-    /// Once the crawl is finished and no mention was dropped, these are the occurrences in the pages of
-    /// all places that can be reached, as `places` tells.
+    /// If the crawl is finished and dropped no mention, the list covers the pages of exactly the
+    /// places that can be reached, as in `places`.
     pub fn occurrences(&self, word: &[u8]) -> Result<Vec<(Place, u32)>, NoMemory>
         ensures occurrences { IfOk result (AreOccurrencesIn self.now word.now) }
         ensures once_complete { IfOk result (AreFinalOccurrences self.now word.now) }

@@ -20,7 +20,7 @@ pub enum Why {
     Write,
     /// 4: the reply is over its limit.
     TooLong,
-    /// 5: memory was refused.
+    /// 5: out of memory.
     NoMemory,
 }
 
@@ -39,21 +39,21 @@ impl Why {
     }
 }
 
-/// An event of a crawl. A place goes by its number: its index, from 0, among the known places.
+/// An event of a crawl. A number identifies a place: its index, from 0, among the known places.
 #[derive(Debug, Drop)]
 pub enum Event {
-    /// The crawl began. It is the first event of a record, and no other.
+    /// The crawl began. This is the first event of a record and occurs nowhere else.
     Opened(Arc<Opening>),
     /// The place of this number was claimed.
     Claimed(u32),
-    /// The place of this number was fetched; its page.
+    /// The place of this number was fetched; contains its page.
     Found(u32, Arc<Page>),
-    /// The place of this number could not be fetched; why.
+    /// The place of this number could not be fetched; contains the reason.
     Failed(u32, Why),
 }
 
 impl Event {
-    /// The same event, which shares its opening or its page. Refused only where memory is (90).
+    /// Copies the event, which shares its opening or its page with `self`.
     pub fn again(&self) -> Result<Event, NoMemory>
         ensures { IfOk result (λ event. event_data event ≡ event_data self.now) }
     {
@@ -66,19 +66,18 @@ impl Event {
     }
 }
 
-/// An event as data: an opening and a page stand in it by their contents, and not in memory that is
-/// shared.
+/// An event as data, with the contents of its opening or page instead of shared memory.
 ///
-/// Contracts see a record as the list of these, and what is said of events between threads is said in
-/// them. No value of it is ever made.
+/// Contracts, also those between threads, see a record as a list of these. No code makes a value of
+/// this type.
 #[derive(Debug, Drop)]
 pub enum EventData {
     /// The crawl began.
     Opened(Opening),
     /// The place of this number was claimed.
     Claimed(u32),
-    /// The place of this number was fetched; its page.
+    /// The place of this number was fetched; contains its page.
     Found(u32, Page),
-    /// The place of this number could not be fetched; why.
+    /// The place of this number could not be fetched; contains the reason.
     Failed(u32, Why),
 }

@@ -1,4 +1,4 @@
-//! Why a call of the catalogue was refused.
+//! The errors of the catalogue, with their numbers.
 
 ghost use Rattle.std.specs.Prelude.{◌≡◌};
 ghost use Rattle.gopher_catalogue.specs.Fault.{open_fault_code, found_fault_code};
@@ -8,19 +8,19 @@ use gopher_page::Page;
 use gopher_scope::Scope;
 use thiserror::Error;
 
-/// What is wrong with the beginning of a crawl.
+/// Why a catalogue could not be opened.
 #[derive(Clone, Copy, Debug, PartialEq, Eq, Error)]
 pub enum OpenFault {
-    /// 50: the seed of this index is not allowed by the scope.
+    /// 50: the scope doesn't allow the seed at this index.
     #[error("seed {0} is out of scope")]
     SeedOutOfScope(usize),
-    /// 51: the limit of places is not 1 to 65,536.
+    /// 51: the limit of places isn't 1 to 65,536.
     #[error("the number of places is not 1 to 65536")]
     BadPlaces,
-    /// 54: the number of tries is not 1 to 5.
+    /// 54: the number of tries isn't 1 to 5.
     #[error("the number of tries is not 1 to 5")]
     BadTries,
-    /// 90: memory was refused.
+    /// 90: out of memory.
     #[error("no memory")]
     NoMemory,
 }
@@ -39,28 +39,28 @@ impl OpenFault {
     }
 }
 
-/// A beginning that was refused, with what was handed in.
+/// The error of `Catalogue::open`, with the arguments that it took.
 #[derive(Debug, Drop, Error)]
 #[error("{fault}")]
 pub struct OpenRefused {
-    /// What is wrong.
+    /// Why the call failed.
     pub fault: OpenFault,
-    /// The scope that was handed in.
+    /// The scope that was passed in.
     pub scope: Scope,
-    /// The seeds that were handed in.
+    /// The seeds that were passed in.
     pub seeds: Vec<Place>,
 }
 
-/// Why a page was refused.
+/// Why a page could not be recorded.
 #[derive(Clone, Copy, Debug, PartialEq, Eq, Error)]
 pub enum FoundFault {
-    /// 52: the number is not out.
+    /// 52: the number isn't out.
     #[error("the place is not out")]
     NotOut,
     /// 53: the page is of another place than the number.
     #[error("the page is of another place")]
     WrongPlace,
-    /// 90: memory was refused.
+    /// 90: out of memory.
     #[error("no memory")]
     NoMemory,
 }
@@ -78,23 +78,23 @@ impl FoundFault {
     }
 }
 
-/// A page that was refused, with the page.
+/// The error of `Catalogue::found`, with the page that it took.
 #[derive(Debug, Drop, Error)]
 #[error("{fault}")]
 pub struct FoundRefused {
-    /// What is wrong.
+    /// Why the call failed.
     pub fault: FoundFault,
-    /// The page that was handed in.
+    /// The page that was passed in.
     pub page: Page,
 }
 
-/// A failure that was refused: the number is not out.
+/// The error of `Catalogue::fail`: the number isn't out.
 #[derive(Clone, Copy, Debug, PartialEq, Eq, Error)]
 #[error("the place is not out")]
 pub struct FailRefused;
 
 impl FailRefused {
-    /// The number of this fault, 52.
+    /// The number of the fault, 52.
     pub fn code(self) -> u8
         ensures { result ≡ 52 }
     {

@@ -12,7 +12,7 @@ use std::alloc::Global;
 use std::marker::Model;
 use std::sync::Arc;
 
-/// Events, the oldest first, and room for more.
+/// A list of events, oldest first, with reserved room for more.
 #[derive(Debug, Drop)]
 pub(crate) struct History {
     events: Vec<Event>,
@@ -32,7 +32,7 @@ impl Model for History {
 }
 
 impl History {
-    /// No events. Takes no memory.
+    /// A record without events.
     pub fn empty(alloc: Global) -> History
         ensures { result.events ≡ [] }
     {
@@ -41,7 +41,7 @@ impl History {
         }
     }
 
-    /// The same events. Refused only where memory is (90).
+    /// Copies the events.
     pub fn again(&self, alloc: Global) -> Result<History, NoMemory>
         ensures { IfOk result (λ history. history.events ≡ self.now.events) }
     {
@@ -52,14 +52,14 @@ impl History {
         Ok(History { events })
     }
 
-    /// How many events there are.
+    /// Returns the number of events.
     pub fn len(&self) -> usize
         ensures { result ≡ length self.now.events }
     {
         self.events.len()
     }
 
-    /// What the crawl began with, where the first event opened it.
+    /// Returns the opening, which the first event contains.
     pub fn opening(&self) -> &Arc<Opening>
         requires { IsOpened self.now.events }
         ensures { arc_value result.now ≡ opening_in self.now.events }
@@ -70,14 +70,15 @@ impl History {
         }
     }
 
-    /// The events.
+    /// Returns the events, oldest first.
     pub fn as_slice(&self) -> &[Event]
         ensures { map event_data result.now ≡ self.now.events }
     {
         &self.events
     }
 
-    /// Makes room for `additional` more events. A refusal (90) keeps the room that there was.
+    /// Reserves room for at least `additional` more events. Even a failed call never reduces the
+    /// room.
     pub fn reserve(&mut self, additional: usize) -> Result<(), NoMemory>
         ensures events { self.new.events ≡ self.old.events }
         ensures room { self.old.room ≤ self.new.room }
@@ -87,7 +88,7 @@ impl History {
         Ok(())
     }
 
-    /// Adds an event at the end, for which there is room.
+    /// Appends an event. There must be room for it.
     pub fn push(&mut self, event: Event)
         requires { 0 < self.old.room }
         ensures events { self.new.events ≡ self.old.events ++ event_data event ∷ [] }

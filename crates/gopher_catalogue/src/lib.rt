@@ -1,13 +1,20 @@
-//! The catalogue of a crawl: its frontier, its record, and the index by which it is searched.
+//! The sequential catalogue of a crawl: its record of events, its frontier, and searches of its
+//! pages.
 //!
-//! RFC 1436 says nothing of crawls, and leaves it to a search server what it answers: all of this is
-//! this profile's.
+//! The crates above use one contract. Each call of `Catalogue` is one step of the sequential
+//! catalogue from the record before to the record after, every record is legal, and a search covers
+//! all pages that the record found. `specs/Step.antt` defines the steps, `specs/Legal.antt` the
+//! legal records.
 //!
-//! The crates above rest on one promise: each call of `Catalogue` is the step of the sequential
-//! catalogue, from the record before to the record after; the record is always legal; and a search
-//! answers from all pages that the record found.
+//! Error 90 (`NoMemory`) means out of memory. A call that fails with it changes nothing, and its
+//! error contains the arguments that the call took. Calls that can't fail with 90 allocate nothing,
+//! except `install` and `settle`, which put off a merge when out of memory.
 //!
-//! A `Book` takes in the events of a record, one by one, and is searched as its catalogue is.
+//! RFC 1436 doesn't define crawls and leaves search results to the server: this profile defines
+//! both.
+//!
+//! Library API that only tests here call: `Book`, a searchable copy of a record, and
+//! `Catalogue::is_finished` and `Catalogue::places`.
 #![tactic(auto)]
 
 mod answer;

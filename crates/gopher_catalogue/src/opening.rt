@@ -1,4 +1,4 @@
-//! What a crawl begins with.
+//! The arguments with which a crawl begins.
 
 ghost use Rattle.std.specs.Prelude.{◌≡◌};
 ghost use Rattle.gopher_catalogue.specs.Opening.{opening_of};
@@ -7,7 +7,7 @@ use gopher_item::Place;
 use gopher_scope::Scope;
 use std::marker::Model;
 
-/// What a crawl begins with: where it may go, where it starts, and how much it may do.
+/// The arguments with which a crawl begins: its scope, its seeds and its limits.
 #[derive(Debug, Drop)]
 pub struct Opening {
     scope: Scope,
@@ -43,28 +43,28 @@ impl Opening {
         (self.scope, self.seeds)
     }
 
-    /// Which places the crawl may visit. Takes no memory.
+    /// Returns the scope: the places that the crawl may visit.
     pub fn scope(&self) -> &Scope
         ensures { result.now ≡ self.now.scope }
     {
         &self.scope
     }
 
-    /// The places from which the crawl starts. Takes no memory.
+    /// Returns the places from which the crawl starts.
     pub fn seeds(&self) -> &[Place]
         ensures { result.now ≡ self.now.seeds }
     {
         &self.seeds
     }
 
-    /// How many places may become known, 1 to 65,536. Takes no memory.
+    /// Returns the limit of known places, 1 to 65,536.
     pub fn places(&self) -> u32
         ensures { result ≡ self.now.limit }
     {
         self.places
     }
 
-    /// How often a place may be claimed, 1 to 5. Takes no memory.
+    /// Returns the limit of claims of a place, 1 to 5.
     pub fn tries(&self) -> u32
         ensures { result ≡ self.now.tries }
     {

@@ -1,4 +1,4 @@
--- What is told of a folder, and of a text of settings.
+-- The report on a folder, and the report on a text of settings.
 use Rattle.std.proofs.Common.{◌≡◌, ◌≢◌, ℕ, List, [], Option, None, Some, Ok, Err}
 use Rattle.toml.specs.Parse.{parse_document}
 use Rattle.gopher_scope.specs.Settings.{SettingsData, settings_of}
@@ -18,15 +18,21 @@ tells_text path text words settings (Some (fault.Settings why)) is tells = absur
 tells_text path text words settings (Some (fault.Tree why how)) is tells = (settings, is, tells)
 tells_text path text words settings (Some (fault.SeedOutOfScope seed)) is tells = (settings, is, tells)
 tells_text path text words settings (Some fault.SettingsUnreadable) is tells = absurd tells
+tells_text path text words settings (Some fault.KeyTwice) is tells = absurd tells
 
--- what is told of a folder that makes no tree
+-- the report on a folder that doesn't make a tree
 pub tells_folder : (path : List ℕ) (settings : SettingsData) (words below : List ℕ) (why : TreeFault) (how : Obstacle)
     → LoadsTo below (Err why) → words ≡ fault_report (fault.Tree why how) (path_below settings.root below) (menu_line_of why) []
     → TellsSite path settings words (Some (fault.Tree why how))
 tells_folder path settings words below why how loads is = (below, loads, is)
 
--- what is told of settings that are refused
+-- the report on settings with a fault
 pub tells_refused : (path text words : List ℕ) (why : SettingsFault) (line : Option ℕ) (unknown : List ℕ)
     → (why ≢ settings_fault.NoMemory → settings_of (parse_document text) ≡ Err why) → words ≡ fault_report (fault.Settings why) path line unknown
     → TellsText path text words (Some (fault.Settings why))
 tells_refused path text words why line unknown refused is = (refused, (line, unknown, is))
+
+-- what is told of settings that give a key twice
+pub tells_twice : (path text words : List ℕ) (line : Option ℕ) (key : List ℕ) → settings_of (parse_document text) ≡ Err settings_fault.NotToml
+    → words ≡ fault_report fault.KeyTwice path line key → TellsText path text words (Some fault.KeyTwice)
+tells_twice path text words line key refused is = (refused, (line, key, is))

@@ -1,4 +1,4 @@
--- What is wrong with a site: the numbers of its faults, and the cause and the remedy of each, in words.
+-- The faults of a site: the number, the cause and the remedy of each.
 use Rattle.std.specs.Prelude.{ℕ, List, codes}
 use Rattle.gopher_scope.specs.Settings.{settings_fault_code}
 use Rattle.gopher_scope.specs.declared.fault.SettingsFault.{SettingsFault}
@@ -16,8 +16,9 @@ site_fault_code (fault.Settings why) = settings_fault_code why
 site_fault_code (fault.Tree why how) = tree_fault_code why
 site_fault_code (fault.SeedOutOfScope seed) = 50
 site_fault_code fault.SettingsUnreadable = 80
+site_fault_code fault.KeyTwice = settings_fault_code settings_fault.NotToml
 
--- why something can't be read
+-- the reason why a file or folder can't be read
 abbrev pub obstacle_cause : Obstacle → List ℕ
 obstacle_cause obstacle.NotUtf8 = codes "a name in this folder is not UTF-8"
 obstacle_cause obstacle.Denied = codes "the right to read this is missing"
@@ -70,16 +71,18 @@ settings_remedy (settings_fault.OutOfRange key) = codes "hole.toml(5) tells the 
 settings_remedy settings_fault.UnknownKey = codes "correct its spelling; the server's own keys stand before the first [["
 settings_remedy settings_fault.NoMemory = codes "give the program more memory"
 
--- what is wrong, in words
+-- the cause in words
 abbrev pub cause : SiteFault → List ℕ
 cause (fault.Settings why) = settings_cause why
 cause (fault.Tree why how) = tree_cause why how
 cause (fault.SeedOutOfScope seed) = codes "no rule of allow covers this seed, or a rule of deny does"
 cause fault.SettingsUnreadable = codes "the settings cannot be read, have over 1048576 bytes, or are not UTF-8"
+cause fault.KeyTwice = codes "the key on this line was given before"
 
--- what to do about it, in words
+-- the remedy in words
 abbrev pub remedy : SiteFault → List ℕ
 remedy (fault.Settings why) = settings_remedy why
 remedy (fault.Tree why how) = tree_remedy why how
 remedy (fault.SeedOutOfScope seed) = codes "add a rule with its host, its port and a beginning of its selector, or take the seed away"
 remedy fault.SettingsUnreadable = codes "correct the path, its rights or the text"
+remedy fault.KeyTwice = codes "take one of the two lines away"

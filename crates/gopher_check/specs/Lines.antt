@@ -1,10 +1,11 @@
--- The lines of a report: one thing a line, whatever bytes stand in names.
+-- The lines of a report: one value for each, whatever bytes names contain.
 use Rattle.std.specs.Prelude.{ℕ, ◌==◌, List, [], ◌∷◌, ◌++◌, if◌then◌else◌}
 use Rattle.std.specs.List.{flat_map}
 use Rattle.std.specs.Fmt.{decimal}
 use Rattle.gopher_item.specs.Bytes.{is_control}
 
--- a byte as it is shown: a TAB, an LF, a CR and a backslash as `\t`, `\n`, `\r` and `\\`, any other control byte as `\?`
+-- the shown form of a byte: a TAB, LF, CR and backslash as `\t`, `\n`, `\r` and `\\`, any other
+-- control byte as `\?`
 abbrev pub shown_byte : ℕ → List ℕ
 shown_byte byte =
     if byte == 9 then 92 ∷ 116 ∷ []
@@ -16,11 +17,11 @@ shown_byte byte =
 abbrev pub shown : List ℕ → List ℕ
 shown bytes = flat_map shown_byte bytes
 
--- a line of words behind what they are
+-- a line with the name and the text of a value
 abbrev pub words_line : List ℕ → List ℕ → List ℕ
 words_line front words = front ++ shown words ++ 10 ∷ []
 
--- a line of a number behind what it is
+-- a line with the name and the number of a value
 abbrev pub number_line : List ℕ → ℕ → List ℕ
 number_line front number = front ++ decimal number ++ 10 ∷ []
 
@@ -28,6 +29,6 @@ number_line front number = front ++ decimal number ++ 10 ∷ []
 abbrev pub server_words : List ℕ → ℕ → List ℕ
 server_words host port = shown host ++ 32 ∷ decimal port
 
--- the rest of a line: a host, a port, and a selector or the beginning of one
+-- the rest of a line: a host, a port, and a selector or a prefix of selectors
 abbrev pub address_rest : List ℕ → ℕ → List ℕ → List ℕ
 address_rest host port selector = server_words host port ++ 32 ∷ shown selector ++ 10 ∷ []

@@ -1,4 +1,4 @@
--- What a check tells: of a fault, and of a sound site.
+-- The reports of a check: of a fault, and of a site without one.
 use Rattle.std.specs.Prelude.{◌≡◌, ◌≢◌, ℕ, not, List, [], ◌∷◌, ◌++◌, codes, length, count_by, position, Option, None, Some, Ok, Err}
 use Rattle.std.specs.List.{flat_map}
 use Rattle.toml.specs.Parse.{parse_document}
@@ -20,7 +20,7 @@ use Rattle.gopher_check.specs.Lines.{words_line, number_line, server_words, addr
 use Rattle.gopher_check.specs.declared.fault.SiteFault.{SiteFault}
 use Rattle.gopher_check.specs.declared.fault.SiteFault.TheVariants as fault
 
--- the line of a key that isn't known, where its name isn't empty
+-- the line of an unknown key, unless its name is empty
 abbrev pub unknown_detail : List ℕ → List ℕ
 unknown_detail [] = []
 unknown_detail (byte ∷ key) = words_line (codes "key: ") (byte ∷ key)
@@ -32,17 +32,20 @@ settings_detail (settings_fault.OutOfRange key) unknown = words_line (codes "key
 settings_detail settings_fault.UnknownKey unknown = unknown_detail unknown
 settings_detail why unknown = []
 
--- the key, or the number of the seed; `unknown` is a key that isn't known
+-- the line of the key or the seed that a fault names; `unknown` is a key that isn't known, or is
+-- given twice
 abbrev pub detail : SiteFault → List ℕ → List ℕ
 detail (fault.Settings why) unknown = settings_detail why unknown
 detail (fault.SeedOutOfScope seed) unknown = number_line (codes "seed: ") seed
+detail fault.KeyTwice unknown = unknown_detail unknown
 detail why unknown = []
 
 abbrev pub line_detail : Option ℕ → List ℕ
 line_detail None = []
 line_detail (Some line) = number_line (codes "line: ") line
 
--- what is told of a fault of what lies at a path, or of a line in it; `unknown` is a key that isn't known
+-- the report of a fault of the file or folder at a path, or of a line in it; `unknown` is a key that
+-- isn't known, or is given twice
 abbrev pub fault_report : SiteFault → List ℕ → Option ℕ → List ℕ → List ℕ
 fault_report why path line unknown =
     number_line (codes "fault: ") (site_fault_code why) ++ words_line (codes "path: ") path ++ line_detail line ++ detail why unknown
@@ -53,14 +56,14 @@ abbrev pub menu_line_of : TreeFault → Option ℕ
 menu_line_of (tree_fault.BadMenuLine file line) = Some line
 menu_line_of why = None
 
--- a path from the root, behind the root's own
+-- the path of a file or folder of the tree, after the root's own path
 abbrev pub path_below : List ℕ → List ℕ → List ℕ
 path_below root path = root ++ 47 ∷ path
 
 abbrev pub address_lines : HomeData → List ℕ → List ℕ
 address_lines home root = codes "address: " ++ server_words home.host home.port ++ 10 ∷ words_line (codes "root: ") root
 
--- how many files, menu files and bytes there are
+-- the numbers of files, menu files and bytes
 abbrev pub size_lines : List File → List ℕ
 size_lines files =
     number_line (codes "files: ") (length files) ++ number_line (codes "menu files: ") (count_by (λ file. is_menu_path file.0) files)
@@ -72,18 +75,19 @@ seed_line seed = codes "seed: " ++ seed.kind ∷ 32 ∷ address_rest seed.host s
 abbrev pub rule_line : List ℕ → RuleData → List ℕ
 rule_line front rule = front ++ address_rest rule.host rule.port rule.prefix
 
--- what is told of a sound site: the file of its settings, where it is served, its sizes, and what its crawl begins with and may visit
+-- the report of a site without a fault: the settings file, its address, its sizes, and the seeds
+-- and rules of its crawl
 abbrev pub site_report : List ℕ → SettingsData → List File → List ℕ
 site_report path settings files =
     words_line (codes "settings: ") path ++ address_lines settings.home settings.root ++ size_lines files
     ++ flat_map seed_line settings.seeds ++ flat_map (rule_line (codes "may visit: ")) settings.scope.allow
     ++ flat_map (rule_line (codes "may not visit: ")) settings.scope.deny ++ codes "sound\n"
 
--- the first seed that the scope doesn't allow
+-- the index of the first seed that the scope doesn't allow
 abbrev pub seed_outside : ScopeData → List PlaceData → Option ℕ
 seed_outside scope seeds = position (λ seed. not (allows scope seed)) seeds
 
--- settings that were read, and a folder: what is told of them
+-- the report on settings and a folder
 abbrev pub TellsSite : List ℕ → SettingsData → List ℕ → Option SiteFault → Type 0
 TellsSite path settings words None =
     (files : List File) × (files_fault files ≡ None) × (seed_outside settings.scope settings.seeds ≡ None) × (words ≡ site_report path settings files)
@@ -93,9 +97,12 @@ TellsSite path settings words (Some (fault.SeedOutOfScope seed)) =
     (seed_outside settings.scope settings.seeds ≡ Some seed) × (words ≡ fault_report (fault.SeedOutOfScope seed) path None [])
 TellsSite path settings words (Some other) = ⊥
 
--- what is told of a text of settings: that they are refused, or what is told of the site that they state
+-- the report on a text of settings: their fault, or the report on the site that they describe
 abbrev pub TellsText : List ℕ → List ℕ → List ℕ → Option SiteFault → Type 0
 TellsText path text words (Some (fault.Settings why)) =
     (why ≢ settings_fault.NoMemory → settings_of (parse_document text) ≡ Err why)
     × ((line : Option ℕ) × (unknown : List ℕ) × (words ≡ fault_report (fault.Settings why) path line unknown))
+TellsText path text words (Some fault.KeyTwice) =
+    (settings_of (parse_document text) ≡ Err settings_fault.NotToml)
+    × ((line : Option ℕ) × (key : List ℕ) × (words ≡ fault_report fault.KeyTwice path line key))
 TellsText path text words found = (settings : SettingsData) × (settings_of (parse_document text) ≡ Ok settings) × TellsSite path settings words found

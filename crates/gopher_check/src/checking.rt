@@ -1,9 +1,11 @@
-//! A site that is checked: its settings, its folder, and the seeds of its crawl.
+//! Checking a site: its settings, its folder, and the seeds of its crawl.
 
-ghost use Rattle.std.specs.Prelude.{◌≡◌, [], None, Some, IfOk};
-ghost use Rattle.gopher_scope.specs.Settings.{settings_data};
+ghost use Rattle.std.specs.Prelude.{◌≡◌, ◌≢◌, ℕ, List, [], Option, None, Some, Err, IfOk, IfSome};
+ghost use Rattle.toml.specs.Parse.{parse_document};
+ghost use Rattle.gopher_scope.specs.Settings.{settings_data, settings_of};
+ghost use Rattle.gopher_scope.specs.declared.fault.SettingsFault.TheVariants as settings_fault;
 ghost use Rattle.gopher_tree.specs.Fault.{files_fault};
-ghost use Rattle.gopher_check.specs.declared.fault.SiteFault.TheVariants.{SettingsUnreadable};
+ghost use Rattle.gopher_check.specs.declared.fault.SiteFault.TheVariants.{SettingsUnreadable, KeyTwice};
 ghost use Rattle.gopher_check.specs.Report.{fault_report, menu_line_of, path_below, seed_outside, TellsSite, TellsText};
 
 use crate::fault::SiteFault;
@@ -11,24 +13,25 @@ use crate::fault_words::fault_report;
 use crate::obstacle::obstacle_at;
 use crate::site_words::site_report;
 use crate::unknown::unknown_key;
-use gopher_item::{NoMemory, Place};
+use gopher_item::{NoMemory, Place, split_once, trim_spaces};
 use gopher_scope::{Scope, Settings, SettingsFault};
 use gopher_tree::{Tree, TreeFault};
 use std::alloc::Global;
 use std::fs::Files;
 
-/// What a check tells.
+// What the parser of TOML says of a key that is given twice.
+const DUPLICATE: &str = "duplicate key";
+
+/// The report of a check.
 #[derive(Debug, Drop)]
 pub struct Report {
-    /// Its words, in lines.
+    /// The lines of the report.
     pub words: Vec<u8>,
-    /// The first fault; none of a sound site.
+    /// The first fault of the site; `None` if it has none.
     pub fault: Option<SiteFault>,
 }
 
-/// The report of settings whose file can't be read. `path` is where it should be.
-///
-/// Refused only where memory is (90).
+/// Reports that the settings file at `path` can't be read.
 pub fn unreadable(alloc: Global, path: &str) -> Result<Report, NoMemory>
     ensures fault { IfOk result (λ report. report.fault ≡ Some SettingsUnreadable) }
     ensures words { IfOk result (λ report. report.words.items
@@ -42,7 +45,7 @@ pub fn unreadable(alloc: Global, path: &str) -> Result<Report, NoMemory>
     })
 }
 
-// The first seed that the scope doesn't allow.
+// The index of the first seed that the scope doesn't allow.
 fn seed_outside(scope: &Scope, seeds: &[Place]) -> Option<usize>
     ensures { result ≡ seed_outside scope.now seeds.now }
 {
@@ -59,7 +62,7 @@ fn menu_line_of(fault: TreeFault) -> Option<usize>
     }
 }
 
-// A path from the root, behind the root's own.
+// The path of a file or folder of the tree, after the root's own path.
 fn path_below(alloc: Global, root: &str, path: &[u8]) -> Result<Vec<u8>, NoMemory>
     ensures { IfOk result (λ below. below.items ≡ path_below root.now path.now) }
 {
@@ -69,7 +72,7 @@ fn path_below(alloc: Global, root: &str, path: &[u8]) -> Result<Vec<u8>, NoMemor
     Ok(below)
 }
 
-// The number of the line, from 1, at which a text is no TOML, where it is none.
+// The line, from 1, at which a text isn't TOML, if it isn't.
 fn broken_line(alloc: Global, text: &str) -> Option<usize> {
     let Err(fault) = toml::table_from_str(alloc, text) else {
         return None;
@@ -80,7 +83,7 @@ fn broken_line(alloc: Global, text: &str) -> Option<usize> {
     Some(feeds.saturating_add(1))
 }
 
-// The report of settings with the tree of their folder.
+// The report on settings and the tree of their folder.
 fn tree_report(
     alloc: Global,
     path: &str,
@@ -103,7 +106,7 @@ fn tree_report(
     Ok(Report { words, fault: None })
 }
 
-// The report of settings.
+// The report on settings and their folder.
 #[tactic(auto, using(crate::proofs::Tells::tells_folder))]
 fn settings_report<R: Files>(
     rt: &R,
@@ -128,7 +131,7 @@ fn settings_report<R: Files>(
     }
 }
 
-// The number of the line at which settings are no TOML, where that is their fault.
+// The line at which the settings aren't TOML, if that is the fault.
 fn settings_line(alloc: Global, text: &str, fault: SettingsFault) -> Option<usize> {
     match fault {
         SettingsFault::NotToml => broken_line(alloc, text),
@@ -136,7 +139,48 @@ fn settings_line(alloc: Global, text: &str, fault: SettingsFault) -> Option<usiz
     }
 }
 
-// The key of settings that isn't known, where that is their fault.
+// The key of a piece of TOML, which may be a key with its value, or the line that begins a table.
+fn key_of(piece: &[u8]) -> &[u8] {
+    match split_once(b'=', piece) {
+        Some((key, _value)) => trim_spaces(key),
+        None => trim_spaces(piece),
+    }
+}
+
+// The key that a text gives twice, if that is why it isn't TOML.
+fn key_twice(alloc: Global, text: &str) -> Result<Option<Vec<u8>>, NoMemory> {
+    let Err(fault) = toml::table_from_str(alloc, text) else {
+        return Ok(None);
+    };
+    if fault.message() != DUPLICATE {
+        return Ok(None);
+    }
+    let Some(span) = fault.span() else {
+        return Ok(None);
+    };
+    let piece = text.as_bytes().get(span).unwrap_or(b"");
+    Ok(Some(Vec::from_slice(alloc, key_of(piece))?))
+}
+
+// The report of settings that aren't TOML, if that is because they give a key twice.
+fn twice_report(alloc: Global, path: &str, text: &str) -> Result<Option<Report>, NoMemory>
+    ensures { IfOk result (λ found. IfSome found (λ report.
+        (report.fault ≡ Some KeyTwice) × ((line : Option ℕ) × (key : List ℕ)
+        × (report.words.items ≡ fault_report KeyTwice path.now line key)))) }
+{
+    let Some(key) = key_twice(alloc, text)? else {
+        return Ok(None);
+    };
+    let fault = SiteFault::KeyTwice;
+    let line = broken_line(alloc, text);
+    let words = fault_report(alloc, fault, path.as_bytes(), line, &key)?;
+    Ok(Some(Report {
+        words,
+        fault: Some(fault),
+    }))
+}
+
+// The unknown key of the settings, if that is the fault.
 fn settings_key(alloc: Global, text: &str, fault: SettingsFault) -> Result<Vec<u8>, NoMemory> {
     match fault {
         SettingsFault::UnknownKey => unknown_key(alloc, text),
@@ -144,15 +188,49 @@ fn settings_key(alloc: Global, text: &str, fault: SettingsFault) -> Result<Vec<u
     }
 }
 
-/// The report of the settings that a text states, of the folder that they name, and of their seeds. `path`
-/// is where the text was found.
+// The report of settings that are refused.
+#[tactic(auto, using(crate::proofs::Tells::tells_refused))]
+fn refused_report(
+    alloc: Global,
+    path: &str,
+    text: &str,
+    refused: SettingsFault,
+) -> Result<Report, NoMemory>
+    requires { refused ≢ settings_fault.NoMemory
+        → settings_of (parse_document text.now) ≡ Err refused }
+    ensures { IfOk result (λ report. TellsText path.now text.now
+        report.words.items report.fault) }
+{
+    let fault = SiteFault::Settings(refused);
+    let line = settings_line(alloc, text, refused);
+    let key = settings_key(alloc, text, refused)?;
+    let words = fault_report(alloc, fault, path.as_bytes(), line, &key)?;
+    Ok(Report {
+        words,
+        fault: Some(fault),
+    })
+}
+
+// The report of settings that aren't TOML.
+#[tactic(auto, using(crate::proofs::Tells::tells_twice))]
+fn not_toml_report(alloc: Global, path: &str, text: &str) -> Result<Report, NoMemory>
+    requires { settings_of (parse_document text.now) ≡ Err settings_fault.NotToml }
+    ensures { IfOk result (λ report. TellsText path.now text.now
+        report.words.items report.fault) }
+{
+    match twice_report(alloc, path, text)? {
+        Some(report) => Ok(report),
+        None => refused_report(alloc, path, text, SettingsFault::NotToml),
+    }
+}
+
+/// Checks the settings in `text`, the folder that they name, and their seeds. `path` is the path of
+/// the settings file, for the report.
 ///
-/// The first fault is told, in this order: of the settings (30 to 34), of the folder (20 to 26), of the
-/// seeds (50). For 30 the line is told, too, for 34 the key; for 26 what the system says when what can't be read is tried
-/// once more.
-///
-/// Refused only where memory is (90).
-#[tactic(auto, using(crate::proofs::Tells::tells_text, crate::proofs::Tells::tells_refused))]
+/// The report names the first fault in this order: of the settings (30 to 34), of the folder (20 to
+/// 26), of the seeds (50). For 30 it also names the line, and the key if it is given twice, for 34
+/// the key. For 26 it reads the file or folder once more and names the system's reason.
+#[tactic(auto, using(crate::proofs::Tells::tells_text))]
 pub fn check<R: Files>(rt: &R, alloc: Global, path: &str, text: &str) -> Result<Report, NoMemory>
     ensures { IfOk result (λ report. TellsText path.now text.now
         report.words.items report.fault) }
@@ -162,15 +240,7 @@ pub fn check<R: Files>(rt: &R, alloc: Global, path: &str, text: &str) -> Result<
             let report = settings_report(rt, alloc, path, settings)?;
             Ok(report)
         }
-        Err(refused) => {
-            let fault = SiteFault::Settings(refused);
-            let line = settings_line(alloc, text, refused);
-            let key = settings_key(alloc, text, refused)?;
-            let words = fault_report(alloc, fault, path.as_bytes(), line, &key)?;
-            Ok(Report {
-                words,
-                fault: Some(fault),
-            })
-        }
+        Err(SettingsFault::NotToml) => not_toml_report(alloc, path, text),
+        Err(refused) => refused_report(alloc, path, text, refused),
     }
 }

@@ -1,4 +1,4 @@
-//! What is wrong with a site: the numbers of its faults, and the cause and the remedy of each.
+//! The faults of a site: the number, the cause and the remedy of each.
 
 ghost use Rattle.std.specs.Prelude.{◌≡◌};
 ghost use Rattle.gopher_check.specs.Fault.{site_fault_code, cause, remedy};
@@ -8,17 +8,19 @@ use crate::obstacle::Obstacle;
 use gopher_scope::SettingsFault;
 use gopher_tree::TreeFault;
 
-/// What is wrong with a site.
+/// A fault of a site.
 #[derive(Clone, Copy, Debug, PartialEq, Eq)]
 pub enum SiteFault {
-    /// 30 to 34, or 90: the settings are refused.
+    /// 30 to 34, or 90: the settings are invalid.
     Settings(SettingsFault),
-    /// 20 to 26, or 90: the folder makes no tree. For 26, why something can't be read.
+    /// 20 to 26, or 90: the folder doesn't make a tree. For 26 it contains the reason.
     Tree(TreeFault, Obstacle),
-    /// 50: the seed with this index isn't one of the places that the crawl may visit.
+    /// 50: the scope doesn't allow the seed at this index.
     SeedOutOfScope(usize),
-    /// 80: the file of the settings can't be read, has over 1,048,576 bytes, or isn't UTF-8.
+    /// 80: the settings file can't be read, has over 1,048,576 bytes, or isn't UTF-8.
     SettingsUnreadable,
+    /// 30: a line of the settings gives a key, or begins a table, that was given before.
+    KeyTwice,
 }
 
 fn tree_cause(fault: TreeFault, obstacle: Obstacle) -> &'static str
@@ -90,7 +92,7 @@ fn settings_remedy(fault: SettingsFault) -> &'static str
 }
 
 impl SiteFault {
-    /// The number of the fault, which is the one that the server ends with.
+    /// Returns the number of the fault, with which the server also fails.
     pub fn code(self) -> u8
         ensures { result ≡ site_fault_code self }
     {
@@ -99,10 +101,11 @@ impl SiteFault {
             SiteFault::Tree(fault, _) => fault.code(),
             SiteFault::SeedOutOfScope(_) => 50,
             SiteFault::SettingsUnreadable => 80,
+            SiteFault::KeyTwice => SettingsFault::NotToml.code(),
         }
     }
 
-    /// What is wrong, in words: one line, without its end.
+    /// Returns the cause of the fault: one line, without its LF.
     pub fn cause(self) -> &'static str
         ensures { result.now ≡ cause self }
     {
@@ -115,10 +118,11 @@ impl SiteFault {
             SiteFault::SettingsUnreadable => {
                 "the settings cannot be read, have over 1048576 bytes, or are not UTF-8"
             }
+            SiteFault::KeyTwice => "the key on this line was given before",
         }
     }
 
-    /// What to do about it, in words: one line, without its end.
+    /// Returns the remedy for the fault: one line, without its LF.
     pub fn remedy(self) -> &'static str
         ensures { result.now ≡ remedy self }
     {
@@ -129,6 +133,7 @@ impl SiteFault {
                 "add a rule with its host, its port and a beginning of its selector, or take the seed away"
             }
             SiteFault::SettingsUnreadable => "correct the path, its rights or the text",
+            SiteFault::KeyTwice => "take one of the two lines away",
         }
     }
 }

@@ -1,4 +1,4 @@
-//! What is told of a fault.
+//! The report of a fault.
 
 ghost use Rattle.std.specs.Prelude.{◌≡◌, ◌++◌, IfOk, OnOk};
 ghost use Rattle.gopher_check.specs.Report.{unknown_detail, settings_detail, detail, line_detail, fault_report};
@@ -9,7 +9,7 @@ use gopher_item::NoMemory;
 use gopher_scope::SettingsFault;
 use std::alloc::{AllocError, Global};
 
-// Appends the key that isn't known, where its name isn't empty.
+// Appends the unknown key, unless its name is empty.
 fn push_unknown(key: &[u8], out: &mut Vec<u8>) -> Result<(), AllocError>
     ensures { OnOk result (out.new.items ≡ out.old.items ++ unknown_detail key.now) }
 {
@@ -19,7 +19,7 @@ fn push_unknown(key: &[u8], out: &mut Vec<u8>) -> Result<(), AllocError>
     }
 }
 
-// Appends the key that a fault of settings names, or the one that isn't known.
+// Appends the key that a fault of the settings names, or the unknown key.
 fn push_settings_detail(
     fault: SettingsFault,
     unknown: &[u8],
@@ -36,18 +36,19 @@ fn push_settings_detail(
     }
 }
 
-// Appends the key or the number of the seed that a fault names.
+// Appends the key or the seed that a fault names.
 fn push_detail(fault: SiteFault, unknown: &[u8], out: &mut Vec<u8>) -> Result<(), AllocError>
     ensures { OnOk result (out.new.items ≡ out.old.items ++ detail fault unknown.now) }
 {
     match fault {
         SiteFault::Settings(fault) => push_settings_detail(fault, unknown, out),
         SiteFault::SeedOutOfScope(seed) => push_number(b"seed: ", seed, out),
+        SiteFault::KeyTwice => push_unknown(unknown, out),
         SiteFault::Tree(..) | SiteFault::SettingsUnreadable => Ok(()),
     }
 }
 
-// Appends the number of a line, where there is one.
+// Appends the number of a line, if there is one.
 fn push_line(line: Option<usize>, out: &mut Vec<u8>) -> Result<(), AllocError>
     ensures { OnOk result (out.new.items ≡ out.old.items ++ line_detail line) }
 {
@@ -57,11 +58,9 @@ fn push_line(line: Option<usize>, out: &mut Vec<u8>) -> Result<(), AllocError>
     }
 }
 
-/// What is told of a fault of what lies at a path, or of a line in it: its number, the path, the line,
-/// the key or the seed, the cause and the remedy, each in a line of its own. `unknown` is a key that isn't
-/// known, or empty.
-///
-/// Refused only where memory is (90).
+/// Makes the report of a fault of the file or folder at `path`, or of a line in it. It names the
+/// fault's number, the path, the line, the key or seed, the cause and the remedy, each on its own
+/// line. `unknown` is a key that isn't known, or is given twice, or empty.
 pub(crate) fn fault_report(
     alloc: Global,
     fault: SiteFault,

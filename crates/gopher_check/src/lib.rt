@@ -1,7 +1,10 @@
-//! What is wrong with a site, in words: its settings, and the folder that it serves.
+//! The check of a site, its settings and the folder that it serves, and its report.
 //!
-//! The crate above rests on one promise: what `check` tells is the report of the fault that the
-//! settings or the folder have, or that of a sound site.
+//! The crate above uses one contract: `check` reports the first fault of the settings, the folder
+//! or the seeds, or a site without a fault, as `TellsText` defines (`specs/Report.antt`).
+//!
+//! Error 90 (`NoMemory`) means out of memory; no argument has changed. RFC 1436 doesn't define
+//! settings or reports: this profile defines both.
 #![tactic(auto)]
 
 mod checking;

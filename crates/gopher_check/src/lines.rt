@@ -7,7 +7,7 @@ use gopher_item::is_control;
 use itoa::Buffer;
 use std::alloc::AllocError;
 
-// Appends a byte as it is shown.
+// Appends one byte in its shown form.
 fn push_byte(byte: u8, out: &mut Vec<u8>) -> Result<(), AllocError>
     ensures { OnOk result (out.new.items ≡ out.old.items ++ shown_byte byte) }
 {
@@ -27,7 +27,7 @@ fn push_byte(byte: u8, out: &mut Vec<u8>) -> Result<(), AllocError>
     }
 }
 
-/// Appends bytes as they are shown: a TAB, an LF, a CR and a backslash as `\t`, `\n`, `\r` and `\\`, any
+/// Appends bytes in their shown form: a TAB, LF, CR and backslash as `\t`, `\n`, `\r` and `\\`, any
 /// other control byte as `\?`.
 pub(crate) fn push_shown(bytes: &[u8], out: &mut Vec<u8>) -> Result<(), AllocError>
     ensures { OnOk result (out.new.items ≡ out.old.items ++ shown bytes.now) }
@@ -38,7 +38,7 @@ pub(crate) fn push_shown(bytes: &[u8], out: &mut Vec<u8>) -> Result<(), AllocErr
     Ok(())
 }
 
-/// Appends a line: what the words are, and the words.
+/// Appends a line: the name of a value, and its text.
 pub(crate) fn push_words(front: &[u8], words: &[u8], out: &mut Vec<u8>) -> Result<(), AllocError>
     ensures { OnOk result (out.new.items ≡ out.old.items ++ words_line front.now words.now) }
 {
@@ -47,7 +47,7 @@ pub(crate) fn push_words(front: &[u8], words: &[u8], out: &mut Vec<u8>) -> Resul
     out.extend_from_slice(b"\n")
 }
 
-/// Appends a line: what the number is, and the number.
+/// Appends a line: the name of a value, and its number.
 pub(crate) fn push_number(front: &[u8], number: usize, out: &mut Vec<u8>) -> Result<(), AllocError>
     ensures { OnOk result (out.new.items ≡ out.old.items ++ number_line front.now number) }
 {
@@ -67,7 +67,7 @@ pub(crate) fn push_server(host: &[u8], port: u16, out: &mut Vec<u8>) -> Result<(
     out.extend_from_slice(digits.format(port).as_bytes())
 }
 
-/// Appends the rest of a line: a host, a port, and a selector or the beginning of one.
+/// Appends the rest of a line: a host, a port, and a selector or a prefix of selectors.
 pub(crate) fn push_address(
     host: &[u8],
     port: u16,

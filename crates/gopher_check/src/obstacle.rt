@@ -1,4 +1,4 @@
-//! Why something can't be read.
+//! Why a file or folder can't be read.
 
 ghost use Rattle.std.specs.Prelude.{◌≡◌};
 ghost use Rattle.gopher_check.specs.Fault.{obstacle_cause, obstacle_remedy};
@@ -9,25 +9,25 @@ use std::io::{self, ErrorKind};
 use std::path::Path;
 use std::str;
 
-/// Why something can't be read.
+/// Why a file or folder can't be read.
 #[derive(Clone, Copy, Debug, PartialEq, Eq)]
 pub enum Obstacle {
-    /// A name in the folder is not UTF-8.
+    /// A name in the folder isn't UTF-8.
     NotUtf8,
-    /// The right to read it is missing.
+    /// The permission to read it is missing.
     Denied,
-    /// Nothing is there.
+    /// Nothing exists at the path.
     Missing,
-    /// It is no folder, and one is wanted.
+    /// It has to be a folder and isn't one.
     NotFolder,
-    /// Links lead to one another without an end.
+    /// Symbolic links form a loop.
     Loop,
-    /// The system says otherwise, or it can be read now.
+    /// The system gives another reason, or reading succeeds now.
     Other,
 }
 
 impl Obstacle {
-    /// What is wrong, in words.
+    /// Returns the cause in words.
     pub fn cause(self) -> &'static str
         ensures { result.now ≡ obstacle_cause self }
     {
@@ -41,7 +41,7 @@ impl Obstacle {
         }
     }
 
-    /// What to do about it, in words.
+    /// Returns the remedy in words.
     pub fn remedy(self) -> &'static str
         ensures { result.now ≡ obstacle_remedy self }
     {
@@ -56,7 +56,7 @@ impl Obstacle {
     }
 }
 
-// What an error of the system says.
+// The obstacle of an error of the system.
 fn obstacle_of(kind: ErrorKind) -> Obstacle {
     match kind {
         ErrorKind::InvalidFilename => Obstacle::NotUtf8,
@@ -81,7 +81,7 @@ fn read_at<R: Files>(rt: &R, alloc: Global, path: Path<'_>) -> io::Result<()> {
     Ok(())
 }
 
-/// Why what lies at a path can't be read, as the system says when it is tried once more.
+/// Reads the file or folder at `path` once more. Returns the system's reason why that fails.
 pub(crate) fn obstacle_at<R: Files>(rt: &R, alloc: Global, path: &[u8]) -> Obstacle {
     let Ok(path) = str::from_utf8(path) else {
         return Obstacle::Other;

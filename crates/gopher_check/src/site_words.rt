@@ -1,4 +1,4 @@
-//! What is told of a sound site.
+//! The report of a site without a fault.
 
 ghost use Rattle.std.specs.Prelude.{◌≡◌, ◌++◌, IfOk, OnOk};
 ghost use Rattle.std.specs.List.{flat_map};
@@ -11,7 +11,7 @@ use gopher_scope::{Rule, Settings};
 use gopher_tree::Tree;
 use std::alloc::{AllocError, Global};
 
-// Appends where the site is served, and the folder.
+// Appends the server's address and the folder.
 fn push_home(home: &Home, root: &str, out: &mut Vec<u8>) -> Result<(), AllocError>
     ensures { OnOk result (out.new.items ≡ out.old.items ++ address_lines home.now root.now) }
 {
@@ -21,7 +21,7 @@ fn push_home(home: &Home, root: &str, out: &mut Vec<u8>) -> Result<(), AllocErro
     push_words(b"root: ", root.as_bytes(), out)
 }
 
-// Appends how many files, menu files and bytes there are.
+// Appends the numbers of files, menu files and bytes.
 fn push_sizes(tree: &Tree, out: &mut Vec<u8>) -> Result<(), AllocError>
     ensures { OnOk result (out.new.items ≡ out.old.items ++ size_lines tree.now) }
 {
@@ -30,7 +30,6 @@ fn push_sizes(tree: &Tree, out: &mut Vec<u8>) -> Result<(), AllocError>
     push_number(b"bytes: ", tree.number_of_bytes(), out)
 }
 
-// Appends the line of a seed.
 fn push_seed(seed: &Place, out: &mut Vec<u8>) -> Result<(), AllocError>
     ensures { OnOk result (out.new.items ≡ out.old.items ++ seed_line seed.now) }
 {
@@ -40,7 +39,6 @@ fn push_seed(seed: &Place, out: &mut Vec<u8>) -> Result<(), AllocError>
     push_address(seed.host(), seed.port(), seed.selector(), out)
 }
 
-// Appends the lines of the seeds.
 fn push_seeds(seeds: &[Place], out: &mut Vec<u8>) -> Result<(), AllocError>
     ensures { OnOk result (out.new.items ≡ out.old.items ++ flat_map seed_line seeds.now) }
 {
@@ -50,7 +48,6 @@ fn push_seeds(seeds: &[Place], out: &mut Vec<u8>) -> Result<(), AllocError>
     Ok(())
 }
 
-// Appends the line of a rule.
 fn push_rule(front: &[u8], rule: &Rule, out: &mut Vec<u8>) -> Result<(), AllocError>
     ensures { OnOk result (out.new.items ≡ out.old.items ++ rule_line front.now rule.now) }
 {
@@ -58,7 +55,6 @@ fn push_rule(front: &[u8], rule: &Rule, out: &mut Vec<u8>) -> Result<(), AllocEr
     push_address(rule.host(), rule.port(), rule.prefix(), out)
 }
 
-// Appends the lines of rules.
 fn push_rules(front: &[u8], rules: &[Rule], out: &mut Vec<u8>) -> Result<(), AllocError>
     ensures { OnOk result (out.new.items ≡ out.old.items
         ++ flat_map (rule_line front.now) rules.now) }
@@ -69,11 +65,9 @@ fn push_rules(front: &[u8], rules: &[Rule], out: &mut Vec<u8>) -> Result<(), All
     Ok(())
 }
 
-/// What is told of a sound site: the file of its settings, the address, the root, how many files, menu
-/// files and bytes there are, the seeds and the rules of its crawl, each in a line of its own, and that it
-/// is sound.
-///
-/// Refused only where memory is (90).
+/// Makes the report of a site without a fault. It names the settings file, the address, the root,
+/// the numbers of files, menu files and bytes, the seeds and the rules of its crawl, each on its
+/// own line.
 pub(crate) fn site_report(
     alloc: Global,
     path: &[u8],

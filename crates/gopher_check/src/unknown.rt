@@ -1,4 +1,4 @@
-//! The key of settings that isn't known.
+//! Finding the unknown key of settings.
 
 ghost use Rattle.std.specs.Prelude.{◌≡◌, true, false, IfSome};
 ghost use Rattle.toml.specs.View.{table_view};
@@ -9,10 +9,10 @@ use gopher_scope::{Key, is_key_name, key_has_unknown};
 use std::alloc::Global;
 use toml::Table;
 
-// The keys at which arrays of tables stand.
+// The keys whose values are arrays of tables.
 const ARRAYS: [Key; 3] = [Key::Seeds, Key::Allow, Key::Deny];
 
-// The first key of the table that isn't one of the settings.
+// The first key of the table that isn't a key of the settings.
 fn own_key(table: &Table) -> Option<&str>
     ensures { IfSome result (λ name. is_key_name name.now ≡ false) }
 {
@@ -24,7 +24,7 @@ fn own_key(table: &Table) -> Option<&str>
     None
 }
 
-// The first of these keys whose array has a table with a key that isn't known.
+// The first of these keys whose array has a table with an unknown key.
 fn array_key(table: &Table, keys: &[Key]) -> Option<Key>
     ensures { IfSome result (λ key. key_has_unknown (table_view table.now) key ≡ true) }
 {
@@ -36,10 +36,8 @@ fn array_key(table: &Table, keys: &[Key]) -> Option<Key>
     None
 }
 
-/// The first key of a text of settings that isn't known, by the keys' bytes; where its own table has none,
-/// the key of the first array that has a table with one. Empty where there is none either.
-///
-/// Refused only where memory is (90).
+/// Returns the first unknown key of the settings in byte order. If only tables in arrays have one,
+/// it returns the key of the first such array. It returns an empty key if there is none.
 pub(crate) fn unknown_key(alloc: Global, text: &str) -> Result<Vec<u8>, NoMemory> {
     let Ok(table) = toml::table_from_str(alloc, text) else {
         return Ok(Vec::new(alloc));

@@ -8,7 +8,8 @@ use Rattle.gopher_page.specs.Query.{TermData}
 use Rattle.gopher_index.specs.Answer.{answer_of}
 use Rattle.gopher_index.specs.declared.hit.Hit.{Hit}
 
--- what a pass has seen, and the longest record that it has seen or was told of
+-- what a pass has seen, and what it was told of: the longest of the records that it answered and of the notes that it
+-- heard, which is shorter than what it has seen after a search that was refused
 pub record PassData : Type 0 where
   pub seen : List EventData
   pub told : List EventData

@@ -1,5 +1,5 @@
 -- What the calls of a desk answer, and what their notes say.
-use Rattle.std.specs.Prelude.{ℕ, ◌≡◌, ◌≢◌, ◌+◌, List, [], ◌∷◌, ◌++◌, Option, None, Some, slice_get}
+use Rattle.std.specs.Prelude.{ℕ, ◌≡◌, ◌≢◌, ◌+◌, Bool, List, [], ◌∷◌, ◌++◌, Option, None, Some, slice_get}
 use Rattle.gopher_page.specs.Page.{PageData}
 use Rattle.gopher_catalogue.specs.declared.event.EventData.{EventData}
 use Rattle.gopher_catalogue.specs.declared.event.EventData.TheVariants.{Opened, Found, Failed}
@@ -8,7 +8,8 @@ use Rattle.gopher_catalogue.specs.declared.fault.FoundFault.{FoundFault}
 use Rattle.gopher_catalogue.specs.Opening.{OpeningData}
 use Rattle.gopher_catalogue.specs.Fault.{IsFoundFault}
 use Rattle.gopher_catalogue.specs.Legal.{IsLegal}
-use Rattle.gopher_catalogue.specs.Step.{Added, Status, TurnData, Take, turn_of, after_turn, added_by, found_fault, status_of}
+use Rattle.gopher_catalogue.specs.Step.{Added, Status, TurnData, Take, Idle, turn_of, after_turn, added_by, found_fault, is_out_in, status_of}
+use Rattle.gopher_catalogue.specs.Turn.{IsTake}
 use Rattle.gopher_crew.specs.Crew.{KeptData, ShareData}
 
 -- the note is there exactly where the published record is the whole record, and it is of that record
@@ -59,6 +60,48 @@ pub record NotesFailure (number : ℕ) (why : Why) (note : List EventData) : Typ
   pub before : List EventData
   pub is_after : note ≡ before ++ Failed number why ∷ []
   pub is_legal : IsLegal note
+
+-- on a legal record a claim answers this turn
+pub record AnswersTurn (turn : TurnData) : Type 0 where
+  pub before : List EventData
+  pub is_turn : turn_of before ≡ turn
+  pub is_legal : IsLegal before
+
+-- a turn other than waiting for the outcomes of others
+abbrev pub IsNotIdle : TurnData → Type 0
+IsNotIdle Idle = ⊥
+IsNotIdle turn = Unit {0}
+
+-- on a legal record a place waits
+pub record LetsClaim : Type 0 where
+  pub before : List EventData
+  pub is_take : IsTake (turn_of before)
+  pub is_legal : IsLegal before
+
+-- on a legal record the page is taken in, and adds so much
+pub record AnswersFind (number : ℕ) (page : PageData) (added : Added) : Type 0 where
+  pub before : List EventData
+  pub is_right : found_fault before number page.place ≡ None
+  pub is_added : added_by before number page ≡ added
+  pub is_legal : IsLegal before
+
+-- on a legal record the page is refused for this fault
+pub record RefusesFind (number : ℕ) (page : PageData) (fault : FoundFault) : Type 0 where
+  pub before : List EventData
+  pub is_fault : IsFoundFault (found_fault before number page.place) fault
+  pub is_legal : IsLegal before
+
+-- on a legal record the number is out, or isn't
+pub record IsOutOn (number : ℕ) (answer : Bool) : Type 0 where
+  pub before : List EventData
+  pub is_answer : is_out_in before number ≡ answer
+  pub is_legal : IsLegal before
+
+-- a legal record begins with this opening
+pub record BeginsWith (opening : OpeningData) : Type 0 where
+  pub record_ : List EventData
+  pub is_opening : slice_get record_ 0 ≡ Some (Opened opening)
+  pub is_legal : IsLegal record_
 
 -- the status of a legal record
 pub record IsStatus (status : Status) : Type 0 where

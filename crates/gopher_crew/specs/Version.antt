@@ -29,7 +29,7 @@ pages_after Nothing pages = pages
 pages_after (Page page) pages = pages ++ arc_value page ∷ []
 pages_after (All index) pages = arc_value index
 
--- the version after a update
+-- the version after an update
 abbrev pub after_update : VersionData → Update → VersionData
 after_update version update = version_data (pages_after update.change version.pages) update.front
 

@@ -3,11 +3,15 @@ use Rattle.std.specs.Prelude.{ℕ, ◌≡◌, ◌+◌, ◌*◌, ◌≤◌, ◌�
 use Rattle.gopher_item.specs.Place.{PlaceData}
 use Rattle.gopher_scope.specs.Scope.{ScopeData}
 use Rattle.gopher_page.specs.Page.{PageData, page_of}
+use Rattle.gopher_catalogue.specs.Step.{Finished as FinishedTurn}
 use Rattle.gopher_catalogue.specs.declared.event.Why.{Why}
 use Rattle.gopher_catalogue.specs.declared.event.Why.TheVariants.{NoMemory}
 use Rattle.gopher_crew.specs.Crew.{ShareData}
 use Rattle.gopher_crew.specs.declared.working.Outcome.{Outcome}
 use Rattle.gopher_crew.specs.declared.working.Outcome.TheVariants.{Found, Failed, Refused}
+use Rattle.gopher_crew.specs.declared.working.Stop.{Stop}
+use Rattle.gopher_crew.specs.declared.working.Stop.TheVariants.{Finished, NoMemory as NoMemoryStop}
+use Rattle.gopher_crew.specs.Kept.{AnswersTurn}
 
 -- the count of a fetcher's calls after one more
 abbrev pub one_more_call : ℕ → ℕ
@@ -38,6 +42,11 @@ IsPaid old new calls calls' = (calls' ≡ 18446744073709551615) ⊎ (new.events 
 pub record Earns (before calls after calls' outcomes : ℕ) : Type 0 where
   pub at_least : before + 2 * outcomes ≤ after
   pub at_most : (calls' ≡ 18446744073709551615) ⊎ (after + 2 * calls ≤ before + 2 * calls')
+
+-- a worker that finished did so on a legal record on which nothing waits and nothing is out
+abbrev pub IsStop : Stop → Type 0
+IsStop Finished = AnswersTurn FinishedTurn
+IsStop NoMemoryStop = Unit {0}
 
 -- the bytes that were fetched of a place become its page, unless memory is refused
 abbrev pub SettlesBytes : ScopeData → PlaceData → List ℕ → Result PageData Why → Type 0

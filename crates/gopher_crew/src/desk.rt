@@ -1,11 +1,12 @@
 //! The desk at which a crew crawls.
 
-ghost use Rattle.std.specs.Prelude.{◌≡◌, ◌≢◌, ◌+◌, ◌≤◌, [], length, true, vec_capacity, IfOk, IfErr, IfSome, IsOk, OnOk, OnErr};
+ghost use Rattle.std.specs.Arc.{arc_value};
+ghost use Rattle.std.specs.Prelude.{◌≡◌, ◌≢◌, ◌+◌, ◌≤◌, [], length, true, false, vec_capacity, IfOk, IfErr, IfSome, IsOk, OnOk, OnErr};
 ghost use mathlib.Core.List.{IsPrefix};
 ghost use Rattle.gopher_catalogue.specs.Legal.{IsLegal};
 ghost use Rattle.gopher_catalogue.specs.Turn.{turn_data};
 ghost use Rattle.gopher_crew.specs.Desk.{are_counts, shares_at, events_of, AllHaveSeen, AreJoined, ComesBack, IsDeskFault, HasAll};
-ghost use Rattle.gopher_crew.specs.Kept.{RisesAt, NotesTurn, NotesFind, NotesFailure, IsStatus};
+ghost use Rattle.gopher_crew.specs.Kept.{RisesAt, NotesTurn, NotesFind, NotesFailure, AnswersTurn, AnswersFind, RefusesFind, IsOutOn, LetsClaim, BeginsWith, IsNotIdle, IsStatus};
 
 use crate::blank::Blank;
 use crate::crew::Crew;
@@ -163,18 +164,20 @@ impl<C: Crew, R: Wait + Drop> Desk<C, R> {
 }
 
 impl<C: Crew, R: Wait + Drop> Desk<C, R> {
-    /// Claims the first place that waits. The share rises by one where it takes a place. The note, where
-    /// there is one, is of a legal record on which the claim answers this turn.
+    /// Claims the first place that waits. The share rises by one if it takes a place. The turn is what a
+    /// claim answers on a legal record, and the note, if there is one, is of the record after it.
     ///
-    /// Refused only where memory is (90).
+    /// Refused only where memory is (90), and a place waits.
     pub fn claim<W: Wait>(
         &self,
         rt: &W,
         share: &mut Share<C>,
     ) -> Result<(Turn, Option<Note<C>>), NoMemory>
+        ensures answered { IfOk result (λ reply. AnswersTurn (turn_data reply.0)) }
         ensures noted { IfOk result (λ reply. IfSome reply.1 (NotesTurn (turn_data reply.0))) }
         ensures share { IfOk result (λ reply. RisesAt (turn_data reply.0) share.old share.new) }
         ensures parts { share.new.parts ≡ share.old.parts }
+        ensures waits { OnErr result LetsClaim }
         ensures err { OnErr result (share.new ≡ share.old) }
     {
         self.kept.lock(rt).claim(share)
@@ -183,7 +186,8 @@ impl<C: Crew, R: Wait + Drop> Desk<C, R> {
     /// Takes in the page of a place that is out. The share rises by one. The note, where there is one,
     /// is of a legal record that ends with the page.
     ///
-    /// Refused, in this order: `NotOut` (52), `WrongPlace` (53), `NoMemory` (90). The page comes back.
+    /// Refused, in this order: `NotOut` (52), `WrongPlace` (53), `NoMemory` (90): the fault is the one
+    /// that the page has on a legal record. The page comes back.
     pub fn found<W: Wait>(
         &self,
         rt: &W,
@@ -191,9 +195,11 @@ impl<C: Crew, R: Wait + Drop> Desk<C, R> {
         number: u32,
         page: Page,
     ) -> Result<(Added, Option<Note<C>>), FoundRefused>
+        ensures answered { IfOk result (λ reply. AnswersFind number page reply.0) }
         ensures noted { IfOk result (λ reply. IfSome reply.1 (NotesFind number page reply.0)) }
         ensures share { OnOk result (share.new.events ≡ share.old.events + 1) }
         ensures parts { share.new.parts ≡ share.old.parts }
+        ensures refused { IfErr result (λ refused. RefusesFind number page refused.fault) }
         ensures page_back { IfErr result (λ refused. refused.page ≡ page) }
         ensures err { OnErr result (share.new ≡ share.old) }
     {
@@ -205,7 +211,7 @@ impl<C: Crew, R: Wait + Drop> Desk<C, R> {
     /// Notes that a place that is out could not be fetched. The share rises by one. The note, where there
     /// is one, is of a legal record that ends with the failure.
     ///
-    /// Refused (52) where the number is not out.
+    /// Refused (52) exactly if the number is not out, on a legal record.
     pub fn fail<W: Wait>(
         &self,
         rt: &W,
@@ -213,6 +219,8 @@ impl<C: Crew, R: Wait + Drop> Desk<C, R> {
         number: u32,
         why: Why,
     ) -> Result<Option<Note<C>>, FailRefused>
+        ensures answered { OnOk result (IsOutOn number true) }
+        ensures refused { OnErr result (IsOutOn number false) }
         ensures noted { IfOk result (λ note. IfSome note (NotesFailure number why)) }
         ensures share { OnOk result (share.new.events ≡ share.old.events + 1) }
         ensures parts { share.new.parts ≡ share.old.parts }
@@ -223,34 +231,38 @@ impl<C: Crew, R: Wait + Drop> Desk<C, R> {
         Ok(note)
     }
 
-    /// What the crawl began with.
-    pub(crate) fn opening<W: Wait>(&self, rt: &W) -> Result<Arc<Opening>, NoMemory> {
+    /// What the crawl began with. Refused only where memory is (90).
+    pub(crate) fn opening<W: Wait>(&self, rt: &W) -> Result<Arc<Opening>, NoMemory>
+        ensures { IfOk result (λ opening. BeginsWith (arc_value opening)) }
+    {
         self.kept.lock(rt).opening()
     }
 
-    // Takes the lock once there is no errand, and runs those that there are while it holds none.
+    // Takes the lock. Before that it runs one errand, if there is one, while it holds no lock: one for
+    // each claim is enough, since fewer pages are merged than claimed, and ends where memory is refused.
     fn settled<W: Wait>(&self, rt: &W, alloc: Global) -> MutexGuard<'_, Kept<C, R>> {
         let mut kept = self.kept.lock(rt);
-        for _round in rt.forever() {
-            let Some(mut errand) = kept.errand() else {
-                return kept;
-            };
-            let lock = MutexGuard::unlock(kept);
-            errand.run(alloc);
-            kept = lock.lock(rt);
-            kept.install(errand);
-        }
-        unreachable!()
+        let Some(mut errand) = kept.errand() else {
+            return kept;
+        };
+        let lock = MutexGuard::unlock(kept);
+        let was_merged = errand.run(alloc);
+        kept = lock.lock(rt);
+        kept.install(errand, was_merged);
+        kept
     }
 
-    /// Merges what is due to be merged as long as places wait, and claims the first of these; where none
-    /// waits and some are out, it waits for their outcomes first.
+    /// Merges pages that are due to be merged, once, and claims the first place that waits; while none
+    /// waits and some are out, it waits for their outcomes. At the crawl's end it publishes what was
+    /// merged since the last page.
     pub(crate) fn next<W: Wait>(
         &self,
         rt: &W,
         alloc: Global,
         share: &mut Share<C>,
     ) -> Result<Turn, NoMemory>
+        ensures answered { IfOk result (λ turn. AnswersTurn (turn_data turn)) }
+        ensures not_idle { IfOk result (λ turn. IsNotIdle (turn_data turn)) }
         ensures share { IfOk result (λ turn. RisesAt (turn_data turn) share.old share.new) }
         ensures parts { share.new.parts ≡ share.old.parts }
         ensures err { OnErr result (share.new ≡ share.old) }
@@ -258,10 +270,16 @@ impl<C: Crew, R: Wait + Drop> Desk<C, R> {
         for _round in rt.forever() {
             let mut kept = self.settled(rt, alloc);
             let (turn, _note) = kept.claim(share)?;
-            let Turn::Idle = turn else {
-                return Ok(turn);
-            };
-            let _kept = self.outcomes.wait(rt, kept);
+            match turn {
+                Turn::Take(claim) => return Ok(Turn::Take(claim)),
+                Turn::Idle => {
+                    let _kept = self.outcomes.wait(rt, kept);
+                }
+                Turn::Finished => {
+                    kept.renew();
+                    return Ok(Turn::Finished);
+                }
+            }
         }
         unreachable!()
     }
@@ -273,14 +291,9 @@ impl<C: Crew, R: Wait + Drop> Desk<C, R> {
         self.kept.lock(rt).status()
     }
 
-    /// Ends the desk, and gives its catalogue. With all shares that `open` gave it isn't refused. Takes
-    /// no memory.
-    ///
-    /// Refused (62) where the shares don't count all events of the record after the first; then the desk
-    /// comes back, and the shares joined into one.
-    pub fn close(self, shares: Vec<Share<C>>) -> Result<Catalogue, CloseRefused<C, R>>
-        ensures counted { IfOk result (λ catalogue. length catalogue ≡ events_of shares.items + 1) }
-        ensures legal { IfOk result (λ catalogue. IsLegal catalogue) }
+    // What is kept, if the shares count all events of the record after the first.
+    fn gathered(self, shares: Vec<Share<C>>) -> Result<Kept<C, R>, CloseRefused<C, R>>
+        ensures counted { IfOk result (λ kept. length kept.events ≡ events_of shares.items + 1) }
         ensures events { IfErr result (λ refused. refused.events ≢ events_of shares.items) }
         ensures joined { IfErr result (λ refused. AreJoined shares.items refused.shares.items) }
         ensures whole { HasAll C.parts shares.items → IsOk result }
@@ -299,6 +312,37 @@ impl<C: Crew, R: Wait + Drop> Desk<C, R> {
                 events,
             });
         }
-        Ok(kept.end())
+        Ok(kept)
+    }
+
+    /// Ends the desk, and gives its catalogue. With all shares that `open` gave it isn't refused. Takes
+    /// no memory.
+    ///
+    /// Refused (62) if the shares don't count all events of the record after the first; then the desk
+    /// comes back, and the shares joined into one.
+    pub fn close(self, shares: Vec<Share<C>>) -> Result<Catalogue, CloseRefused<C, R>>
+        ensures counted { IfOk result (λ catalogue. length catalogue ≡ events_of shares.items + 1) }
+        ensures legal { IfOk result (λ catalogue. IsLegal catalogue) }
+        ensures events { IfErr result (λ refused. refused.events ≢ events_of shares.items) }
+        ensures joined { IfErr result (λ refused. AreJoined shares.items refused.shares.items) }
+        ensures whole { HasAll C.parts shares.items → IsOk result }
+    {
+        Ok(self.gathered(shares)?.end())
+    }
+
+    /// As `close`, with a note of the catalogue's record: a pass that hears it was told of a record that
+    /// begins with the catalogue's. There is none if memory is refused to the last publication.
+    pub fn close_with_note(
+        self,
+        shares: Vec<Share<C>>,
+    ) -> Result<(Catalogue, Option<Note<C>>), CloseRefused<C, R>>
+        ensures counted { IfOk result (λ closed. length closed.0 ≡ events_of shares.items + 1) }
+        ensures legal { IfOk result (λ closed. IsLegal closed.0) }
+        ensures noted { IfOk result (λ closed. IfSome closed.1 (λ note. note ≡ closed.0)) }
+        ensures events { IfErr result (λ refused. refused.events ≢ events_of shares.items) }
+        ensures joined { IfErr result (λ refused. AreJoined shares.items refused.shares.items) }
+        ensures whole { HasAll C.parts shares.items → IsOk result }
+    {
+        Ok(self.gathered(shares)?.end_with_note())
     }
 }

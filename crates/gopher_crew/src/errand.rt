@@ -44,11 +44,11 @@ impl<C: Crew> Errand<C> {
         }
     }
 
-    /// Merges the pages, unless memory is refused.
-    pub fn run(&mut self, alloc: Global)
+    /// Merges the pages, and tells whether it did: it didn't if memory was refused.
+    pub fn run(&mut self, alloc: Global) -> bool
         ensures { self.new ≡ self.old }
     {
-        let _merged = self.due.merge(alloc);
+        self.due.merge(alloc).is_ok()
     }
 
     /// The pages, where the record that had found them is a beginning of a longer one.

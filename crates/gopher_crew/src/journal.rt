@@ -105,7 +105,22 @@ impl<C: Crew, R: Wait + Drop> Journal<C, R> {
         if self.shelf.len() == self.front.len() {
             return true;
         }
-        self.shelf.publish(self.alloc, index, &self.front)
+        self.shelf.publish(self.alloc, index, &self.front, false)
+    }
+
+    #[tactic(auto, using(crate::proofs::Beginnings::prefix_self))]
+    // Publishes the version of all that was entered, as `publish` does, also if it is published.
+    fn publish_again(&mut self, index: &Index) -> bool
+        requires pages { index.now ≡ pages_found self.old.entered }
+        requires legal { IsLegal self.old.entered }
+        ensures entered { self.new.entered ≡ self.old.entered }
+        ensures grows { IsPrefix self.old.published self.new.published }
+        ensures within { IsPrefix self.new.published self.old.entered }
+    {
+        if !self.shelf.publish(self.alloc, index, &self.front, true) {
+            return false;
+        }
+        true
     }
 
     #[tactic(auto, using(crate::proofs::Beginnings::grows))]
@@ -125,6 +140,21 @@ impl<C: Crew, R: Wait + Drop> Journal<C, R> {
             return None;
         }
         Some(Note::of(&self.front))
+    }
+
+    #[tactic(auto, using(crate::proofs::Beginnings::grows))]
+    /// Publishes the record of the catalogue with its pages as they stand in its index now, also if that
+    /// record is published, and tells whether it did: it didn't if memory was refused.
+    pub fn renew(&mut self, catalogue: &Catalogue) -> bool
+        requires begun { IsPrefix self.old.entered catalogue.now }
+        ensures begun { IsPrefix self.new.entered catalogue.now }
+        ensures published { IsPrefix self.new.published catalogue.now }
+        ensures grows { IsPrefix self.old.published self.new.published }
+    {
+        if !enter_all(&mut self.front, &self.head, catalogue) {
+            return false;
+        }
+        self.publish_again(catalogue.index())
     }
 
     #[tactic(auto, using(crate::proofs::Beginnings::grows))]

@@ -8,7 +8,7 @@ ghost use Rattle.gopher_catalogue.specs.Legal.{IsLegal};
 ghost use Rattle.gopher_catalogue.specs.Step.{turn_of, after_turn, is_out_in, found_fault, added_by, status_of};
 ghost use Rattle.gopher_catalogue.specs.Turn.{turn_data, IsTake};
 ghost use Rattle.gopher_crew.specs.Desk.{events_of, parts_of, HasAll};
-ghost use Rattle.gopher_crew.specs.Kept.{IsNoted, IsTurned, RisesAt, IsFindFault, IsOpeningOf, rise_of, NotesTurn, NotesFind, NotesFailure};
+ghost use Rattle.gopher_crew.specs.Kept.{IsNoted, IsTurned, RisesAt, IsFindFault, IsOpeningOf, rise_of, NotesTurn, NotesFind, NotesFailure, AnswersTurn, AnswersFind, RefusesFind, IsOutOn, LetsClaim, BeginsWith};
 
 use crate::crew::Crew;
 use crate::errand::Errand;
@@ -25,6 +25,9 @@ use std::marker::Model;
 use std::sync::ledger::Book;
 use std::sync::{Arc, Wait};
 
+// How many more pages are found before merging is tried again after a merge was refused memory.
+const REST: usize = 64;
+
 /// The catalogue of a crawl, the count of its events after the first, and what is published of it.
 /// Contracts see its record and the one that is published, a beginning of it.
 #[derive(Drop)]
@@ -32,7 +35,14 @@ pub struct Kept<C: Crew, R: Wait + Drop> {
     catalogue: Catalogue,
     book: Book<C>,
     journal: Journal<C, R>,
+    // What was merged before the pages in front of it.
     early: Vec<Errand<C>>,
+    // Whether pages were merged since the index was last published for that.
+    is_merged: bool,
+    // From how many pages found on some are given out to be merged.
+    rests_until: usize,
+    // Whether pages were given out to be merged at the end of the crawl.
+    is_ended: bool,
 }
 
 impl<C: Crew, R: Wait + Drop> Model for Kept<C, R> {
@@ -81,6 +91,9 @@ impl<C: Crew, R: Wait + Drop> Kept<C, R> {
             book,
             journal,
             early: Vec::new(alloc),
+            is_merged: false,
+            rests_until: 0,
+            is_ended: false,
         }
     }
 
@@ -94,9 +107,11 @@ impl<C: Crew, R: Wait + Drop> Kept<C, R> {
         ensures after { OnOk result (IsTurned self.old self.new) }
         ensures note { IfOk result (λ reply. IsNoted reply.1 self.new) }
         ensures noted { IfOk result (λ reply. IfSome reply.1 (NotesTurn (turn_data reply.0))) }
+        ensures answered { IfOk result (λ reply. AnswersTurn (turn_data reply.0)) }
         ensures share { IfOk result (λ reply. RisesAt (turn_data reply.0) share.old share.new) }
         ensures parts { share.new.parts ≡ share.old.parts }
         ensures due { OnErr result (IsTake (turn_of self.old.events)) }
+        ensures waits { OnErr result LetsClaim }
         ensures err { OnErr result (self.new ≡ self.old) }
         ensures share_err { OnErr result (share.new ≡ share.old) }
         ensures grows { IsPrefix self.old.published self.new.published }
@@ -124,9 +139,11 @@ impl<C: Crew, R: Wait + Drop> Kept<C, R> {
         ensures after { OnOk result (self.new.events ≡ self.old.events ++ Found number page ∷ []) }
         ensures note { IfOk result (λ reply. IsNoted reply.1 self.new) }
         ensures noted { IfOk result (λ reply. IfSome reply.1 (NotesFind number page reply.0)) }
+        ensures answered { IfOk result (λ reply. AnswersFind number page reply.0) }
         ensures share { OnOk result (share.new.events ≡ share.old.events + 1) }
         ensures parts { share.new.parts ≡ share.old.parts }
         ensures fault { IfErr result (λ refused. IsFindFault self.old number page refused.fault) }
+        ensures refused { IfErr result (λ refused. RefusesFind number page refused.fault) }
         ensures page_back { IfErr result (λ refused. refused.page ≡ page) }
         ensures err { OnErr result (self.new ≡ self.old) }
         ensures share_err { OnErr result (share.new ≡ share.old) }
@@ -153,6 +170,8 @@ impl<C: Crew, R: Wait + Drop> Kept<C, R> {
         ensures after { OnOk result (self.new.events ≡ self.old.events ++ Failed number why ∷ []) }
         ensures note { IfOk result (λ note. IsNoted note self.new) }
         ensures noted { IfOk result (λ note. IfSome note (NotesFailure number why)) }
+        ensures answered { OnOk result (IsOutOn number true) }
+        ensures refused { OnErr result (IsOutOn number false) }
         ensures share { OnOk result (share.new.events ≡ share.old.events + 1) }
         ensures parts { share.new.parts ≡ share.old.parts }
         ensures not_out { OnErr result (is_out_in self.old.events number ≡ false) }
@@ -166,13 +185,27 @@ impl<C: Crew, R: Wait + Drop> Kept<C, R> {
         Ok(self.journal.follow(&self.catalogue))
     }
 
-    /// Pages that are due to be merged, unless none are, no place waits, memory is refused, or a part of
-    /// the record can't be entered into the history. Where no place waits, a worker that merged would
-    /// only keep the crawl from its end: few pages are still to come.
+    // Whether pages may be merged now. While no place waits, a worker that merged would only keep the
+    // crawl from its end: few pages are still to come. At its end one run of pages is merged.
+    fn may_merge(&mut self) -> bool
+        ensures { self.new ≡ self.old }
+    {
+        let status = self.catalogue.status();
+        if status.waiting == 0 {
+            if status.out > 0 || self.is_ended {
+                return false;
+            }
+            self.is_ended = true;
+        }
+        self.rests_until <= self.catalogue.index().len()
+    }
+
+    /// Pages that are due to be merged. None if none are, if places are out but none waits, after a merge
+    /// was refused memory until 64 more pages are found, or if memory is refused.
     pub(crate) fn errand(&mut self) -> Option<Errand<C>>
         ensures { self.new ≡ self.old }
     {
-        if self.catalogue.status().waiting == 0 {
+        if !self.may_merge() {
             return None;
         }
         let front = self.journal.entered(&self.catalogue)?;
@@ -182,17 +215,13 @@ impl<C: Crew, R: Wait + Drop> Kept<C, R> {
         Some(Errand::new(due, front))
     }
 
-    // Puts what the first of the errands that came early merged in its place in the index. Where it still
-    // is too early, the errand waits on, behind the others.
-    fn put_first(&mut self, front: &Beginning)
+    // Puts what an errand merged in its place in the index. If it is too early for that, the errand waits
+    // behind the others that are.
+    fn put(&mut self, errand: Errand<C>, front: &Beginning)
         requires history { front.now.history ≡ C.history }
         requires events { front.now.events ≡ self.old.events }
         ensures { self.new ≡ self.old }
     {
-        if self.early.is_empty() {
-            return;
-        }
-        let errand = self.early.remove(0);
         let Some(due) = errand.due_in(front) else {
             return;
         };
@@ -202,29 +231,48 @@ impl<C: Crew, R: Wait + Drop> Kept<C, R> {
         let _pushed = self.early.push(Errand::new(due, front.again()));
     }
 
-    // Puts what those errands merged in its place, as far as it isn't too early, in whatever order they
-    // came.
+    // Tries each of the errands that came early once.
     fn put_early(&mut self, front: &Beginning)
         requires history { front.now.history ≡ C.history }
         requires events { front.now.events ≡ self.old.events }
         ensures { self.new ≡ self.old }
     {
-        let count = self.early.len();
-        for _errand in 0..count.saturating_mul(count) {
-            self.put_first(front);
+        for _errand in 0..self.early.len() {
+            if self.early.is_empty() {
+                return;
+            }
+            let errand = self.early.remove(0);
+            self.put(errand, front);
         }
     }
 
     /// Puts what an errand merged in its place in the index, and what others did that came too early for
-    /// theirs. It is published with the next event.
-    pub(crate) fn install(&mut self, errand: Errand<C>)
+    /// theirs; pages that weren't merged are due again once 64 more are found. It is published with the
+    /// next page, or by `renew`.
+    pub(crate) fn install(&mut self, errand: Errand<C>, was_merged: bool)
         ensures { self.new ≡ self.old }
     {
         let Some(front) = self.journal.entered(&self.catalogue) else {
             return;
         };
-        let _pushed = self.early.push(errand);
+        if was_merged {
+            self.is_merged = true;
+        } else {
+            self.rests_until = self.catalogue.index().len().saturating_add(REST);
+        }
+        self.put(errand, &front);
         self.put_early(&front);
+    }
+
+    /// Publishes the pages as they stand in the index now, if some were merged since the desk was opened,
+    /// so that searches after the crawl find them merged.
+    pub(crate) fn renew(&mut self)
+        ensures events { self.new.events ≡ self.old.events }
+        ensures grows { IsPrefix self.old.published self.new.published }
+    {
+        if self.is_merged {
+            self.is_merged = !self.journal.renew(&self.catalogue);
+        }
     }
 
     /// How many events the record has after the first. Takes no memory.
@@ -249,6 +297,7 @@ impl<C: Crew, R: Wait + Drop> Kept<C, R> {
     /// What the crawl began with: the opening of its record, shared. Refused only where memory is (90).
     pub fn opening(&self) -> Result<Arc<Opening>, NoMemory>
         ensures first { IfOk result (λ opening. IsOpeningOf self.now (arc_value opening)) }
+        ensures begins { IfOk result (λ opening. BeginsWith (arc_value opening)) }
         ensures legal { IsLegal self.now.events }
     {
         Ok(self.catalogue.opening().clone()?)
@@ -272,7 +321,21 @@ impl<C: Crew, R: Wait + Drop> Kept<C, R> {
             book: _book,
             journal: _journal,
             early: _early,
+            is_merged: _is_merged,
+            rests_until: _rests_until,
+            is_ended: _is_ended,
         } = self;
         catalogue
+    }
+
+    /// As `end`, with a note of the whole record, unless it can't be published since memory is refused.
+    pub(crate) fn end_with_note(self) -> (Catalogue, Option<Note<C>>)
+        ensures record { result.0 ≡ self.events }
+        ensures noted { IfSome result.1 (λ note. note ≡ result.0) }
+        ensures legal { IsLegal self.events }
+    {
+        let mut kept = self;
+        let note = kept.journal.follow(&kept.catalogue);
+        (kept.end(), note)
     }
 }

@@ -1,6 +1,6 @@
 //! Passes: searches that wait for nobody.
 
-ghost use Rattle.std.specs.Prelude.{◌≡◌, ◌⊎◌, length, IfOk, IfSome, OnOk};
+ghost use Rattle.std.specs.Prelude.{◌≡◌, ◌⊎◌, false, length, IfOk, IfSome, IsTrue, OnOk};
 ghost use mathlib.Core.List.{IsPrefix};
 ghost use Rattle.left_right.specs.Sides.{view};
 ghost use Rattle.gopher_catalogue.specs.Legal.{IsLegal};
@@ -30,7 +30,8 @@ pub struct Answer {
 }
 
 /// Searches the catalogue as it was published, beside the crew at the desk. It can be moved into another
-/// thread. Contracts see which record it has seen, and the longest that it has seen or was told of.
+/// thread. Contracts see which record it has seen, and which it was told of: the longest of those that it
+/// answered and of the notes that it heard.
 #[derive(Drop)]
 pub struct Pass<C: Crew> {
     alloc: Global,
@@ -111,6 +112,15 @@ impl<C: Crew> Pass<C> {
         ensures one { (self.new.told ≡ self.old.told) ⊎ (self.new.told ≡ note) }
     {
         self.told = self.told.longer(note.front());
+    }
+
+    /// Whether another pass of the same desk was told of a record that begins with the one that this pass
+    /// was told of. If not, it is the other way round: all passes of a desk see one crawl.
+    pub fn begins(&self, other: &Pass<C>) -> bool
+        ensures begins { IsTrue result → IsPrefix self.now.told other.now.told }
+        ensures or_else { (result ≡ false) → IsPrefix other.now.told self.now.told }
+    {
+        self.told.begins(&other.told)
     }
 
     /// Searches the pages of the published record. It waits for nobody, and holds up no publication for

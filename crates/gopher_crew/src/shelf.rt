@@ -65,13 +65,15 @@ fn publish_last<C: Crew, R: Wait>(writer: VersionWriter<C>, rt: &R) -> (VersionW
     (writer, published.is_ok())
 }
 
-// The update of what is published to the version of a record, which has these pages. Where others wait,
-// since memory was refused to their publication, it replaces all pages, so that it fits behind them.
+// The update of what is published to the version of a record, which has these pages. It replaces all
+// pages if that is asked for, and if others wait, since memory was refused to their publication: so it
+// fits behind them.
 fn update_to<C: Crew>(
     writer: &VersionWriter<C>,
     alloc: Global,
     index: &Index,
     front: &Beginning,
+    renews: bool,
 ) -> Result<Update, NoMemory>
     requires version { IsVersion C.history writer.now.desk.shown.value }
     requires pages { index.now ≡ pages_found front.now.events }
@@ -80,7 +82,7 @@ fn update_to<C: Crew>(
         (drop writer.now.behind writer.now.log.items ++ update ∷ [])
         ≡ version_data index.now front.now) }
 {
-    let change = if writer.has_pending_operations() {
+    let change = if renews || writer.has_pending_operations() {
         Change::all(alloc, index)?
     } else {
         Change::between(alloc, writer.published().index(), index)?
@@ -128,15 +130,16 @@ impl<C: Crew, R: Wait + Drop> Shelf<C, R> {
     }
 
     /// Publishes the version of a record, which has these pages and begins with the record that is
-    /// published, and tells whether it did: it didn't where memory was refused.
-    pub fn publish(&mut self, alloc: Global, index: &Index, front: &Beginning) -> bool
+    /// published, and tells whether it did: it didn't where memory was refused. If it `renews`, pages
+    /// that are published already come anew from this index, in which they may be merged by now.
+    pub fn publish(&mut self, alloc: Global, index: &Index, front: &Beginning, renews: bool) -> bool
         requires history { front.now.history ≡ C.history }
         requires pages { index.now ≡ pages_found front.now.events }
         requires legal { IsLegal front.now.events }
         requires begins { IsPrefix self.old front.now.events }
         ensures { MatchBool result (self.new ≡ front.now.events) (self.new ≡ self.old) }
     {
-        let Ok(update) = update_to(&self.writer, alloc, index, front) else {
+        let Ok(update) = update_to(&self.writer, alloc, index, front, renews) else {
             return false;
         };
         if self.writer.append(update).is_err() {

@@ -1,7 +1,7 @@
 //! Workers, which fetch and settle while they hold no lock.
 
 ghost use Rattle.std.specs.Prelude.{◌≡◌, ◌+◌, ◌*◌, ◌≤◌, vec_len, IfOk};
-ghost use Rattle.gopher_crew.specs.Work.{one_more_call, found_rise, failed_rise, outcome_rise, IsPaid};
+ghost use Rattle.gopher_crew.specs.Work.{one_more_call, found_rise, failed_rise, outcome_rise, IsPaid, IsStop};
 
 use crate::crew::Crew;
 use crate::desk::Desk;
@@ -22,7 +22,8 @@ const MOST_BYTES: usize = 1_048_576;
 pub enum Stop {
     /// The crawl is at its end: no place waits and none is out.
     Finished,
-    /// Memory was refused to a claim.
+    /// Memory was refused to a claim, or before the first one; it is the stop of a worker that never
+    /// began, too.
     NoMemory,
 }
 
@@ -138,6 +139,7 @@ pub fn work<C: Crew, R: Wait + Drop, W: Wait, F: Fetch<W> + Drop>(
     fetcher: F,
     share: Share<C>,
 ) -> WorkEnd<F, C>
+    ensures stop { IsStop result.stop }
     ensures outcomes { share.events + 2 * (result.found + result.failed) ≤ result.share.events }
     ensures calls { IsPaid share result.share (F.called fetcher) (F.called result.fetcher) }
     ensures parts { result.share.parts ≡ share.parts }
@@ -158,11 +160,15 @@ pub fn work<C: Crew, R: Wait + Drop, W: Wait, F: Fetch<W> + Drop>(
                 let outcome = serve(rt, alloc, desk, opening.scope(), &claim, &mut worker);
                 count(outcome, &mut worker);
             }
-            Ok(Turn::Idle | Turn::Finished) => {
+            Ok(Turn::Idle) => unreachable!(),
+            Ok(Turn::Finished) => {
                 worker.stop = Stop::Finished;
                 return worker;
             }
-            Err(_refused) => return worker,
+            Err(_refused) => {
+                worker.stop = Stop::NoMemory;
+                return worker;
+            }
         }
     }
     unreachable!()

@@ -1,4 +1,4 @@
--- Lists of entries and of places, as the known places are kept.
+-- Lists of entries and of places, as `KnownPlaces` keeps them.
 use Rattle.std.proofs.Common.{◌≡◌, ℕ, suc, zero, Bool, true, false, ◌||◌, List, [], ◌∷◌, ◌++◌, map, take, length, replicate, arith, inl, inr, ◌+◌, ◌-◌, ◌<◌, ◌≤◌, ◌&&◌, cond, drop, filter, get_or, add-one, Option, None, Some, is_some, set, refl, ap, sym, ◌∙◌, true≢false}
 use Rattle.std.specs.List.{list_any, range_with_len}
 use Rattle.gopher_frontier.proofs.Ranges.{range-append}
@@ -15,12 +15,12 @@ use Rattle.gopher_frontier.specs.Tables.{KnownData, Extends, unclaimed, after_me
 use Rattle.indexmap.specs.IndexMap.{IndexMap, get, insert_entry, set_value_at}
 use Rattle.indexmap.proofs.CallerLemmas.{insert_entry-new}
 
--- a test of what the elements show
+-- a test of the images of elements
 pub list_any-map : {X Y : Type 0} (show : X → Y) (test : Y → Bool) (xs : List X) → list_any (λ x. test (show x)) xs ≡ list_any test (map show xs)
 list_any-map show test [] = refl
 list_any-map show test (x ∷ xs) = ap (λ rest. test (show x) || rest) (list_any-map show test xs)
 
--- a look-up finds a key exactly if what it shows is in the list that the keys show
+-- a look-up finds a key exactly if the list of the keys' images contains its image
 pub lookup-shown : {K X Y : Type 0} (show : K → Y) (test : Y → Bool) (es : List (K × X)) (ys : List Y) → map show (keys_of es) ≡ ys → is_some (lookup (λ k. test (show k)) es) ≡ list_any test ys
 lookup-shown show test es ys h = is_some-lookup (λ k. test (show k)) es ∙ list_any-map show test (keys_of es) ∙ ap (list_any test) h
 
@@ -28,24 +28,24 @@ none-from-is_some : {X : Type 0} (o : Option X) → is_some o ≡ false → o �
 none-from-is_some None h = refl
 none-from-is_some (Some x) h = absurd (true≢false h)
 
--- a write by index is one of the values
+-- writing by index changes one of the values
 pub values_set_value_at : {K X : Type 0} (es : List (K × X)) (i : ℕ) (w : X) → values_of (set_value_at es i w) ≡ set (values_of es) i w
 values_set_value_at [] i w = refl
 values_set_value_at (e ∷ es) zero w = refl
 values_set_value_at (e ∷ es) (suc i) w = ap (λ l. e.1 ∷ l) (values_set_value_at es i w)
 
--- keys that show what a list shows do so still, once both are truncated
+-- keys whose images are a list still match it after both are truncated
 pub shown-take : {K X Y : Type 0} (show : K → Y) (n : ℕ) (es es' : List (K × X)) (ks ks' : List K) → es' ≡ take n es → ks' ≡ take n ks → map show (keys_of es) ≡ map show ks → map show (keys_of es') ≡ map show ks'
 shown-take show n es es' ks ks' cut_entries cut_keys h =
     ap (λ l. map show (keys_of l)) cut_entries ∙ ap (map show) (sym (take-map (λ e. e.0) n es)) ∙ sym (take-map show n (keys_of es)) ∙ ap (take n) h ∙ take-map show n ks ∙ ap (map show) (sym cut_keys)
 
--- and once both have one more key, which show the same
+-- keys whose images are a list still match it after both get one more with the same image
 pub shown-push : {K X Y : Type 0} (show : K → Y) (es es' : List (K × X)) (ks ks' : List K) (k l : K) (w : X) → es' ≡ es ++ (k, w) ∷ [] → ks' ≡ ks ++ l ∷ [] → show k ≡ show l → map show (keys_of es) ≡ map show ks → map show (keys_of es') ≡ map show ks'
 shown-push show es es' ks ks' k l w more_entries more_keys same h =
     ap (λ l. map show (keys_of l)) more_entries ∙ ap (map show) (map-append (λ e. e.0) es ((k, w) ∷ [])) ∙ map-append show (keys_of es) (k ∷ [])
     ∙ ap (λ l. l ++ show k ∷ []) h ∙ ap (λ s. map show ks ++ s ∷ []) same ∙ sym (map-append show ks (l ∷ [])) ∙ ap (map show) (sym more_keys)
 
--- a key of which no other shows the same goes last
+-- a key with a new image is inserted last
 pub insert-unshown : {K X Y S : Type 0} (show : K → Y) (eq : Y → Y → Bool) (m : IndexMap K X S) (ys : List Y) (k : K) (w : X) → map show (keys_of m.entries) ≡ ys → list_any (eq (show k)) ys ≡ false
     → insert_entry (λ a b. eq (show a) (show b)) m.entries k w ≡ m.entries ++ (k, w) ∷ []
 insert-unshown show eq m ys k w h absent =
@@ -70,7 +70,7 @@ Extends-trans a b c h k =
           ∙ ap (λ l. a.standings ++ l) (replicate-append-replicate (length h.more) (length k.more) unclaimed ∙ ap (λ n. replicate n unclaimed) (sym (length-append h.more k.more)));
     }
 
--- what is cut back to the places of before
+-- truncating to the length before restores the tables
 pub Extends-take : (old new : KnownData) (size : ℕ) → Extends old new → size ≡ length old.places → size ≡ length old.standings → (take size new.places ≡ old.places) × (take size new.standings ≡ old.standings)
 Extends-take old new size h e f = (
   ap (take size) h.places ∙ ap (λ n. take n (old.places ++ h.more)) e ∙ take-append_seam old.places h.more,

@@ -1,4 +1,4 @@
--- Numbers from one to another, and those of them that pass a test.
+-- Ranges of numbers, and the numbers in them that pass a test.
 use Rattle.std.proofs.Common.{◌≡◌, ◌≢◌, ℕ, suc, zero, ◌+◌, ◌-◌, ◌≤◌, ◌<◌, Bool, true, false, cond, [], ◌∷◌, ◌++◌, length, filter, inl, inr, refl, ◌∙◌, ap, arith}
 use Rattle.std.specs.List.{range_with_len}
 use Rattle.std.proofs.lemmas.Bool.{cases_eq}
@@ -25,7 +25,7 @@ filter_range_none p a (suc n) h =
     let here : p a ≡ false = h a (omega arith) (omega arith) in
     rw here (filter_range_none p (a + 1) n (λ m l u. h m (omega arith) (omega arith)))
 
--- further numbers, none of which passes
+-- a longer range, whose further numbers don't pass
 pub filter_range_longer : (p : ℕ → Bool) (m n : ℕ) → m ≤ n → ((k : ℕ) → m ≤ k → k < n → p k ≡ false) → filter p (range_with_len 0 n) ≡ filter p (range_with_len 0 m)
 filter_range_longer p m n le h =
     let e : n ≡ m + (n - m) = omega arith in
@@ -35,7 +35,7 @@ filter_range_longer p m n le h =
     ∙ filter-append p (range_with_len 0 m) (range_with_len (0 + m) (n - m))
     ∙ rw (z, filter_range_none p m (n - m) (λ k l u. h k l (omega arith))) (append-nil (filter p (range_with_len 0 m)))
 
--- one number more passes
+-- a test that one number more passes
 count_range_more_from : (p q : ℕ → Bool) (k a n : ℕ) → a ≤ k → k < a + n → p k ≡ false → q k ≡ true → ((m : ℕ) → m ≢ k → p m ≡ q m) → length (filter q (range_with_len a n)) ≡ length (filter p (range_with_len a n)) + 1
 count_range_more_from p q k a zero l u misses passes h = absurd (omega arith)
 count_range_more_from p q k a (suc n) l u misses passes h =

@@ -1,4 +1,4 @@
--- The tables of a crawl: the known places, the queue of those that wait, and the frontier of both.
+-- The tables of a crawl: the known places, the queue of waiting ones, and the frontier of both.
 use Rattle.std.specs.Prelude.{◌≡◌, ℕ, ◌+◌, ◌-◌, ◌≤◌, Bool, true, false, ◌&&◌, ◌||◌, not, List, [], ◌∷◌, ◌++◌, Some, length, map, filter, replicate, drop, slice_get, slice_set, nat_lt, nat_le, if◌then◌else◌}
 use Rattle.std.specs.List.{range_with_len}
 use Rattle.std.specs.Option.{option_map_or}
@@ -12,7 +12,7 @@ use Rattle.gopher_frontier.specs.declared.known.Standing.{Standing}
 use Rattle.gopher_frontier.specs.declared.sizes.Added.{Added}
 use Rattle.gopher_frontier.specs.declared.sizes.Status.{Status}
 
--- the known places, and how each stands
+-- the known places and the state of each
 pub record KnownData : Type 0 where
   pub places : List PlaceData
   pub standings : List Standing
@@ -24,7 +24,7 @@ known_with places standings = record { places = places; standings = standings }
 abbrev pub unclaimed : Standing
 unclaimed = record { claims = 0; is_out = false }
 
--- the known places are those of before, as they stood, and more that were never claimed
+-- the known places are those before, with unchanged states, and more that were never claimed
 pub record Extends (old new : KnownData) : Type 0 where
   pub more : List PlaceData
   pub places : new.places ≡ old.places ++ more
@@ -37,7 +37,7 @@ IsWithPlace old new place = new.places ≡ old.places ++ place ∷ []
 abbrev pub IsWithUnclaimed : KnownData → KnownData → Type 0
 IsWithUnclaimed old new = new.standings ≡ old.standings ++ unclaimed ∷ []
 
--- a mention of a place that isn't among the known ones once these are as many as the limit
+-- a mention is dropped if its place is unknown and the limit of places is reached
 abbrev pub is_dropped : ℕ → List PlaceData → PlaceData → Bool
 is_dropped limit places place = not (is_among places place) && nat_le limit (length places)
 
@@ -49,12 +49,12 @@ abbrev pub after_mentions : ℕ → List PlaceData → List PlaceData → List P
 after_mentions limit places [] = places
 after_mentions limit places (mention ∷ mentions) = after_mentions limit (after_mention limit places mention) mentions
 
--- how many of these mentions are dropped
+-- the number of these mentions that are dropped
 abbrev pub drops : ℕ → List PlaceData → List PlaceData → ℕ
 drops limit places [] = 0
 drops limit places (mention ∷ mentions) = (if is_dropped limit places mention then 1 else 0) + drops limit (after_mention limit places mention) mentions
 
--- a link is a mention where the scope allows it
+-- a link is a mention if the scope allows it
 abbrev pub after_link : ScopeData → ℕ → List PlaceData → PlaceData → List PlaceData
 after_link scope limit places link = if allows scope link then after_mention limit places link else places
 
@@ -65,25 +65,25 @@ is_dropped_link scope limit places link = allows scope link && is_dropped limit 
 abbrev pub allowed : {Z : Type 0} → ScopeData → List (Arc PlaceData Z) → List PlaceData
 allowed scope links = filter (allows scope) (map arc_value links)
 
--- a place is mentioned, and whether that mention is dropped
+-- the tables after a mention, and whether it was dropped
 abbrev pub Mentions : ℕ → KnownData → KnownData → PlaceData → Type 0
 Mentions limit old new place = new.places ≡ after_mention limit old.places place
 
 abbrev pub IsDropped : ℕ → KnownData → PlaceData → Bool → Type 0
 IsDropped limit old place dropped = dropped ≡ is_dropped limit old.places place
 
--- a link is met, and whether its mention is dropped
+-- the tables after a link, and whether its mention was dropped
 abbrev pub Links : {Z : Type 0} → ScopeData → ℕ → KnownData → KnownData → Arc PlaceData Z → Type 0
 Links scope limit old new link = new.places ≡ after_link scope limit old.places (arc_value link)
 
 abbrev pub IsDroppedLink : {Z : Type 0} → ScopeData → ℕ → KnownData → Arc PlaceData Z → Bool → Type 0
 IsDroppedLink scope limit old link dropped = dropped ≡ is_dropped_link scope limit old.places (arc_value link)
 
--- places are mentioned, and how many of these mentions are dropped
+-- the tables after several mentions
 abbrev pub MentionsAll : ℕ → KnownData → KnownData → List PlaceData → Type 0
 MentionsAll limit old new mentions = new.places ≡ after_mentions limit old.places mentions
 
--- and so are the links that the scope allows
+-- the tables after several links, and how many of several mentions were dropped
 abbrev pub LinksAll : {Z : Type 0} → ScopeData → ℕ → KnownData → KnownData → List (Arc PlaceData Z) → Type 0
 LinksAll scope limit old new links = MentionsAll limit old new (allowed scope links)
 
@@ -92,22 +92,22 @@ AreDropped limit old mentions dropped = dropped ≡ drops limit old.places menti
 
 -- ---- the queue
 
--- the numbers that wait, and how many more the queue takes without memory
+-- the waiting numbers, and how many more fit without allocating
 pub record QueueData : Type 0 where
   pub waiting : List ℕ
   pub room : ℕ
 
--- the queue of which this is the list of entries, and so many of them were taken
+-- the queue with these entries, of which the first `taken` were taken
 abbrev pub queue_with : {Z : Type 0} → Vec ℕ Z → ℕ → QueueData
 queue_with entries taken = record { waiting = drop taken entries.items; room = vec_capacity entries - vec_len entries }
 
--- the numbers from `first` up to `end` wait behind the others
+-- the numbers from `first` up to, not including, `end` wait behind the others
 abbrev pub with_range : List ℕ → ℕ → ℕ → List ℕ
 with_range waiting first end = waiting ++ range_with_len first (end - first)
 
 -- ---- the frontier
 
--- the known places and how each stands, the queue, and the sizes that are counted
+-- the known places and their states, the queue, and the counts
 pub record FrontierData : Type 0 where
   pub places : List PlaceData
   pub standings : List Standing
@@ -132,43 +132,43 @@ frontier_with known queue out done dropped =
 abbrev pub known_part : FrontierData → KnownData
 known_part frontier = record { places = frontier.places; standings = frontier.standings }
 
--- all but the known places, and the room, stays
+-- everything stays except the known places and the room
 pub record KeepsCounts (old new : FrontierData) : Type 0 where
   pub waiting : new.waiting ≡ old.waiting
   pub out : new.out ≡ old.out
   pub done : new.done ≡ old.done
   pub dropped : new.dropped ≡ old.dropped
 
--- all but the room stays, of which there is no less
+-- everything stays except the room, which doesn't shrink
 pub record KeepsFrontier (old new : FrontierData) : Type 0 where
   pub places : new.places ≡ old.places
   pub standings : new.standings ≡ old.standings
   pub counts : KeepsCounts old new
   pub room : old.room ≤ new.room
 
--- the places known after these mentions, of which so many were dropped; all else stays
+-- the tables after these mentions, of which `dropped` were dropped; the rest stays
 pub record Learned (limit : ℕ) (mentions : List PlaceData) (before after : FrontierData) (dropped : ℕ) : Type 0 where
   pub places : after.places ≡ after_mentions limit before.places mentions
   pub grows : Extends (known_part before) (known_part after)
   pub keeps : KeepsCounts before after
   pub drops_are : dropped ≡ drops limit before.places mentions
 
--- a frontier may learn so many links under this limit on the places
+-- a frontier can learn this many links with this limit of places
 pub record MayLearn (limit links : ℕ) (frontier : FrontierData) : Type 0 where
   pub few_links : links ≤ 1048576
   pub limit_fits : limit ≤ 65536
   pub few_places : length frontier.places ≤ limit
   pub few_out : frontier.out ≤ 65536
 
--- the frontier learned these mentions, which added so much: at most so many were dropped, and there is
--- room in the queue for the fresh places and for each outcome that is due
+-- the frontier learned these mentions and returned `added`; the queue has room for the fresh places
+-- and for the outcome of each place that is out
 pub record Learns (limit : ℕ) (mentions : List PlaceData) (before after : FrontierData) (added : Added) : Type 0 where
   pub learned : Learned limit mentions before after added.dropped
   pub fresh : added.fresh + length before.places ≡ length after.places
   pub few : added.dropped ≤ 1048576
   pub room : added.fresh + before.out ≤ after.room
 
--- the sizes of a frontier
+-- the counts of a frontier
 abbrev pub status_of : FrontierData → Status
 status_of frontier =
     record {
@@ -179,18 +179,18 @@ status_of frontier =
       dropped = frontier.dropped;
     }
 
--- whether the place of a number is this one
+-- the place of the number is this one
 abbrev pub is_place_at : List PlaceData → ℕ → PlaceData → Bool
 is_place_at places number place = option_map_or (λ other. same_place other place) (slice_get places number) false
 
--- whether a number is out
+-- the number is out
 abbrev pub is_out_at : List Standing → ℕ → Bool
 is_out_at standings number = option_map_or (λ standing. standing.is_out) (slice_get standings number) false
 
 abbrev pub IsNotOut : FrontierData → ℕ → Type 0
 IsNotOut frontier number = is_out_at frontier.standings number ≡ false
 
--- a number is out, and stands so
+-- the number is out with this state
 abbrev pub IsOutAs : FrontierData → ℕ → Standing → Type 0
 IsOutAs frontier number standing = (slice_get frontier.standings number ≡ Some standing) × (standing.is_out ≡ true)
 
@@ -204,7 +204,7 @@ pub record Begins (limit : ℕ) (seeds : List PlaceData) (frontier : FrontierDat
   pub dropped : frontier.dropped ≡ drops limit [] seeds
   pub few_dropped : frontier.dropped ≤ length seeds
 
--- the first number that waits is claimed; it stood so
+-- the first waiting number, with this state, was claimed
 abbrev pub after_claim : FrontierData → ℕ → Standing → FrontierData
 after_claim frontier number standing =
     record frontier {
@@ -213,7 +213,7 @@ after_claim frontier number standing =
       out = frontier.out + 1;
     }
 
--- a number that is out, and stood so, is out no more
+-- the claim of a number with this state ended
 abbrev pub after_outcome : FrontierData → ℕ → Standing → FrontierData
 after_outcome frontier number standing =
     record frontier {
@@ -221,7 +221,7 @@ after_outcome frontier number standing =
       out = frontier.out - 1;
     }
 
--- a number that is out, and stood so, was found: the known places after the first `before` are new
+-- a number with this state was found; the known places after the first `before` are new
 abbrev pub after_find : FrontierData → ℕ → Standing → ℕ → ℕ → FrontierData
 after_find frontier number standing before dropped =
     record frontier {
@@ -233,7 +233,7 @@ after_find frontier number standing before dropped =
       dropped = frontier.dropped + dropped;
     }
 
--- a number that is out, and stood so, failed: it waits once more where it has tries left
+-- a number with this state failed; it waits again if it has tries left
 abbrev pub after_failure : FrontierData → ℕ → Standing → ℕ → FrontierData
 after_failure frontier number standing tries =
     record frontier {

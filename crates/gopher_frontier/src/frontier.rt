@@ -1,4 +1,4 @@
-//! The frontier of a crawl: what is known, what waits, and how much of each.
+//! The frontier of a crawl: the known places, the queue of waiting ones, and their numbers.
 
 ghost use Rattle.std.specs.Prelude.{◌≡◌, ◌+◌, ◌-◌, ◌^◌, ◌<◌, ◌≤◌, length, map, take, slice_get, MatchOption, Some, IfOk, OnOk, OnErr};
 ghost use Rattle.std.specs.Arc.{arc_value};
@@ -13,11 +13,11 @@ use std::alloc::Global;
 use std::marker::Model;
 use std::sync::Arc;
 
-/// The known places, the queue of those that wait, and the sizes, counted as they change. A place goes
-/// by its number: its index, from 0, among the known places.
+/// The known places with their states, the queue of waiting places, and counts that each call
+/// updates. A number identifies a place: its index, from 0, among the known places.
 ///
-/// Contracts see a frontier as its tables (`FrontierData`), and don't ask how they came about: that is
-/// for the caller to keep.
+/// Contracts see a frontier as its tables (`FrontierData`) and don't relate the tables to each
+/// other: the caller keeps them consistent.
 #[derive(Debug, Drop)]
 pub struct Frontier {
     known: KnownPlaces,
@@ -36,8 +36,7 @@ impl Model for Frontier {
 }
 
 impl Frontier {
-    /// The frontier of a crawl that begins: the seeds, as far as `limit` allows, wait. Refused only
-    /// where memory is (90).
+    /// The frontier of a new crawl: the distinct seeds, at most `limit` of them, wait.
     pub fn open(alloc: Global, limit: u32, seeds: &[Place]) -> Result<Frontier, NoMemory>
         requires { limit ≤ 65536 }
         ensures { IfOk result (Begins limit seeds.now) }
@@ -56,7 +55,7 @@ impl Frontier {
         })
     }
 
-    /// How many places are known. Takes no memory.
+    /// Returns the number of known places.
     pub fn len(&self) -> usize
         ensures places { result ≡ length self.now.places }
         ensures standings { result ≡ length self.now.standings }
@@ -64,21 +63,21 @@ impl Frontier {
         self.known.len()
     }
 
-    /// How many places are out: claimed, with no outcome yet. Takes no memory.
+    /// Returns the number of places that are out: claimed and without an outcome.
     pub fn out(&self) -> u32
         ensures { result ≡ self.now.out }
     {
         self.out
     }
 
-    /// The known places, each at its number. Takes no memory.
+    /// Returns the known places, each at the index that is its number.
     pub fn places(&self) -> &[Arc<Place>]
         ensures { map arc_value result.now ≡ self.now.places }
     {
         self.known.as_slice()
     }
 
-    /// The place of a known number. Takes no memory.
+    /// Returns the place of a known number.
     pub fn place(&self, number: u32) -> &Arc<Place>
         requires { number < length self.now.places }
         ensures { slice_get self.now.places number ≡ Some (arc_value result.now) }
@@ -86,21 +85,21 @@ impl Frontier {
         &self.known.as_slice()[number as usize]
     }
 
-    /// The first number that waits, if one does. Takes no memory.
+    /// Returns the first waiting number, if a place waits.
     pub fn first(&self) -> Option<u32>
         ensures { result ≡ slice_get self.now.waiting 0 }
     {
         self.queue.first()
     }
 
-    /// How the place of this number stands, if it is known. Takes no memory.
+    /// Returns the state of the place with this number, if it is known.
     pub fn standing(&self, number: u32) -> Option<Standing>
         ensures { result ≡ slice_get self.now.standings number }
     {
         self.known.standing(number as usize)
     }
 
-    /// How the place of this number stands, if it is out. Takes no memory.
+    /// Returns the state of the place with this number, if it is out.
     pub fn out_standing(&self, number: u32) -> Option<Standing>
         ensures { MatchOption result (IsNotOut self.now number) (IsOutAs self.now number) }
     {
@@ -112,7 +111,7 @@ impl Frontier {
         }
     }
 
-    /// Whether this is the place of this number. Takes no memory.
+    /// Returns whether this is the place with this number.
     pub fn has_place(&self, number: u32, place: &Place) -> bool
         ensures { result ≡ is_place_at self.now.places number place.now }
     {
@@ -122,7 +121,7 @@ impl Frontier {
         }
     }
 
-    /// The sizes. Takes no memory.
+    /// Returns the number of places in each state, and of dropped mentions.
     pub fn status(&self) -> Status
         requires known { length self.now.places < 2 ^ 32 }
         requires waiting { length self.now.waiting < 2 ^ 32 }
@@ -137,7 +136,7 @@ impl Frontier {
         }
     }
 
-    /// Makes room in the queue for `additional` numbers. A refusal (90) leaves all as it was.
+    /// Reserves room in the queue for at least `additional` numbers.
     pub fn reserve(&mut self, additional: usize) -> Result<(), NoMemory>
         ensures keeps { KeepsFrontier self.old self.new }
         ensures ok { OnOk result (additional ≤ self.new.room) }
@@ -145,8 +144,11 @@ impl Frontier {
         self.queue.reserve(additional)
     }
 
-    /// Mentions the links of a page, counts what that adds, and makes room in the queue for that and
-    /// for each outcome that is due. A refusal (90) leaves all as it was.
+    /// Makes the links of a page known that `scope` allows, while there are fewer than `limit`
+    /// places, and returns how many became known and how many mentions were dropped.
+    ///
+    /// It also reserves room in the queue for the new places and for the outcome of each place that
+    /// is out. The new places don't wait before `found`.
     pub fn learn(
         &mut self,
         scope: &Scope,
@@ -165,7 +167,7 @@ impl Frontier {
         learned
     }
 
-    // As `learn`, but a refusal may leave more known places.
+    // Does what `learn` does, but when out of memory it can leave new places known.
     fn try_learn(
         &mut self,
         scope: &Scope,
@@ -188,7 +190,7 @@ impl Frontier {
         })
     }
 
-    /// Keeps the first `len` places alone; the queue stays. Takes no memory.
+    /// Forgets all places after the first `len`. The queue stays unchanged.
     pub fn forget(&mut self, len: usize)
         ensures places { self.new.places ≡ take len self.old.places }
         ensures standings { self.new.standings ≡ take len self.old.standings }
@@ -198,7 +200,7 @@ impl Frontier {
         self.known.truncate(len);
     }
 
-    /// Claims the first number that waits, which stands so: it is out from now on. Takes no memory.
+    /// Claims the first waiting number, whose state is `standing`. It is out from now on.
     #[tactic(auto, using(std::proofs::lemmas::Option::slice_get_within))]
     pub fn claim(&mut self, number: u32, standing: Standing)
         requires first { slice_get self.old.waiting 0 ≡ Some number }
@@ -219,7 +221,7 @@ impl Frontier {
         self.out += 1;
     }
 
-    // A number that is out, and stands so, is out no more.
+    // Ends the claim of a number that is out with the state `standing`.
     #[tactic(auto, using(std::proofs::lemmas::Option::slice_get_within))]
     fn settle(&mut self, number: u32, standing: Standing)
         requires standing { slice_get self.old.standings number ≡ Some standing }
@@ -237,8 +239,8 @@ impl Frontier {
         self.out -= 1;
     }
 
-    /// Notes that a number that is out, and stands so, was found: the places after the first
-    /// `before` wait from now on. Takes no memory.
+    /// Records that a number that is out with the state `standing` was found. The places after the
+    /// first `before` now wait.
     pub fn found(&mut self, number: u32, standing: Standing, before: u32, dropped: u32)
         requires standing { slice_get self.old.standings number ≡ Some standing }
         requires before { before ≤ length self.old.places }
@@ -255,8 +257,8 @@ impl Frontier {
         self.dropped += u64::from(dropped);
     }
 
-    /// Notes that a number that is out, and stands so, failed: it waits once more where it was
-    /// claimed fewer than `tries` times. Takes no memory.
+    /// Records that a number that is out with the state `standing` failed. It waits again if it was
+    /// claimed fewer than `tries` times.
     pub fn fail(&mut self, number: u32, standing: Standing, tries: u32)
         requires standing { slice_get self.old.standings number ≡ Some standing }
         requires room { 0 < self.old.room }

@@ -1,4 +1,4 @@
-//! The places that a crawl knows, and how each of them stands.
+//! The known places of a crawl, and the state of each.
 
 ghost use Rattle.std.specs.Prelude.{◌≡◌, ◌<◌, [], ◌≤◌, false, length, map, take, slice_get, slice_set, IfOk, OnOk, OnErr};
 ghost use Rattle.std.specs.Arc.{arc_value};
@@ -12,28 +12,28 @@ use std::alloc::Global;
 use std::marker::Model;
 use std::sync::Arc;
 
-/// How a known place stands.
+/// The state of a known place.
 #[derive(Clone, Copy, Debug, PartialEq, Eq)]
 pub struct Standing {
-    /// How often it was claimed.
+    /// How often the place was claimed.
     pub claims: u32,
-    /// Whether it was claimed and has no outcome yet.
+    /// Whether the place was claimed and has no outcome yet.
     pub is_out: bool,
 }
 
 impl Standing {
-    /// A place that was never claimed.
+    /// The state of a place that was never claimed.
     const UNCLAIMED: Standing = Standing {
         claims: 0,
         is_out: false,
     };
 }
 
-/// The known places in the order of first mention; the index of a place is its number.
+/// The known places in the order of first mention. The index of a place is its number.
 #[derive(Debug, Drop)]
 pub(crate) struct KnownPlaces {
     standings: IndexMap<Arc<Place>, Standing>,
-    // The keys of `standings` once more, to be served as one slice.
+    // The keys of `standings` again, because callers get them as one slice.
     places: Vec<Arc<Place>>,
 }
 
@@ -51,7 +51,7 @@ impl Model for KnownPlaces {
 }
 
 impl KnownPlaces {
-    /// No places.
+    /// An empty list.
     pub fn new(alloc: Global) -> KnownPlaces
         ensures places { result.places ≡ [] }
         ensures standings { result.standings ≡ [] }
@@ -62,7 +62,7 @@ impl KnownPlaces {
         }
     }
 
-    /// How many places there are.
+    /// Returns the number of places.
     pub fn len(&self) -> usize
         ensures places { result ≡ length self.now.places }
         ensures standings { result ≡ length self.now.standings }
@@ -70,21 +70,21 @@ impl KnownPlaces {
         self.places.len()
     }
 
-    /// The places, each at its number.
+    /// Returns the places, each at the index that is its number.
     pub fn as_slice(&self) -> &[Arc<Place>]
         ensures { map arc_value result.now ≡ self.now.places }
     {
         &self.places
     }
 
-    /// Whether the place is known.
+    /// Returns whether the place is known.
     pub fn contains(&self, place: &Arc<Place>) -> bool
         ensures { result ≡ is_among self.now.places (arc_value place.now) }
     {
         self.standings.contains_key(place)
     }
 
-    /// How the place of this number stands.
+    /// Returns the state of the place with this number.
     pub fn standing(&self, number: usize) -> Option<Standing>
         ensures { result ≡ slice_get self.now.standings number }
     {
@@ -92,7 +92,7 @@ impl KnownPlaces {
         Some(*standing)
     }
 
-    /// Changes how the place of this number stands.
+    /// Replaces the state of the place with this number.
     pub fn set_standing(&mut self, number: usize, standing: Standing)
         requires { number < length self.old.standings }
         ensures places { self.new.places ≡ self.old.places }
@@ -101,7 +101,7 @@ impl KnownPlaces {
         self.standings[number] = standing;
     }
 
-    /// Adds a place at the end, never claimed so far. A refusal (90) leaves all as it was.
+    /// Appends a place that was never claimed.
     pub fn add(&mut self, place: &Arc<Place>) -> Result<(), NoMemory>
         requires { is_among self.old.places (arc_value place.now) ≡ false }
         ensures places { OnOk result (IsWithPlace self.old self.new (arc_value place.now)) }
@@ -115,7 +115,7 @@ impl KnownPlaces {
         Ok(())
     }
 
-    /// Keeps the first `len` places alone.
+    /// Forgets all places after the first `len`.
     pub fn truncate(&mut self, len: usize)
         ensures places { self.new.places ≡ take len self.old.places }
         ensures standings { self.new.standings ≡ take len self.old.standings }
@@ -126,8 +126,8 @@ impl KnownPlaces {
 }
 
 impl KnownPlaces {
-    /// Makes a place known, unless it is, or unless `limit` places are: answers whether the mention
-    /// is dropped. A refusal (90) leaves all as it was.
+    /// Makes a place known unless it is known already, or `limit` places are. Returns whether the
+    /// mention was dropped.
     pub fn mention(&mut self, limit: usize, place: &Arc<Place>) -> Result<bool, NoMemory>
         ensures places { OnOk result (Mentions limit self.old self.new (arc_value place.now)) }
         ensures dropped { IfOk result (IsDropped limit self.old (arc_value place.now)) }
@@ -144,8 +144,7 @@ impl KnownPlaces {
         Ok(false)
     }
 
-    /// Mentions a link, if the scope allows it: answers whether the mention is dropped. A refusal (90)
-    /// leaves all as it was.
+    /// Mentions a link if the scope allows it. Returns whether the mention was dropped.
     fn mention_link(
         &mut self,
         scope: &Scope,
@@ -164,8 +163,8 @@ impl KnownPlaces {
         }
     }
 
-    /// Mentions those of the links that the scope allows, and counts the mentions dropped. A refusal
-    /// (90) leaves the places of before, and perhaps more behind them.
+    /// Mentions the links that the scope allows. Returns the number of dropped mentions. When out
+    /// of memory it can leave new places known.
     pub fn mention_links(
         &mut self,
         scope: &Scope,
@@ -185,7 +184,8 @@ impl KnownPlaces {
         Ok(dropped)
     }
 
-    /// Mentions the seeds of a crawl, and counts the mentions dropped.
+    /// Mentions the seeds of a crawl. Returns the number of dropped mentions. When out of memory it
+    /// can leave new places known.
     pub fn mention_seeds(
         &mut self,
         alloc: Global,

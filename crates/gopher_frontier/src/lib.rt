@@ -1,10 +1,13 @@
-//! The tables of a crawl: the places that it knows, how each stands, the queue of those that wait, and
-//! the sizes of all these, counted as they change.
+//! The tables of a crawl: the known places and their states, the queue of waiting places, and
+//! counts that each call updates.
 //!
-//! RFC 1436 says nothing of crawls: all of this is this profile's.
+//! The crate above uses one contract: each call of a `Frontier` changes the tables as
+//! `specs/Tables.antt` defines. The crate knows no events and no records.
 //!
-//! The crates above rest on one promise: each call of a `Frontier` changes the lists and counts of its
-//! tables as the definitions say, and a refused one leaves them. It knows no event and no record.
+//! Error 90 (`NoMemory`) means out of memory. A call that fails with it changes nothing except that
+//! more room can be reserved. Calls that can't fail with it allocate nothing.
+//!
+//! RFC 1436 doesn't define crawls: this profile defines them.
 #![tactic(auto)]
 
 mod frontier;

@@ -1,4 +1,4 @@
-//! The numbers that wait to be claimed.
+//! The queue of waiting numbers.
 
 ghost use Rattle.std.specs.Prelude.{◌≡◌, ◌+◌, ◌-◌, ◌^◌, ◌<◌, ◌≤◌, [], ◌∷◌, ◌++◌, length, drop, slice_get, OnOk};
 ghost use Rattle.gopher_frontier.specs.Tables.{QueueData, with_range};
@@ -7,7 +7,8 @@ use gopher_item::NoMemory;
 use std::alloc::Global;
 use std::marker::Model;
 
-/// A queue of numbers. Nothing leaves the list: the index of the first that waits rises.
+/// A queue of numbers. Taken numbers stay in the list: only the index of the first waiting one
+/// grows.
 #[derive(Debug, Drop)]
 pub(crate) struct Queue {
     entries: Vec<u32>,
@@ -36,21 +37,21 @@ impl Queue {
         }
     }
 
-    /// How many numbers wait.
+    /// Returns the number of waiting numbers.
     pub fn len(&self) -> usize
         ensures { result ≡ length self.now.waiting }
     {
         self.entries.len() - self.taken
     }
 
-    /// The first number that waits.
+    /// Returns the first waiting number.
     pub fn first(&self) -> Option<u32>
         ensures { result ≡ slice_get self.now.waiting 0 }
     {
         self.entries.get(self.taken).copied()
     }
 
-    /// Takes the first number that waits.
+    /// Takes the first waiting number.
     pub fn take_first(&mut self)
         requires { 0 < length self.old.waiting }
         ensures waiting { self.new.waiting ≡ drop 1 self.old.waiting }
@@ -59,7 +60,8 @@ impl Queue {
         self.taken += 1;
     }
 
-    /// Makes room for `additional` more numbers. A refusal (90) keeps the room that there was.
+    /// Reserves room for at least `additional` more numbers. Even a failed call never reduces the
+    /// room.
     pub fn reserve(&mut self, additional: usize) -> Result<(), NoMemory>
         ensures waiting { self.new.waiting ≡ self.old.waiting }
         ensures room { self.old.room ≤ self.new.room }
@@ -69,7 +71,7 @@ impl Queue {
         Ok(())
     }
 
-    /// Adds a number at the end, for which there is room.
+    /// Appends a number. There must be room for it.
     pub fn push(&mut self, number: u32)
         requires { 0 < self.old.room }
         ensures waiting { self.new.waiting ≡ self.old.waiting ++ number ∷ [] }
@@ -78,7 +80,7 @@ impl Queue {
         self.entries.push_reserved(number);
     }
 
-    /// Adds the numbers from `first` up to `end` at the end, for which there is room.
+    /// Appends the numbers from `first` up to, not including, `end`. There must be room for them.
     pub fn push_range(&mut self, first: u32, end: u32)
         requires order { first ≤ end }
         requires room { end - first ≤ self.old.room }

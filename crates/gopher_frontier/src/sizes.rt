@@ -1,25 +1,25 @@
-//! The sizes of a frontier, and what a page adds to them.
+//! The counts of a frontier, and what a page adds to them.
 
-/// What a page added to the frontier.
+/// What a page adds to the frontier.
 #[derive(Clone, Copy, Debug, PartialEq, Eq)]
 pub struct Added {
-    /// How many places became known.
+    /// The number of places that became known.
     pub fresh: u32,
-    /// How many mentions were of places past the limit.
+    /// The number of dropped mentions: of unknown places, after the limit of places was reached.
     pub dropped: u32,
 }
 
-/// The sizes of the frontier.
+/// The counts of a frontier.
 #[derive(Clone, Copy, Debug, PartialEq, Eq)]
 pub struct Status {
-    /// How many places are known.
+    /// The number of known places.
     pub known: u32,
-    /// How many wait to be claimed.
+    /// The number of places that wait to be claimed.
     pub waiting: u32,
-    /// How many were claimed and have no outcome yet.
+    /// The number of places that were claimed and have no outcome yet.
     pub out: u32,
-    /// How many were found, or failed at their last try.
+    /// The number of places that were found, or failed at their last try.
     pub done: u32,
-    /// How many mentions were of places past the limit.
+    /// The number of dropped mentions: of unknown places, after the limit of places was reached.
     pub dropped: u64,
 }

@@ -4,17 +4,24 @@ ghost use Rattle.std.specs.Prelude.{◌≡◌};
 ghost use Rattle.gopher_check.specs.Fault.{site_fault_code};
 ghost use Rattle.gopher_hole.specs.Fault.{program_fault_code};
 
+use crate::address_check::tell_addresses;
 use crate::announcing::send_text;
 use crate::fault::ProgramFault;
-use crate::opening::settings_bytes;
+use crate::opening::{read_settings, settings_bytes};
+use crate::words::Checking;
 use gopher_catalogue::OpenFault;
 use gopher_check::{Report, SiteFault, check, unreadable};
 use gopher_item::NoMemory;
+use gopher_scope::SettingsFault;
 use gopher_text::Watched;
 use std::alloc::Global;
 use std::fs::Files;
 use std::io::Write;
+use std::net::Net;
 use std::str;
+
+// The last line of a sound site's report.
+const SOUND: &[u8] = b"sound\n";
 
 // The fault of the program that a fault of its site is.
 fn program_fault(fault: SiteFault) -> ProgramFault
@@ -25,6 +32,7 @@ fn program_fault(fault: SiteFault) -> ProgramFault
         SiteFault::Tree(fault, _) => ProgramFault::Tree(fault),
         SiteFault::SeedOutOfScope(seed) => ProgramFault::Open(OpenFault::SeedOutOfScope(seed)),
         SiteFault::SettingsUnreadable => ProgramFault::SettingsUnreadable,
+        SiteFault::KeyTwice => ProgramFault::Settings(SettingsFault::NotToml),
     }
 }
 
@@ -42,20 +50,29 @@ fn file_report<R: Files>(rt: &R, alloc: Global, path: &str) -> Result<Report, No
 }
 
 /// Checks the settings in a file and their folder as a server would, and sends what is told of them to
-/// the output.
+/// the output. Of a sound site, the addresses of its host are told before the last line.
 ///
-/// Refused as `serve` is for the same fault: 80, 30 to 34, 20 to 26, 50, 90; and with 13 where a sound
-/// site's report can't be written.
-pub fn check_site<R: Files, W: Write>(
+/// # Errors
+///
+/// - Those of `serve` for the same fault: 80, 30 to 34, 20 to 26, 50, 90.
+/// - `ListenFailed` (81): addresses were to be bound, and none could be.
+/// - `WriteFailed` (13): a sound site's report couldn't be written.
+pub fn check_site<R: Files + Net, W: Write>(
     rt: &R,
     alloc: Global,
-    path: &str,
+    checking: Checking<'_>,
     output: &mut Watched<W>,
 ) -> Result<(), ProgramFault> {
-    let report = file_report(rt, alloc, path)?;
-    let sent = send_text(output, &report.words);
-    match report.fault {
-        Some(fault) => Err(program_fault(fault)),
-        None => sent,
+    let report = file_report(rt, alloc, checking.settings)?;
+    if let Some(fault) = report.fault {
+        let _unsent = send_text(output, &report.words);
+        return Err(program_fault(fault));
     }
+    let Some(words) = report.words.strip_suffix(SOUND) else {
+        return send_text(output, &report.words);
+    };
+    send_text(output, words)?;
+    let settings = read_settings(rt, alloc, checking.settings)?;
+    tell_addresses(rt, alloc, &settings.home, checking.listens, output)?;
+    send_text(output, SOUND)
 }

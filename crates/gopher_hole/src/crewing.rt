@@ -7,20 +7,23 @@ use crate::announcing::{tell_listening, tell_status};
 use crate::fault::ProgramFault;
 use crate::fetching::TcpFetch;
 use crate::listening::listen;
-use crate::log_writer::{OpenLog, end_log, queue_of, start_log};
 use crate::opening::{Opened, open, read_settings};
 use crate::progress::crawl_and_tell;
-use crate::starting::{Shop, join_all, start_threads};
+use crate::starting::{Started, join_all, start_threads};
 use crate::words::Serving;
 use gopher_catalogue::Status;
 use gopher_crew::{Blank, Crew, Desk, Pass, Share, WorkEnd, crawl};
+use gopher_log_writer::{Log, LogQueue, OpenLog, start_log};
 use gopher_replies::Replies;
+use gopher_server::set_up;
 use gopher_text::Watched;
+use mio::net::TcpListener;
 use std::alloc::Global;
+use std::env::Env;
 use std::fs::{File, Files};
 use std::io::{Eprint, Write};
-use std::net::{Net, TcpListener, TcpStream};
-use std::sync::Wait;
+use std::net::{Net, TcpListener as NetListener, TcpStream};
+use std::sync::{Arc, Wait};
 use std::thread::Threads;
 use std::time::Clock;
 
@@ -55,10 +58,41 @@ fn fault_at_end(accept_failed: bool, is_short: bool, was_crawled: bool) -> Optio
     }
 }
 
+// What the server threads serve.
+#[derive(Drop)]
+struct Service {
+    listeners: Vec<TcpListener>,
+    replies: Replies,
+    requests: Option<u64>,
+    log: Option<Arc<LogQueue>>,
+}
+
+// Starts a server thread for each pass.
+fn start<
+    C: Crew + Send + Sync + 'static,
+    R: Net + Threads + Wait + Clock + Eprint + Clone + Send + Drop + 'static,
+>(rt: &R, alloc: Global, service: Service, passes: Vec<Pass<C>>) -> Result<Started, ProgramFault> {
+    let Service {
+        listeners,
+        replies,
+        requests,
+        log,
+    } = service;
+    let setups = set_up(rt, alloc, listeners, requests, passes.len(), &log)?;
+    let Ok(replies) = Arc::new(alloc, replies) else {
+        return Err(ProgramFault::NoMemory);
+    };
+    let started = start_threads(rt, alloc, &replies, setups, passes);
+    if started.threads.is_empty() {
+        return Err(ProgramFault::NoThread);
+    }
+    Ok(started)
+}
+
 // Starts the server threads, crawls, and waits until all of them ended.
 fn serve_and_crawl<
     C: Crew + Send + Sync + 'static,
-    R: Net<Listener = TcpListener, Stream = TcpStream>
+    R: Net<Listener = NetListener, Stream = TcpStream>
         + Threads
         + Wait
         + Clock
@@ -71,24 +105,20 @@ fn serve_and_crawl<
 >(
     rt: &R,
     alloc: Global,
-    shop: Shop,
+    service: Service,
     desk: &Desk<C, &R>,
     passes: Vec<Pass<C>>,
     pairs: Vec<(TcpFetch, Share<C>)>,
     progress: bool,
 ) -> Result<Vec<WorkEnd<TcpFetch, C>>, ProgramFault> {
-    let started = start_threads(rt, alloc, &shop, passes);
-    drop(shop);
-    if started.threads.is_empty() {
-        return Err(ProgramFault::NoThread);
-    }
+    let started = start(rt, alloc, service, passes)?;
     let crawled = if progress {
         crawl_and_tell(rt, alloc, desk, pairs)
     } else {
         crawl(rt, alloc, desk, pairs)
     };
-    let accept_failed = join_all(rt, started.threads);
-    if let Some(fault) = fault_at_end(accept_failed, started.is_short, crawled.is_ok()) {
+    let end = join_all(rt, started);
+    if let Some(fault) = fault_at_end(end.failed, end.is_short, crawled.is_ok()) {
         return Err(fault);
     }
     match crawled {
@@ -115,19 +145,27 @@ fn close<C: Crew, R: Wait + Drop>(
     }
 }
 
-// Listens, tells where, and gives what the server threads share.
-fn open_shop<R: Net, W: Write>(
+// Starts the log, if requests are logged.
+fn start_log_at<R: OpenLog + Threads + Wait + Clock + Eprint + Clone + Send + Drop + 'static>(
     rt: &R,
     alloc: Global,
-    replies: Replies,
-    requests: Option<u64>,
-    output: &mut Watched<W>,
-) -> Result<Shop, ProgramFault> {
-    let listener = listen(rt, replies.home())?;
-    tell_listening(alloc, replies.home(), output)?;
-    match Shop::new(alloc, listener, replies, requests) {
-        Ok(shop) => Ok(shop),
-        Err(_refused) => Err(ProgramFault::NoMemory),
+    path: Option<&str>,
+) -> Option<Log> {
+    start_log(rt, alloc, path?)
+}
+
+// Where server threads hand on the lines of a log.
+fn queue_of(log: &Option<Log>) -> Option<Arc<LogQueue>> {
+    match log {
+        Some(log) => log.queue(),
+        None => None,
+    }
+}
+
+// Ends the log, if there is one.
+fn end_log<R: Threads + Wait>(rt: &R, alloc: Global, log: Option<Log>) {
+    if let Some(log) = log {
+        log.end(rt, alloc);
     }
 }
 
@@ -136,10 +174,11 @@ pub fn serve<
     C: Crew + Send + Sync + 'static,
     R: Files<File = File>
         + OpenLog
-        + Net<Listener = TcpListener, Stream = TcpStream>
+        + Net<Listener = NetListener, Stream = TcpStream>
         + Threads
         + Wait
         + Clock
+        + Env
         + Eprint
         + AllocGlobal
         + Clone
@@ -163,11 +202,17 @@ pub fn serve<
         shares,
     } = open::<C, R>(rt, alloc, settings, blank)?;
     let pairs = pairs_of(alloc, shares)?;
-    let mut shop = open_shop(rt, alloc, replies, serving.requests, output)?;
-    let log = start_log(rt, alloc, serving.log);
-    shop.log = queue_of(&log);
-    let ended = serve_and_crawl(rt, alloc, shop, &desk, passes, pairs, serving.progress);
-    end_log(rt, log);
+    let listeners = listen(rt, alloc, replies.home(), &serving.addresses)?;
+    tell_listening(alloc, replies.home(), output)?;
+    let log = start_log_at(rt, alloc, serving.log);
+    let service = Service {
+        listeners,
+        replies,
+        requests: serving.requests,
+        log: queue_of(&log),
+    };
+    let ended = serve_and_crawl(rt, alloc, service, &desk, passes, pairs, serving.progress);
+    end_log(rt, alloc, log);
     let status = close(alloc, desk, ended?)?;
     tell_status(alloc, status, output)
 }

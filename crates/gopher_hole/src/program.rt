@@ -12,12 +12,13 @@ use crate::announcing::{send_text, write_fault};
 use crate::checking::check_site;
 use crate::crewing::serve;
 use crate::fault::ProgramFault;
-use crate::log_writer::OpenLog;
 use crate::words::{Asked, Text, read_words};
 use gopher_crew::Blank;
+use gopher_log_writer::OpenLog;
 use gopher_script::{ReplayFault, replay, send_all};
 use gopher_text::Watched;
 use std::alloc::Global;
+use std::env::Env;
 use std::fs::{File, Files};
 use std::io::{Eprint, Read, Write};
 use std::marker::Brand;
@@ -133,12 +134,14 @@ fn tell_text<W: Write, E: Write>(text: &Text, output: &mut Watched<W>, error: &m
 /// - `serve SETTINGS`, with `--requests N` if it is to end, serves the folder of the settings, crawls,
 ///   and answers searches. `output` gets the line `listening HOST PORT` once the server listens, and
 ///   the sizes of the crawl at the end: status 0. Where that fails, `error` gets the line of the fault,
-///   as `hole: 33 port`, and the status is 1. With `--log FILE` a line for each request is appended to
+///   as `hole: 33 port`, and the status is 1. With `--listen ADDRESS`, once or several times, it listens at
+///   these addresses, and not at those of the settings' host. With `--log FILE` a line for each request is appended to
 ///   the file; with `--progress` the sizes of the crawl are told as it goes on. What is told while it
 ///   serves, as that the log can't be written, goes to the error stream of `rt`, not to `error`.
 /// - `check SETTINGS` writes to `output` what is wrong with the settings or their folder, in words, and
-///   where, or what a sound site has: status 0. Where there is a fault, `error` gets the line that `serve`
-///   would write, and the status is 1.
+///   where, or what a sound site has and the addresses of its host: status 0. With `--listen` it tries to
+///   bind each of them for a moment, and writes what the system said. Where there is a fault, `error` gets
+///   the line that `serve` would write, and the status is 1.
 /// - `--help` and `--version` write their text to `output`: status 0.
 /// - Any other words read and write nothing, but for a text on `error` that says what is wrong with
 ///   them: status 2.
@@ -151,6 +154,7 @@ pub fn run<
         + Threads
         + Wait
         + Clock
+        + Env
         + Eprint
         + AllocGlobal
         + Clone
@@ -192,8 +196,8 @@ pub fn run<
             let end = serve::<Brand, H, W>(rt, &serving, Blank::new(), output);
             tell_end(error, end)
         }
-        Ok(Asked::Check(settings)) => {
-            let end = check_site(rt, rt.alloc(), settings, output);
+        Ok(Asked::Check(checking)) => {
+            let end = check_site(rt, rt.alloc(), checking, output);
             tell_end(error, end)
         }
         Ok(Asked::Told(text)) => tell_text(&text, output, error),

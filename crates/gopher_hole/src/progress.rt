@@ -1,6 +1,7 @@
 //! The sizes of a crawl, told as it goes on.
 
 use crate::fetching::TcpFetch;
+use gopher_catalogue::Status;
 use gopher_crew::{CrawlRefused, Crew, Desk, Share, WorkEnd, crawl};
 use gopher_script::status_line;
 use std::alloc::Global;
@@ -18,9 +19,9 @@ const RESTS: u32 = 100;
 // How many milliseconds a rest has.
 const REST: u64 = 100;
 
-// Tells the sizes of a desk's frontier on the error stream. Where memory is refused, nothing is told.
-fn tell<C: Crew, R: Wait + Drop, W: Wait + Eprint>(rt: &W, alloc: Global, desk: &Desk<C, R>) {
-    let Ok(line) = status_line(alloc, desk.status(rt)) else {
+// Tells the sizes of a frontier on the error stream. Where memory is refused, nothing is told.
+fn tell(rt: &impl Eprint, alloc: Global, status: Status) {
+    let Ok(line) = status_line(alloc, status) else {
         return;
     };
     if let Ok(text) = str::from_utf8(&line) {
@@ -39,16 +40,21 @@ fn wait_for_end(clock: &impl Clock, is_over: &AtomicBool) -> bool {
     is_over.load(Ordering::SeqCst)
 }
 
-// Tells the sizes every ten seconds, and once the crawl is over.
+// Tells the sizes every ten seconds, and once the crawl is over, unless they were told already.
 fn tell_until_over<C: Crew, R: Wait + Drop, W: Wait + Clock + Eprint>(
     rt: &W,
     alloc: Global,
     desk: &Desk<C, R>,
     is_over: &AtomicBool,
 ) {
+    let mut told = None;
     for _round in rt.forever() {
         let was_over = wait_for_end(rt, is_over);
-        tell(rt, alloc, desk);
+        let status = desk.status(rt);
+        if told != Some(status) {
+            tell(rt, alloc, status);
+            told = Some(status);
+        }
         if was_over {
             return;
         }
@@ -74,7 +80,8 @@ fn crawl_until_over<
 }
 
 /// Crawls as `gopher_crew::crawl` does, and tells the sizes of the crawl on the error stream every ten
-/// seconds and at its end.
+/// seconds if they have changed, and at its end; if the system refuses a thread for that, at its end
+/// alone.
 pub fn crawl_and_tell<
     C: Crew + Send + Sync,
     R: Wait + Drop + Send + Sync,
@@ -87,10 +94,10 @@ pub fn crawl_and_tell<
 ) -> Result<Vec<WorkEnd<TcpFetch, C>>, CrawlRefused<TcpFetch, C>> {
     let over = AtomicBool::new(false);
     let is_over = &over;
-    let (crawled, _told) = thread::join(
+    let (_told, crawled) = thread::join(
         rt,
-        move || crawl_until_over(rt, alloc, desk, pairs, is_over),
         move || tell_until_over(rt, alloc, desk, is_over),
+        move || crawl_until_over(rt, alloc, desk, pairs, is_over),
     );
     crawled
 }

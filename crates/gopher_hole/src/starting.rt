@@ -1,159 +1,95 @@
 //! Server threads, as they are started.
 
-ghost use Rattle.std.specs.Prelude.{◌≤◌};
-
-use crate::logging::{LogQueue, ThreadLog};
-use crate::serving::{Post, serve_at};
-use crate::turns::Turns;
 use gopher_crew::{Crew, Pass};
-use gopher_item::NoMemory;
 use gopher_replies::Replies;
 use gopher_serve::Site;
-use mio::net::TcpListener;
-use mio::{Events, Poll};
+use gopher_server::{ThreadEnd, ThreadSetup, serve};
 use std::alloc::Global;
-use std::io;
-use std::net::Net;
+use std::io::Eprint;
 use std::sync::{Arc, Wait};
 use std::thread::{self, JoinHandle, Threads};
 use std::time::Clock;
 
-// How many events are taken in at once.
-const EVENTS: usize = 256;
-
-// How many files the rest of the program may hold open.
-const OTHER_FILES: u64 = 64;
-
-// How many connections all server threads hold at most.
-const MOST_SEATS: u64 = 16_384;
-
-/// What all server threads share.
-#[derive(Drop)]
-pub struct Shop {
-    /// Where they accept.
-    pub listener: Arc<TcpListener>,
-    /// What they send.
-    pub replies: Arc<Replies>,
-    /// How many connections they may accept.
-    pub turns: Arc<Turns>,
-    /// Where they hand on the lines of the log, if requests are logged.
-    pub log: Option<Arc<LogQueue>>,
-}
-
-impl Shop {
-    /// What the server threads share that accept so many connections. Refused only where memory is (90).
-    pub fn new(
-        alloc: Global,
-        listener: TcpListener,
-        replies: Replies,
-        requests: Option<u64>,
-    ) -> Result<Shop, NoMemory> {
-        Ok(Shop {
-            listener: Arc::new(alloc, listener)?,
-            replies: Arc::new(alloc, replies)?,
-            turns: Arc::new(alloc, Turns::new(requests))?,
-            log: None,
-        })
-    }
-}
-
 /// The server threads that were started.
 #[derive(Drop)]
 pub struct Started {
-    /// The threads, each of which tells whether an accept failed.
-    pub threads: Vec<JoinHandle<bool>>,
+    /// The threads, each of which tells how it ended.
+    pub threads: Vec<JoinHandle<ThreadEnd>>,
     /// Whether one couldn't be started.
     pub is_short: bool,
 }
 
-// How many files the process may hold open.
-fn open_files() -> u64 {
-    let mut limit = libc::types::rlimit {
-        rlim_cur: 0,
-        rlim_max: 0,
-    };
-    if libc::getrlimit(libc::RLIMIT_NOFILE, &mut limit) == 0 {
-        limit.rlim_cur
-    } else {
-        0
-    }
+/// How server threads ended.
+#[derive(Clone, Copy, Debug, PartialEq, Eq)]
+pub struct ThreadsEnd {
+    /// A listener of one was broken, or the system refused it to wait.
+    pub failed: bool,
+    /// One couldn't be started, or had no memory to begin.
+    pub is_short: bool,
 }
 
-/// How many connections each of so many server threads may hold, where so many files may be open: one at
-/// least.
-fn seats_each(files: u64, threads: u64) -> u64
-    ensures some { 1 ≤ result }
-    ensures few { result ≤ 16384 }
-{
-    let seats = files.saturating_sub(OTHER_FILES).min(MOST_SEATS);
-    (seats / threads.max(1)).max(1)
-}
-
-// A server thread's part of the log, if requests are logged.
-fn thread_log(alloc: Global, log: &Option<Arc<LogQueue>>) -> io::Result<Option<ThreadLog>> {
-    match log {
-        Some(queue) => Ok(Some(ThreadLog::new(alloc, Arc::try_clone(queue)?))),
-        None => Ok(None),
-    }
-}
-
-// What a server thread needs of the system.
-fn post_at<R: Net>(rt: &R, alloc: Global, shop: &Shop, seats: u64) -> io::Result<Post> {
-    Ok(Post {
-        poll: Poll::new(rt)?,
-        events: Events::with_capacity(alloc, EVENTS)?,
-        buffer: [0u8; 4096],
-        listener: Arc::try_clone(&shop.listener)?,
-        seats: seats as usize,
-        log: thread_log(alloc, &shop.log)?,
-    })
-}
-
-// Starts a server thread. None where the system or memory refuses it.
+// Starts a server thread. None if the system or memory refuses it.
 fn start_one<
     C: Crew + Send + Sync + 'static,
-    R: Net + Threads + Wait + Clock + Clone + Send + Drop + 'static,
->(rt: &R, alloc: Global, shop: &Shop, pass: Pass<C>, seats: u64) -> Option<JoinHandle<bool>> {
-    let post = post_at(rt, alloc, shop, seats).ok()?;
-    if !post.watch_listener() {
-        return None;
-    }
-    let replies = Arc::try_clone(&shop.replies).ok()?;
-    let turns = Arc::try_clone(&shop.turns).ok()?;
+    R: Threads + Wait + Clock + Eprint + Clone + Send + Drop + 'static,
+>(
+    rt: &R,
+    alloc: Global,
+    replies: &Arc<Replies>,
+    setup: ThreadSetup,
+    pass: Pass<C>,
+) -> Option<JoinHandle<ThreadEnd>> {
+    let replies = Arc::try_clone(replies).ok()?;
     let theirs = rt.clone().ok()?;
     let thread = thread::spawn(rt, move || {
-        serve_at(&theirs, alloc, post, Site::new(&replies, pass), &turns)
+        serve(&theirs, alloc, setup, Site::new(&replies, pass))
     });
     thread.ok()
 }
 
-/// Starts a server thread for each pass.
+/// Starts a server thread for each pass, by one of the setups. If one of the passes gets none, that is
+/// told on the error stream of `rt`, once.
 pub fn start_threads<
     C: Crew + Send + Sync + 'static,
-    R: Net + Threads + Wait + Clock + Clone + Send + Drop + 'static,
->(rt: &R, alloc: Global, shop: &Shop, passes: Vec<Pass<C>>) -> Started {
-    let seats = seats_each(open_files(), passes.len() as u64);
-    let Ok(mut threads) = Vec::with_capacity(alloc, passes.len()) else {
-        return Started {
-            threads: Vec::new(alloc),
-            is_short: true,
-        };
-    };
+    R: Threads + Wait + Clock + Eprint + Clone + Send + Drop + 'static,
+>(
+    rt: &R,
+    alloc: Global,
+    replies: &Arc<Replies>,
+    setups: Vec<ThreadSetup>,
+    passes: Vec<Pass<C>>,
+) -> Started {
     let mut is_short = false;
+    let mut setups = setups;
+    let mut threads = Vec::new(alloc);
     for pass in passes {
-        match start_one(rt, alloc, shop, pass, seats) {
+        let started = match setups.pop() {
+            Some(setup) => start_one(rt, alloc, replies, setup, pass),
+            None => None,
+        };
+        match started {
             Some(thread) => is_short |= threads.push(thread).is_err(),
             None => is_short = true,
         }
     }
+    if is_short {
+        let _ = rt.eprintln("hole: a server thread can't be started");
+    }
     Started { threads, is_short }
 }
 
-/// Waits until each of the threads has ended, and tells whether an accept of one failed.
-pub fn join_all<R: Threads>(rt: &R, threads: Vec<JoinHandle<bool>>) -> bool {
-    let mut accept_failed = false;
-    for thread in threads {
-        accept_failed |= thread.join(rt);
+/// Waits until each of the threads has ended.
+pub fn join_all<R: Threads>(rt: &R, started: Started) -> ThreadsEnd {
+    let mut end = ThreadsEnd {
+        failed: false,
+        is_short: started.is_short,
+    };
+    for thread in started.threads {
+        match thread.join(rt) {
+            ThreadEnd::Served => {}
+            ThreadEnd::Failed => end.failed = true,
+            ThreadEnd::LacksMemory => end.is_short = true,
+        }
     }
-    accept_failed
+    end
 }

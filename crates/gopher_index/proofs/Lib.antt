@@ -1,5 +1,7 @@
 pub mod SettlingLemmas
 pub mod AnswerLemmas
+pub mod Groups
+pub mod GroupCells
 pub mod Lists
 pub mod Zipping
 pub mod CellLemmas

@@ -4,3 +4,4 @@ pub mod Answer
 pub mod Best
 pub mod Cells
 pub mod OneTerm
+pub mod Plan

@@ -1,14 +1,17 @@
 //! What the terms of a query say of the pages of a segment, brought up to date term by term.
 
-ghost use Rattle.std.specs.Prelude.{◌≡◌, ℕ, ◌+◌, ◌*◌, ◌^◌, ◌≤◌, ◌<◌, ◌==◌, ◌∷◌, [], ◌++◌, List, length, nat_lt, replicate, slice_index_or, true, false, if◌then◌else◌, OnOk};
+ghost use Rattle.std.specs.Prelude.{◌≡◌, ℕ, ◌+◌, ◌*◌, ◌^◌, ◌≤◌, ◌<◌, ◌==◌, ◌∷◌, [], ◌++◌, List, length, nat_lt, max, replicate, slice_index_or, true, false, if◌then◌else◌, OnOk};
 ghost use Rattle.std.specs.List.{All, zip};
 ghost use Rattle.gopher_page.specs.Query.{TermData, is_not, joined};
 ghost use Rattle.gopher_page.specs.declared.query.Operator.TheVariants.{Not};
 ghost use Rattle.gopher_index.specs.Cells.{AreCells, term_counts, zipped};
+ghost use Rattle.gopher_index.specs.Plan.{AreGroupCells, is_match, verdict_by, wanted_in};
+ghost use Rattle.gopher_index.specs.declared.plan.Group.{Group};
 ghost use Rattle.gopher_segment.specs.Postings.{AreWithin, count_in};
 ghost use Rattle.gopher_segment.specs.Segment.{meant_counts};
 
 use crate::likely::Highest;
+use crate::plan::{Group, Plan, higher};
 use gopher_item::NoMemory;
 use gopher_page::{Operator, Term};
 use gopher_segment::{Postings, Segment};
@@ -20,6 +23,7 @@ use std::alloc::Global;
 #[derive(Drop)]
 pub(crate) struct Cells {
     counts: Vec<u32>,
+    verdicts: Vec<u32>,
     pub truths: Vec<bool>,
     pub scores: Vec<u32>,
 }
@@ -199,36 +203,175 @@ fn join_terms(
     }
 }
 
+// Takes in what the terms of a group say of each page, by how often it has their words.
+fn take_verdicts(group: &Group, verdicts: &mut [u32], counts: &[u32])
+    requires { length verdicts.old ≡ length counts.now }
+    ensures { verdicts.new ≡ zipped (λ verdict count.
+        max verdict (verdict_by group.now count)) verdicts.old counts.now }
+{
+    for (index, count) in counts.iter().enumerate() {
+        verdicts[index] = higher(verdicts[index], group.verdict(*count));
+    }
+}
+
+// Adds each count so many times.
+fn add_times(times: u32, scores: &mut [u32], counts: &[u32])
+    requires same { length scores.old ≡ length counts.now }
+    requires times { times ≤ 1024 }
+    requires room { All (λ score. score ≤ 2 ^ 31) scores.old }
+    requires few { All (λ count. count ≤ 1048576) counts.now }
+    ensures { scores.new ≡ zipped (λ score count. score + times * count) scores.old counts.now }
+{
+    for (index, count) in counts.iter().enumerate() {
+        scores[index] += times * *count;
+    }
+}
+
+// What the groups before this one say, and what it says itself; the counts are overwritten.
+fn join_group(
+    segment: &Segment,
+    group: &Group,
+    counts: &mut [u32],
+    verdicts: &mut [u32],
+    scores: &mut [u32],
+)
+    requires times { group.now.wanted ≤ 1024 }
+    requires counts { length counts.old ≡ length segment.now.pages }
+    requires verdicts { length verdicts.old ≡ length segment.now.pages }
+    requires scores { length scores.old ≡ length segment.now.pages }
+    requires room { All (λ score. score ≤ 2 ^ 31) scores.old }
+    ensures cells { (groups : List Group)
+        → AreGroupCells groups segment.now.pages verdicts.old scores.old
+        → AreGroupCells (groups ++ group.now ∷ []) segment.now.pages verdicts.new scores.new }
+    ensures few { (bound : ℕ) → All (λ score. score ≤ bound) scores.old
+        → All (λ score. score ≤ bound + 1048576 * group.now.wanted) scores.new }
+{
+    spread_term(segment, group.term, counts);
+    take_verdicts(group, verdicts, counts);
+    add_times(group.wanted, scores, counts);
+}
+
+// What all groups say, from what none of them does.
+fn join_groups(
+    segment: &Segment,
+    groups: &[Group],
+    counts: &mut [u32],
+    verdicts: &mut [u32],
+    scores: &mut [u32],
+)
+    requires few { wanted_in groups.now ≤ 1024 }
+    requires counts { length counts.old ≡ length segment.now.pages }
+    requires verdicts { verdicts.old ≡ replicate (length segment.now.pages) 1 }
+    requires scores { scores.old ≡ replicate (length segment.now.pages) 0 }
+    ensures { AreGroupCells groups.now segment.now.pages verdicts.new scores.new }
+{
+    for group in groups {
+        join_group(segment, group, counts, verdicts, scores);
+    }
+}
+
+// Whether each page matches, by what was said of it.
+fn settle_truths(truths: &mut [bool], verdicts: &[u32])
+    requires { length truths.old ≡ length verdicts.now }
+    ensures { truths.new ≡ zipped (λ truth verdict. is_match verdict) truths.old verdicts.now }
+{
+    for (index, verdict) in verdicts.iter().enumerate() {
+        truths[index] = *verdict % 2 == 1;
+    }
+}
+
+// What the terms of a plan say, by its groups, from what none of them does.
+fn join_plan(
+    segment: &Segment,
+    plan: &Plan,
+    counts: &mut [u32],
+    verdicts: &mut [u32],
+    truths: &mut [bool],
+    scores: &mut [u32],
+)
+    requires counts { length counts.old ≡ length segment.now.pages }
+    requires verdicts { verdicts.old ≡ replicate (length segment.now.pages) 1 }
+    requires truths { truths.old ≡ replicate (length segment.now.pages) true }
+    requires scores { scores.old ≡ replicate (length segment.now.pages) 0 }
+    ensures { AreCells plan.now segment.now.pages truths.new scores.new }
+{
+    join_groups(segment, plan.groups(), counts, verdicts, scores);
+    settle_truths(truths, verdicts);
+}
+
 impl Cells {
     /// No cells.
     pub fn new(alloc: Global) -> Cells {
         Cells {
             counts: Vec::new(alloc),
+            verdicts: Vec::new(alloc),
             truths: Vec::new(alloc),
             scores: Vec::new(alloc),
         }
     }
 
-    /// Makes them say what terms, at most 1,024, say of the pages of a segment. Refused only where
-    /// memory is (90).
-    pub fn fill(&mut self, segment: &Segment, terms: &[Term]) -> Result<(), NoMemory>
-        requires { length terms.now ≤ 1024 }
-        ensures { OnOk result
-            (AreCells terms.now segment.now.pages self.new.truths.items self.new.scores.items) }
+    // Cells of which none says anything yet.
+    fn clear(&mut self, size: usize) -> Result<(), NoMemory>
+        ensures counts { OnOk result (length self.new.counts.items ≡ size) }
+        ensures truths { OnOk result (self.new.truths.items ≡ replicate size true) }
+        ensures scores { OnOk result (self.new.scores.items ≡ replicate size 0) }
     {
-        let size = segment.pages().len();
         self.counts.resize(size, 0)?;
         self.truths.clear();
         self.truths.resize(size, true)?;
         self.scores.clear();
         self.scores.resize(size, 0)?;
+        Ok(())
+    }
+
+    // Makes them say what the terms of a plan say of the pages of a segment, by its groups.
+    fn fill_groups(&mut self, segment: &Segment, plan: &Plan) -> Result<(), NoMemory>
+        ensures { OnOk result
+            (AreCells plan.now segment.now.pages self.new.truths.items self.new.scores.items) }
+    {
+        let size = segment.pages().len();
+        self.clear(size)?;
+        self.verdicts.clear();
+        self.verdicts.resize(size, 1)?;
         let Cells {
             counts,
+            verdicts,
+            truths,
+            scores,
+        } = self;
+        join_plan(segment, plan, counts, verdicts, truths, scores);
+        Ok(())
+    }
+
+    // Makes them say what terms, at most 1,024, say of the pages of a segment.
+    fn fill_terms(&mut self, segment: &Segment, terms: &[Term]) -> Result<(), NoMemory>
+        requires { length terms.now ≤ 1024 }
+        ensures { OnOk result
+            (AreCells terms.now segment.now.pages self.new.truths.items self.new.scores.items) }
+    {
+        let size = segment.pages().len();
+        self.clear(size)?;
+        let Cells {
+            counts,
+            verdicts: _verdicts,
             truths,
             scores,
         } = self;
         join_terms(segment, terms, counts, truths, scores);
         Ok(())
+    }
+
+    /// Makes them say what the terms of a plan say of the pages of a segment. Refused only where memory
+    /// is (90).
+    pub fn fill(&mut self, segment: &Segment, plan: &Plan) -> Result<(), NoMemory>
+        ensures { OnOk result
+            (AreCells plan.now segment.now.pages self.new.truths.items self.new.scores.items) }
+    {
+        if plan.is_short() {
+            self.fill_terms(segment, plan.terms())
+        } else {
+            self.fill_groups(segment, plan)
+        }
     }
 
     /// The score that pages of the segment probably reach, so many of them.

@@ -3,7 +3,7 @@
 ghost use Rattle.std.specs.Prelude.{None, ◌≡◌, ◌≤◌, ◌++◌, ◌∷◌, [], false, List, length, map, nat_le, IfOk, OnOk};
 ghost use Rattle.std.specs.Arc.{arc_value};
 ghost use Rattle.std.specs.List.{list_any};
-ghost use Rattle.gopher_page.specs.Query.{TermData, IsQuery};
+ghost use Rattle.gopher_page.specs.Query.{TermData};
 ghost use Rattle.gopher_page.specs.declared.query.Operator.TheVariants.{And};
 ghost use Rattle.gopher_index.specs.Answer.{answer_of};
 ghost use Rattle.gopher_index.specs.Best.{IsBestOf, TakesIn};
@@ -16,6 +16,7 @@ use crate::cells::Cells;
 use crate::hit::Hit;
 use crate::likely::{likely_hits, likely_score};
 use crate::one_term::take_term_in;
+use crate::plan::Plan;
 use gopher_item::NoMemory;
 use gopher_page::{Page, Query, Term};
 use gopher_segment::{Postings, Segment, pages_len};
@@ -93,29 +94,27 @@ fn take_cells_in<'a>(
 
 fn take_segment_in<'a>(
     segment: &'a Segment,
-    terms: &[Term],
+    plan: &Plan,
     cells: &mut Cells,
     best: &mut Best<'a>,
 ) -> Result<(), NoMemory>
-    requires { length terms.now ≤ 1024 }
-    ensures { OnOk result (TakesIn terms.now segment.now.pages best.old best.new) }
+    ensures { OnOk result (TakesIn plan.now segment.now.pages best.old best.new) }
 {
-    cells.fill(segment, terms)?;
+    cells.fill(segment, plan)?;
     take_cells_in(segment.pages(), &cells.truths, &cells.scores, best)
 }
 
 fn take_segments_in<'a>(
     segments: &'a [Arc<Segment>],
-    terms: &[Term],
+    plan: &Plan,
     cells: &mut Cells,
     best: &mut Best<'a>,
 ) -> Result<(), NoMemory>
-    requires { length terms.now ≤ 1024 }
     ensures { OnOk result
-        (TakesIn terms.now (pages_of (map arc_value segments.now)) best.old best.new) }
+        (TakesIn plan.now (pages_of (map arc_value segments.now)) best.old best.new) }
 {
     for segment in segments {
-        take_segment_in(segment, terms, cells, best)?;
+        take_segment_in(segment, plan, cells, best)?;
     }
     Ok(())
 }
@@ -125,15 +124,14 @@ fn take_segments_in<'a>(
 fn best_of_first<'a>(
     alloc: Global,
     segment: &'a Segment,
-    terms: &[Term],
+    plan: &Plan,
     cells: &mut Cells,
     wanted: Option<usize>,
 ) -> Result<Best<'a>, NoMemory>
-    requires { length terms.now ≤ 1024 }
-    ensures best { IfOk result (λ best. IsBestOf terms.now segment.now.pages best) }
+    ensures best { IfOk result (λ best. IsBestOf plan.now segment.now.pages best) }
     ensures plain { wanted ≡ None → IfOk result (λ best. best.least ≡ 0) }
 {
-    cells.fill(segment, terms)?;
+    cells.fill(segment, plan)?;
     let least = match wanted {
         Some(wanted) => cells.likely_score(wanted),
         None => 0,
@@ -147,12 +145,11 @@ fn best_of_first<'a>(
 fn best_of_terms<'a>(
     alloc: Global,
     segments: &'a [Arc<Segment>],
-    terms: &[Term],
+    plan: &Plan,
     is_guessed: bool,
 ) -> Result<Best<'a>, NoMemory>
-    requires { length terms.now ≤ 1024 }
     ensures best { IfOk result (λ best.
-        IsBestOf terms.now (pages_of (map arc_value segments.now)) best) }
+        IsBestOf plan.now (pages_of (map arc_value segments.now)) best) }
     ensures plain { is_guessed ≡ false → IfOk result (λ best. best.least ≡ 0) }
 {
     let Some((first, rest)) = segments.split_first() else {
@@ -164,8 +161,8 @@ fn best_of_terms<'a>(
     } else {
         None
     };
-    let mut best = best_of_first(alloc, first, terms, &mut cells, wanted)?;
-    take_segments_in(rest, terms, &mut cells, &mut best)?;
+    let mut best = best_of_first(alloc, first, plan, &mut cells, wanted)?;
+    take_segments_in(rest, plan, &mut cells, &mut best)?;
     Ok(best)
 }
 
@@ -242,38 +239,38 @@ fn best_of_word<'a>(
 fn best_of_segments<'a>(
     alloc: Global,
     segments: &'a [Arc<Segment>],
-    terms: &[Term],
+    plan: &Plan,
     is_guessed: bool,
 ) -> Result<Best<'a>, NoMemory>
-    requires { IsQuery terms.now }
     ensures best { IfOk result (λ best.
-        IsBestOf terms.now (pages_of (map arc_value segments.now)) best) }
+        IsBestOf plan.now (pages_of (map arc_value segments.now)) best) }
     ensures plain { is_guessed ≡ false → IfOk result (λ best. best.least ≡ 0) }
 {
-    match terms {
+    match plan.terms() {
         [term] if !term.is_prefix() => best_of_word(alloc, segments, term, is_guessed),
-        _ => best_of_terms(alloc, segments, terms, is_guessed),
+        _ => best_of_terms(alloc, segments, plan, is_guessed),
     }
 }
 
-fn take_page_in<'a>(page: &'a Page, query: &Query, best: &mut Best<'a>) -> Result<(), NoMemory>
-    ensures { OnOk result (TakesIn query.now (page.now ∷ []) best.old best.new) }
+fn take_page_in<'a>(page: &'a Page, plan: &Plan, best: &mut Best<'a>) -> Result<(), NoMemory>
+    ensures { OnOk result (TakesIn plan.now (page.now ∷ []) best.old best.new) }
 {
-    if !query.matches(page) {
+    let (truth, score) = plan.weigh(page);
+    if !truth {
         return Ok(());
     }
-    best.take_in(query.score(page), page)
+    best.take_in(score, page)
 }
 
 fn take_pages_in<'a>(
     pages: &'a [Arc<Page>],
-    query: &Query,
+    plan: &Plan,
     best: &mut Best<'a>,
 ) -> Result<(), NoMemory>
-    ensures { OnOk result (TakesIn query.now (map arc_value pages.now) best.old best.new) }
+    ensures { OnOk result (TakesIn plan.now (map arc_value pages.now) best.old best.new) }
 {
     for page in pages {
-        take_page_in(page, query, best)?;
+        take_page_in(page, plan, best)?;
     }
     Ok(())
 }
@@ -283,15 +280,15 @@ fn best_of_all<'a>(
     alloc: Global,
     segments: &'a [Arc<Segment>],
     loose: &'a [Arc<Page>],
-    query: &Query,
+    plan: &Plan,
     is_guessed: bool,
 ) -> Result<Best<'a>, NoMemory>
-    ensures best { IfOk result (λ best. IsBestOf query.now (pages_of (map arc_value segments.now)
+    ensures best { IfOk result (λ best. IsBestOf plan.now (pages_of (map arc_value segments.now)
         ++ map arc_value loose.now) best) }
     ensures plain { is_guessed ≡ false → IfOk result (λ best. best.least ≡ 0) }
 {
-    let mut best = best_of_segments(alloc, segments, query.terms(), is_guessed)?;
-    take_pages_in(loose, query, &mut best)?;
+    let mut best = best_of_segments(alloc, segments, plan, is_guessed)?;
+    take_pages_in(loose, plan, &mut best)?;
     Ok(best)
 }
 
@@ -306,10 +303,11 @@ pub(crate) fn search(
     ensures { IfOk result (λ hits. hits.items
         ≡ answer_of (pages_of (map arc_value segments.now) ++ map arc_value loose.now) query.now) }
 {
-    let best = best_of_all(alloc, segments, loose, query, true)?;
+    let plan = Plan::of(alloc, query.terms())?;
+    let best = best_of_all(alloc, segments, loose, &plan, true)?;
     if best.is_whole() {
         return best.hits(alloc);
     }
-    let best = best_of_all(alloc, segments, loose, query, false)?;
+    let best = best_of_all(alloc, segments, loose, &plan, false)?;
     best.hits(alloc)
 }

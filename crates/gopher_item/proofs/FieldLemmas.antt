@@ -1,4 +1,4 @@
--- The fields of a line that holds no LF, no CR and no NUL hold no special byte.
+-- The fields of a line without LF, CR and NUL contain no special byte.
 use Rattle.std.proofs.Common.{◌≡◌, ℕ, ◌-◌, ◌<◌, Bool, true, false, ◌&&◌, ◌||◌, not, eqb, List, [], ◌∷◌, ◌++◌, length, get_or, take, drop, refl, sym, ap, ◌∙◌, arith}
 use Rattle.std.specs.List.{list_any, list_all, onto_first}
 use Rattle.std.proofs.lemmas.List.Splits.{slice_split-cons_yes, slice_split-cons_no}
@@ -43,7 +43,7 @@ plain_is field rest h = by (has_special field) refl h
     by true e h = absurd cc
     by false e h = (refl, h)
 
--- the first three of at least four fields
+-- the first three of at least four fields contain no special byte
 pub plain_three : (fields : List (List ℕ)) (a b c d : List ℕ) (more : List (List ℕ)) → fields ≡ a ∷ b ∷ c ∷ d ∷ more → list_all is_plain fields ≡ true
     → (has_special a ≡ false) × (has_special b ≡ false) × (has_special c ≡ false)
 plain_three fields a b c d more e h =
@@ -52,7 +52,7 @@ plain_three fields a b c d more e h =
     let third = plain_is c _ second.1 in
     (first.0, second.0, third.0)
 
--- the head and the tail of a field
+-- neither the first byte of a field nor the rest contains a special byte
 pub plain_parts : (field : List ℕ) → 0 < length field → has_special field ≡ false
     → (is_special (get_or field 0 0) ≡ false) × (has_special (take (length field - 1) (drop 1 field)) ≡ false)
 plain_parts [] some h = absurd (omega arith)
@@ -65,7 +65,7 @@ pub whole_field : (field : List ℕ) → 0 < length field → field ≡ get_or f
 whole_field [] some = absurd (omega arith)
 whole_field (b ∷ bs) some = ap (λ (l : List ℕ). b ∷ l) (sym (take_all (length (b ∷ bs) - 1) bs (omega arith)))
 
--- three fields, each before a TAB, and a fourth
+-- three fields, each followed by a TAB, and a fourth are the first four of the line
 pub four_fields : (line first r1 selector r2 host r3 port : List ℕ) → BeginsWithField line first r1 → BeginsWithField r1 selector r2
     → BeginsWithField r2 host r3 → HasFirstField r3 port → HasFields line first selector host port
 four_fields line first r1 selector r2 host r3 port one two three four = record {

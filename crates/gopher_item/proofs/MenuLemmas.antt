@@ -1,11 +1,11 @@
--- What one more line gives to a menu.
+-- The effect of one more line on the entries of a menu.
 use Rattle.std.proofs.Common.{◌≡◌, ℕ, ◌-◌, true, false, not, eqb, List, ◌∷◌, ◌++◌, length, take, drop, one-add, map, filter, refl, sym, ap, ◌∙◌, append_assoc, arith, length-append}
 use Rattle.std.proofs.lemmas.List.{drop_at}
 use Rattle.gopher_item.specs.Lines.{IsAround}
 use Rattle.gopher_item.specs.MenuLine.{StandsAt}
 use Rattle.gopher_item.specs.Menu.{entry_of, entries_of, is_last_line, any_last_line, lines_before_last}
 
--- a line that isn't the last one stays
+-- a line that isn't the last line stays
 before_last-line : (line : List ℕ) (lines : List (List ℕ)) → is_last_line line ≡ false → lines_before_last (line ∷ lines) ≡ line ∷ lines_before_last lines
 before_last-line line lines other = rw other (ap (λ n. take n (line ∷ lines)) (one-add _))
 
@@ -20,7 +20,7 @@ pub entries_of-empty : (line : List ℕ) (lines : List (List ℕ)) → is_last_l
 entries_of-empty line lines other none =
     ap (λ l. map entry_of (filter (λ x. not (eqb (length x) 0)) l)) (before_last-line line lines other) ∙ rw none refl
 
--- what is left of the bytes after one more line is left of all
+-- the bytes after one more line are a suffix of all bytes
 pub still_left : (bytes seen rest line after : List ℕ) → bytes ≡ seen ++ rest → IsAround rest line after → (more : List ℕ) × (bytes ≡ more ++ after)
 still_left bytes seen rest line after left around = (
   seen ++ (line ++ around.0),
@@ -29,7 +29,7 @@ still_left bytes seen rest line after left around = (
       ∙ sym (append_assoc seen (line ++ around.0) after),
 )
 
--- a line of what is left stands in the bytes
+-- the text contains a line of the rest of the bytes
 pub stands_in_rest : (text bytes seen rest line after : List ℕ) → text ≡ bytes → bytes ≡ seen ++ rest → IsAround rest line after
     → StandsAt text (length bytes - length rest) line
 stands_in_rest text bytes seen rest line after same left around = (

@@ -1,4 +1,4 @@
--- The fields of a menu line, which stand in a text one byte apart.
+-- The positions of a menu line's fields in a text, one byte apart.
 use Rattle.std.proofs.Common.{◌≡◌, ℕ, ◌+◌, ◌-◌, ◌≤◌, List, [], ◌∷◌, ◌++◌, length, drop, refl, sym, ap, ◌∙◌, append_assoc, arith}
 use Rattle.std.specs.Prelude.{slice_range}
 use Rattle.std.proofs.lemmas.List.{take_at, drop_at, drop-drop, length-append, length-drop}
@@ -9,19 +9,19 @@ joined-append display selector host after =
     append_assoc display (9 ∷ (selector ++ 9 ∷ host)) after
     ∙ ap (λ (l : List ℕ). display ++ 9 ∷ l) (append_assoc selector (9 ∷ host) after)
 
--- what begins bytes that stand in a text stands there too
+-- if a text contains bytes at `start`, it contains each prefix of them there
 pub stands_within : (text bytes front : List ℕ) (start : ℕ) → StandsAt text start bytes → StandsAt bytes 0 front → StandsAt text start front
 stands_within text bytes front start outer inner = (
   inner.0 ++ outer.0,
   outer.1 ∙ ap (λ l. l ++ outer.0) inner.1 ∙ append_assoc front inner.0 outer.0,
 )
 
--- bytes that stand at `start` are those up to their end
+-- the bytes at `start` are the text's range from there to their end
 range_at : (text bytes after : List ℕ) (start end : ℕ) → drop start text ≡ bytes ++ after → end ≡ start + length bytes
     → slice_range text start end ≡ bytes
 range_at text bytes after start end stands size = rw stands (take_at bytes after (end - start) (omega arith))
 
--- and what follows them stands at their end
+-- the bytes after a range begin at its end
 follows : (text bytes after : List ℕ) (start end : ℕ) → drop start text ≡ bytes ++ after → end ≡ start + length bytes
     → drop end text ≡ after
 follows text bytes after start end stands size =
@@ -30,7 +30,7 @@ follows text bytes after start end stands size =
     ∙ ap (drop (length bytes)) stands
     ∙ drop_at bytes after (length bytes) refl
 
--- where the fields stand of a line whose type stands at `start`
+-- the positions of the fields of a line whose type is at `start`
 abbrev pub cuts_of : ℕ → List ℕ → List ℕ → List ℕ → Cuts
 cuts_of start display selector host = record {
   start = start + 1;

@@ -1,4 +1,4 @@
--- What packed strings are, by index, and what one more does to them.
+-- Packed strings by index, and after one more string.
 use Rattle.std.proofs.Common.{◌≡◌, ℕ, zero, suc, ◌+◌, ◌-◌, ◌<◌, ◌≤◌, List, [], ◌∷◌, ◌++◌, length, take, drop, get_or, slice_get, Some, refl, sym, ap, subst, ◌∙◌, arith}
 use Rattle.std.specs.Prelude.{sum_by}
 use Rattle.std.proofs.lemmas.List.Sums.{sum_by-cons}
@@ -11,7 +11,7 @@ length-parts items start (end ∷ ends) = ap suc (length-parts items end ends)
 
 -- ---- by index
 
--- a string after the first starts where the one before it ends
+-- each string after the first starts at the end of the one before
 pub start_at-suc : (start : ℕ) (ends : List ℕ) (index d : ℕ) → index < length ends → get_or ends index d ≡ start_at start ends (suc index)
 start_at-suc start [] index d within = absurd (omega arith)
 start_at-suc start (end ∷ ends) zero d within = refl
@@ -28,13 +28,13 @@ pub start_le_limit : (start : ℕ) (ends : List ℕ) (limit : ℕ) → AreEnds s
 start_le_limit start [] limit chain = chain
 start_le_limit start (end ∷ ends) limit chain = omega (arith, chain.0, start_le_limit end ends limit chain.1)
 
--- no string starts past where it ends
+-- no string starts after its end
 pub start_le_end : (start : ℕ) (ends : List ℕ) (limit index d : ℕ) → AreEnds start ends limit → index < length ends → start_at start ends index ≤ get_or ends index d
 start_le_end start [] limit index d chain within = absurd (omega arith)
 start_le_end start (end ∷ ends) limit zero d chain within = chain.0
 start_le_end start (end ∷ ends) limit (suc index) d chain within = start_le_end end ends limit index d chain.1 (omega arith)
 
--- nor ends past the limit
+-- no string ends past the limit
 pub end_le_limit : (start : ℕ) (ends : List ℕ) (limit index d : ℕ) → AreEnds start ends limit → index < length ends → get_or ends index d ≤ limit
 end_le_limit start [] limit index d chain within = absurd (omega arith)
 end_le_limit start (end ∷ ends) limit zero d chain within = start_le_limit end ends limit chain.1
@@ -58,7 +58,7 @@ pub last_push : (start : ℕ) (ends : List ℕ) (end : ℕ) → last_end start (
 last_push start [] end = refl
 last_push start (first ∷ ends) end = last_push first ends end
 
--- items past the limit are in none of the strings
+-- the strings contain no item past the limit
 pub parts_more : {A : Type 0} (items more : List A) (start : ℕ) (ends : List ℕ) → AreEnds start ends (length items) → parts (items ++ more) start ends ≡ parts items start ends
 parts_more items more start [] chain = refl
 parts_more items more start (end ∷ ends) chain =
@@ -89,7 +89,7 @@ strings_push bytes string ends end packed is =
     let last : take (end - last_end 0 ends) (drop (last_end 0 ends) (bytes ++ string)) ≡ string = (λ i. take (size i) (from i)) ∙ take_all (length string) string (omega arith) in
     parts_push (bytes ++ string) 0 ends end ∙ (λ i. parts_more bytes string 0 ends packed.chain i ++ last i ∷ [])
 
--- the bytes of the strings are all up to where the last ends
+-- the strings contain all bytes up to the end of the last
 parts_length : (bytes : List ℕ) (start : ℕ) (ends : List ℕ) → AreEnds start ends (length bytes) → start + sum_by length (parts bytes start ends) ≡ last_end start ends
 parts_length bytes start [] chain = omega arith
 parts_length bytes start (end ∷ ends) chain =

@@ -1,4 +1,4 @@
--- Two places are the same exactly where their parts are equal.
+-- Two places are the same exactly if their parts are equal.
 use Rattle.std.proofs.Common.{◌≡◌, Bool, true, false, ◌&&◌, refl}
 use Rattle.std.proofs.lemmas.Bool.{eqb-true}
 use Rattle.std.specs.Cmp.Lexicographic.{bytes_decides}
@@ -12,7 +12,7 @@ both_true false y h = absurd cc
 pub same_place-refl : (a : PlaceData) → same_place a a ≡ true
 same_place-refl a = same_place_equiv.refl a
 
--- places that are the same are equal
+-- two places that are the same are equal
 pub same_place-true : (a b : PlaceData) → same_place a b ≡ true → a ≡ b
 same_place-true a b h =
     let last = both_true _ _ h in

@@ -1,4 +1,4 @@
--- What is written of menu lines is read back as these lines.
+-- Written menu lines are read back as the same lines.
 use Rattle.std.proofs.Common.{◌≡◌, ℕ, ◌-◌, ◌<◌, ◌≤◌, ◌^◌, Bool, true, false, ◌||◌, eqb, ltb, leb, cond, List, [], ◌∷◌, ◌++◌, length, get_or, map, reverse, Some, refl, sym, ap, ◌∙◌, append_assoc, arith}
 use Rattle.std.specs.Prelude.{decimal}
 use Rattle.std.specs.List.{list_any, list_all, slice_split, flat_map, AllByRecursion}
@@ -104,7 +104,7 @@ port_read port few =
 
 -- ---- one line
 
--- a line without its end
+-- the bytes of a line without its CR LF
 abbrev body : MenuLineData → List ℕ
 body line = line.kind ∷ line.display ++ 9 ∷ (line.selector ++ 9 ∷ (line.host ++ 9 ∷ decimal line.port))
 
@@ -115,7 +115,7 @@ module _ (line : MenuLineData) (is : IsMenuLine line) where
   port_plain : (list_any is_special (decimal line.port) ≡ false) × (list_any (λ b. eqb b 32) (decimal line.port) ≡ false) × (list_all is_ascii_digit (decimal line.port) ≡ true)
   port_plain = digits_plain (decimal line.port) (decimal_is_IsNumeral line.port (omega (arith, is.port))).0.1
 
-  -- a test that the fields' bytes and a TAB don't pass
+  -- if the fields' bytes and a TAB fail a test, so does every byte of the line
   none_in_body : (q : ℕ → Bool) → ((b : ℕ) → is_special b ≡ false → q b ≡ false) → q 9 ≡ false → list_any q (body line) ≡ false
   none_in_body q fewer tab =
       let none : (xs : List ℕ) → has_special xs ≡ false → list_any q xs ≡ false = λ xs h. none_of_fewer is_special q fewer xs h in
@@ -174,7 +174,7 @@ read_lines (line ∷ lines) h =
       ap any_last_line split ∙ any_last_line-line (body line) (lines_of (menu_bytes lines)) (not_last line h.0) ∙ rest.1,
     )
 
--- what was written of these lines is read as them, ended
+-- the bytes of these lines are read back as the same lines, ended
 pub read_back : (lines : List MenuLineData) → AllByRecursion IsMenuLine lines → ReadsMenu (menu_bytes lines) (map Item lines) true
 read_back lines h = let both = read_lines lines h in record { all_entries = sym both.0; is_ended = sym both.1 }
 
@@ -190,14 +190,14 @@ printed b h = by (is_special b) refl
     by true e = absurd (grind (arith, nat_tests, small (ltb b 32) h))
     by false e = refl
 
--- a host has no special byte, and no space at its ends
+-- a valid host contains no special byte, and has no space at its ends
 pub host_is_plain : (host : List ℕ) → list_any (λ b. eqb b 32 || (ltb b 32 || eqb b 127)) host ≡ false → (has_special host ≡ false) × (trim_spaces host ≡ host)
 host_is_plain host h = (
   none_of_fewer (λ b. eqb b 32 || (ltb b 32 || eqb b 127)) is_special printed host h,
   trim_none host (none_of_fewer (λ b. eqb b 32 || (ltb b 32 || eqb b 127)) (λ b. eqb b 32) (λ b e. (parts_false (eqb b 32) (ltb b 32 || eqb b 127) e).0) host h),
 )
 
--- nor is a type that may be made
+-- a type that isn't a control byte isn't special
 pub kind_is_plain : (kind : ℕ) → (ltb kind 32 || eqb kind 127) ≡ false → is_special kind ≡ false
 kind_is_plain kind h = by (is_special kind) refl
   where

@@ -1,4 +1,4 @@
--- Bytes that are cut at the first of one byte, and the lines that come of it.
+-- Cutting bytes at the first occurrence of a byte, and the lines of bytes.
 use Rattle.std.proofs.Common.{◌≡◌, ℕ, zero, suc, ◌+◌, ◌-◌, ◌<◌, ◌≤◌, Bool, true, false, ◌||◌, eqb, cond, List, [], ◌∷◌, ◌++◌, add-one, append_assoc, length, get_or, take, drop, Option, None, Some, is_some, refl, sym, ap, ◌∙◌, arith}
 use Rattle.std.specs.List.{list_any, slice_split}
 use Rattle.std.proofs.lemmas.Bool.{eqb-true}
@@ -12,7 +12,7 @@ use Rattle.std.proofs.lemmas.Bool.Decides.{nat_tests}
 use Rattle.memchr.specs.Find.{Nowhere, Passes, IsFirstByte, is_byte}
 use Rattle.gopher_item.specs.Lines.{IsAround, lines_of}
 
--- the test of a byte that a search of memchr makes
+-- the test of a byte by which `memchr` searches
 abbrev is_cut : ℕ → ℕ → Bool
 is_cut c b = eqb b c
 
@@ -33,7 +33,7 @@ never false h = refl
 neither : (s t : Bool) → s ≡ false → t ≡ false → (s || t) ≡ false
 neither s t p q = rw p q
 
--- a test that no byte passes before k, and one that passes at k
+-- if no byte before k passes a test, none of the first k does
 pub list_any_before : (test : ℕ → Bool) (bs : List ℕ) (k : ℕ) → k ≤ length bs → Nowhere (Passes test bs) 0 k → list_any test (take k bs) ≡ false
 list_any_before test bs zero within none = refl
 list_any_before test [] (suc k) within none = refl
@@ -44,12 +44,12 @@ list_any_before test (b ∷ bs) (suc k) within none =
 pub list_any_nowhere : (test : ℕ → Bool) (bs : List ℕ) → Nowhere (Passes test bs) 0 (length bs) → list_any test bs ≡ false
 list_any_nowhere test bs none = ap (list_any test) (sym (take_all (length bs) bs (omega arith))) ∙ list_any_before test bs (length bs) (omega arith) none
 
--- a search finds a byte exactly where one passes
+-- a search finds a byte exactly if one passes its test
 pub list_any_found : (test : ℕ → Bool) (bs : List ℕ) (found : Option ℕ) → IsFirstByte test bs found → list_any test bs ≡ is_some found
 list_any_found test bs None none = list_any_nowhere test bs none
 list_any_found test bs (Some k) first = list_any_at test bs k 0 first.0.high first.1
 
--- bytes are cut at their first c
+-- bytes are cut at their first `c`
 pub slice_split_at_first : (c : ℕ) (bs : List ℕ) (k : ℕ) → k < length bs → Nowhere (Passes (is_byte c) bs) 0 k → eqb (get_or bs k 0) c ≡ true
     → slice_split (is_cut c) bs ≡ take k bs ∷ slice_split (is_cut c) (drop (suc k) bs)
 slice_split_at_first c [] k within none here = absurd (omega arith)
@@ -58,14 +58,14 @@ slice_split_at_first c (b ∷ bs) (suc k) within none here =
     slice_split-cons_no (is_cut c) b bs (not_first c b bs k none)
     ∙ rw (slice_split_at_first c bs k (omega arith) (later c b bs k none) here) refl
 
--- bytes without c are one part
+-- bytes without `c` are one part
 pub slice_split_nowhere : (c : ℕ) (bs : List ℕ) → Nowhere (Passes (is_byte c) bs) 0 (length bs) → slice_split (is_cut c) bs ≡ bs ∷ []
 slice_split_nowhere c [] none = refl
 slice_split_nowhere c (b ∷ bs) none =
     slice_split-cons_no (is_cut c) b bs (not_first c b bs (length bs) none)
     ∙ rw (slice_split_nowhere c bs (later c b bs (length bs) none)) refl
 
--- what stands after their first c
+-- the bytes after the first `c`
 pub drop_through_at_first : (c : ℕ) (bs : List ℕ) (k : ℕ) → k < length bs → Nowhere (Passes (is_byte c) bs) 0 k → eqb (get_or bs k 0) c ≡ true
     → drop_through c bs ≡ drop (suc k) bs
 drop_through_at_first c [] k within none here = absurd (omega arith)
@@ -80,7 +80,7 @@ drop_through_nowhere c (b ∷ bs) none =
     ap (λ t. cond t bs (drop_through c bs)) (not_first c b bs (length bs) none)
     ∙ drop_through_nowhere c bs (later c b bs (length bs) none)
 
--- a split has a first part
+-- a split has at least one part
 pub some_part : {X : Type 0} (p : X → Bool) (xs : List X) → (first : List X) × (more : List (List X)) × (slice_split p xs ≡ first ∷ more)
 some_part p [] = ([], [], refl)
 some_part {X} p (x ∷ xs) = by (p x) refl (some_part p xs)
@@ -96,18 +96,18 @@ lines_of_cut bs line rest e =
     let whole : slice_split (is_cut 10) bs ≡ line ∷ s.0 ∷ s.1 = e ∙ ap (λ (l : List (List ℕ)). line ∷ l) s.2 in
     ap lines_of_parts whole ∙ ap (λ (l : List (List ℕ)). strip_carriage_return line ∷ lines_of_parts l) (sym s.2)
 
--- bytes without LF are one line, unless they are none
+-- bytes without LF are one line, unless there are no bytes
 pub lines_of_one : (bs : List ℕ) → 0 < length bs → slice_split (is_cut 10) bs ≡ bs ∷ [] → lines_of bs ≡ bs ∷ []
 lines_of_one [] some e = absurd (omega arith)
 lines_of_one (b ∷ bs) some e =
     let one : eqb (length (b ∷ bs)) 0 ≡ false = grind (arith, nat_tests) in
     ap lines_of_parts e ∙ ap (λ t. cond t [] ((b ∷ bs) ∷ [])) one
 
--- what stands after a cut, as the code has it
+-- the bytes after a cut, as the code slices them
 pub after_cut : (bytes : List ℕ) (end : ℕ) → take (length bytes - (end + 1)) (drop (end + 1) bytes) ≡ drop (suc end) bytes
 after_cut bytes end = take_all _ _ (omega (arith, length-drop (end + 1) bytes)) ∙ ap (λ k. drop k bytes) (add-one end)
 
--- the bytes before a c, it, and those after it are all
+-- the bytes before a `c`, the `c`, and the bytes after it are all bytes
 pub cut_whole : (c : ℕ) (bytes : List ℕ) (end : ℕ) → end < length bytes → eqb (get_or bytes end 0) c ≡ true
     → bytes ≡ take end bytes ++ c ∷ take (length bytes - (end + 1)) (drop (end + 1) bytes)
 cut_whole c bytes end within here =
@@ -115,7 +115,7 @@ cut_whole c bytes end within here =
     ∙ ap (λ b. take end bytes ++ b ∷ drop (suc end) bytes) (eqb-true _ _ here)
     ∙ ap (λ tail. take end bytes ++ c ∷ tail) (sym (after_cut bytes end))
 
--- a line without its CR, and what follows its LF
+-- a line without its CR and the bytes after its LF don't overlap
 pub around_feed : (bytes line front rest : List ℕ) → bytes ≡ line ++ 10 ∷ rest → IsAround line front [] → IsAround bytes front rest
 around_feed bytes line front rest whole stripped = (
   stripped.0 ++ 10 ∷ [],

@@ -1,4 +1,4 @@
--- A trim of spaces by a search for the first byte, or the last, that is no space.
+-- Trimming spaces by a search for the first or the last byte that isn't a space.
 use Rattle.std.proofs.Common.{◌≡◌, ℕ, zero, suc, ◌+◌, ◌<◌, Bool, true, false, ◌||◌, not, cond, eqb, List, [], ◌∷◌, ◌++◌, length, get_or, take, drop, reverse, refl, sym, ap, ◌∙◌, arith}
 use Rattle.std.specs.List.{list_any}
 use Rattle.std.proofs.lemmas.List.{append-nil, reverse-append, reverse-reverse, take-append-drop, take_more, length-drop, get_or-drop}
@@ -8,7 +8,7 @@ use Rattle.gopher_item.specs.MenuLine.{trim_front}
 use Rattle.gopher_item.proofs.Splits.{list_any_nowhere}
 use Rattle.gopher_item.proofs.Trims.{none_in_reverse}
 
--- the test of a byte that the search makes
+-- the test of a byte by which the code searches
 abbrev is_other : ℕ → Bool
 is_other = not_in (32 ∷ [])
 
@@ -38,7 +38,7 @@ parts_false : (s t : Bool) → (s || t) ≡ false → (s ≡ false) × (t ≡ fa
 parts_false true t h = absurd cc
 parts_false false t h = (refl, h)
 
--- spaces at the front go
+-- spaces at the front are dropped
 trim_front-spaces : (spaces bytes : List ℕ) → list_any is_other spaces ≡ false → trim_front (spaces ++ bytes) ≡ trim_front bytes
 trim_front-spaces [] bytes none = refl
 trim_front-spaces (b ∷ spaces) bytes none =
@@ -46,7 +46,7 @@ trim_front-spaces (b ∷ spaces) bytes none =
     ap (λ t. cond t (trim_front (spaces ++ bytes)) (b ∷ (spaces ++ bytes))) (space b both.0)
     ∙ trim_front-spaces spaces bytes both.1
 
--- another byte stays, with what follows it
+-- any other byte stays, with the bytes after it
 trim_front-other : (b : ℕ) (bytes : List ℕ) → is_other b ≡ true → trim_front (b ∷ bytes) ≡ b ∷ bytes
 trim_front-other b bytes h = ap (λ t. cond t (trim_front bytes) (b ∷ bytes)) (no_space b h)
 
@@ -60,7 +60,7 @@ first_is_space b bytes n none = by (is_other b) refl
     by true e = absurd (none 0 (omega arith) (omega arith) e)
     by false e = space b e
 
--- what stands from the first other byte on is left
+-- a trim at the front leaves the bytes from the first other byte on
 pub trim_front_found : (bytes : List ℕ) (k : ℕ) → k < length bytes → Nowhere (Passes is_other bytes) 0 k → is_other (get_or bytes k 0) ≡ true
     → trim_front bytes ≡ drop k bytes
 trim_front_found [] k within none here = absurd (omega arith)
@@ -69,14 +69,14 @@ trim_front_found (b ∷ bytes) (suc k) within none here =
     ap (λ t. cond t (trim_front bytes) (b ∷ bytes)) (first_is_space b bytes k none)
     ∙ trim_front_found bytes k (omega arith) (later b bytes k none) here
 
--- of spaces alone nothing is left
+-- a trim of spaces alone leaves nothing
 pub trim_front_nowhere : (bytes : List ℕ) → Nowhere (Passes is_other bytes) 0 (length bytes) → trim_front bytes ≡ []
 trim_front_nowhere [] none = refl
 trim_front_nowhere (b ∷ bytes) none =
     ap (λ t. cond t (trim_front bytes) (b ∷ bytes)) (first_is_space b bytes (length bytes) none)
     ∙ trim_front_nowhere bytes (later b bytes (length bytes) none)
 
--- what stands up to the last other byte is left of a trim at the back
+-- a trim at the back leaves the bytes up to the last other byte
 pub trim_back_found : (bytes : List ℕ) (k : ℕ) → k < length bytes → Nowhere (Passes is_other bytes) (k + 1) (length bytes) → is_other (get_or bytes k 0) ≡ true
     → reverse (trim_front (reverse bytes)) ≡ take (k + 1) bytes
 trim_back_found bytes k within none here =

@@ -1,4 +1,4 @@
--- What is left of bytes without the spaces at their ends.
+-- Trimming spaces from both ends of bytes.
 use Rattle.std.proofs.Common.{◌≡◌, ℕ, ◌≤◌, Bool, true, false, cond, eqb, ◌||◌, List, [], ◌∷◌, ◌++◌, length, refl, sym, ap, ◌∙◌, arith}
 use Rattle.std.specs.Prelude.{reverse}
 use Rattle.std.specs.List.{list_any}
@@ -34,7 +34,7 @@ none_in_reverse test (x ∷ xs) h =
 
 -- ---- trims
 
--- what a trim takes off the front
+-- a trim drops only spaces from the front
 trim_front_rest : (xs : List ℕ) → (spaces : List ℕ) × (xs ≡ spaces ++ trim_front xs)
 trim_front_rest [] = ([], refl)
 trim_front_rest (x ∷ xs) = by (eqb x 32) refl (trim_front_rest xs)
@@ -64,7 +64,7 @@ trim_front-trim_front (x ∷ xs) = by (eqb x 32) refl (trim_front-trim_front xs)
 trim_front-length : (xs : List ℕ) → length (trim_front xs) ≤ length xs
 trim_front-length xs = let e = trim_front_rest xs in omega (arith, ap length e.1, length-append e.0 (trim_front xs))
 
--- a beginning of bytes that begin with no space begins with none
+-- a prefix of bytes without a space at the front has none at the front
 trim_front_beginning : (xs ys : List ℕ) → trim_front (xs ++ ys) ≡ xs ++ ys → trim_front xs ≡ xs
 trim_front_beginning [] ys h = refl
 trim_front_beginning (x ∷ xs) ys h = by (eqb x 32) refl
@@ -92,7 +92,7 @@ none_left : (taken kept all : List ℕ) → all ≡ taken ++ kept → length kep
 none_left [] kept all e size = sym e
 none_left (x ∷ taken) kept all e size = absurd (omega (arith, ap length e, length-append (x ∷ taken) kept))
 
--- a trim that leaves as many bytes leaves them all
+-- a trim that leaves as many bytes as there were leaves the bytes unchanged
 pub trim_spaces-same_length : (xs : List ℕ) → length (trim_spaces xs) ≡ length xs → trim_spaces xs ≡ xs
 trim_spaces-same_length xs size =
     let front = trim_front xs in

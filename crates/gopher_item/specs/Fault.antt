@@ -1,4 +1,4 @@
--- The numbers of the faults of items.
+-- The numbers of the faults of items and requests.
 use Rattle.std.specs.Prelude.{◌≡◌, ℕ, Option, None, Some, Result, Ok, Err}
 use Rattle.gopher_item.specs.declared.fault.ItemFault.{ItemFault}
 use Rattle.gopher_item.specs.declared.fault.ItemFault.TheVariants.{BadKind, BadSelector, BadHost, BadPort, BadDisplay, BadType, NoMemory}
@@ -19,7 +19,7 @@ request_fault_code requests.BadSelector = 2
 request_fault_code requests.LineTooLong = 7
 request_fault_code requests.NoMemory = 90
 
--- What making a value of parts answers: the parts' first fault, or the value, unless memory was refused.
+-- a constructor fails with the first fault of the parts, returns the value, or is out of memory
 abbrev pub Makes : {T : Type 0} → Option ItemFault → T → Result T ItemFault → Type 0
 Makes (Some fault) value result = result ≡ Err fault
 Makes None value (Ok made) = made ≡ value

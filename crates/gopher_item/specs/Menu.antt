@@ -1,4 +1,4 @@
--- A menu, read from bytes (RFC 1436, section 2 and the appendix; odd lines are this profile's).
+-- A menu, read from bytes (RFC 1436, section 2, and appendix: Menu; odd lines are this profile's).
 use Rattle.std.specs.Prelude.{◌≡◌, ℕ, Bool, false, ◌||◌, not, List, [], ◌∷◌, ◌++◌, length, map, filter, Option, None, ◌==◌, nat_eq, if◌then◌else◌}
 use Rattle.std.specs.List.{before_first, list_any, slice_split}
 use Rattle.std.specs.Option.{option_map, option_map_or}
@@ -9,84 +9,85 @@ use Rattle.gopher_item.specs.MenuLine.{MenuLineData, StandsAt, joined, menu_line
 use Rattle.gopher_item.specs.declared.menu.Entry.{Entry}
 use Rattle.gopher_item.specs.declared.menu.Entry.TheVariants.{Item, Odd}
 
--- a period alone ends a menu, and a text
+-- a single period, which ends a menu and a text (RFC 1436, appendix: Lastline)
 abbrev pub is_last_line : List ℕ → Bool
 is_last_line line = pointwise nat_eq line (46 ∷ [])
 
--- the lines before the first that is a period alone
+-- the lines before the first last line
 abbrev pub lines_before_last : List (List ℕ) → List (List ℕ)
 lines_before_last lines = before_first is_last_line lines
 
--- whether one of the lines is
+-- one of the lines is a last line
 abbrev pub any_last_line : List (List ℕ) → Bool
 any_last_line lines = list_any is_last_line lines
 
--- the fields of a line, which stand between TABs
+-- the fields of a line: the pieces between TABs
 abbrev pub fields_of : List ℕ → List (List ℕ)
 fields_of line = slice_split (λ byte. byte == 9) line
 
--- the item of these four fields: a nonempty first one, and a port that is a number of at most 65535
+-- the item with these four fields, if the first isn't empty and the port is a number of at most
+-- 65535
 abbrev pub item_of_fields : List ℕ → List ℕ → List ℕ → List ℕ → Option MenuLineData
 item_of_fields [] selector host port = None
 item_of_fields (kind ∷ display) selector host port =
     option_map (λ number. menu_line_of kind display selector (trim_spaces host) number)
     (number_of 65535 (trim_spaces port))
 
--- what is read of these four fields
+-- the item is the result of reading these four fields
 abbrev pub IsItemOf : List ℕ → List ℕ → List ℕ → List ℕ → Option MenuLineData → Type 0
 IsItemOf first selector host port item = item ≡ item_of_fields first selector host port
 
--- fields after the fourth count for nothing
+-- the item of a list of fields; fields after the fourth are ignored
 abbrev pub item_of_list : List (List ℕ) → Option MenuLineData
 item_of_list (first ∷ selector ∷ host ∷ port ∷ more) = item_of_fields first selector host port
 item_of_list _ = None
 
--- whether a CR or a NUL is among the bytes
+-- the bytes contain a CR or a NUL
 abbrev pub has_return_or_nul : List ℕ → Bool
 has_return_or_nul line = list_any (λ byte. (byte == 13) || (byte == 0)) line
 
--- the item that a line is, if it is one; a line that holds a CR or a NUL is none
+-- the item of a line; a line that contains a CR or a NUL is none
 abbrev pub item_of : List ℕ → Option MenuLineData
 item_of line = if has_return_or_nul line then None else item_of_list (fields_of line)
 
--- the bytes are one field, and then a TAB and the rest; no CR and no NUL stands in the field
+-- the bytes are a field, a TAB and the rest; the field contains no CR and no NUL
 pub record BeginsWithField (bytes first rest : List ℕ) : Type 0 where
   pub whole : bytes ≡ first ++ 9 ∷ rest
   pub fields : fields_of bytes ≡ first ∷ fields_of rest
   pub plain : has_return_or_nul bytes ≡ has_return_or_nul rest
 
--- the bytes are one field, with no CR and no NUL
+-- the bytes are one field that contains no CR and no NUL
 pub record IsLastField (bytes first : List ℕ) : Type 0 where
   pub fields : fields_of bytes ≡ first ∷ []
   pub plain : has_return_or_nul bytes ≡ false
 
--- the first of the fields, of which there may be more; no CR and no NUL stands in any
+-- the first field of bytes that contain no CR and no NUL
 pub record HasFirstField (bytes first : List ℕ) : Type 0 where
   pub more : List (List ℕ)
   pub fields : fields_of bytes ≡ first ∷ more
   pub plain : has_return_or_nul bytes ≡ false
 
--- the first four fields of a line that holds no CR and no NUL
+-- the first four fields of a line that contains no CR and no NUL
 pub record HasFields (line first selector host port : List ℕ) : Type 0 where
   pub plain : has_return_or_nul line ≡ false
   pub more : List (List ℕ)
   pub fields : fields_of line ≡ first ∷ selector ∷ host ∷ port ∷ more
   pub stands : StandsAt line 0 (joined first selector host)
 
--- the first field of a line: its bytes before its first TAB
+-- the first of the fields
 abbrev pub first_field : List (List ℕ) → List ℕ
 first_field [] = []
 first_field (first ∷ more) = first
 
--- an odd line keeps its first field
+-- the entry of a line: its item or, for an odd line, its first field
 abbrev pub entry_of : List ℕ → Entry
 entry_of line = option_map_or Item (item_of line) (Odd (first_field (fields_of line)))
 
--- an empty line counts for nothing
+-- the entries of lines, up to the last line; empty lines are skipped
 abbrev pub entries_of : List (List ℕ) → List Entry
 entries_of lines = map entry_of (filter (λ line. not (length line == 0)) (lines_before_last lines))
 
--- the bytes are read as a menu of these entries, which a period alone ends or doesn't
+-- the result of reading a menu: its entries, and whether a single period ended it
 pub record ReadsMenu (bytes : List ℕ) (entries : List Entry) (ended : Bool) : Type 0 where
   pub all_entries : entries ≡ entries_of (lines_of bytes)
   pub is_ended : ended ≡ any_last_line (lines_of bytes)

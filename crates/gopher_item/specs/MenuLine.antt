@@ -1,4 +1,4 @@
--- One item of a menu: what RFC 1436, section 2 and its appendix call a DirEntity.
+-- One item of a menu (RFC 1436, section 2, and appendix: DirEntity).
 use Rattle.std.specs.Prelude.{◌≡◌, ℕ, ◌+◌, ◌^◌, ◌<◌, ◌≤◌, Bool, false, ◌||◌, ◌&&◌, not, nat_eq, List, [], ◌∷◌, ◌++◌, length, drop, reverse, slice_range, Option, None, Some, is_some, ◌==◌, if◌then◌else◌}
 use Rattle.std.specs.List.{flat_map}
 use Rattle.std.specs.Fmt.{decimal}
@@ -24,7 +24,7 @@ abbrev pub menu_line_of : ℕ → List ℕ → List ℕ → List ℕ → ℕ →
 menu_line_of kind display selector host port =
     record { kind = kind; display = display; selector = selector; host = host; port = port }
 
--- whether two menu lines have the same parts
+-- two menu lines have the same parts
 abbrev pub same_line : MenuLineData → MenuLineData → Bool
 same_line a b =
     (a.kind == b.kind) && pointwise nat_eq a.display b.display
@@ -33,7 +33,7 @@ same_line a b =
 pub same_line_equiv : IsEquivalence same_line
 same_line_equiv = search (comparing, rules)
 
--- the bytes without the spaces (32) at their front, and at both their ends
+-- the bytes without the spaces (32) at their front, and without those at both ends
 abbrev pub trim_front : List ℕ → List ℕ
 trim_front [] = []
 trim_front (byte ∷ bytes) = if byte == 32 then trim_front bytes else byte ∷ bytes
@@ -41,8 +41,8 @@ trim_front (byte ∷ bytes) = if byte == 32 then trim_front bytes else byte ∷ 
 abbrev pub trim_spaces : List ℕ → List ℕ
 trim_spaces bytes = reverse (trim_front (reverse (trim_front bytes)))
 
--- what every menu line is, read or made: no field holds a special byte, and the host has no space at
--- its ends
+-- every menu line, read or made: no field contains a special byte, and the host has no space at its
+-- ends
 pub record IsMenuLine (line : MenuLineData) : Type 0 where
   pub kind : is_special line.kind ≡ false
   pub display : has_special line.display ≡ false
@@ -51,8 +51,8 @@ pub record IsMenuLine (line : MenuLineData) : Type 0 where
   pub host_trimmed : trim_spaces line.host ≡ line.host
   pub port : line.port < 2 ^ 16
 
--- where the fields of a menu line stand in a text: the display string, the selector and the host, one
--- byte apart
+-- the positions of a menu line's fields in a text: the display string, the selector and the host,
+-- one byte apart
 pub record Cuts : Type 0 where
   pub start : ℕ
   pub display_end : ℕ
@@ -63,14 +63,14 @@ abbrev pub cuts_at : ℕ → ℕ → ℕ → ℕ → Cuts
 cuts_at start display_end selector_end end =
     record { start = start; display_end = display_end; selector_end = selector_end; end = end }
 
--- each field ends at its start or behind it, and the last one in the text
+-- no field ends before its start, and the last one ends within the text
 pub record AreCuts (cuts : Cuts) (text : List ℕ) : Type 0 where
   pub display : cuts.start ≤ cuts.display_end
   pub selector : cuts.display_end + 1 ≤ cuts.selector_end
   pub host : cuts.selector_end + 1 ≤ cuts.end
   pub within : cuts.end ≤ length text
 
--- the menu line whose fields stand there
+-- the menu line with the fields at these positions
 abbrev pub line_in : ℕ → ℕ → Cuts → List ℕ → MenuLineData
 line_in kind port cuts text = record {
   kind = kind;
@@ -80,11 +80,11 @@ line_in kind port cuts text = record {
   port = port;
 }
 
--- the fields stand there, and are those of a menu line
+-- the fields at these positions are those of a menu line
 abbrev pub StandsIn : ℕ → ℕ → Cuts → List ℕ → Type 0
 StandsIn kind port cuts text = AreCuts cuts text × IsMenuLine (line_in kind port cuts text)
 
--- the bytes stand in the text from `start` on
+-- the text contains the bytes at `start`
 abbrev pub StandsAt : List ℕ → ℕ → List ℕ → Type 0
 StandsAt text start bytes = (after : List ℕ) × (drop start text ≡ bytes ++ after)
 
@@ -96,20 +96,21 @@ joined display selector host = display ++ 9 ∷ (selector ++ 9 ∷ host)
 abbrev pub joined_after : ℕ → List ℕ → List ℕ → List ℕ → List ℕ
 joined_after kind display selector host = joined (kind ∷ display) selector host
 
--- the bytes of a menu line: type, display, TAB, selector, TAB, host, TAB, port, CR LF
+-- the bytes of a menu line: type, display, TAB, selector, TAB, host, TAB, port, CR LF (RFC 1436,
+-- appendix: DirEntity)
 abbrev pub menu_line_bytes : MenuLineData → List ℕ
 menu_line_bytes line =
     line.kind ∷ line.display ++ 9 ∷ line.selector ++ 9 ∷ line.host ++ 9 ∷ decimal line.port ++ 13 ∷ 10 ∷ []
 
--- the bytes of a menu: its lines, and a period alone
+-- the bytes of a menu: its lines, and a single period (RFC 1436, appendix: Menu)
 abbrev pub menu_bytes : List MenuLineData → List ℕ
 menu_bytes lines = flat_map menu_line_bytes lines ++ 46 ∷ 13 ∷ 10 ∷ []
 
--- a type that no line has that is made: a control byte, a space or a period
+-- a type of no line that is made: a control byte, a space or a period
 abbrev pub is_bad_type : ℕ → Bool
 is_bad_type kind = is_control kind || (kind == 32) || (kind == 46)
 
--- the first fault of the parts of a line that is made, if there is one; a port of 0 is none
+-- the first fault of the parts of a line that is made, if they have one; a port of 0 is valid
 abbrev pub menu_line_fault : ℕ → List ℕ → List ℕ → List ℕ → Option ItemFault
 menu_line_fault kind display selector host =
     if not (is_selector selector) then Some BadSelector else
@@ -117,7 +118,7 @@ menu_line_fault kind display selector host =
     (if has_special display then Some BadDisplay else
     (if is_bad_type kind then Some BadType else None)))
 
--- the place that a menu line names, where it names one
+-- the place that a menu line names, if it names one
 abbrev pub place_named : MenuLineData → Option PlaceData
 place_named line =
     if is_some (place_fault line.kind line.selector line.host line.port) then None else

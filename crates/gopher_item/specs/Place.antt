@@ -11,7 +11,7 @@ use Rattle.gopher_item.specs.Bytes.{has_special, is_control}
 use Rattle.gopher_item.specs.declared.fault.ItemFault.{ItemFault}
 use Rattle.gopher_item.specs.declared.fault.ItemFault.TheVariants.{BadKind, BadSelector, BadHost, BadPort}
 
--- a place as data, its fields in the order in which places are sorted
+-- a place as data, its fields in place order
 pub record PlaceData : Type 0 where
   pub host : List ℕ
   pub port : ℕ
@@ -23,31 +23,32 @@ pub record HomeData : Type 0 where
   pub host : List ℕ
   pub port : ℕ
 
--- a file (`0`) or a directory (`1`)
+-- a file (`0`) or a directory (`1`): RFC 1436, section 3.8
 abbrev pub is_place_kind : ℕ → Bool
 is_place_kind kind = (kind == 48) || (kind == 49)
 
--- a selector: at most 255 bytes, none of them special
+-- a selector: at most 255 bytes, none of them special (RFC 1436, appendix: Selector)
 abbrev pub is_selector : List ℕ → Bool
 is_selector selector = nat_le (length selector) 255 && not (has_special selector)
 
--- a host: 1 to 255 bytes, none of them a space or a control byte
+-- a host: 1 to 255 bytes, none of them a space or a control byte (stricter than RFC 1436, appendix:
+-- Host)
 abbrev pub is_host : List ℕ → Bool
 is_host host =
     nat_lt 0 (length host) && nat_le (length host) 255
     && not (list_any (λ byte. (byte == 32) || is_control byte) host)
 
--- an ASCII letter in lower case, and any other byte as it is
+-- an ASCII letter in lower case, any other byte unchanged
 abbrev pub lower_case : ℕ → ℕ
 lower_case byte = if nat_le 65 byte && nat_le byte 90 then byte + 32 else byte
 
--- the first fault of the parts of a server's address, if there is one
+-- the first fault of the parts of a server's address, if they have one
 abbrev pub address_fault : List ℕ → ℕ → Option ItemFault
 address_fault host port =
     if not (is_host host) then Some BadHost else
     (if port == 0 then Some BadPort else None)
 
--- the first fault of the parts of a place, if there is one
+-- the first fault of the parts of a place, if they have one
 abbrev pub place_fault : ℕ → List ℕ → List ℕ → ℕ → Option ItemFault
 place_fault kind selector host port =
     if not (is_place_kind kind) then Some BadKind else
@@ -58,13 +59,13 @@ abbrev pub place_of : ℕ → List ℕ → List ℕ → ℕ → PlaceData
 place_of kind selector host port =
     record { host = map lower_case host; port = port; selector = selector; kind = kind }
 
--- whether two places have the same parts
+-- two places have the same parts
 abbrev pub same_place : PlaceData → PlaceData → Bool
 same_place a b =
     pointwise nat_eq a.host b.host && (a.port == b.port)
     && pointwise nat_eq a.selector b.selector && (a.kind == b.kind)
 
--- whether the place is among these
+-- the list contains the place
 abbrev pub is_among : List PlaceData → PlaceData → Bool
 is_among places place = list_any (same_place place) places
 
@@ -88,7 +89,7 @@ place_cmp =
 pub place_cmp_total : IsTotalOrder place_cmp
 place_cmp_total = search (comparing, rules)
 
--- places are the same exactly where their order ties
+-- two places are the same exactly if their order ties
 pub same_place_ties : (a b : PlaceData) → same_place a b ≡ eq_by_cmp place_cmp a b
 same_place_ties a b =
     let host_port = both_tied _ _ _ _ (texts_ties a.host b.host) (unsigned_ties a.port b.port) in

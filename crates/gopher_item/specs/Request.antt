@@ -1,4 +1,5 @@
--- A request line, given without its end (RFC 1436, sections 2 and 3.7; the limits are this profile's).
+-- A request line without its CR LF (RFC 1436, section 2, and appendix: Full-Text Search
+-- Transaction; the limit of 1,024 bytes is this profile's).
 use Rattle.std.specs.Prelude.{◌≡◌, ℕ, not, List, Option, None, Some, Result, Ok, Err, length, slice_get, nat_lt, if◌then◌else◌}
 use Rattle.gopher_item.specs.Place.{is_selector}
 use Rattle.gopher_item.specs.Menu.{fields_of, first_field}
@@ -6,13 +7,13 @@ use Rattle.gopher_item.specs.declared.fault.RequestFault.{RequestFault}
 use Rattle.gopher_item.specs.declared.fault.RequestFault.TheVariants.{BadSelector, LineTooLong, NoMemory}
 use Rattle.gopher_item.specs.declared.request.Request.{Request}
 
--- the first fault of a line, if there is one
+-- the first fault of a line, if it has one
 abbrev pub request_fault : List ℕ → Option RequestFault
 request_fault line =
     if nat_lt 1024 (length line) then Some LineTooLong else
     (if not (is_selector (first_field (fields_of line))) then Some BadSelector else None)
 
--- the first field is the selector, and the second, if there is one, the search string
+-- the first field is the selector; the second, if there is one, is the search string
 abbrev pub request_of : List ℕ → Request
 request_of line =
     record { selector = first_field (fields_of line); search = slice_get (fields_of line) 1 }
@@ -22,6 +23,6 @@ answers (Some fault) request result = result ≡ Err fault
 answers None request (Ok read) = read ≡ request
 answers None request (Err fault) = fault ≡ NoMemory
 
--- the line's fault, or its request, unless memory was refused
+-- reading a line fails with the line's fault, returns its request, or is out of memory
 abbrev pub ReadsRequest : List ℕ → Result Request RequestFault → Type 0
 ReadsRequest line result = answers (request_fault line) (request_of line) result

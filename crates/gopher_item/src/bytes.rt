@@ -1,5 +1,4 @@
-//! Bytes, of which items and texts are made: which of them are special, and how they are owned, cut,
-//! trimmed and read as numbers.
+//! Bytes: owned, cut, trimmed and read as numbers, and the bytes that fields can't contain.
 
 mod byte_string;
 mod byte_strings;

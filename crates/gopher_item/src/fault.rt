@@ -1,4 +1,4 @@
-//! Why an item was refused.
+//! The errors of items and requests, with their numbers.
 
 ghost use Rattle.std.specs.Prelude.{◌≡◌};
 ghost use Rattle.gopher_item.specs.Fault.{item_fault_code, request_fault_code};
@@ -6,13 +6,13 @@ ghost use Rattle.gopher_item.specs.Fault.{item_fault_code, request_fault_code};
 use std::alloc::{AllocError, AllocFailed};
 use thiserror::Error;
 
-/// Memory was refused.
+/// Out of memory.
 #[derive(Clone, Copy, Debug, PartialEq, Eq, Error)]
 #[error("no memory")]
 pub struct NoMemory;
 
 impl NoMemory {
-    /// The number of this fault, 90.
+    /// The number of the fault, 90.
     pub fn code(self) -> u8
         ensures { result ≡ 90 }
     {
@@ -32,28 +32,28 @@ impl<T: Drop> From<AllocFailed<T>> for NoMemory {
     }
 }
 
-/// What is wrong with the parts of an item.
+/// Why parts don't make an item.
 #[derive(Clone, Copy, Debug, PartialEq, Eq, Error)]
 pub enum ItemFault {
-    /// 1: the type of a place is neither `0` nor `1`.
+    /// 1: the type of a place isn't `0` or `1`.
     #[error("the type of a place is neither 0 nor 1")]
     BadKind,
-    /// 2: a selector or prefix is over 255 bytes, or holds a TAB, CR, LF or NUL.
+    /// 2: a selector or a prefix of selectors has over 255 bytes, or contains a TAB, CR, LF or NUL.
     #[error("the selector is too long or holds a special byte")]
     BadSelector,
-    /// 3: a host is empty, over 255 bytes, or holds a space or a control byte.
+    /// 3: a host is empty, has over 255 bytes, or contains a space or a control byte.
     #[error("the host is empty, too long, or holds a space or a control byte")]
     BadHost,
     /// 4: a port is 0.
     #[error("the port is 0")]
     BadPort,
-    /// 5: a display string holds a TAB, CR, LF or NUL.
+    /// 5: a display string contains a TAB, CR, LF or NUL.
     #[error("the display string holds a special byte")]
     BadDisplay,
     /// 6: the type of a menu line is a control byte, a space or a period.
     #[error("the type is a control byte, a space or a period")]
     BadType,
-    /// 90: memory was refused.
+    /// 90: out of memory.
     #[error("no memory")]
     NoMemory,
 }
@@ -75,16 +75,16 @@ impl ItemFault {
     }
 }
 
-/// Why a request was refused.
+/// Why a line isn't a request.
 #[derive(Clone, Copy, Debug, PartialEq, Eq, Error)]
 pub enum RequestFault {
-    /// 2: the selector is over 255 bytes, or holds a CR, LF or NUL.
+    /// 2: the selector has over 255 bytes, or contains a CR, LF or NUL.
     #[error("the selector is too long or holds a special byte")]
     BadSelector,
-    /// 7: the line is over 1,024 bytes.
+    /// 7: the line has over 1,024 bytes.
     #[error("the line is too long")]
     LineTooLong,
-    /// 90: memory was refused.
+    /// 90: out of memory.
     #[error("no memory")]
     NoMemory,
 }

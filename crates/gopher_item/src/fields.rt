@@ -1,4 +1,4 @@
-//! What may be a selector, and what may be the address of a server.
+//! Valid selectors and valid addresses of servers.
 
 ghost use Rattle.std.specs.Prelude.{◌≡◌, ◌==◌, ◌||◌, map};
 ghost use Rattle.std.specs.List.{list_any};
@@ -10,7 +10,8 @@ use crate::bytes::{ByteString, has_special, is_control};
 use crate::fault::ItemFault;
 use std::alloc::Global;
 
-/// Whether the bytes may be a selector: at most 255, and none of them special.
+/// Returns whether the bytes are a valid selector: at most 255 bytes without TAB, CR, LF and NUL
+/// (RFC 1436, appendix: Selector).
 pub fn is_selector(selector: &[u8]) -> bool
     ensures { result ≡ is_selector selector.now }
 {
@@ -23,14 +24,15 @@ fn has_space_or_control(bytes: &[u8]) -> bool
     bytes.iter().any(|byte| *byte == b' ' || is_control(*byte))
 }
 
-/// Whether the bytes may be a host: 1 to 255, and none of them a space or a control byte.
+/// Returns whether the bytes are a valid host: 1 to 255 bytes without spaces and control bytes.
+/// This profile is stricter than RFC 1436, appendix: Host.
 pub fn is_host(host: &[u8]) -> bool
     ensures { result ≡ is_host host.now }
 {
     !host.is_empty() && host.len() <= 255 && !has_space_or_control(host)
 }
 
-/// The first fault of a server's address: `BadHost` (3) or `BadPort` (4).
+/// Returns the first fault of a server's address: `BadHost` (3) or `BadPort` (4).
 pub fn address_fault(host: &[u8], port: u16) -> Option<ItemFault>
     ensures { result ≡ address_fault host.now port }
 {
@@ -43,10 +45,14 @@ pub fn address_fault(host: &[u8], port: u16) -> Option<ItemFault>
     }
 }
 
-/// The host of a server's address, in lower case.
+/// Returns the host of a server's address in lower case.
 ///
-/// Refused, in this order: `BadHost` (3) where the host is empty, over 255 bytes, or holds a space or a
-/// control byte; `BadPort` (4) where the port is 0; `NoMemory` (90).
+/// # Errors
+///
+/// The first fault in this order:
+/// - `BadHost` (3): the host is empty, has over 255 bytes, or contains a space or a control byte
+/// - `BadPort` (4): the port is 0
+/// - `NoMemory` (90)
 pub fn lowered_host(alloc: Global, host: &[u8], port: u16) -> Result<ByteString, ItemFault>
     ensures { Makes (address_fault host.now port) (map lower_case host.now) result }
 {

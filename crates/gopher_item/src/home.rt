@@ -10,7 +10,7 @@ use crate::fields::address_fault;
 use std::alloc::Global;
 use std::marker::Model;
 
-/// The host and the port that a server gives for its own items.
+/// The host and the port that a server writes into the menu lines of its own items.
 #[derive(Debug, Drop)]
 pub struct Home {
     host: ByteString,
@@ -26,10 +26,15 @@ impl Model for Home {
 }
 
 impl Home {
-    /// The address of these parts, the host as it is given.
+    /// Checks and copies the parts of an address. The case of the host stays.
     ///
-    /// Refused, in this order: `BadHost` (3) where the host is empty, over 255 bytes, or holds a space
-    /// or a control byte; `BadPort` (4) where the port is 0; `NoMemory` (90).
+    /// # Errors
+    ///
+    /// The first fault in this order:
+    /// - `BadHost` (3): the host is empty, has over 255 bytes, or contains a space or a control
+    ///   byte
+    /// - `BadPort` (4): the port is 0
+    /// - `NoMemory` (90)
     pub fn new(alloc: Global, host: &[u8], port: u16) -> Result<Home, ItemFault>
         ensures { Makes (address_fault host.now port)
             (record { host = host.now; port = port }) result }
@@ -41,14 +46,14 @@ impl Home {
         Ok(Home { host, port })
     }
 
-    /// The host, as it was given.
+    /// Returns the host with its case unchanged.
     pub fn host(&self) -> &[u8]
         ensures { result.now ≡ self.now.host }
     {
         self.host.as_slice()
     }
 
-    /// The port, from 1.
+    /// Returns the port, at least 1.
     pub fn port(&self) -> u16
         ensures { result ≡ self.now.port }
     {

@@ -17,14 +17,13 @@ use std::sync::Arc;
 
 const TAB: u8 = b'\t';
 
-// Whether a CR or a NUL is among the bytes.
 fn has_return_or_nul(line: &[u8]) -> bool
     ensures { result ≡ has_return_or_nul line.now }
 {
     memchr2(b'\r', 0, line).is_some()
 }
 
-// The bytes before the first TAB, or all where there is none, and what stands after it.
+// The bytes before the first TAB, or all bytes without a TAB, and the bytes after it.
 pub(crate) fn field(bytes: &[u8]) -> (&[u8], Option<&[u8]>)
     ensures { MatchOption result.1 (fields_of bytes.now ≡ result.0.now ∷ [])
         (λ rest. fields_of bytes.now ≡ result.0.now ∷ fields_of rest.now) }
@@ -35,8 +34,8 @@ pub(crate) fn field(bytes: &[u8]) -> (&[u8], Option<&[u8]>)
     }
 }
 
-// The bytes before the first TAB, or all where there is none, and what stands after it; or `None`
-// where a CR or a NUL comes before it.
+// The bytes before the first TAB, or all bytes without a TAB, and the bytes after it; `None` if a
+// CR or a NUL comes before it.
 fn plain_field(bytes: &[u8]) -> Option<(&[u8], Option<&[u8]>)>
     ensures { MatchOption result (has_return_or_nul bytes.now ≡ true)
         (λ cut. MatchOption cut.1 (IsLastField bytes.now cut.0.now)
@@ -52,7 +51,7 @@ fn plain_field(bytes: &[u8]) -> Option<(&[u8], Option<&[u8]>)>
     }
 }
 
-// The first four fields, where there are as many and no CR and no NUL.
+// The first four fields, if there are four and the line contains no CR and no NUL.
 fn four_fields(line: &[u8]) -> Option<(&[u8], &[u8], &[u8], &[u8])>
     ensures { MatchOption result (item_of line.now ≡ None)
         (λ f. HasFields line.now f.0.now f.1.now f.2.now f.3.now) }
@@ -70,7 +69,7 @@ fn four_fields(line: &[u8]) -> Option<(&[u8], &[u8], &[u8], &[u8])>
     Some((first, second, third, fourth))
 }
 
-// The first field, where no CR and no NUL is among the bytes.
+// The first field, if the bytes contain no CR and no NUL.
 fn last_field(bytes: &[u8]) -> Option<&[u8]>
     ensures { MatchOption result (has_return_or_nul bytes.now ≡ true)
         (λ first. HasFirstField bytes.now first.now) }
@@ -85,8 +84,8 @@ fn last_field(bytes: &[u8]) -> Option<&[u8]>
     Some(first)
 }
 
-// The item of four fields that hold no special byte. The first three stand in the text from `start`
-// on, with a TAB between them.
+// The item with these four fields, which contain no special byte. From `start` on the text contains
+// the first three fields, with a TAB between them.
 fn item_of_fields(
     alloc: Global,
     text: &Arc<ByteString>,
@@ -118,7 +117,7 @@ fn item_of_fields(
     }
 }
 
-// The item that a line of the text is, if it is one.
+// The item of a line of the text, if the line is one.
 fn item_of(
     alloc: Global,
     text: &Arc<ByteString>,
@@ -137,7 +136,7 @@ fn item_of(
     }
 }
 
-// The entry of a line of the text, which stands there from `start` on.
+// The entry of a line that begins at `start` in the text.
 pub(crate) fn entry_of(
     alloc: Global,
     text: &Arc<ByteString>,

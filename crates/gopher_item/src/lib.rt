@@ -1,8 +1,16 @@
-//! The items of Gopher (RFC 1436): places, the lines of a menu, whole menus, read from bytes and
-//! written, and the requests that clients send.
+//! The items of Gopher (RFC 1436): places, menus and requests, read from bytes and written to
+//! bytes.
 //!
-//! The crates above rest on one promise: menus and requests are read by the grammar, a menu that was
-//! written is read back as its lines, and a place is what its refusals say.
+//! The crates above use these contracts: `read_menu` and `read_request` return what `ReadsMenu` and
+//! `ReadsRequest` define (`specs/Menu.antt`, `specs/Request.antt`), `read_menu` reads a written
+//! menu back as the same lines, and a `Place` or a `MenuLine` has only valid parts.
+//!
+//! Error 90 (`NoMemory`, or `AllocError` in calls that have no other error) means out of memory.
+//! Unless its comment says otherwise, a public call that fails with it leaves its arguments
+//! unchanged. Calls that can't fail with it allocate nothing.
+//!
+//! Library API that only tests and benchmarks here call: `write_menu`, `lines`, `EachLine` and
+//! `ByteString::into_vec`.
 #![tactic(auto)]
 
 mod bytes;

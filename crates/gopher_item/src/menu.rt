@@ -1,4 +1,4 @@
-//! Menus.
+//! Reading menus.
 
 ghost use Rattle.std.specs.Prelude.{◌≡◌, ◌==◌, IfOk};
 ghost use Rattle.gopher_item.specs.Menu.{ReadsMenu};
@@ -10,13 +10,13 @@ use crate::menu_line::MenuLine;
 use std::alloc::{AllocError, Global};
 use std::sync::Arc;
 
-// How long a line of a menu is at least, mostly: room for the lines is made once.
+// Most menu lines are at least this long: room for all entries is reserved at once.
 const BYTES_OF_A_LINE: usize = 64;
 
 /// A line of a menu that was read.
 #[derive(Debug, Drop, PartialEq, Eq)]
 pub enum Entry {
-    /// A line that has the form of an item.
+    /// A line with the form of an item.
     Item(MenuLine),
     /// Any other line that isn't empty: its bytes before its first TAB.
     Odd(ByteString),
@@ -25,9 +25,9 @@ pub enum Entry {
 /// A menu that was read.
 #[derive(Debug, Drop, PartialEq, Eq)]
 pub struct Menu {
-    /// The items and the odd lines, in their order.
+    /// The items and the odd lines, in order.
     pub entries: Vec<Entry>,
-    /// Whether a line that is a period alone ended the menu.
+    /// Whether a line with a single period ended the menu.
     pub ended: bool,
 }
 
@@ -54,13 +54,12 @@ impl Clone for Menu {
     }
 }
 
-/// Reads a menu (RFC 1436, section 2 and the appendix), whatever the bytes are.
+/// Reads a menu from any bytes (RFC 1436, section 2, and appendix: Menu).
 ///
-/// Its lines are those up to the first that is a period alone; what follows is ignored. An empty line
-/// counts for nothing. A line is an item where it has at least four fields between TABs, its first
-/// field is not empty, it holds no CR and no NUL, and its fourth field, without the spaces at its ends,
-/// is one or more digits of value at most 65535. Any other line is odd. Refused only where memory is
-/// (90).
+/// The menu ends at the first line that is a single period; bytes after it are ignored. Empty lines
+/// are skipped. A line is an item if it has at least four fields between TABs, its first field
+/// isn't empty, it contains no CR and no NUL, and its fourth field, without the spaces at its ends,
+/// is one or more digits of value at most 65535. Any other line is odd, which is this profile's.
 pub fn read_menu(alloc: Global, bytes: &[u8]) -> Result<Menu, NoMemory>
     ensures { IfOk result (λ menu. ReadsMenu bytes.now menu.entries.items menu.ended) }
 {

@@ -1,4 +1,4 @@
-//! The lines of a menu.
+//! Menu lines.
 
 ghost use Rattle.std.specs.Prelude.{◌≡◌, ℕ, ◌==◌, ◌||◌, ◌<◌, ◌^◌, IfOk, IfNone};
 ghost use Rattle.std.specs.Arc.{arc_value};
@@ -17,16 +17,16 @@ use std::fmt;
 use std::marker::Model;
 use std::sync::Arc;
 
-/// An item of a menu (RFC 1436, section 2), read or made.
+/// An item of a menu, read or made (RFC 1436, section 2, and appendix: DirEntity).
 ///
-/// Its type is any byte but TAB, CR, LF and NUL; no field holds one of these, and the host has no
-/// space at its ends. A line that was read may have an empty host. The lines of a menu that was read
-/// share its bytes, which are kept as long as one of them is.
+/// The type and the fields contain no TAB, CR, LF and NUL, and the host has no space at its ends. A
+/// line that was read can have an empty host. The lines of a menu that was read share its bytes,
+/// which stay allocated as long as one of the lines exists.
 #[derive(Drop)]
 pub struct MenuLine {
     kind: u8,
     port: u16,
-    // Where the display string, the selector and the host stand in the text, one byte apart.
+    // The positions of the display string, the selector and the host in the text, one byte apart.
     start: usize,
     display_end: usize,
     selector_end: usize,
@@ -47,7 +47,7 @@ impl Model for MenuLine {
         (cuts_at m.start m.display_end m.selector_end m.end) (arc_value m.text) };
 }
 
-// The type and the three texts, one after another, with a TAB between the texts.
+// The type and the three texts in sequence, with a TAB between the texts.
 fn joined(
     alloc: Global,
     kind: u8,
@@ -73,7 +73,7 @@ fn joined(
     Ok(text)
 }
 
-/// Whether no line that is made has the type: a control byte, a space or a period. Takes no memory.
+/// Returns whether a line can't be made with this type: a control byte, a space or a period.
 pub fn is_bad_type(kind: u8) -> bool
     ensures { result ≡ is_bad_type kind }
 {
@@ -99,7 +99,7 @@ fn menu_line_fault(kind: u8, display: &[u8], selector: &[u8], host: &[u8]) -> Op
 }
 
 impl MenuLine {
-    // The line of fields that were tested. They stand in the text, the type at `start`.
+    // Makes the line of valid fields. The text contains them, with the type at `start`.
     pub(crate) fn in_text(
         text: &Arc<ByteString>,
         start: usize,
@@ -115,7 +115,7 @@ impl MenuLine {
         ensures { IfOk result (λ line.
             line ≡ menu_line_of kind display.now selector.now host.now port) }
     {
-        // The text's length fits a `usize`, and so does each place in it.
+        // The text's length fits a `usize`, and so does each position in it.
         let _length = text.as_slice().len();
         let display_start = start + 1;
         let display_end = display_start + display.len();
@@ -132,7 +132,7 @@ impl MenuLine {
         })
     }
 
-    // The line of fields that were tested, in a text of its own.
+    // Makes the line of valid fields, with a text of its own.
     pub(crate) fn of_fields(
         alloc: Global,
         kind: u8,
@@ -150,13 +150,17 @@ impl MenuLine {
         MenuLine::in_text(&text, 0, kind, display, selector, host, port)
     }
 
-    /// A line of these parts.
+    /// Makes a line of these parts. A port of 0 is valid, for lines that name no server.
     ///
-    /// Refused, in this order: `BadSelector` (2) where the selector is over 255 bytes or holds a TAB,
-    /// CR, LF or NUL; `BadHost` (3) where the host is empty, over 255 bytes, or holds a space or a
-    /// control byte; `BadDisplay` (5) where the display string holds a TAB, CR, LF or NUL; `BadType`
-    /// (6) where the type is a control byte, a space or a period; `NoMemory` (90). A port of 0 is
-    /// allowed: lines that name no server have it.
+    /// # Errors
+    ///
+    /// The first fault in this order:
+    /// - `BadSelector` (2): the selector has over 255 bytes, or contains a TAB, CR, LF or NUL
+    /// - `BadHost` (3): the host is empty, has over 255 bytes, or contains a space or a control
+    ///   byte
+    /// - `BadDisplay` (5): the display string contains a TAB, CR, LF or NUL
+    /// - `BadType` (6): the type is a control byte, a space or a period
+    /// - `NoMemory` (90)
     pub fn new(
         alloc: Global,
         kind: u8,
@@ -174,7 +178,7 @@ impl MenuLine {
         Ok(MenuLine::of_fields(alloc, kind, display, selector, host, port)?)
     }
 
-    /// The type (RFC 1436, section 3.8).
+    /// Returns the type (RFC 1436, section 3.8).
     pub fn kind(&self) -> u8
         ensures value { result ≡ self.now.kind }
         ensures plain { IsMenuLine self.now }
@@ -182,35 +186,35 @@ impl MenuLine {
         self.kind
     }
 
-    /// The display string: what a client shows.
+    /// Returns the display string, which a client shows (RFC 1436, section 3.9).
     pub fn display(&self) -> &[u8]
         ensures { result.now ≡ self.now.display }
     {
         &self.text.as_slice()[self.start..self.display_end]
     }
 
-    /// The selector: what a client sends to the host.
+    /// Returns the selector, which a client sends to the host (RFC 1436, section 3.9).
     pub fn selector(&self) -> &[u8]
         ensures { result.now ≡ self.now.selector }
     {
         &self.text.as_slice()[self.display_end + 1..self.selector_end]
     }
 
-    /// The host, as it was written.
+    /// Returns the host with its case unchanged.
     pub fn host(&self) -> &[u8]
         ensures { result.now ≡ self.now.host }
     {
         &self.text.as_slice()[self.selector_end + 1..self.end]
     }
 
-    /// The port; 0 stands in lines that name no server.
+    /// Returns the port; 0 in lines that name no server.
     pub fn port(&self) -> u16
         ensures { result ≡ self.now.port }
     {
         self.port
     }
 
-    /// The place that the line names, refused as `Place::new` refuses these parts.
+    /// Makes the place that the line names. The errors are those of `Place::new`.
     pub fn place(&self, alloc: Global) -> Result<Place, ItemFault>
         ensures { Makes (place_fault self.now.kind self.now.selector self.now.host self.now.port)
             (place_of self.now.kind self.now.selector self.now.host self.now.port) result }

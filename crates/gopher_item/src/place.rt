@@ -1,4 +1,4 @@
-//! Places, and the order in which they are sorted.
+//! Places and their order.
 
 ghost use Rattle.std.specs.Prelude.{◌≡◌, refl, IfOk};
 ghost use Rattle.std.specs.Cmp;
@@ -13,9 +13,9 @@ use std::alloc::Global;
 use std::cmp::Ordering;
 use std::marker::Model;
 
-/// One file or directory of one server: what a crawl visits and a search answers.
+/// One file or directory of one server: the unit of crawls and of search results.
 ///
-/// Places are ordered by host (its bytes), port (as a number), selector (its bytes) and type.
+/// Place order is by host (its bytes), port (as a number), selector (its bytes) and type.
 #[derive(Debug, Drop, Eq, Hash)]
 pub struct Place {
     host: ByteString,
@@ -37,12 +37,17 @@ impl Model for Place {
 }
 
 impl Place {
-    /// The place of these parts; letters of the host are lower-cased.
+    /// Makes the place of these parts, with the ASCII letters of the host in lower case.
     ///
-    /// Refused, in this order: `BadKind` (1) where `kind` is neither `0` nor `1`; `BadSelector` (2)
-    /// where the selector is over 255 bytes or holds a TAB, CR, LF or NUL; `BadHost` (3) where the
-    /// host is empty, over 255 bytes, or holds a space or a control byte; `BadPort` (4) where the port
-    /// is 0; `NoMemory` (90).
+    /// # Errors
+    ///
+    /// The first fault in this order:
+    /// - `BadKind` (1): `kind` isn't `0` or `1`
+    /// - `BadSelector` (2): the selector has over 255 bytes, or contains a TAB, CR, LF or NUL
+    /// - `BadHost` (3): the host is empty, has over 255 bytes, or contains a space or a control
+    ///   byte
+    /// - `BadPort` (4): the port is 0
+    /// - `NoMemory` (90)
     pub fn new(
         alloc: Global,
         kind: u8,
@@ -69,35 +74,35 @@ impl Place {
         })
     }
 
-    /// The host, in lower case.
+    /// Returns the host in lower case.
     pub fn host(&self) -> &[u8]
         ensures { result.now ≡ self.now.host }
     {
         self.host.as_slice()
     }
 
-    /// The port, from 1.
+    /// Returns the port, at least 1.
     pub fn port(&self) -> u16
         ensures { result ≡ self.now.port }
     {
         self.port
     }
 
-    /// The selector: what a client sends for this place.
+    /// Returns the selector, which a client sends for this place.
     pub fn selector(&self) -> &[u8]
         ensures { result.now ≡ self.now.selector }
     {
         self.selector.as_slice()
     }
 
-    /// The type: `0` for a file, `1` for a directory (RFC 1436, section 3.8).
+    /// Returns the type: `0` for a file, `1` for a directory (RFC 1436, section 3.8).
     pub fn kind(&self) -> u8
         ensures { result ≡ self.now.kind }
     {
         self.kind
     }
 
-    /// A second place of the same parts. Refused only where memory is (90).
+    /// Copies the place.
     pub fn clone(&self) -> Result<Place, NoMemory>
         ensures { IfOk result (λ p. p ≡ self.now) }
     {

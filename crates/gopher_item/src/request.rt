@@ -1,4 +1,4 @@
-//! Requests: what a client sends.
+//! Reading requests.
 
 ghost use Rattle.std.specs.Prelude.{◌≡◌};
 ghost use Rattle.gopher_item.specs.Request.{ReadsRequest};
@@ -9,12 +9,12 @@ use crate::fields::is_selector;
 use crate::item::field;
 use std::alloc::{AllocError, Global};
 
-/// A request (RFC 1436, sections 2 and 3.7).
+/// A request of a client (RFC 1436, sections 2 and 3.7).
 #[derive(Debug, Drop, PartialEq, Eq)]
 pub struct Request {
-    /// What is asked for; empty for the top menu.
+    /// The selector; empty for the top menu.
     pub selector: ByteString,
-    /// What is searched for, where the line has a TAB.
+    /// The search string, if the line contains a TAB.
     pub search: Option<ByteString>,
 }
 
@@ -29,12 +29,18 @@ impl Clone for Request {
     }
 }
 
-/// Reads a request line, given without its end.
+/// Reads a request line, without its CR LF (RFC 1436, section 2, and appendix: Full-Text Search
+/// Transaction).
 ///
-/// The selector is what stands before the first TAB, the search string what stands between the first
-/// and the second TAB or the end; the rest, as Gopher+ sends it, is ignored. Refused, in this order:
-/// `LineTooLong` (7) where the line is over 1,024 bytes; `BadSelector` (2) where the selector is over
-/// 255 bytes or holds a CR, LF or NUL; `NoMemory` (90).
+/// The selector ends at the first TAB, the search string at the second; the rest, which Gopher+
+/// clients send, is ignored.
+///
+/// # Errors
+///
+/// The first fault in this order:
+/// - `LineTooLong` (7): the line has over 1,024 bytes, a limit of this profile
+/// - `BadSelector` (2): the selector has over 255 bytes, or contains a CR, LF or NUL
+/// - `NoMemory` (90)
 pub fn read_request(alloc: Global, line: &[u8]) -> Result<Request, RequestFault>
     ensures { ReadsRequest line.now result }
 {

@@ -1,4 +1,4 @@
-//! Menus out: the bytes of menu lines.
+//! Writing menus.
 
 ghost use Rattle.std.specs.Prelude.{◌≡◌, ◌++◌, [], ◌∷◌, true, map, All, OnOk, OnErr};
 ghost use Rattle.std.specs.Fmt.{decimal};
@@ -12,9 +12,9 @@ use crate::menu_line::MenuLine;
 use itoa::Buffer;
 use std::alloc::AllocError;
 
-/// Appends the type, the display string and a TAB: how a menu line begins.
+/// Appends the start of a menu line: the type, the display string and a TAB.
 ///
-/// Refused only where memory is; a beginning of them may then have been appended.
+/// If out of memory, `out` can end with a prefix of these bytes.
 pub fn push_front(kind: u8, display: &[u8], out: &mut Vec<u8>) -> Result<(), AllocError>
     ensures written { OnOk result (out.new.items
         ≡ out.old.items ++ (kind ∷ display.now ++ 9 ∷ [])) }
@@ -26,9 +26,9 @@ pub fn push_front(kind: u8, display: &[u8], out: &mut Vec<u8>) -> Result<(), All
     Ok(())
 }
 
-/// Appends a TAB, the host, a TAB, the port and CR LF: how a menu line ends.
+/// Appends the end of a menu line: a TAB, the host, a TAB, the port and CR LF.
 ///
-/// Refused only where memory is; a beginning of them may then have been appended.
+/// If out of memory, `out` can end with a prefix of these bytes.
 pub fn push_server(host: &[u8], port: u16, out: &mut Vec<u8>) -> Result<(), AllocError>
     ensures written { OnOk result (out.new.items ≡ out.old.items
         ++ (9 ∷ host.now ++ 9 ∷ decimal port ++ 13 ∷ 10 ∷ [])) }
@@ -42,10 +42,10 @@ pub fn push_server(host: &[u8], port: u16, out: &mut Vec<u8>) -> Result<(), Allo
     out.extend_from_slice(b"\r\n")
 }
 
-/// Appends the line of these parts to a menu (RFC 1436, section 2). The caller sees to it that none of
-/// them holds a TAB, CR, LF or NUL.
+/// Appends a menu line (RFC 1436, appendix: DirEntity). The caller ensures that no part contains a
+/// TAB, CR, LF or NUL.
 ///
-/// Refused only where memory is; a beginning of the line may then have been appended.
+/// If out of memory, `out` can end with a prefix of the line.
 pub fn push_menu_line(
     kind: u8,
     display: &[u8],
@@ -63,9 +63,7 @@ pub fn push_menu_line(
     push_server(host, port, out)
 }
 
-/// Appends the period alone that ends a menu, with CR LF.
-///
-/// Refused only where memory is, and then nothing is appended.
+/// Appends the line that ends a menu: a single period and CR LF (RFC 1436, appendix: Lastline).
 pub fn push_last_line(out: &mut Vec<u8>) -> Result<(), AllocError>
     ensures written { OnOk result (out.new.items ≡ out.old.items ++ 46 ∷ 13 ∷ 10 ∷ []) }
     ensures refused { OnErr result (out.new.items ≡ out.old.items) }
@@ -73,7 +71,6 @@ pub fn push_last_line(out: &mut Vec<u8>) -> Result<(), AllocError>
     out.extend_from_slice(b".\r\n")
 }
 
-// Appends the bytes of one line.
 fn push_line(line: &MenuLine, out: &mut Vec<u8>) -> Result<(), AllocError>
     ensures plain { IsMenuLine line.now }
     ensures written { OnOk result (out.new.items ≡ out.old.items ++ menu_line_bytes line.now) }
@@ -89,7 +86,7 @@ fn push_line(line: &MenuLine, out: &mut Vec<u8>) -> Result<(), AllocError>
     )
 }
 
-// Appends the bytes of the lines and of the last line.
+// Appends the lines and the last line.
 fn push_lines(lines: &[MenuLine], out: &mut Vec<u8>) -> Result<(), AllocError>
     ensures plain { OnOk result (All IsMenuLine lines.now) }
     ensures written { OnOk result (out.new.items ≡ out.old.items ++ menu_bytes lines.now) }
@@ -101,10 +98,9 @@ fn push_lines(lines: &[MenuLine], out: &mut Vec<u8>) -> Result<(), AllocError>
     push_last_line(out)
 }
 
-/// Appends the menu of these lines, ended by a period alone (RFC 1436, section 2 and the appendix).
+/// Appends the menu of these lines, which a single period ends (RFC 1436, appendix: Menu).
 ///
-/// All or nothing: refused only where memory is (90), and then `out` is as it was. What was written
-/// is read back by `read_menu` as these lines, ended.
+/// `read_menu` reads the bytes back as these lines, ended. If out of memory, `out` stays unchanged.
 pub fn write_menu(lines: &[MenuLine], out: &mut Vec<u8>) -> Result<(), NoMemory>
     ensures written { OnOk result (out.new.items ≡ out.old.items ++ menu_bytes lines.now) }
     ensures read_back { OnOk result (ReadsMenu (menu_bytes lines.now) (map Item lines.now) true) }

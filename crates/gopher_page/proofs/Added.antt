@@ -1,4 +1,4 @@
--- What one entry of a menu adds to the links.
+-- The effect of one entry of a menu on the links.
 use Rattle.std.proofs.Common.{◌≡◌, true, List, [], ◌∷◌, Some, filter}
 use Rattle.std.specs.List.{filter_map}
 use Rattle.indexmap.specs.IndexSet.{insert_key, insert_all}
@@ -7,7 +7,7 @@ use Rattle.gopher_item.specs.declared.menu.Entry.{Entry}
 use Rattle.gopher_scope.specs.Scope.{ScopeData, allows}
 use Rattle.gopher_page.specs.Page.{place_of_entry}
 
--- an allowed place that an entry names is put in
+-- an entry that names an allowed place adds it
 pub allowed_entry : (scope : ScopeData) (entry : Entry) (place : PlaceData) (links : List PlaceData) → place_of_entry entry ≡ Some place → allows scope place ≡ true
     → insert_all same_place links (filter (allows scope) (filter_map place_of_entry (entry ∷ []))) ≡ insert_key same_place links place
 allowed_entry scope entry place links named allowed = rw (named, allowed)

@@ -28,7 +28,7 @@ equal_words a b e = (bytes_decides a b).0 (texts_ties a b ∙ ap is_eq e)
 pub not_same : (a b : List ℕ) (r : Ordering) → compare a b ≡ r → is_eq r ≡ false → same_word a b ≡ false
 not_same a b r e n = texts_ties a b ∙ ap is_eq e ∙ n
 
--- ---- a word that isn't among the sorted ones stands nowhere
+-- ---- a word that isn't among the sorted ones isn't among the words
 
 neither : (x y : Bool) → (x || y) ≡ false → (x ≡ false) × (y ≡ false)
 neither true y h = absurd (both_ways true h refl)
@@ -71,7 +71,7 @@ same_values : (old new : List ℕ → ℕ) (words : List (List ℕ)) → AllByRe
 same_values old new [] same = refl
 same_values old new (word ∷ words) same = λ i. (word, sym same.0 i) ∷ same_values old new words same.1 i
 
--- what is found of a word is its value, or nothing where it isn't there
+-- looking up a word finds its value; an unknown word has the value 0
 found_value : (value : List ℕ → ℕ) (words : List (List ℕ)) (sought : List ℕ) → (list_any (same_word sought) words ≡ false → value sought ≡ 0) → unwrap_or (lookup (is_at (compare sought)) (with_values value words)) 0 ≡ value sought
 found_value value [] sought none = sym (none refl)
 found_value value (word ∷ words) sought none = by (is_eq (compare sought word)) refl (found_value value words sought)
@@ -87,7 +87,7 @@ later_unchanged : (old new : List ℕ → ℕ) (word : List ℕ) (words : List (
 later_unchanged old new word [] same after = tt
 later_unchanged old new word (other ∷ words) same after = (same other (not_same word other Less after.0 refl), later_unchanged old new word words same after.1)
 
--- putting a word in changes its own value alone
+-- putting a word in changes only its own value
 value_put : (old new : List ℕ → ℕ) (words : List (List ℕ)) (word : List ℕ) (value : ℕ) → IsStrictlySortedBy compare words → value ≡ new word → ((other : List ℕ) → same_word word other ≡ false → new other ≡ old other)
     → insert_entry compare (with_values old words) word value ≡ with_values new (insert_key compare words word)
 unfolding IsStrictlySortedBy
@@ -106,7 +106,7 @@ value_put old new (first ∷ words) word value sorted is same = by (compare word
 
 -- ---- counts
 
--- one more of a word
+-- one more occurrence of a word
 abbrev add_word : List (List ℕ × ℕ) → List ℕ → List (List ℕ × ℕ)
 add_word counts word = insert_entry compare counts word (unwrap_or (lookup (is_at (compare word)) counts) 0 + 1)
 
@@ -131,12 +131,12 @@ added_after done [] = ap counts_of (sym (append-nil done))
 added_after done (word ∷ words) =
     ap (λ counts. fold add_word counts words) (one_more done word) ∙ added_after (done ++ word ∷ []) words ∙ ap counts_of (append_assoc done (word ∷ []) words)
 
--- words that are added one by one, from none, are counted
+-- adding words one by one to no words counts them
 added_all : (words : List (List ℕ)) → fold add_word [] words ≡ counts_of words
 unfolding counts_of
 added_all words = added_after [] words
 
--- ---- each word stands there
+-- ---- each word occurs at least once
 
 positive_put : (counts : List (List ℕ × ℕ)) (word : List ℕ) (value : ℕ) → 0 < value → AllByRecursion (λ entry. 0 < entry.1) counts → AllByRecursion (λ entry. 0 < entry.1) (insert_entry compare counts word value)
 positive_put [] word value some all = (some, tt)

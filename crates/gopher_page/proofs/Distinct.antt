@@ -1,4 +1,4 @@
--- Putting places into a set one after another keeps each once, in the order of first mention.
+-- Inserting places into a set one by one keeps each once, in the order of first mention.
 use Rattle.std.proofs.Common.{◌≡◌, Bool, true, false, cond, ◌||◌, not, List, [], ◌∷◌, ◌++◌, Option, filter, refl, sym, ap, subst, ◌∙◌, arith}
 use Rattle.std.proofs.lemmas.List.{append-nil, append_assoc}
 use Rattle.std.proofs.lemmas.Bool.{both_ways}
@@ -9,7 +9,7 @@ use Rattle.indexmap.specs.IndexSet.{insert_key, insert_all}
 use Rattle.gopher_item.specs.Place.{PlaceData, same_place, is_among, distinct}
 use Rattle.gopher_item.proofs.PlaceLemmas.{same_place-refl, same_place-true}
 
--- two filters in a row, as one whose test joins theirs
+-- two filters in sequence are one filter whose test joins theirs
 filter_both : {X : Type 0} (p q r : X → Bool) → ((x : X) → r x ≡ cond (q x) (p x) false) → (xs : List X) → filter p (filter q xs) ≡ filter r xs
 filter_both p q r joins [] = refl
 filter_both {X} p q r joins (x ∷ xs) = by (q x) (filter_both p q r joins xs) (joins x)
@@ -27,12 +27,12 @@ same_place-symm a b = by (same_place a b) (same_place b a) refl refl
     by true false e f = absurd (both_ways (same_place b a) f (subst (λ p. same_place p a ≡ true) (same_place-true a b e) (same_place-refl a)))
     by false true e f = absurd (both_ways (same_place a b) e (subst (λ p. same_place p b ≡ true) (same_place-true b a f) (same_place-refl b)))
 
--- a place that is among some and is new beside one of them
+-- a place is among these and one more if it is among these or is the same as that one
 is_among-push : (places : List PlaceData) (place other : PlaceData) → is_among (places ++ place ∷ []) other ≡ (is_among places other || same_place other place)
 is_among-push [] place other = grind arith
 is_among-push (first ∷ places) place other = grind (arith, is_among-push places place other)
 
--- where a place is held, no other that is new is the same as it
+-- if a list contains a place, a place that is new to the list isn't the same
 new_apart-held : (held : List PlaceData) (place : PlaceData) → is_among held place ≡ true → (other : PlaceData) → not (is_among held other) ≡ cond (not (same_place place other)) (not (is_among held other)) false
 new_apart-held held place there other = by (same_place place other) refl
   where
@@ -40,7 +40,7 @@ new_apart-held held place there other = by (same_place place other) refl
     by true e = ap not (subst (λ p. is_among held p ≡ true) (same_place-true place other e) there)
     by false e = refl
 
--- what is new beside a list and one more place
+-- a place is new to a list and one more place
 new_apart-push : (held : List PlaceData) (place other : PlaceData) → not (is_among (held ++ place ∷ []) other) ≡ cond (not (same_place place other)) (not (is_among held other)) false
 new_apart-push held place other = rw (is_among-push held place other, same_place-symm other place) (by (is_among held other) (same_place place other))
   where
@@ -50,7 +50,7 @@ new_apart-push held place other = rw (is_among-push held place other, same_place
     by false true = refl
     by false false = refl
 
--- what is put in after a list of distinct places: the new ones, each once
+-- inserting places into a list of distinct places appends the new ones, each once
 pub insert_all-from : (held places : List PlaceData) → insert_all same_place held places ≡ held ++ filter (λ place. not (is_among held place)) (distinct places)
 insert_all-from held [] = sym (append-nil held)
 insert_all-from held (place ∷ places) = by (is_among held place) refl (λ some. insert_all-from some places)
@@ -69,7 +69,7 @@ insert_all-from held (place ∷ places) = by (is_among held place) refl (λ some
         rest (held ++ place ∷ []) ∙ append_assoc held (place ∷ []) _
         ∙ ap (λ l. held ++ place ∷ l) (sym (filter_both (new held) (λ other. not (same_place place other)) (new (held ++ place ∷ [])) (new_apart-push held place) (distinct places)))
 
--- what the values of one more item put in, of which a test keeps some
+-- inserting the places of some items and then of more, if they pass a test
 pub insert_all-more : {X : Type 0} (name : X → Option PlaceData) (test : PlaceData → Bool) (items more : List X)
     → insert_all same_place (insert_all same_place [] (filter test (filter_map name items))) (filter test (filter_map name more)) ≡ insert_all same_place [] (filter test (filter_map name (items ++ more)))
 insert_all-more name test items more =
@@ -79,7 +79,7 @@ insert_all-more name test items more =
     ∙ fold-append (insert_key same_place) [] (filter test (filter_map name items)) (filter test (filter_map name more))
     )
 
--- what is put into an empty set
+-- inserting places into an empty set
 pub insert_all-distinct : (places : List PlaceData) → insert_all same_place [] places ≡ distinct places
 insert_all-distinct places = insert_all-from [] places ∙ filter_all (distinct places)
   where

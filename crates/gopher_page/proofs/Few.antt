@@ -32,7 +32,7 @@ pub length-distinct-le : (places : List PlaceData) → length (distinct places) 
 length-distinct-le [] = omega arith
 length-distinct-le (place ∷ places) = omega (arith, length-distinct-le places, length-filter-le (λ other. not (same_place place other)) (distinct places))
 
--- one more byte in front makes at most one more line
+-- one more byte at the front adds at most one line
 one_more : (byte : ℕ) (parts : List (List ℕ)) → length (lines_of_parts (onto_first byte parts)) ≤ length (lines_of_parts parts) + 1
 one_more byte [] = omega arith
 one_more byte (part ∷ []) = omega (arith, at_most_one (eqb (length (byte ∷ part)) 0) (byte ∷ part))

@@ -1,4 +1,4 @@
--- What numbers are whose low and high parts lie apart.
+-- Numbers whose low and high parts are stored apart.
 use Rattle.std.proofs.Common.{◌≡◌, ℕ, zero, suc, ◌+◌, ◌*◌, ◌≤◌, List, [], ◌∷◌, ◌++◌, length, take, slice_get, Some, None, refl, ap, ◌∙◌, arith}
 use Rattle.std.proofs.Math.ListN.{replicate}
 use Rattle.std.proofs.lemmas.List.{length-append, length-replicate, take_all}
@@ -51,7 +51,7 @@ both base (first ∷ lows) [] low high same = absurd (omega arith)
 both base [] (first ∷ highs) low high same = absurd (omega arith)
 both base (l ∷ lows) (h ∷ highs) low high same = ap (λ list. (l + base * h) ∷ list) (both base lows highs low high (omega arith))
 
--- the high parts are filled with zeros first
+-- a number with a high part, after zeros fill up the high parts
 pub joined-high : (base : ℕ) (lows highs room : List ℕ) (low high n : ℕ) → length highs ≤ length lows → length room ≡ length lows → room ≡ take (length lows) highs ++ replicate n 0
     → joined base (lows ++ low ∷ []) (room ++ high ∷ []) ≡ joined base lows highs ++ (low + base * high) ∷ []
 joined-high base lows highs room low high n short size grown =

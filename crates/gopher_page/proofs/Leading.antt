@@ -1,4 +1,4 @@
--- The first bytes of words as numbers are in the order of the words.
+-- The numbers of words' first bytes are in the order of the words.
 use Rattle.std.proofs.Common.{◌≡◌, ◌⊎◌, ℕ, zero, suc, ◌+◌, ◌*◌, ◌^◌, ◌<◌, ◌≤◌, ◌==◌, Bool, List, [], ◌∷◌, length, drop, get_or, refl, sym, ap, ◌∙◌, inl, inr, arith}
 use Rattle.std.proofs.lemmas.Bool.{lt-ltb, le-ltb, eq-eqb, ne_eqb, cases_order}
 use Rattle.std.proofs.lemmas.List.{at_drop_more, at_drop_all, get_or_past}
@@ -18,7 +18,7 @@ unfolding leading
 none zero = refl
 none (suc count) = refl
 
--- the number of what stands from a byte on
+-- the number of the bytes from an index on
 first : (count i : ℕ) (word : List ℕ) → (i < length word) ⊎ (length word ≤ i) → leading (suc count) (drop i word) ≡ get_or word i 0 * 256 ^ count + leading count (drop (i + 1) word)
 unfolding leading
 first count i word (inl within) = at_drop_more (leading (suc count)) word i 0 within
@@ -34,7 +34,7 @@ first count i word (inr past) =
 shifted : (number byte place : ℕ) → (number * 256 + byte) * place ≡ number * (place * 256) + byte * place
 shifted number byte place = add-mul (number * 256) byte place ∙ ap (λ n. n + byte * place) (mul_assoc number 256 place ∙ ap (λ n. number * n) (mul_comm 256 place))
 
--- one more byte is read
+-- reading one more byte
 pub leading_more : (number byte i count : ℕ) (word : List ℕ) → (i < length word) ⊎ (length word ≤ i) → byte ≡ get_or word i 0
     → (number * 256 + byte) * 256 ^ count + leading count (drop (i + 1) word) ≡ number * 256 ^ suc count + leading (suc count) (drop i word)
 leading_more number byte i count word where_it_is is =
@@ -54,7 +54,7 @@ leading_below (suc count) (byte ∷ word) bytes =
     let high : byte ≤ 255 = omega (arith, bytes 0) in
     omega (arith, mul-le-mul_right {m = byte} {n = 255} (256 ^ count) high, leading_below count word (λ i. bytes (suc i)), pow-suc 256 count)
 
--- words come as their numbers do, where these differ
+-- two words with different numbers are in the order of these
 pub leading_less : (count : ℕ) (a b : List ℕ) → AreBytes a → AreBytes b → leading count a < leading count b → compare a b ≡ Less
 unfolding leading
 leading_less zero a b p q less = absurd (omega arith)
@@ -72,7 +72,7 @@ leading_less (suc count) (x ∷ a) (y ∷ b) p q less = by (cases_order x y) (le
         let more : suc y ≤ x = omega arith in
         absurd (omega (arith, mul-le-mul_right {m = suc y} {n = x} (256 ^ count) more, add-mul y 1 (256 ^ count), leading_below count b (λ i. q (suc i))))
 
--- the order of two numbers that differ is that of their words
+-- the order of two different numbers is that of their words
 pub ordered_by_number : (r : Ordering) (m n count : ℕ) (a b : List ℕ) → AreBytes a → AreBytes b → m ≡ leading count a → n ≡ leading count b → r ≡ nat_cmp m n → (r ≡ Equal → ⊥) → r ≡ compare a b
 ordered_by_number r m n count a b p q is_m is_n is apart = by (cases_order m n)
   where
@@ -82,7 +82,7 @@ ordered_by_number r m n count a b p q is_m is_n is apart = by (cases_order m n)
     by (inr (inr above)) =
         (is ∙ rw (le-ltb m n (omega arith), ne_eqb m n (λ same. omega arith))) ∙ sym (nat_list_cmp_total.antisymm a b ∙ ap ordering_reverse (leading_less count b a q p (omega (arith, is_m, is_n))))
 
--- ---- two words that have one number
+-- ---- two words with one number
 
 less_number : (m n : ℕ) → m < n → nat_cmp m n ≡ Less
 less_number m n below = rw (lt-ltb m n below)
@@ -101,7 +101,7 @@ next_numbers m n = by (cases_order m n)
     by (inr (inl below)) = less_number m n below ∙ sym (less_number (suc m) (suc n) (omega arith))
     by (inr (inr above)) = more_number m n above ∙ sym (more_number (suc m) (suc n) (omega arith))
 
--- come as their lengths do, where the number is of all their bytes
+-- if the number contains all bytes of both words, their lengths order them
 pub tied_order : (count : ℕ) (a b : List ℕ) → AreBytes a → AreBytes b → length a ≤ count → length b ≤ count → leading count a ≡ leading count b → compare a b ≡ nat_cmp (length a) (length b)
 unfolding leading
 tied_order count [] [] p q s t e = sym (same_number 0 0 refl)
@@ -121,7 +121,7 @@ tied_order (suc count) (x ∷ a) (y ∷ b) p q s t e = by (cases_order x y) (tie
         let more : suc y ≤ x = omega arith in
         absurd (omega (arith, e, mul-le-mul_right {m = suc y} {n = x} (256 ^ count) more, add-mul y 1 (256 ^ count), leading_below count b (λ i. q (suc i))))
 
--- and so are the same just where they are as long
+-- if the number contains all bytes of both words, they are equal exactly if their lengths are
 pub tied_same : (b : Bool) (word other : List ℕ) → AreBytes word → AreBytes other → length word ≤ 8 → length other ≤ 8 → leading 8 word ≡ leading 8 other → b ≡ (length word == length other) → b ≡ same_word word other
 tied_same b word other p q s t e is = is ∙ by (cases_order (length word) (length other))
   where

@@ -1,4 +1,4 @@
--- Words in the order of their bytes, each with how often it stands in a row, are counted.
+-- The lengths of the runs of words in byte order are their counts.
 use Rattle.std.proofs.Common.{◌≡◌, ℕ, zero, suc, ◌+◌, ◌-◌, ◌<◌, ◌≤◌, Bool, true, false, cond, ◌||◌, List, [], ◌∷◌, length, map, drop, get_or, count_by, sum_by, refl, sym, ap, subst, ◌∙◌, add-zero, arith}
 use Rattle.std.proofs.lemmas.Bool.{both_ways}
 use Rattle.std.proofs.lemmas.List.{drop_more, drop_all, length-map, get_or-map}
@@ -22,7 +22,7 @@ use Rattle.gopher_page.proofs.AddedWords.{compare, equal_words, not_same, absent
 itself : (word : List ℕ) → same_word word word ≡ true
 itself word = (bytes_decides word word).1 refl
 
--- one more of the same word
+-- joining a run with one more of its word
 joined_twice : (word : List ℕ) (n : ℕ) (runs : List (List ℕ × ℕ)) → joined_run word n (joined_run word 1 runs) ≡ joined_run word (n + 1) runs
 joined_twice word n [] = ap (λ t. cond t ((word, n + 1) ∷ []) ((word, n) ∷ (word, 1) ∷ [])) (itself word)
 joined_twice word n (run ∷ runs) = by (same_word word run.0)
@@ -33,7 +33,7 @@ joined_twice word n (run ∷ runs) = by (same_word word run.0)
         ap (λ t. cond t ((word, n + (1 + run.1)) ∷ runs) ((word, n) ∷ (word, 1 + run.1) ∷ runs)) (itself word) ∙ ap (λ k. (word, k) ∷ runs) same
     by false = ap (λ t. cond t ((word, n + 1) ∷ run ∷ runs) ((word, n) ∷ (word, 1) ∷ run ∷ runs)) (itself word)
 
--- another word
+-- a run of another word stays apart
 joined_other : (word : List ℕ) (n : ℕ) (other : List ℕ) (m : ℕ) (runs : List (List ℕ × ℕ)) → same_word word other ≡ false
     → joined_run word n (joined_run other m runs) ≡ (word, n) ∷ joined_run other m runs
 joined_other word n other m [] apart = ap (λ t. cond t ((word, n + m) ∷ []) ((word, n) ∷ (other, m) ∷ [])) apart
@@ -43,7 +43,7 @@ joined_other word n other m (run ∷ runs) apart = by (same_word other run.0)
     by true = ap (λ t. cond t ((word, n + (m + run.1)) ∷ runs) ((word, n) ∷ (other, m + run.1) ∷ runs)) apart
     by false = ap (λ t. cond t ((word, n + m) ∷ run ∷ runs) ((word, n) ∷ (other, m) ∷ run ∷ runs)) apart
 
--- the words from `start` up to `end` are one word
+-- the words from `start` up to, not including, `end` are equal
 abbrev pub IsOneWord : List (List ℕ) → ℕ → ℕ → Type 0
 IsOneWord words start end = run_lengths (drop start words) ≡ joined_run (get_or words start []) (end - start) (run_lengths (drop end words))
 
@@ -87,7 +87,7 @@ one_word_last words start end past so_far =
 
 -- ---- words in order
 
--- no word comes before the one in front of it
+-- each word is equal to the one before it or comes after it
 abbrev pub Rise : List (List ℕ) → Type 0
 Rise [] = Unit {0}
 Rise (word ∷ []) = Unit {0}
@@ -233,7 +233,7 @@ amount_counts sought words = amount_values sought (λ word. count_by (same_word 
     by true e = refl
     by false e = sym (absent_along sought [] words e).1
 
--- ---- such lists are equal where they count alike
+-- ---- lists with equal counts are equal
 
 absent_first : (first run : List ℕ × ℕ) (runs : List (List ℕ × ℕ)) → compare first.0 run.0 ≡ Less → AllByRecursion (λ y. compare run.0 y ≡ Less) (keys runs) → amount first.0 (run ∷ runs) ≡ 0
 absent_first first run runs less after = amount_after first.0 (run ∷ runs) (less, all_after nat_list_cmp_total first.0 run.0 (keys runs) less after)
@@ -264,7 +264,7 @@ counted_alike (first ∷ left) (run ∷ right) a b p q same = by (compare first.
         in
         λ i. (word i, count i) ∷ rest others i
 
--- words in order are counted by their runs, as are the same words in any order
+-- the runs of words in order count them, and count the same words in any order
 pub counted_in_order : (sorted words : List (List ℕ)) → Rise sorted → ((sought : List ℕ) → count_by (same_word sought) sorted ≡ count_by (same_word sought) words) → run_lengths sorted ≡ counts_of words
 unfolding counts_of
 counted_in_order sorted words rise same =
@@ -313,7 +313,7 @@ counted_sorted words sorted moved rise =
     sym (counted_in_order sorted sorted rise (λ sought. refl))
     ∙ counted_in_order sorted words rise (λ sought. sum_by-IsPermutation (λ word. cond (same_word sought word) 1 0) words sorted moved)
 
--- what is left of words has at most as many bytes as what was left before
+-- a suffix of words has at most as many bytes as a longer one
 pub left_size : (words : List (List ℕ)) (i j : ℕ) → i ≤ j → sum_by length (drop j words) ≤ sum_by length (drop i words)
 left_size words i j later = drop_size words i j later
   where

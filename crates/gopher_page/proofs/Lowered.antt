@@ -1,4 +1,4 @@
--- The words of lines are those that stand in the joined lines in lower case; how many there are, and their bytes.
+-- The words of lines are the words of the joined lines in lower case; their number and their bytes.
 use Rattle.std.proofs.Common.{◌≡◌, ℕ, ◌+◌, ◌≤◌, Bool, true, false, cond, ◌&&◌, leb, ltb, List, [], ◌∷◌, ◌++◌, length, map, filter, sum_by, refl, sym, ap, ◌∙◌, append_assoc, arith}
 use Rattle.std.proofs.lemmas.Bool.{ltb-true}
 use Rattle.std.proofs.lemmas.Bool.Decides.{nat_tests}
@@ -88,7 +88,7 @@ words_of-lines (line ∷ lines) =
     ap words_of (append_assoc line (10 ∷ []) (flat_map (λ l. l ++ 10 ∷ []) lines))
     ∙ words_of-feed line (flat_map (λ l. l ++ 10 ∷ []) lines) ∙ ap (λ l. words_of line ++ l) (words_of-lines lines)
 
--- the words that stand in the joined lines in lower case
+-- the words of lines are the words of the joined lines in lower case
 pub words_of_lines : (lines : List (List ℕ)) → bare_words (map lower_case (flat_map (λ line. line ++ 10 ∷ []) lines)) ≡ flat_map words_of lines
 words_of_lines lines = bare_words-lower (flat_map (λ line. line ++ 10 ∷ []) lines) ∙ words_of-lines lines
 
@@ -108,7 +108,7 @@ both_first : (a b : Bool) → (a && b) ≡ true → a ≡ true
 both_first true b e = refl
 both_first false b e = e
 
--- each word has a byte
+-- each word has at least one byte
 filter_count : (parts : List (List ℕ)) → length (filter is_word parts) ≤ sum_by length parts
 filter_count [] = omega arith
 filter_count (part ∷ parts) = by (is_word part) refl (filter_count parts)

@@ -1,4 +1,4 @@
--- What one more term of a query changes for a page.
+-- The effect of one more term of a query on the match and the score of a page.
 use Rattle.std.proofs.Common.{◌≡◌, ℕ, ◌+◌, true, cond, not, List, [], ◌∷◌, ◌++◌, refl, sym, ap, ◌∙◌, arith}
 use Rattle.std.specs.Prelude.{nat_lt}
 use Rattle.std.specs.List.{sum_by}
@@ -8,7 +8,7 @@ use Rattle.gopher_page.specs.declared.query.Operator.{Operator}
 use Rattle.gopher_page.specs.declared.query.Operator.TheVariants.{And, Or, Not}
 use Rattle.gopher_page.proofs.Terms.{wanted_kept, wanted_passed, wanted_none, wanted_push}
 
--- what a term adds to the score of a page
+-- the score that a term adds
 abbrev pub added : Operator → ℕ → ℕ
 added operator count = cond (is_not operator) 0 count
 
@@ -17,7 +17,7 @@ module _ (counts : List (List ℕ × ℕ)) where
   unfolding matches
   matches_one_more terms term = fold-append (λ truth t. joined t.operator truth (nat_lt 0 (count_of_term counts t))) true terms (term ∷ [])
 
-  -- how often the wanted terms are counted
+  -- the score of a list of terms
   abbrev total : List TermData → ℕ
   total terms = sum_by (count_of_term counts) (wanted terms)
 

@@ -1,5 +1,5 @@
--- Words in the order of their bytes: those that are meant stand together, after all that come before
--- what is sought.
+-- Words in byte order: the words that equal the sought one, or begin with it, form one run after
+-- all words that come before it.
 use Rattle.std.proofs.Common.{◌≡◌, ◌⊎◌, ℕ, ◌<◌, Bool, true, false, ◌&&◌, List, [], ◌∷◌, refl, sym, ap, subst, ◌∙◌, inl, inr, arith}
 use Rattle.std.specs.Prelude.{nat_eq}
 use Rattle.std.proofs.lemmas.Bool.{both_ways, lt-ltb, le-ltb, eq-eqb, ne_eqb, cases_order}
@@ -30,7 +30,7 @@ alike x rest = rw (eq-eqb x x refl)
 
 -- ---- prefixes
 
--- what comes before a prefix doesn't begin with it
+-- a word before a prefix doesn't begin with it
 prefix_before : (sought a : List ℕ) → is_before a sought ≡ true → starts_with nat_eq a sought ≡ false
 prefix_before [] [] h = absurd (both_ways false refl h)
 prefix_before [] (y ∷ a) h = absurd (both_ways false refl h)
@@ -44,14 +44,14 @@ prefix_before (x ∷ sought) (y ∷ a) h = by (cases_order x y) (prefix_before s
     by (inr (inl less)) rest = apart x y (starts_with nat_eq a sought) (λ e. omega arith)
     by (inr (inr more)) rest = apart x y (starts_with nat_eq a sought) (λ e. omega arith)
 
--- the same of words with the same first byte as of what follows it
+-- if this holds for words, it holds for the words with one more first byte
 past_head : (x : ℕ) (sought a b : List ℕ) → (is_before a sought ≡ false → starts_with nat_eq a sought ≡ false → is_before a b ≡ true → starts_with nat_eq b sought ≡ false)
     → is_before (x ∷ a) (x ∷ sought) ≡ false → starts_with nat_eq (x ∷ a) (x ∷ sought) ≡ false → is_before (x ∷ a) (x ∷ b) ≡ true → starts_with nat_eq (x ∷ b) (x ∷ sought) ≡ false
 past_head x sought a b rest h n l =
     alike x (starts_with nat_eq b sought)
     ∙ rest (sym (level x (slice_cmp nat_cmp a sought)) ∙ h) (sym (alike x (starts_with nat_eq a sought)) ∙ n) (sym (level x (slice_cmp nat_cmp a b)) ∙ l)
 
--- once words have passed those that begin with a prefix, no later one does
+-- after the words that begin with a prefix, no later word begins with it
 prefix_past : (sought a b : List ℕ) → is_before a sought ≡ false → starts_with nat_eq a sought ≡ false → is_before a b ≡ true → starts_with nat_eq b sought ≡ false
 prefix_past [] a b h n l = absurd (both_ways true n refl)
 prefix_past (x ∷ sought) [] b h n l = absurd (both_ways true h refl)
@@ -91,7 +91,7 @@ word_past sought a b h l = by (same_word sought b) refl
     by true e = absurd (both_ways _ h (subst (λ w. is_before a w ≡ true) (sym ((bytes_decides sought b).0 e)) l))
     by false e = refl
 
--- ---- either
+-- ---- equal words or prefixes
 
 pub meant_before : (is_prefix : Bool) (sought a : List ℕ) → is_before a sought ≡ true → is_meant is_prefix sought a ≡ false
 meant_before true sought a h = prefix_before sought a h
@@ -112,7 +112,7 @@ pub before-trans : (a b c : List ℕ) → is_before a b ≡ true → is_before b
 before-trans a b c h l =
     ap is_lt (nat_list_cmp_total.trans a b c (Less-from_before (slice_cmp nat_cmp a b) h) (Less-from_before (slice_cmp nat_cmp b c) l))
 
--- what doesn't come before c neither does once it follows what comes before it
+-- if a word doesn't come before c, neither does a word after it
 pub not_before-trans : (a b c : List ℕ) → is_before a c ≡ false → is_before a b ≡ true → is_before b c ≡ false
 not_before-trans a b c h l = by (is_before b c) refl
   where

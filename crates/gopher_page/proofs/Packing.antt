@@ -1,4 +1,4 @@
--- What packed words and counts are, by index.
+-- Packed words and counts by index.
 use Rattle.std.proofs.Common.{◌≡◌, ℕ, zero, suc, ◌+◌, ◌-◌, ◌≤◌, List, [], ◌∷◌, ◌++◌, length, take, drop, slice_get, Some, refl, sym, ap, ◌∙◌, arith}
 use Rattle.std.proofs.lemmas.List.{length-append, length-drop, drop_at, drop-append-le, take-append-le, take_all}
 use Rattle.gopher_page.specs.Packed.{unpack, start_at, IsChain}
@@ -8,7 +8,7 @@ length-unpack bytes start [] counts same = refl
 length-unpack bytes start (end ∷ ends) [] same = absurd (omega arith)
 length-unpack bytes start (end ∷ ends) (count ∷ counts) same = ap suc (length-unpack bytes end ends counts (omega arith))
 
--- a word after the first starts where the one before it ends
+-- each word after the first starts at the end of the one before
 pub start_at-suc : (start : ℕ) (ends : List ℕ) (index end : ℕ) → slice_get ends index ≡ Some end → end ≡ start_at start ends (suc index)
 start_at-suc start [] index end is = absurd cc
 start_at-suc start (first ∷ ends) zero end is = cc
@@ -25,7 +25,7 @@ unpack-get bytes start (next ∷ ends) (first ∷ counts) zero end count ended i
     λ i. Some (take (last i - start) (drop start bytes), times i)
 unpack-get bytes start (next ∷ ends) (first ∷ counts) (suc index) end count ended is = unpack-get bytes next ends counts index end count ended is
 
--- no word starts past where it ends
+-- no word starts after its end
 pub chain-start : (start limit : ℕ) (ends : List ℕ) (index end : ℕ) → IsChain start ends limit → slice_get ends index ≡ Some end → start_at start ends index ≤ end
 chain-start start limit [] index end chain ended = absurd cc
 chain-start start limit (next ∷ ends) zero end chain ended =
@@ -37,7 +37,7 @@ chain-limit : (start limit : ℕ) (ends : List ℕ) → IsChain start ends limit
 chain-limit start limit [] chain = chain
 chain-limit start limit (end ∷ ends) chain = omega (arith, chain.0, chain-limit end limit ends chain.1)
 
--- nor ends past the limit
+-- no word ends past the limit
 pub chain-end : (start limit : ℕ) (ends : List ℕ) (index end : ℕ) → IsChain start ends limit → slice_get ends index ≡ Some end → end ≤ limit
 chain-end start limit [] index end chain ended = absurd cc
 chain-end start limit (next ∷ ends) zero end chain ended =

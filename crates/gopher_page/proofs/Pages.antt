@@ -1,4 +1,4 @@
--- The page of a directory, and that of a file.
+-- The page of a directory, and the page of a file.
 use Rattle.std.proofs.Common.{◌≡◌, ℕ, true, false, cond, eqb, List, [], ap}
 use Rattle.gopher_item.specs.Place.{PlaceData}
 use Rattle.gopher_scope.specs.Scope.{ScopeData}

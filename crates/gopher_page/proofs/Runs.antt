@@ -1,4 +1,4 @@
--- The runs of a text, one by one: what stands before its first gap, and then those after that gap.
+-- The runs of a text one by one: the bytes before its first gap, and then the runs after the gap.
 use Rattle.std.proofs.Common.{◌≡◌, ℕ, zero, suc, ◌+◌, ◌-◌, ◌<◌, Bool, true, false, cond, eqb, ltb, List, [], ◌∷◌, ◌++◌, length, map, filter, take, drop, get_or, None, Some, refl, sym, ap, ◌∙◌, arith}
 use Rattle.std.proofs.lemmas.Bool.{ltb-false}
 use Rattle.std.proofs.lemmas.List.{take_rest}
@@ -12,13 +12,13 @@ some_mark : (gaps : List ℕ) → (first : Bool) × (more : List Bool) × (map (
 some_mark [] = (false, [], refl)
 some_mark (gap ∷ gaps) = (eqb gap 42, map (λ g. eqb g 42) gaps ++ false ∷ [], refl)
 
--- the runs of one byte more, by whether it is a gap
+-- the runs of a text with one more byte at the front, which is a gap or isn't
 one_more : (byte : ℕ) (bytes : List ℕ) (t : Bool) → is_gap byte ≡ t
     → runs_of (byte ∷ bytes) ≡ zip (cond t ([] ∷ slice_split is_gap bytes) (onto_first byte (slice_split is_gap bytes))) (map (λ gap. eqb gap 42) (cond t (byte ∷ filter is_gap bytes) (filter is_gap bytes)) ++ false ∷ [])
 one_more byte bytes t e =
     ap (λ b. zip (cond b ([] ∷ slice_split is_gap bytes) (onto_first byte (slice_split is_gap bytes))) (map (λ gap. eqb gap 42) (cond b (byte ∷ filter is_gap bytes) (filter is_gap bytes)) ++ false ∷ [])) e
 
--- a byte in front of the first run
+-- the runs with a byte added to the front of the first
 abbrev onto_run : ℕ → List (List ℕ × Bool) → List (List ℕ × Bool)
 onto_run byte [] = []
 onto_run byte (run ∷ runs) = (byte ∷ run.0, run.1) ∷ runs
@@ -27,11 +27,11 @@ zip-onto_first : (byte : ℕ) (parts : List (List ℕ)) (gaps : List Bool) (firs
     → parts ≡ first ∷ rest → gaps ≡ sign ∷ signs → zip (onto_first byte parts) gaps ≡ onto_run byte (zip parts gaps)
 zip-onto_first byte parts gaps first rest sign signs p g = rw (p, g)
 
--- a gap in front ends an empty run
+-- a gap at the front ends an empty run
 runs_of-gap : (byte : ℕ) (bytes : List ℕ) → is_gap byte ≡ true → runs_of (byte ∷ bytes) ≡ ([], eqb byte 42) ∷ runs_of bytes
 runs_of-gap byte bytes e = one_more byte bytes true e
 
--- any other byte in front joins the first run
+-- any other byte at the front joins the first run
 runs_of-word_byte : (byte : ℕ) (bytes run : List ℕ) (mark : Bool) (more : List (List ℕ × Bool)) → is_gap byte ≡ false → runs_of bytes ≡ (run, mark) ∷ more → runs_of (byte ∷ bytes) ≡ (byte ∷ run, mark) ∷ more
 runs_of-word_byte byte bytes run mark more e first =
     let part = some_part is_gap bytes in
@@ -52,7 +52,7 @@ runs_of_cut (byte ∷ bytes) zero within here none = runs_of-gap byte bytes here
 runs_of_cut (byte ∷ bytes) (suc end) within here none =
     runs_of-word_byte byte bytes (take end bytes) _ _ (none 0 (omega arith)) (runs_of_cut bytes end (omega arith) here (λ k below. none (suc k) (omega arith)))
 
--- where the first gap is not found, no byte is one
+-- if a search finds no gap, no byte is one
 pub no_gap : (bytes : List ℕ) → position is_gap bytes ≡ None → (k : ℕ) → k < length bytes → is_gap (get_or bytes k 0) ≡ false
 no_gap bytes e k below = by (ltb (position_or_len is_gap bytes) (length bytes)) refl
   where
@@ -62,7 +62,7 @@ no_gap bytes e k below = by (ltb (position_or_len is_gap bytes) (length bytes)) 
         cc
     by false past = fails_before_first is_gap bytes k 0 (omega (arith, ltb-false _ _ past))
 
--- the same, as the parts of a slice
+-- bytes are cut at their first gap, with the slices of the code
 pub runs_of_parts : (bytes : List ℕ) (end : ℕ) → position is_gap bytes ≡ Some end
     → runs_of bytes ≡ (take end bytes, eqb (get_or bytes end 0) 42) ∷ runs_of (take (length bytes - (end + 1)) (drop (end + 1) bytes))
 runs_of_parts bytes end e =

@@ -1,4 +1,4 @@
--- Searching words that stand in order, by index.
+-- Searching words in byte order by index.
 use Rattle.std.proofs.Common.{◌≡◌, ◌⊎◌, ℕ, zero, suc, ◌+◌, ◌<◌, ◌≤◌, Bool, true, false, cond, List, [], ◌∷◌, length, map, take, drop, get_or, slice_get, Some, sum_by, refl, sym, ap, subst, ◌∙◌, inl, inr, arith}
 use Rattle.std.proofs.lemmas.Bool.{cases_lt}
 use Rattle.std.proofs.lemmas.List.{length-map, take_all}
@@ -20,7 +20,7 @@ none_before_from counts sought middle sound here k from within =
 
 -- ---- sums
 
--- words that fail the test add nothing, whether they are the first
+-- if the first n words fail the test, they add nothing to a sum
 pub nothing_before : (test : List ℕ → Bool) (n : ℕ) (counts : List (List ℕ × ℕ)) → ((k : ℕ) → k < n → k < length counts → test (word_at counts k) ≡ false) → count_where test (take n counts) ≡ 0
 nothing_before test zero counts none = refl
 nothing_before test (suc n) [] none = refl
@@ -28,7 +28,7 @@ nothing_before test (suc n) (entry ∷ counts) none =
     sum_by-cons (λ e. cond (test e.0) e.1 0) entry (take n counts)
     ∙ rw (none 0 (omega arith) (omega arith), nothing_before test n counts (λ k below within. none (suc k) (omega arith) (omega arith)))
 
--- or the last
+-- if the words from n on fail the test, they add nothing to a sum
 pub nothing_from : (test : List ℕ → Bool) (n : ℕ) (counts : List (List ℕ × ℕ)) → ((k : ℕ) → n ≤ k → k < length counts → test (word_at counts k) ≡ false) → count_where test (drop n counts) ≡ 0
 nothing_from test zero [] none = refl
 nothing_from test zero (entry ∷ counts) none =
@@ -48,11 +48,11 @@ entry_at (first ∷ counts) (suc i) entry d e =
 
 module _ (is_prefix : Bool) (sought : List ℕ) (counts : List (List ℕ × ℕ)) (start : ℕ) (sound : AreCounts counts)
     (before : AreBefore counts start sought) (after : NoneBefore counts start sought) where
-  -- no word before the start is meant
+  -- no word before the start of the run is counted
   pub meant_none : 0 ≡ count_where (is_meant is_prefix sought) (take start counts)
   meant_none = sym (nothing_before (is_meant is_prefix sought) start counts (λ k below within. meant_before is_prefix sought (word_at counts k) (before k below)))
 
-  -- nor any from the first that isn't on
+  -- no word from the first other word on is counted
   pub meant_all : (i : ℕ) (entry : List ℕ × ℕ) → start ≤ i → slice_get counts i ≡ Some entry → is_meant is_prefix sought entry.0 ≡ false → count_where (is_meant is_prefix sought) (take i counts) ≡ count_meant is_prefix sought counts
   unfolding count_meant
   meant_all i entry from at fails =
@@ -69,12 +69,12 @@ module _ (is_prefix : Bool) (sought : List ℕ) (counts : List (List ℕ × ℕ)
           let equal : i ≡ k = omega arith in
           subst (λ j. is_meant is_prefix sought (word_at counts j) ≡ false) equal here
 
-  -- at the end all is counted
+  -- after the last word the count is complete
   pub meant_end : (i : ℕ) → length counts ≤ i → count_where (is_meant is_prefix sought) (take i counts) ≡ count_meant is_prefix sought counts
   unfolding count_meant
   meant_end i past = ap (count_where (is_meant is_prefix sought)) (take_all i counts past)
 
--- one more word that is meant
+-- one more word of the run
 pub meant_more : (test : List ℕ → Bool) (counts : List (List ℕ × ℕ)) (i : ℕ) (entry : List ℕ × ℕ) → slice_get counts i ≡ Some entry → test entry.0 ≡ true → count_where test (take i counts) + entry.1 ≡ count_where test (take (i + 1) counts)
 meant_more test counts i entry at passes =
     let found = entry_at counts i entry entry at in
@@ -82,7 +82,7 @@ meant_more test counts i entry at passes =
     let here : cond (test (get_or counts i entry).0) (get_or counts i entry).1 0 ≡ entry.1 = rw (found.1, passes) in
     omega arith
 
--- what was counted so far, and one word's count, are few
+-- the count so far and one word's count are at most 1,048,576 together
 pub few_so_far : (test : List ℕ → Bool) (counts : List (List ℕ × ℕ)) (i : ℕ) (entry : List ℕ × ℕ) → AreCounts counts → slice_get counts i ≡ Some entry → count_where test (take i counts) + entry.1 ≤ 1048576
 few_so_far test counts i entry sound at =
     let found = entry_at counts i entry entry at in

@@ -79,7 +79,7 @@ first_size : (fields : List (List ℕ)) → length (first_field fields) ≤ sum_
 first_size [] = omega arith
 first_size (first ∷ fields) = omega (arith, sum_by-cons (length {A = ℕ}) first fields)
 
--- what the fields of a line give is in the first of them
+-- the line of an entry is part of the first field
 item_size : (fields : List (List ℕ)) → length (line_of_entry (option_map_or Item (item_of_list fields) (Odd (first_field fields)))) ≤ sum_by length fields
 item_size [] = omega arith
 item_size (first ∷ []) = first_size (first ∷ [])

@@ -1,4 +1,4 @@
--- Lists in strict order stay so while elements are put in one after another.
+-- Lists in strict order stay in strict order when elements are inserted one by one.
 use Rattle.std.proofs.Common.{◌≡◌, List, [], ◌∷◌, refl, ◌∙◌, ap}
 use Rattle.std.specs.List.{fold, AllByRecursion}
 use Rattle.std.specs.List.Sorted.{IsStrictlySortedBy}
@@ -43,6 +43,6 @@ module _ {K : Type 0} {R : K → K → Ordering} (o : IsTotalOrder R) where
   unfolding IsStrictlySortedBy
   sorted_none = tt
 
-  -- what was put in one after another is sorted
+  -- a list of elements inserted one by one is sorted
   pub sorted_inserts : (xs : List K) → IsStrictlySortedBy R (fold (insert_key R) [] xs)
   sorted_inserts xs = sorted_along [] xs sorted_none

@@ -1,4 +1,4 @@
--- Words in the order of their bytes, by index: which of them come before what is sought.
+-- Words in byte order by index: which of them come before the sought one.
 use Rattle.std.proofs.Common.{◌≡◌, ◌⊎◌, ℕ, ◌+◌, ◌<◌, ◌≤◌, true, false, List, [], length, get_or, ap, subst, inl, inr, arith}
 use Rattle.std.proofs.lemmas.Bool.{cases_lt}
 use Rattle.std.proofs.lemmas.Map.Keys.{Less-from_sorted}
@@ -13,7 +13,7 @@ module _ (words : List (List ℕ)) (sorted : IsStrictlySortedBy (slice_cmp nat_c
   in_order i j less within = ap is_lt (Less-from_sorted (slice_cmp nat_cmp) words i j [] sorted less within)
 
   module _ (sought : List ℕ) (middle : ℕ) where
-    -- where one word comes before what is sought, so does each up to it
+    -- if one word comes before the sought one, so does each word up to it
     pub all_before : middle < length words → is_before (get_or words middle []) sought ≡ true → (k : ℕ) → k < middle + 1 → is_before (get_or words k []) sought ≡ true
     all_before within here k below = by (cases_lt k middle)
       where
@@ -23,7 +23,7 @@ module _ (words : List (List ℕ)) (sorted : IsStrictlySortedBy (slice_cmp nat_c
             let same : middle ≡ k = omega arith in
             subst (λ i. is_before (get_or words i []) sought ≡ true) same here
 
-    -- and where one doesn't, nor does any from it on
+    -- if one word doesn't come before the sought one, neither does any word after it
     pub none_before_from : is_before (get_or words middle []) sought ≡ false → (k : ℕ) → middle ≤ k → k < length words → is_before (get_or words k []) sought ≡ false
     none_before_from here k from within = by (cases_lt middle k)
       where

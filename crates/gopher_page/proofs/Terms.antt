@@ -1,4 +1,4 @@
--- What the terms of a query do, one by one.
+-- The effects of the terms of a query, one by one.
 use Rattle.std.proofs.Common.{◌≡◌, ◌⊎◌, ℕ, zero, suc, ◌+◌, ◌-◌, ◌<◌, ◌≤◌, Bool, true, false, cond, not, ◌||◌, ◌&&◌, List, [], ◌∷◌, ◌++◌, length, filter, take, drop, get_or, slice_get, Some, None, count_by, sum_by, refl, sym, ap, ◌∙◌, inl, inr, arith}
 use Rattle.std.specs.Prelude.{nat_lt}
 use Rattle.std.proofs.lemmas.List.{append-nil, take_more, take_all, drop_more, drop_all}
@@ -19,7 +19,7 @@ only_left true h = refl
 only_left false h = h
 
 module _ (counts : List (List ℕ × ℕ)) where
-  -- a term that is wanted and holds, or one after it
+  -- if the first term is without `not` and matches, some term without `not` matches
   any_here : (term : TermData) (terms : List TermData) → not (is_not term.operator) ≡ true → nat_lt 0 (count_of_term counts term) ≡ true
       → list_any (λ t. nat_lt 0 (count_of_term counts t)) (wanted (term ∷ terms)) ≡ true
   unfolding wanted
@@ -38,7 +38,7 @@ module _ (counts : List (List ℕ × ℕ)) where
       by true = either (nat_lt 0 (count_of_term counts term)) later
       by false = later
 
-  -- what holds in the end held before the terms, or by a wanted one of them
+  -- if the terms match in the end, the terms before matched or a term without `not` does
   whence : (truth : Bool) (terms : List TermData) → fold (λ t term. joined term.operator t (nat_lt 0 (count_of_term counts term))) truth terms ≡ true
       → (truth ≡ true) ⊎ (list_any (λ t. nat_lt 0 (count_of_term counts t)) (wanted terms) ≡ true)
   whence truth [] h = inl h
@@ -56,7 +56,7 @@ module _ (counts : List (List ℕ × ℕ)) where
       by (inl now) = first term.operator (nat_lt 0 (count_of_term counts term)) refl refl now
       by (inr later) = inr (any_later term terms later)
 
--- a page that matches has something that is wanted
+-- a matching page contains a word of a term without `not`
 pub matches_wanted : (terms : List TermData) (counts : List (List ℕ × ℕ)) → BeginsWithAnd terms → matches terms counts ≡ true → HasWanted terms counts
 unfolding matches
 matches_wanted [] counts first h = absurd first
@@ -71,14 +71,14 @@ matches_wanted (term ∷ terms) counts first h = by (whence counts (joined term.
     by (inl now) = any_here counts term terms (ap (λ p. not (is_not p)) first) (held term.operator (nat_lt 0 (count_of_term counts term)) first now)
     by (inr later) = any_later counts term terms later
 
--- ---- wanted terms
+-- ---- terms without `not`
 
--- one more of them
+-- adding a term to a list
 pub wanted_push : (terms : List TermData) (term : TermData) → wanted (terms ++ term ∷ []) ≡ wanted terms ++ wanted (term ∷ [])
 unfolding wanted
 wanted_push terms term = filter-append (λ t. not (is_not t.operator)) terms (term ∷ [])
 
--- the first of them
+-- a list that begins with a term without `not`
 pub wanted_kept : (term : TermData) (terms : List TermData) → not (is_not term.operator) ≡ true → wanted (term ∷ terms) ≡ term ∷ wanted terms
 unfolding wanted
 wanted_kept term terms kept = rw kept
@@ -116,7 +116,7 @@ score_passed counts terms i term total within is so_far passed =
     let last : wanted (take (i + 1) terms) ≡ wanted (take i terms) ++ [] = wanted_more terms i term within is ∙ ap (λ l. wanted (take i terms) ++ l) (wanted_passed term [] passed ∙ wanted_none) in
     so_far ∙ ap (sum_by (count_of_term counts)) (sym (append-nil (wanted (take i terms))) ∙ sym last)
 
--- what is left of the terms begins with the next one
+-- the rest of the terms begins with the next one
 rest_at : (terms : List TermData) (i : ℕ) (term : TermData) → i < length terms → term ≡ get_or terms i term → drop i terms ≡ term ∷ drop (i + 1) terms
 rest_at terms i term within is = drop_more terms i term within ∙ ap (λ t. t ∷ drop (i + 1) terms) (sym is)
 

@@ -1,18 +1,18 @@
--- The blank bytes at both ends of a line, before they are turned into spaces.
+-- The blank bytes at both ends of a line, before they become spaces.
 use Rattle.std.proofs.Common.{◌≡◌, ℕ, true, false, cond, eqb, List, [], ◌∷◌, ◌++◌, map, take, sym, ap, ◌∙◌}
 use Rattle.std.specs.Prelude.{reverse}
 use Rattle.std.proofs.lemmas.List.{take-map, map-append, reverse-append, reverse-reverse}
 use Rattle.gopher_item.specs.MenuLine.{trim_front}
 use Rattle.gopher_page.specs.Page.{plain_byte, title_text}
 
--- a byte that is no blank stays in front, and a blank goes
+-- a byte that isn't blank stays at the front, and a blank is dropped
 pub front_stays : (byte : ℕ) (bytes : List ℕ) → eqb (plain_byte byte) 32 ≡ false → trim_front (map plain_byte (byte ∷ bytes)) ≡ map plain_byte (byte ∷ bytes)
 front_stays byte bytes e = ap (λ t. cond t (trim_front (map plain_byte bytes)) (map plain_byte (byte ∷ bytes))) e
 
 pub front_goes : (byte : ℕ) (bytes : List ℕ) → eqb (plain_byte byte) 32 ≡ true → trim_front (map plain_byte (byte ∷ bytes)) ≡ trim_front (map plain_byte bytes)
 front_goes byte bytes e = ap (λ t. cond t (trim_front (map plain_byte bytes)) (map plain_byte (byte ∷ bytes))) e
 
--- what is shown of a line
+-- the title of a line
 pub shown : (bytes front back first : List ℕ) → map plain_byte front ≡ trim_front (map plain_byte bytes) → map plain_byte back ≡ reverse (trim_front (reverse (map plain_byte front))) → first ≡ take 69 back
     → map plain_byte first ≡ title_text bytes
 shown bytes front back first a b c =

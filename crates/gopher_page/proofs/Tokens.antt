@@ -1,4 +1,4 @@
--- The tokens of a text and its words, by the runs that they come from.
+-- The tokens and words of a text, computed from its runs.
 use Rattle.std.proofs.Common.{◌≡◌, ℕ, ◌≤◌, Bool, true, false, cond, eqb, Option, None, Some, is_some, List, [], ◌∷◌, ◌++◌, length, map, filter, refl, sym, ap, ◌∙◌, arith}
 use Rattle.std.proofs.lemmas.Bool.{lt-ltb}
 use Rattle.std.proofs.lemmas.List.{length-append, length-map}
@@ -44,7 +44,7 @@ words_beside (part ∷ parts) (mark ∷ marks) enough = by (is_word part) (words
     by true rest = ap (λ l. map lower_case part ∷ l) rest
     by false rest = rest
 
--- ---- words as they stand there
+-- ---- words with their letters unchanged
 
 parts_beside : (parts : List (List ℕ)) (marks : List Bool) → length parts ≤ length marks → map (λ run. run.0) (zip parts marks) ≡ parts
 parts_beside [] marks enough = refl
@@ -97,7 +97,7 @@ words_of-next bytes after token e =
 pub words_of-none : (bytes : List ℕ) → tokens_of bytes ≡ [] → words_of bytes ≡ []
 words_of-none bytes e = words_of-tokens bytes ∙ ap (map (λ t. t.word)) e
 
--- bytes have a word exactly where a token is found
+-- bytes contain a word exactly if a search finds a token
 pub is_some-token : {T : Type 0} (bytes : List ℕ) (found : Option T) (token : T → Token) (after : T → List ℕ)
     → MatchOption found (tokens_of bytes ≡ []) (λ t. tokens_of bytes ≡ token t ∷ tokens_of (after t)) → is_some found ≡ nat_lt 0 (length (words_of bytes))
 is_some-token bytes None token after none = sym (ap (λ words. nat_lt 0 (length words)) (words_of-none bytes none))

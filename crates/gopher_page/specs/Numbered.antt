@@ -1,7 +1,7 @@
 -- Words with their first bytes as a number.
 use Rattle.std.specs.Prelude.{◌≡◌, ℕ, zero, suc, ◌+◌, ◌*◌, ◌^◌, ◌<◌, List, [], ◌∷◌, slice_index}
 
--- the first so many bytes as one number in base 256, the first the highest; one that is missing counts as 0
+-- the first `count` bytes as one big-endian number; a missing byte counts as 0
 unfoldable pub leading : ℕ → List ℕ → ℕ
 leading zero bytes = 0
 leading (suc count) [] = 0

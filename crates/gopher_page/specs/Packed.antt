@@ -1,12 +1,13 @@
--- Words with their counts, packed: the words' bytes one after another, where each word ends, and how
--- often each was counted.
+-- Words with their counts in packed form: the bytes of all words, the end of each word, and the
+-- counts.
 use Rattle.std.specs.Prelude.{ℕ, zero, suc, ◌≡◌, ◌+◌, ◌-◌, ◌*◌, ◌<◌, ◌≤◌, List, [], ◌∷◌, Option, length, take, drop, map, slice_get}
 use Rattle.std.specs.List.{sum_by, AllByRecursion}
 use Rattle.std.specs.List.Sorted.{IsStrictlySortedBy}
 use Rattle.std.specs.Ordering.{nat_cmp}
 use Rattle.std.specs.Cmp.Lexicographic.{slice_cmp}
 
--- numbers, from each modulo a base and each divided by it; of the second those at the end that are 0 may be left out
+-- the numbers of these remainders and quotients by a base; quotients of 0 at the end can be left
+-- out
 abbrev pub joined : ℕ → List ℕ → List ℕ → List ℕ
 joined base lows [] = lows
 joined base [] (high ∷ highs) = []
@@ -22,18 +23,18 @@ unpack bytes start (end ∷ ends) (count ∷ counts) = (take (end - start) (drop
 abbrev pub part_at : List ℕ → List ℕ → List ℕ → ℕ → Option (List ℕ × ℕ)
 part_at bytes ends counts index = slice_get (unpack bytes 0 ends counts) index
 
--- where the word at an index starts
+-- the start of the word at an index
 abbrev pub start_at : ℕ → List ℕ → ℕ → ℕ
 start_at start ends zero = start
 start_at start [] (suc index) = start
 start_at start (end ∷ ends) (suc index) = start_at end ends index
 
--- each word ends where it starts or later, and none past the limit
+-- no word ends before its start, and none past the limit
 abbrev pub IsChain : ℕ → List ℕ → ℕ → Type 0
 IsChain start [] limit = start ≤ limit
 IsChain start (end ∷ ends) limit = (start ≤ end) × IsChain end ends limit
 
--- words in the order of their bytes, each counted at least once, and at most 1,048,576 in all
+-- distinct words in byte order, each counted at least once, and at most 1,048,576 in all
 pub record AreCounts (counts : List (List ℕ × ℕ)) : Type 0 where
   pub ordered : IsStrictlySortedBy (slice_cmp nat_cmp) (map (λ entry. entry.0) counts)
   pub positive : AllByRecursion (λ entry. 0 < entry.1) counts

@@ -25,7 +25,7 @@ pub record PageData : Type 0 where
 abbrev pub page_with : PlaceData → List ℕ → List PlaceData → List (List ℕ × ℕ) → PageData
 page_with place title links counts = record { place = place; title = title; links = links; counts = counts }
 
--- the place that an entry of a menu names, where it names one
+-- the place that an entry of a menu names, if it names one
 abbrev pub place_of_entry : Entry → Option PlaceData
 place_of_entry (Item line) = place_named line
 place_of_entry (Odd bytes) = None
@@ -42,17 +42,17 @@ with_entry scope links entry = insert_all same_place links (allowed_places scope
 abbrev pub links_in : ScopeData → List Entry → List PlaceData
 links_in scope entries = distinct (allowed_places scope entries)
 
--- the links of a menu: the allowed places that it names, each once, in the order of first mention
+-- the links of a menu
 abbrev pub menu_links : ScopeData → List ℕ → List PlaceData
 menu_links scope bytes = links_in scope (entries_of (lines_of bytes))
 
--- a directory (type `1`, 49) has the links of its menu, and a file none
+-- a directory (type `1`, 49) has the links of its menu, a file has none
 abbrev pub links_of : ScopeData → PlaceData → List ℕ → List PlaceData
 links_of scope place bytes = if place.kind == 49 then menu_links scope bytes else []
 
 -- ---- lines
 
--- the line of a page that an entry of a menu gives
+-- the line of a page for an entry of a menu
 abbrev pub line_of_entry : Entry → List ℕ
 line_of_entry (Item line) = line.display
 line_of_entry (Odd bytes) = bytes
@@ -61,17 +61,18 @@ line_of_entry (Odd bytes) = bytes
 abbrev pub menu_page_lines : List ℕ → List (List ℕ)
 menu_page_lines bytes = map line_of_entry (entries_of (lines_of bytes))
 
--- the lines of a page; those of a file's are the lines of its text
+-- the lines of a page; the lines of a file's page are those of its text
 abbrev pub page_lines : PlaceData → List ℕ → List (List ℕ)
 page_lines place bytes = if place.kind == 49 then menu_page_lines bytes else text_lines bytes
 
 -- ---- title
 
--- a control byte as a space, and any other byte as it is
+-- a space for a control byte, and any other byte unchanged
 abbrev pub plain_byte : ℕ → ℕ
 plain_byte byte = if is_control byte then 32 else byte
 
--- bytes as a title: without control bytes, without spaces at both ends, and the first 69 of what is left
+-- the first 69 bytes of a text, after control bytes become spaces and spaces at both ends are
+-- dropped; RFC 1436, section 3.9, asks for display strings under 70
 abbrev pub title_text : List ℕ → List ℕ
 title_text bytes = take 69 (trim_spaces (map plain_byte bytes))
 
@@ -82,28 +83,28 @@ trim_back bytes = reverse (trim_front (reverse bytes))
 abbrev pub has_word : List ℕ → Bool
 has_word line = nat_lt 0 (length (words_of line))
 
--- the title where no line has a word: the selector, or else the host
+-- the title if no line contains a word: the selector, or the host if the selector leaves no title
 abbrev pub place_title : PlaceData → List ℕ
 place_title place = if length (title_text place.selector) == 0 then take 69 place.host else title_text place.selector
 
--- the first line that has a word, as a title
+-- the title: the first line that contains a word
 abbrev pub title_of : PlaceData → List (List ℕ) → List ℕ
 title_of place lines = option_map_or title_text (find has_word lines) (place_title place)
 
--- the page of a place that has these lines and links; a word counts as often as it stands in all lines
+-- the page of a place with these lines and links; the counts cover the words of all lines
 abbrev pub page_of_lines : PlaceData → List (List ℕ) → List PlaceData → PageData
 page_of_lines place lines links = page_with place (title_of place lines) links (counts_of (flat_map words_of lines))
 
 abbrev pub IsPageOfLines : PlaceData → List (List ℕ) → List PlaceData → PageData → Type 0
 IsPageOfLines place lines links page = page ≡ page_of_lines place lines links
 
--- the page of a directory, and that of a file
+-- the page of a directory and the page of a file
 abbrev pub page_of_menu : ScopeData → PlaceData → List ℕ → PageData
 page_of_menu scope place bytes = page_of_lines place (menu_page_lines bytes) (menu_links scope bytes)
 
 abbrev pub page_of_text : PlaceData → List ℕ → PageData
 page_of_text place bytes = page_of_lines place (text_lines bytes) []
 
--- the page of a reply depends on the scope, the place and the bytes alone
+-- the page of a reply depends only on the scope, the place and the bytes
 unfoldable pub page_of : ScopeData → PlaceData → List ℕ → PageData
 page_of scope place bytes = page_of_lines place (page_lines place bytes) (links_of scope place bytes)

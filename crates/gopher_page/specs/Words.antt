@@ -9,47 +9,46 @@ use Rattle.gopher_item.specs.Place.{lower_case}
 abbrev pub texts : List (Bor (List ℕ)) → List (List ℕ)
 texts parts = map (λ part. part.now) parts
 
--- the lines as one text, a LF (10) behind each
+-- the lines as one text, each followed by an LF (10)
 abbrev pub joined_lines : List (List ℕ) → List ℕ
 joined_lines lines = flat_map (λ line. line ++ 10 ∷ []) lines
 
--- an ASCII letter, an ASCII digit, or a byte past ASCII
+-- an ASCII letter, an ASCII digit, or a byte of 128 or more
 abbrev pub is_word_byte : ℕ → Bool
 is_word_byte byte = (nat_le 48 byte && nat_le byte 57) || (nat_le 65 byte && nat_le byte 90) || (nat_le 97 byte && nat_le byte 122) || nat_le 128 byte
 
--- any other byte, which stands between words
+-- any other byte: it separates words
 abbrev pub is_gap : ℕ → Bool
 is_gap byte = not (is_word_byte byte)
 
--- whether what stands between two gaps, or between a gap and an end, is a word: it has 1 to 40 bytes
+-- a run between two gaps, or a gap and an end, is a word if it has 1 to 40 bytes
 abbrev pub is_word : List ℕ → Bool
 is_word run = nat_lt 0 (length run) && nat_le (length run) 40
 
--- the words of bytes as they stand there, in order
+-- the words of bytes in order, with their letters unchanged
 unfoldable pub bare_words : List ℕ → List (List ℕ)
 bare_words bytes = filter is_word (slice_split is_gap bytes)
 
--- the words of bytes, in order, their letters in lower case
+-- the words of bytes in order, in lower case
 unfoldable pub words_of : List ℕ → List (List ℕ)
 words_of bytes = map (map lower_case) (filter is_word (slice_split is_gap bytes))
 
 abbrev pub same_word : List ℕ → List ℕ → Bool
 same_word = pointwise nat_eq
 
--- a word of a query's text, and whether it stands for all words that begin with it
+-- a word of a query's text, which matches all words that begin with it if it is a prefix
 pub record Token : Type 0 where
   pub word : List ℕ
   pub is_prefix : Bool
 
--- what the gaps leave between them and at both ends, each with whether the gap directly after it is a
--- `*` (42)
+-- the runs between gaps and at both ends, each with whether the gap directly after it is a `*` (42)
 abbrev pub runs_of : List ℕ → List (List ℕ × Bool)
 runs_of text = zip (slice_split is_gap text) (map (λ gap. gap == 42) (filter is_gap text) ++ false ∷ [])
 
 abbrev pub token_of : List ℕ × Bool → Token
 token_of run = record { word = map lower_case run.0; is_prefix = run.1 }
 
--- the tokens of a query's text, in order: its words, each a prefix where a `*` directly follows it
+-- the tokens of a query's text in order: its words, each a prefix if a `*` directly follows it
 unfoldable pub tokens_of : List ℕ → List Token
 tokens_of text = map token_of (filter (λ run. is_word run.0) (runs_of text))
 
@@ -59,7 +58,7 @@ tokens_of text = map token_of (filter (λ run. is_word run.0) (runs_of text))
 abbrev pub IsOneRun : List ℕ → Type 0
 IsOneRun bytes = runs_of bytes ≡ (bytes, false) ∷ []
 
--- what stands before the first gap of the bytes, that gap and what stands after it
+-- the bytes before the first gap, the gap, and the bytes after it
 abbrev pub IsCutAtGap : List ℕ → Bor (List ℕ) × ℕ × Bor (List ℕ) → Type 0
 IsCutAtGap bytes cut = runs_of bytes ≡ (cut.0.now, cut.1 == 42) ∷ runs_of cut.2.now
 
@@ -67,11 +66,11 @@ IsCutAtGap bytes cut = runs_of bytes ≡ (cut.0.now, cut.1 == 42) ∷ runs_of cu
 abbrev pub IsFirstToken : List ℕ → Bor (List ℕ) × Bool × Bor (List ℕ) → Type 0
 IsFirstToken text found = tokens_of text ≡ token_of (found.0.now, found.1) ∷ tokens_of found.2.now
 
--- the first word of bytes as it stands there, and the bytes after it
+-- the first word of bytes with its letters unchanged, and the bytes after it
 abbrev pub IsFirstWord : List ℕ → Bor (List ℕ) × Bool × Bor (List ℕ) → Type 0
 IsFirstWord bytes found = bare_words bytes ≡ found.0.now ∷ bare_words found.2.now
 
--- both parts of a cut together are shorter than the bytes, or no longer
+-- both parts together are shorter than the bytes, or no longer than they
 abbrev pub LeavesLess : List ℕ → Bor (List ℕ) × ℕ × Bor (List ℕ) → Type 0
 LeavesLess bytes cut = length cut.0.now + length cut.2.now < length bytes
 

@@ -1,4 +1,4 @@
-//! The words of a page with their counts, packed.
+//! The words of a page with their counts, in packed form.
 
 ghost use Rattle.std.specs.Prelude.{◌≡◌, ◌<◌, ◌≤◌, List, Some, ◌-◌, length, take, drop, slice_get, IfOk};
 ghost use Rattle.std.specs.List.{sum_by};
@@ -15,7 +15,7 @@ use gopher_item::NoMemory;
 use std::alloc::Global;
 use std::marker::Model;
 
-/// Whether a word is the one that is sought, or begins with it where that is a prefix. Takes no memory.
+/// Returns whether `word` equals `sought` or, if `is_prefix`, begins with it.
 pub fn is_meant(is_prefix: bool, sought: &[u8], word: &[u8]) -> bool
     ensures { result ≡ is_meant is_prefix sought.now word.now }
 {
@@ -26,9 +26,9 @@ pub fn is_meant(is_prefix: bool, sought: &[u8], word: &[u8]) -> bool
     }
 }
 
-/// The words of a page, in the order of their bytes, each with how often it stands there.
+/// The distinct words of a page in byte order, each with its number of occurrences.
 ///
-/// The words' bytes lie one after another, since a catalogue keeps every page for good.
+/// The words' bytes share one allocation, because a catalogue keeps every page.
 #[derive(Debug, Drop)]
 pub struct Counts {
     bytes: Vec<u8>,
@@ -84,7 +84,7 @@ fn is_same(a: &[u8], b: &[u8]) -> bool
     a == b
 }
 
-// Where the words that are the same as the one at `start` end.
+// The end of the run of words that equal the one at `start`.
 fn end_of_run(words: &[&[u8]], start: usize) -> usize
     requires { start < length words.now }
     ensures after { start < result }
@@ -103,15 +103,15 @@ fn end_of_run(words: &[&[u8]], start: usize) -> usize
     end
 }
 
-// How many words, and bytes of these, are packed.
+// How many words, and bytes of words, are packed.
 #[derive(Clone, Copy)]
 struct Room {
     words: usize,
     bytes: usize,
 }
 
-// What words in the order of their bytes take, of which the same are packed once. Memory that is taken
-// at once is of the right size; what is given back later is left in pieces that are too small for more.
+// The room that distinct words need; equal words follow each other. Vectors of this size need no
+// growth: growing and then shrinking them would leave fragments too small to use again.
 fn room_of(words: &[&[u8]]) -> Room {
     let mut room = Room { words: 0, bytes: 0 };
     let mut start = 0;
@@ -124,8 +124,8 @@ fn room_of(words: &[&[u8]]) -> Room {
 }
 
 impl Counts {
-    /// How often each of the words stands among them. They are in the order of their bytes, and both they
-    /// and their bytes together are at most 1,048,576. Refused only where memory is (90).
+    /// Counts the occurrences of each word. The words are in byte order; there are at most
+    /// 1,048,576, with at most 1,048,576 bytes together.
     pub fn packed(alloc: Global, words: &[&[u8]]) -> Result<Counts, NoMemory>
         requires sorted { IsSorted (λ a b. slice_cmp nat_cmp a.now b.now) words.now }
         requires short { sum_by length (texts words.now) ≤ 1048576 }
@@ -155,7 +155,7 @@ impl Counts {
         })
     }
 
-    /// How many words there are.
+    /// Returns the number of distinct words.
     pub fn len(&self) -> usize
         ensures value { result ≡ length self.now }
         ensures counts { AreCounts self.now }
@@ -163,7 +163,7 @@ impl Counts {
         self.ends.len()
     }
 
-    /// The word at an index below `len`, and its count.
+    /// Returns the word at `index`, which is below `len`, and its count.
     pub fn get(&self, index: usize) -> (&[u8], u32)
         requires { index < length self.now }
         ensures { slice_get self.now index ≡ Some (result.0.now, result.1) }
@@ -179,7 +179,7 @@ impl Counts {
         word.cmp(sought).is_lt()
     }
 
-    // How many words come before `sought`: these are the first.
+    // How many words come before `sought` in byte order.
     fn words_before(&self, sought: &[u8]) -> usize
         ensures within { result ≤ length self.now }
         ensures before { AreBefore self.now result sought.now }
@@ -198,8 +198,8 @@ impl Counts {
         low
     }
 
-    /// How often the word `sought` was counted, or all words that begin with it where it is a prefix.
-    /// Takes no memory.
+    /// Returns the number of occurrences of `sought` or, if `is_prefix`, of all words that begin
+    /// with it.
     pub fn count_meant(&self, is_prefix: bool, sought: &[u8]) -> u32
         ensures { result ≡ count_meant is_prefix sought.now self.now }
     {

@@ -6,9 +6,9 @@ use gopher_item::NoMemory;
 use std::alloc::Global;
 use std::marker::Model;
 
-/// Where words end whose bytes lie one after another, with two bytes for each.
+/// The ends of words whose bytes are packed, with two bytes for each end.
 ///
-/// Up to the last that is 65,536 or more, each takes two bytes besides.
+/// Each end up to the last one of 65,536 or more takes two bytes more.
 #[derive(Debug, Drop)]
 pub struct Ends {
     low: Vec<u16>,
@@ -28,7 +28,7 @@ impl Model for Ends {
 }
 
 impl Ends {
-    /// No ends, with room for `capacity` below 65,536. Refused only where memory is (90).
+    /// An empty list with room for `capacity` ends below 65,536.
     pub fn with_capacity(alloc: Global, capacity: usize) -> Result<Ends, NoMemory>
         ensures { IfOk result (λ ends. ends ≡ []) }
     {
@@ -38,7 +38,7 @@ impl Ends {
         })
     }
 
-    /// Adds an end behind the others. Refused only where memory is (90).
+    /// Appends an end.
     pub fn push(&mut self, end: u32) -> Result<(), NoMemory>
         ensures { OnOk result (self.new ≡ self.old ++ end ∷ []) }
     {
@@ -51,7 +51,7 @@ impl Ends {
         Ok(())
     }
 
-    /// Gives back the memory that no end takes.
+    /// Frees unused room.
     pub fn shrink_to_fit(&mut self)
         ensures { self.new ≡ self.old }
     {
@@ -59,14 +59,14 @@ impl Ends {
         self.high.shrink_to_fit();
     }
 
-    /// How many ends there are.
+    /// Returns the number of ends.
     pub fn len(&self) -> usize
         ensures { result ≡ length self.now }
     {
         self.low.len()
     }
 
-    /// The end at an index.
+    /// Returns the end at `index`.
     pub fn get(&self, index: usize) -> u32
         requires { index < length self.now }
         ensures { slice_get self.now index ≡ Some result }

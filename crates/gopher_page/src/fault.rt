@@ -1,4 +1,4 @@
-//! Why a query was refused.
+//! The errors of queries, with their numbers.
 
 ghost use Rattle.std.specs.Prelude.{◌≡◌};
 ghost use Rattle.gopher_page.specs.Query.{query_fault_code};
@@ -6,13 +6,13 @@ ghost use Rattle.gopher_page.specs.Query.{query_fault_code};
 use gopher_item::NoMemory;
 use thiserror::Error;
 
-/// What is wrong with the text of a query.
+/// Why a text isn't a query.
 #[derive(Clone, Copy, Debug, PartialEq, Eq, Error)]
 pub enum QueryFault {
-    /// 40: the text has no word.
+    /// 40: the text contains no word.
     #[error("the query has no words")]
     NoWords,
-    /// 90: memory was refused.
+    /// 90: out of memory.
     #[error("no memory")]
     NoMemory,
 }

@@ -1,10 +1,12 @@
-//! Words, queries and pages: what a catalogue keeps of a reply, and what a search asks of it.
+//! Words, queries and pages: what a catalogue keeps of a reply, and what a search looks for.
 //!
-//! RFC 1436 leaves it to a search server what a search means: words, queries and pages are this
-//! profile's.
+//! The crates above use two contracts: `Page::of` returns the page that `page_of` defines
+//! (`specs/Page.antt`), and a query matches and scores a page by the page's counts alone
+//! (`specs/Query.antt`).
 //!
-//! The crates above rest on one promise: `Page::of` is the page of its three arguments, and the
-//! matches and scores of a query are those of a page's counts.
+//! Error 90 (`NoMemory`) means out of memory. Functions that return no `Result` allocate nothing.
+//!
+//! RFC 1436 leaves search results to the server: this profile defines words, queries and pages.
 #![tactic(auto)]
 
 mod counts;

@@ -18,8 +18,7 @@ fn line_of_entry(entry: &Entry) -> &[u8]
     }
 }
 
-/// One line for each entry of a menu: an item's display string, or an odd line's bytes. Refused only
-/// where memory is.
+/// Returns one line for each entry of a menu: an item's display string or an odd line's bytes.
 pub fn entry_lines(alloc: Global, entries: &[Entry]) -> Result<Vec<&[u8]>, AllocError>
     ensures { IfOk result (λ lines. texts lines.items ≡ map line_of_entry entries.now) }
 {
@@ -30,7 +29,7 @@ pub fn entry_lines(alloc: Global, entries: &[Entry]) -> Result<Vec<&[u8]>, Alloc
     Ok(lines)
 }
 
-/// The lines of a text. Refused only where memory is (90).
+/// Returns the lines of a text.
 pub fn text_lines(alloc: Global, bytes: &[u8]) -> Result<Vec<&[u8]>, NoMemory>
     ensures { IfOk result (λ lines. texts lines.items ≡ text_lines bytes.now) }
 {

@@ -10,7 +10,7 @@ use indexmap::IndexSet;
 use std::alloc::Global;
 use std::sync::Arc;
 
-// The place that an entry names, or `None` where it is an odd line or its parts are refused.
+// The place that an entry names, or `None` if it is an odd line or names no valid place.
 fn place_of_entry(alloc: Global, entry: &Entry) -> Result<Option<Place>, NoMemory>
     ensures { IfOk result (λ named. named ≡ place_of_entry entry.now) }
 {
@@ -61,8 +61,8 @@ fn shared(alloc: Global, places: IndexSet<Place>) -> Result<Vec<Arc<Place>>, NoM
     Ok(links)
 }
 
-/// The allowed places that the entries of a menu name, each once, in the order of first mention.
-/// Refused only where memory is (90).
+/// Returns the allowed places that the entries of a menu name, each once, in the order of first
+/// mention.
 pub fn links_of_entries(
     alloc: Global,
     scope: &Scope,

@@ -1,4 +1,4 @@
-//! Words with their first bytes as a number, which orders most of them.
+//! Words with their first bytes as a number, which is enough for most comparisons.
 
 ghost use Rattle.std.specs.Prelude.{◌≡◌, Some, map, nat_eq, IfOk, refl};
 ghost use Rattle.std.specs.Ordering.{nat_cmp};
@@ -11,7 +11,7 @@ use std::alloc::Global;
 use std::cmp::Ordering;
 use std::marker::Model;
 
-// The first eight bytes of a word as one number, the first the highest; one that is missing counts as 0.
+// The first eight bytes of a word as one big-endian number; a missing byte counts as 0.
 fn leading_number(word: &[u8]) -> u64
     ensures { result ≡ leading 8 word.now }
 {
@@ -23,8 +23,8 @@ fn leading_number(word: &[u8]) -> u64
     number
 }
 
-// Whether two words that have one number are the same: only bytes past the eighth tell two apart that
-// are as long.
+// Whether two words with equal numbers are equal. Short words of equal length are, because the
+// number contains all their bytes.
 fn is_same_tied(word: &[u8], other: &[u8]) -> bool
     requires word { AreBytes word.now }
     requires other { AreBytes other.now }
@@ -38,7 +38,8 @@ fn is_same_tied(word: &[u8], other: &[u8]) -> bool
     }
 }
 
-// The order of two words that have one number: of words of at most eight bytes the shorter comes first.
+// The order of two words with equal numbers. Of two words of at most eight bytes the shorter comes
+// first.
 fn cmp_tied(word: &[u8], other: &[u8]) -> Ordering
     requires word { AreBytes word.now }
     requires other { AreBytes other.now }
@@ -52,9 +53,9 @@ fn cmp_tied(word: &[u8], other: &[u8]) -> Ordering
     }
 }
 
-/// A word, and its first eight bytes as one number.
+/// A word with its first eight bytes as one number.
 ///
-/// In the order of the bytes, two words whose numbers differ come as these do.
+/// If two words have different numbers, their numbers order them as their bytes do.
 #[derive(Debug, Drop)]
 pub struct Numbered<'a> {
     number: u64,
@@ -74,7 +75,7 @@ impl<'a> Model for Numbered<'a> {
 }
 
 impl<'a> Numbered<'a> {
-    /// The word with its number. Takes no memory.
+    /// Computes the number of a word.
     pub fn new(word: &'a [u8]) -> Self
         ensures { result ≡ word.now }
     {
@@ -84,7 +85,7 @@ impl<'a> Numbered<'a> {
         }
     }
 
-    /// The same word, with its number. Takes no memory.
+    /// Copies the reference to the word and its number.
     pub fn again(&self) -> Numbered<'a>
         ensures { result ≡ self.now }
     {
@@ -94,14 +95,15 @@ impl<'a> Numbered<'a> {
         }
     }
 
-    /// The first eight bytes of the word as one number. Takes no memory.
+    /// Returns the first eight bytes of the word as one big-endian number; a missing byte counts as
+    /// 0.
     pub fn number(&self) -> u64
         ensures { IsNumbered result self.now }
     {
         self.number
     }
 
-    /// The word. Takes no memory.
+    /// Returns the word.
     pub fn word(&self) -> &'a [u8]
         ensures { result.now ≡ self.now }
     {
@@ -151,7 +153,7 @@ impl<'a> Ord for Numbered<'a> {
     }
 }
 
-/// The words alone, in the same order. Refused only where memory is (90).
+/// Returns the words without their numbers, in the same order.
 pub fn slices<'a>(alloc: Global, words: &[Numbered<'a>]) -> Result<Vec<&'a [u8]>, NoMemory>
     ensures { IfOk result (λ slices. map (λ word. word.now) slices.items ≡ words.now) }
 {

@@ -1,4 +1,4 @@
-//! Pages.
+//! The page of a place: what a catalogue keeps of its reply.
 
 ghost use Rattle.std.specs.Prelude.{◌≡◌, ◌≤◌, false, length, map, IfOk};
 ghost use Rattle.std.specs.Arc.{arc_value};
@@ -18,7 +18,6 @@ use std::alloc::Global;
 use std::marker::Model;
 use std::sync::Arc;
 
-// The parts of a page.
 #[derive(Debug, Drop)]
 struct Parts {
     place: Place,
@@ -39,10 +38,9 @@ impl Model for Parts {
     ghost invariant = { λ p. length p.links.items ≤ 1048576 };
 }
 
-/// What a catalogue keeps of the reply of a place.
+/// What a catalogue keeps of the reply of a place: title, links and word counts.
 ///
-/// Its parts are shared, so that it can be held twice without a copy of them, and so are its links, so
-/// that a frontier can hold them without a copy of their bytes.
+/// Copies share the parts, and a frontier shares the links, so neither copies any bytes.
 #[derive(Debug, Drop)]
 pub struct Page {
     parts: Arc<Parts>,
@@ -57,7 +55,7 @@ impl Model for Page {
     ghost view = { λ p. arc_value p.parts };
 }
 
-// The page of a place that has these lines and links.
+// The page of a place with these lines and links.
 fn page_of_lines(
     alloc: Global,
     place: &Place,
@@ -99,11 +97,12 @@ fn page_of_text(alloc: Global, place: &Place, bytes: &[u8]) -> Result<Page, NoMe
 }
 
 impl Page {
-    /// The page of a place whose reply is `bytes`, which are at most 1,048,576.
+    /// Makes the page of a place from its reply: `bytes`, at most 1,048,576.
     ///
-    /// Its lines are the decoded lines of a file, or one for each entry of a directory's menu: an item's
-    /// display string or an odd line's bytes. The counts are those of the words of all lines. A directory
-    /// has the links of its menu that `scope` allows, and a file none. Refused only where memory is (90).
+    /// For a directory (type `1`) the lines are one for each entry of the menu: an item's display
+    /// string or an odd line's bytes. Its links are those links of the menu that `scope` allows.
+    /// For a file the lines are the decoded lines of the text, and there are no links. The counts
+    /// cover the words of all lines.
     #[tactic(auto, using(crate::proofs::Pages::pages))]
     pub fn of(alloc: Global, scope: &Scope, place: &Place, bytes: &[u8]) -> Result<Page, NoMemory>
         requires { length bytes.now ≤ 1048576 }
@@ -116,7 +115,7 @@ impl Page {
         }
     }
 
-    /// The same page: both share their parts. Refused only where memory is (90).
+    /// Copies the page, which shares its parts with `self`.
     pub fn again(&self) -> Result<Page, NoMemory>
         ensures { IfOk result (λ page. page ≡ self.now) }
     {
@@ -125,24 +124,28 @@ impl Page {
         })
     }
 
-    /// The place whose reply this is.
+    /// Returns the place of the page.
     pub fn place(&self) -> &Place
         ensures { result.now ≡ self.now.place }
     {
         &self.parts.place
     }
 
-    /// The title: the first line that has a word, or else the selector, each control byte turned into
-    /// a space and without spaces at both ends; where that is empty, the host. Of a longer one it is the
-    /// first 69 bytes, and so its last byte may be a space.
+    /// Returns the title, at most 69 bytes: RFC 1436, section 3.9, asks for display strings under
+    /// 70.
+    ///
+    /// It is the first line that contains a word or, if none does, the selector. Each control byte
+    /// becomes a space, spaces at both ends are dropped, and then the first 69 bytes remain, so the
+    /// last byte can be a space. If the selector leaves an empty title, the title is the first 69
+    /// bytes of the host.
     pub fn title(&self) -> &[u8]
         ensures { result.now ≡ self.now.title }
     {
         self.parts.title.as_slice()
     }
 
-    /// The links: the allowed places that the menu names, each once, in the order of first mention.
-    /// They are at most 1,048,576.
+    /// Returns the links, at most 1,048,576: the allowed places that the menu names, each once, in
+    /// the order of first mention.
     pub fn links(&self) -> &[Arc<Place>]
         ensures links { map arc_value result.now ≡ self.now.links }
         ensures few { length result.now ≤ 1048576 }
@@ -150,14 +153,14 @@ impl Page {
         &self.parts.links
     }
 
-    /// The words of the page, in the order of their bytes, each with how often it stands there.
+    /// Returns the distinct words of the page in byte order, with their counts.
     pub fn counts(&self) -> &Counts
         ensures { result.now ≡ self.now.counts }
     {
         &self.parts.counts
     }
 
-    /// How often a word stands in the page. Takes no memory.
+    /// Returns how often `word` occurs in the page.
     pub fn count(&self, word: &[u8]) -> u32
         ensures { result ≡ count_meant false word.now self.now.counts }
     {

@@ -1,4 +1,4 @@
-//! Queries: which pages they match, and how high these score.
+//! Queries: which pages they match, and the scores of these.
 
 ghost use Rattle.std.specs.Prelude.{◌≡◌, ◌+◌, ◌<◌, ◌≤◌, ◌++◌, IsTrue, not, Some, length, slice_get, IfOk, OnOk};
 ghost use Rattle.gopher_page.specs.Query.{operator_of, later_terms, terms_from, AddsFewTerms, query_of, count_of_term, joined, matches, is_not, wanted, wanted_word, wanted_prefix, score, ReadsQuery, IsQuery, HasWanted};
@@ -10,20 +10,20 @@ use gopher_item::{ByteString, NoMemory};
 use std::alloc::Global;
 use std::marker::Model;
 
-/// How a term is joined to those before it.
+/// How a term is joined to the terms before it.
 #[derive(Clone, Copy, Debug, PartialEq, Eq)]
 pub enum Operator {
-    /// Both hold.
+    /// Both match.
     And,
-    /// At least one of both holds.
+    /// At least one of them matches.
     Or,
-    /// What stands before holds and the term doesn't.
+    /// The terms before match and this term doesn't.
     Not,
 }
 
 impl Operator {
-    /// Whether the terms so far hold, by whether those before the term did (`truth`) and whether the
-    /// term does (`holds`).
+    /// Joins a term to the terms before it: `truth` says whether those match, `holds` whether the
+    /// term does.
     pub fn join(self, truth: bool, holds: bool) -> bool
         ensures { result ≡ joined self truth holds }
     {
@@ -34,7 +34,7 @@ impl Operator {
         }
     }
 
-    /// Whether this is `Not`, which introduces a term that scores nothing.
+    /// Returns whether this is `Not`. A term after `Not` scores nothing.
     pub fn is_not(self) -> bool
         ensures { result ≡ is_not self }
     {
@@ -59,28 +59,28 @@ impl Model for Term {
 }
 
 impl Term {
-    /// How the term is joined to those before it; the first is joined by `And`.
+    /// Returns how the term is joined to the terms before it. The first term is joined by `And`.
     pub fn operator(&self) -> Operator
         ensures { result ≡ self.now.operator }
     {
         self.operator
     }
 
-    /// The word, its letters in lower case.
+    /// Returns the word in lower case.
     pub fn word(&self) -> &[u8]
         ensures { result.now ≡ self.now.word }
     {
         self.word.as_slice()
     }
 
-    /// Whether the word stands for every word that begins with it.
+    /// Returns whether the term matches every word that begins with its word.
     pub fn is_prefix(&self) -> bool
         ensures { result ≡ self.now.is_prefix }
     {
         self.is_prefix
     }
 
-    /// How often a page has the words that the term speaks of. Takes no memory.
+    /// Returns how often the words that the term matches occur in `page`.
     pub fn count_in(&self, page: &Page) -> u32
         ensures { result ≡ count_of_term page.now.counts self.now }
     {
@@ -104,7 +104,7 @@ fn operator_of(word: &[u8], is_prefix: bool) -> Option<Operator>
     }
 }
 
-// Adds the terms of a text that follows a term.
+// Appends the terms of a text that follows a term.
 fn add_terms(alloc: Global, text: &[u8], terms: &mut Vec<Term>) -> Result<(), NoMemory>
     ensures terms { OnOk result (terms.new.items ≡ terms.old.items ++ later_terms text.now) }
     ensures few { OnOk result (AddsFewTerms text.now terms.old.items terms.new.items) }
@@ -154,7 +154,7 @@ fn is_wanted(term: &Term) -> bool
     !term.operator.is_not()
 }
 
-/// What a search asks: words and prefixes, joined by `and`, `or` and `not` from left to right.
+/// The query of a search: words and prefixes, joined by `and`, `or` and `not` from left to right.
 #[derive(Debug, Drop)]
 pub struct Query {
     terms: Vec<Term>,
@@ -172,14 +172,18 @@ impl Model for Query {
 }
 
 impl Query {
-    /// The query of a text of at most 1,024 bytes.
+    /// Reads the query of a text of at most 1,024 bytes.
     ///
-    /// Its tokens are the text's words; one that a `*` directly follows stands for every word that
-    /// begins with it. The first token is a term whatever it is. Of the later ones `and`, `or` and
-    /// `not` (in any case) that no `*` follows are operators: of several in a row the last decides,
-    /// without one the terms are joined by `and`, and operators after the last term count for nothing.
+    /// The tokens are the words of the text. A token directly followed by `*` is a prefix: it
+    /// matches every word that begins with it. The first token is always a term. A later token
+    /// `and`, `or` or `not` (in any case) without `*` is an operator. Of several operators in a row
+    /// the last one counts, terms without an operator between them are joined by `and`, and
+    /// operators after the last term are ignored.
     ///
-    /// Refused: `NoWords` (40) where the text has no word; `NoMemory` (90).
+    /// # Errors
+    ///
+    /// - `NoWords` (40): the text contains no word
+    /// - `NoMemory` (90)
     pub fn read(alloc: Global, text: &[u8]) -> Result<Query, QueryFault>
         requires { length text.now ≤ 1024 }
         ensures { ReadsQuery (query_of text.now) result }
@@ -192,7 +196,7 @@ impl Query {
         })
     }
 
-    /// The terms, in their order; the first is joined by `And`. There are at most 1,024.
+    /// Returns the terms in order, at most 1,024. The first is joined by `And`.
     pub fn terms(&self) -> &[Term]
         ensures terms { result.now ≡ self.now }
         ensures query { IsQuery self.now }
@@ -200,8 +204,8 @@ impl Query {
         &self.terms
     }
 
-    /// Whether a page matches, from left to right: a term holds where the page has a word that it
-    /// means, and each after the first is joined to those before it. Takes no memory.
+    /// Returns whether a page matches. A term matches if the page contains a word that it matches;
+    /// the terms are joined from left to right.
     #[tactic(auto, using(crate::proofs::Terms::matches_more))]
     pub fn matches(&self, page: &Page) -> bool
         ensures value { result ≡ matches self.now page.now.counts }
@@ -214,8 +218,8 @@ impl Query {
         truth
     }
 
-    /// How often the page has the words of the terms that `not` doesn't introduce; a word in two terms
-    /// counts twice. Takes no memory.
+    /// Returns how often the words of the terms without `not` occur in the page. A word of two
+    /// terms counts twice.
     pub fn score(&self, page: &Page) -> u64
         ensures { result ≡ score self.now page.now.counts }
     {
@@ -229,7 +233,7 @@ impl Query {
         total
     }
 
-    /// How many terms `not` doesn't introduce. Takes no memory.
+    /// Returns the number of terms without `not`.
     pub fn wants(&self) -> usize
         ensures { result ≡ length (wanted self.now) }
     {
@@ -253,7 +257,8 @@ impl Query {
         unreachable!()
     }
 
-    /// The word of a term that `not` doesn't introduce, by an index below `wants`. Takes no memory.
+    /// Returns the word of the term at `index` among the terms without `not`; `index` is below
+    /// `wants`.
     pub fn want(&self, index: usize) -> &[u8]
         requires { index < length (wanted self.now) }
         ensures { wanted_word self.now index ≡ Some result.now }
@@ -261,7 +266,8 @@ impl Query {
         self.wanted_term(index).word()
     }
 
-    /// Whether that word stands for every word that begins with it. Takes no memory.
+    /// Returns whether the term at `index` among the terms without `not` is a prefix; `index` is
+    /// below `wants`.
     pub fn want_is_prefix(&self, index: usize) -> bool
         requires { index < length (wanted self.now) }
         ensures { wanted_prefix self.now index ≡ Some result }

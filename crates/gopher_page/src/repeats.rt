@@ -6,9 +6,9 @@ use gopher_item::NoMemory;
 use std::alloc::Global;
 use std::marker::Model;
 
-/// Counts, each at most 1,048,576, with a byte for each.
+/// Counts of at most 1,048,576, with one byte for each.
 ///
-/// Up to the last that is 256 or more, each takes two bytes besides.
+/// Each count up to the last one of 256 or more takes two bytes more.
 #[derive(Debug, Drop)]
 pub struct Repeats {
     low: Vec<u8>,
@@ -28,7 +28,7 @@ impl Model for Repeats {
 }
 
 impl Repeats {
-    /// No counts, with room for `capacity` below 256. Refused only where memory is (90).
+    /// An empty list with room for `capacity` counts below 256.
     pub fn with_capacity(alloc: Global, capacity: usize) -> Result<Repeats, NoMemory>
         ensures { IfOk result (λ repeats. repeats ≡ []) }
     {
@@ -38,7 +38,7 @@ impl Repeats {
         })
     }
 
-    /// Adds a count at the end. Refused only where memory is (90).
+    /// Appends a count.
     pub fn push(&mut self, count: u32) -> Result<(), NoMemory>
         requires { count ≤ 1048576 }
         ensures { OnOk result (self.new ≡ self.old ++ count ∷ []) }
@@ -52,7 +52,7 @@ impl Repeats {
         Ok(())
     }
 
-    /// Gives back the memory that no count takes.
+    /// Frees unused room.
     pub fn shrink_to_fit(&mut self)
         ensures { self.new ≡ self.old }
     {
@@ -60,7 +60,7 @@ impl Repeats {
         self.high.shrink_to_fit();
     }
 
-    /// The count at an index.
+    /// Returns the count at `index`.
     pub fn get(&self, index: usize) -> u32
         requires { index < length self.now }
         ensures { slice_get self.now index ≡ Some result }

@@ -11,7 +11,7 @@ use crate::word::next_token;
 use gopher_item::{ByteString, NoMemory};
 use std::alloc::Global;
 
-// The lines, an LF behind each.
+// The lines, each followed by an LF.
 fn joined(alloc: Global, lines: &[&[u8]]) -> Result<Vec<u8>, NoMemory>
     ensures { IfOk result (λ text. text.items ≡ joined_lines (texts lines.now)) }
 {
@@ -23,7 +23,7 @@ fn joined(alloc: Global, lines: &[&[u8]]) -> Result<Vec<u8>, NoMemory>
     Ok(text)
 }
 
-// The words of a text as they stand there.
+// The words of a text, with their letters unchanged.
 fn words_in(alloc: Global, text: &[u8]) -> Result<Vec<Numbered<'_>>, NoMemory>
     ensures { IfOk result (λ words. words.items ≡ bare_words text.now) }
 {
@@ -36,8 +36,7 @@ fn words_in(alloc: Global, text: &[u8]) -> Result<Vec<Numbered<'_>>, NoMemory>
     Ok(words)
 }
 
-/// The words of the lines, in the order of their bytes, each with how often it stands in them. The
-/// lines have at most 1,048,576 bytes together. Refused only where memory is (90).
+/// Counts the words of the lines, which have at most 1,048,576 bytes together.
 pub fn count_words(alloc: Global, lines: &[&[u8]]) -> Result<Counts, NoMemory>
     requires { sum_by length (texts lines.now) ≤ 1048576 }
     ensures { IfOk result (λ counts. counts ≡ counts_of (flat_map words_of (texts lines.now))) }

@@ -11,7 +11,7 @@ use crate::word::next_token;
 use gopher_item::{ByteString, NoMemory, Place, is_control};
 use std::alloc::{AllocError, Global};
 
-// A title has at most so many bytes.
+// The most bytes of a title.
 const LIMIT: usize = 69;
 
 fn plain_byte(byte: u8) -> u8
@@ -103,7 +103,7 @@ fn place_title(alloc: Global, place: &Place) -> Result<ByteString, NoMemory>
     }
 }
 
-/// The title of the page of a place, which has these lines. Refused only where memory is (90).
+/// Returns the title of the page of a place with these lines.
 pub fn title_of(alloc: Global, place: &Place, lines: &[&[u8]]) -> Result<ByteString, NoMemory>
     ensures { IfOk result (λ title. title ≡ title_of place.now (texts lines.now)) }
 {

@@ -1,4 +1,4 @@
-//! Words: the runs of letters, digits and bytes past ASCII.
+//! Words: the runs of letters, digits and bytes of 128 or more.
 
 ghost use Rattle.std.specs.Prelude.{◌≡◌, ◌<◌, [], length, position, IfOk, IfSome, MatchOption};
 ghost use Rattle.gopher_page.specs.Words.{is_gap, is_word_byte, is_word, bare_words, words_of, tokens_of, IsOneRun, IsCutAtGap, IsFirstToken, IsFirstWord, LeavesLess, LeavesNoMore};
@@ -24,7 +24,7 @@ fn first_gap(bytes: &[u8]) -> Option<usize>
     bytes.iter().position(|byte| !is_word_byte(*byte))
 }
 
-// What stands before the first gap, that gap and what stands after it, or `None` without a gap.
+// The bytes before the first gap, the gap and the bytes after it, or `None` if there is no gap.
 fn split_at_gap(bytes: &[u8]) -> Option<(&[u8], u8, &[u8])>
     ensures runs { MatchOption result (IsOneRun bytes.now) (IsCutAtGap bytes.now) }
     ensures shorter { IfSome result (LeavesLess bytes.now) }
@@ -33,8 +33,8 @@ fn split_at_gap(bytes: &[u8]) -> Option<(&[u8], u8, &[u8])>
     Some((&bytes[..end], bytes[end], &bytes[end + 1..]))
 }
 
-/// The first word of a query's text as it stands there, whether a `*` directly follows it, and the
-/// text after it; or `None` where there is no word. Takes no memory.
+/// Returns the first word of a text with its letters unchanged, whether `*` directly follows it,
+/// and the text after it; `None` if the text contains no word.
 pub fn next_token(text: &[u8]) -> Option<(&[u8], bool, &[u8])>
     ensures tokens { MatchOption result (tokens_of text.now ≡ []) (IsFirstToken text.now) }
     ensures bare { MatchOption result (bare_words text.now ≡ []) (IsFirstWord text.now) }
@@ -55,8 +55,8 @@ pub fn next_token(text: &[u8]) -> Option<(&[u8], bool, &[u8])>
     }
 }
 
-/// The words of the bytes, in order, their letters in lower case: the runs of ASCII letters, ASCII
-/// digits and bytes past ASCII, of at most 40 bytes each. Refused only where memory is (90).
+/// Returns the words of the bytes in order, in lower case. A word is a run of 1 to 40 ASCII
+/// letters, ASCII digits and bytes of 128 or more.
 pub fn words(alloc: Global, bytes: &[u8]) -> Result<Vec<ByteString>, NoMemory>
     ensures { IfOk result (λ found. found.items ≡ words_of bytes.now) }
 {

@@ -1,4 +1,4 @@
--- Replies that are kept, and what the reply to a selector is where it is not.
+-- Kept replies, and the reply to a selector without a kept one.
 use Rattle.std.proofs.Common.{◌≡◌, ℕ, ◌+◌, ◌<◌, ◌≤◌, min, leb, true, false, cond, eqb, List, [], ◌∷◌, length, Option, None, Some, ◌⊎◌, inl, inr, refl, sym, ap, ◌∙◌, arith}
 use Rattle.std.proofs.lemmas.Bool.Decides.{leb_tells}
 use Rattle.gopher_item.specs.Place.{HomeData}
@@ -25,7 +25,7 @@ reply_of_none files home selector shows = by (named files selector) shows
     by (Some (NamedFile kind bytes)) shows = absurd shows
     by (Some (NamedFolder path)) shows = absurd shows
 
--- a file of a type other than `0` (48)
+-- the reply to a file of a type other than `0` (48)
 pub reply_of_file : (files : List File) (home : HomeData) (selector : List ℕ) (kind : ℕ) (bytes : Bor (List ℕ)) → Shows (named files selector) (Some (node.File kind bytes)) → eqb kind 48 ≡ false → tree_reply files home selector ≡ bytes.now
 unfolding tree_reply
 reply_of_file files home selector kind bytes shows other = by (named files selector) shows
@@ -35,11 +35,11 @@ reply_of_file files home selector kind bytes shows other = by (named files selec
     by (Some (NamedFile of_kind held)) shows = ap (λ t. cond t (text_bytes (lines_of held)) held) (ap (λ k. eqb k 48) (sym shows.0) ∙ other) ∙ sym shows.1
     by (Some (NamedFolder path)) shows = absurd shows
 
--- sums that stop at a largest number
+-- saturating sums with a maximum
 pub capped : (product written last most : ℕ) → min (min (min product most + written) most + last) most ≡ min (product + written + last) most
 capped product written last most = omega arith
 
--- what a largest number doesn't hide
+-- below the maximum, a saturated sum compares as the sum does
 pub within_capped : (size most room : ℕ) → room < most → leb (min size most) room ≡ leb size room
 within_capped size most room low = by (leb_tells (min size most) room) (leb_tells size room)
   where

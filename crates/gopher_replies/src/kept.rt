@@ -1,4 +1,4 @@
-//! The replies of a tree that are kept: those of its texts and of its folders.
+//! The replies that are made once and kept: those of text files and of folders.
 
 ghost use Rattle.std.specs.Prelude.{◌≡◌, ◌≤◌, ◌+◌, ◌*◌, [], ◌∷◌, ◌++◌, length, min, ◌^◌, ◌<◌, ℕ, List, IfOk, IfSome, OnOk};
 ghost use Rattle.std.specs.List.{All};
@@ -11,21 +11,20 @@ use gopher_item::{ByteString, Home, NoMemory};
 use gopher_tree::{MOST_NODES, Node, Tree};
 use std::alloc::Global;
 
-// How many bytes of menus are kept at most.
+// The most bytes of kept menus.
 const MOST_MENUS: usize = 16_777_216;
 
-// How many bytes the text of a file has more than twice the file's, at most.
+// The text of a file has at most this many bytes more than twice the file's.
 const MOST_MORE: usize = 6;
 
-// A reply and its selector.
 #[derive(Debug, Drop)]
 pub(crate) struct KeptReply {
     selector: ByteString,
     bytes: ByteString,
 }
 
-// Replies in the order of their selectors' bytes, how many bytes the texts and the menus among them
-// have, and how many the texts may have.
+// Replies in byte order of their selectors, the bytes of the texts and of the menus among them, and
+// the most bytes of texts.
 #[derive(Debug, Drop)]
 pub(crate) struct KeptReplies {
     replies: Vec<KeptReply>,
@@ -34,20 +33,19 @@ pub(crate) struct KeptReplies {
     most_texts: usize,
 }
 
-// The selector of a path.
 fn selector_of(alloc: Global, path: &[u8]) -> Result<Vec<u8>, NoMemory> {
     let mut selector = Vec::from_slice(alloc, b"/")?;
     selector.extend_from_slice(path)?;
     Ok(selector)
 }
 
-// How many bytes a line of a menu has more than the written line and the server's host, at most.
+// A line of a menu has at most this many bytes more than the written line and the server's host.
 const MOST_MORE_IN_LINE: usize = 11;
 
-// How many bytes the last line of a menu has: a period, CR and LF.
+// The bytes of the last line of a menu: a period, CR and LF.
 const LAST_LINE: usize = 3;
 
-// How many bytes the menu of a menu file has at most.
+// An upper bound of the bytes of the menu of a menu file.
 fn most_menu_bytes(written: &[u8], home: &Home) -> usize
     ensures { result ≡ min (most_menu_bytes home.now written.now) 18446744073709551615 }
 {
@@ -59,7 +57,8 @@ fn most_menu_bytes(written: &[u8], home: &Home) -> usize
         .saturating_add(LAST_LINE)
 }
 
-// Whether the folder's menu is sure to have at most `room` bytes; a listing is taken to.
+// Whether the menu of the folder's menu file has at most `room` bytes for sure. Without a menu file
+// it returns true, because `push_within` measures the listing.
 fn is_menu_within(
     alloc: Global,
     tree: &Tree,
@@ -78,7 +77,7 @@ fn is_menu_within(
 }
 
 impl KeptReplies {
-    // What is kept of a tree that a server with the address `home` sends.
+    // The kept replies of a tree that a server with the address `home` sends.
     pub(crate) fn of(alloc: Global, tree: &Tree, home: &Home) -> Result<KeptReplies, NoMemory>
         ensures { IfOk result (IsKept tree.now home.now) }
     {
@@ -94,7 +93,7 @@ impl KeptReplies {
         Ok(kept)
     }
 
-    // Keeps the reply of a node, where it is a text or a folder and there is room.
+    // Keeps the reply of a node if it is a text or a folder and there is room.
     fn with_node(
         self,
         alloc: Global,
@@ -127,7 +126,6 @@ impl KeptReplies {
         }
     }
 
-    // The reply that is kept for the selector.
     pub(crate) fn reply(&self, selector: &[u8]) -> Option<&[u8]>
         ensures { (files : List File) (home : HomeData) → IsKept files home self.now
             → IfSome result (λ bytes. bytes.now ≡ tree_reply files home selector.now) }
@@ -143,7 +141,6 @@ impl KeptReplies {
         }
     }
 
-    // How many bytes the replies have.
     pub(crate) fn number_of_bytes(&self) -> usize
         requires { self.now.texts + self.now.menus < 2 ^ 64 }
         ensures { result ≡ self.now.texts + self.now.menus }
@@ -152,8 +149,8 @@ impl KeptReplies {
     }
 }
 
-// Adds the reply to the selector behind the others, where it has at most `room` bytes, and tells how
-// many bytes were added.
+// Appends the reply to the selector if it has at most `room` bytes. Returns the number of bytes
+// added.
 fn push_within(
     alloc: Global,
     tree: &Tree,
@@ -177,7 +174,6 @@ fn push_within(
     Ok(count)
 }
 
-// Adds a reply behind the others.
 fn push_reply(
     selector: Vec<u8>,
     bytes: Vec<u8>,

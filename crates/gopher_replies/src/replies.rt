@@ -1,4 +1,4 @@
-//! Replies that are made once.
+//! Replies of a tree, most of them kept.
 
 ghost use Rattle.std.specs.Prelude.{◌≡◌, ◌≤◌, ◌+◌, ◌*◌, [], ℕ, List, length, IfOk, IfSome, MatchResult};
 ghost use Rattle.gopher_item.specs.Place.{HomeData};
@@ -13,14 +13,16 @@ use std::alloc::Global;
 use std::marker::Model;
 use thiserror::Error;
 
-/// A tree whose replies are made once, by a server with one address, and not at each request.
+/// A tree and the replies of one server for it, most of which are made once instead of on each
+/// request.
 ///
-/// The texts of files and the menus of folders are kept as they are sent, and so is the reply to a
-/// selector that names nothing; files of other types are sent from the tree. The texts take at most
-/// twice as many bytes as the files and 24,576 more, however many files there are, and the menus at most
-/// 16,777,216; a menu that is past that, and one that could be, is made at each request.
+/// It keeps the texts of files, the menus of folders, and the reply to a selector that names
+/// nothing. Files of other types are sent from the tree. Kept texts have at most twice as many
+/// bytes as the files and 24,576 more, kept menus at most 16,777,216. Menus that might exceed that
+/// limit are made on each request.
 ///
-/// Contracts see it as the list of the tree's files, the server's address, and how many bytes are kept.
+/// Contracts see it as the list of the tree's files, the server's address, and the number of kept
+/// bytes.
 #[derive(Debug, Drop)]
 pub struct Replies {
     tree: Tree,
@@ -46,17 +48,17 @@ impl Model for Replies {
     ghost invariant = { λ r. AreReplies r.tree r.home r.kept r.not_found };
 }
 
-/// A reply: bytes that are kept, or that were made for the request.
+/// A reply: kept bytes, or bytes made for the request.
 #[derive(Debug, Drop)]
 pub enum Reply<'a> {
-    /// Bytes of the tree, or of its replies.
+    /// Bytes of the tree, or of its kept replies.
     Kept(&'a [u8]),
-    /// Bytes of their own.
+    /// Bytes made for the request.
     Made(Vec<u8>),
 }
 
 impl Reply<'_> {
-    /// The bytes. Takes no memory.
+    /// Returns the bytes.
     pub fn as_slice(&self) -> &[u8]
         ensures { result.now ≡ reply_bytes self.now }
     {
@@ -67,19 +69,19 @@ impl Reply<'_> {
     }
 }
 
-/// Replies that were refused, with what was handed in.
+/// The error of `Replies::new`, with the arguments that it took.
 #[derive(Debug, Drop, Error)]
 #[error("{fault}")]
 pub struct RepliesRefused {
-    /// What is wrong.
+    /// Why the call failed.
     pub fault: NoMemory,
-    /// The tree that was handed in.
+    /// The tree that was passed in.
     pub tree: Tree,
-    /// The address that was handed in.
+    /// The address that was passed in.
     pub home: Home,
 }
 
-// The selector; for the empty one the other that names the root.
+// The selector, or `/` for the empty one, which also names the root.
 fn full_selector(selector: &[u8]) -> &[u8]
     ensures { (files : List File) (home : HomeData)
         → tree_reply files home result.now ≡ tree_reply files home selector.now }
@@ -91,9 +93,7 @@ fn full_selector(selector: &[u8]) -> &[u8]
 }
 
 impl Replies {
-    /// The replies of a tree that a server with the address `home` sends.
-    ///
-    /// Refused only where memory is (90); then the tree and the address are handed back.
+    /// Makes the replies of a tree for a server with the address `home`.
     pub fn new(alloc: Global, tree: Tree, home: Home) -> Result<Replies, RepliesRefused>
         ensures { MatchResult result
             (λ replies. (replies.files ≡ tree) × (replies.home ≡ home))
@@ -121,8 +121,8 @@ impl Replies {
         })
     }
 
-    /// The reply to a selector, as `Tree::reply` has it. 90 where memory is refused for a reply that is
-    /// made anew.
+    /// Returns the reply to a selector. It is the reply of `Tree::reply`, and only replies that
+    /// aren't kept need memory.
     pub fn reply(&self, alloc: Global, selector: &[u8]) -> Result<Reply<'_>, NoMemory>
         ensures { IfOk result (λ reply.
             reply_bytes reply ≡ tree_reply self.now.files self.now.home selector.now) }
@@ -140,8 +140,8 @@ impl Replies {
         }
     }
 
-    /// How many bytes the texts and the menus have that are kept; their selectors and the reply to a
-    /// selector that names nothing are not counted. Takes no memory.
+    /// Returns the number of bytes of the kept texts and menus. It doesn't count their selectors,
+    /// nor the reply to a selector that names nothing.
     pub fn number_of_bytes(&self) -> usize
         ensures count { result ≡ self.now.size }
         ensures bound { result ≤ 2 * total_bytes self.now.files + 24576 + 16777216 }
@@ -149,14 +149,14 @@ impl Replies {
         self.kept.number_of_bytes()
     }
 
-    /// The tree. Takes no memory.
+    /// Returns the tree.
     pub fn tree(&self) -> &Tree
         ensures { result.now ≡ self.now.files }
     {
         &self.tree
     }
 
-    /// The server's address. Takes no memory.
+    /// Returns the server's address.
     pub fn home(&self) -> &Home
         ensures { result.now ≡ self.now.home }
     {

@@ -1,4 +1,4 @@
--- Arrays and tables of TOML as lists, and the first answer of a list.
+-- Arrays and tables of TOML as lists, and the first result of a list.
 use Rattle.std.proofs.Common.{◌≡◌, ℕ, zero, suc, ◌<◌, Bool, not, ◌||◌, List, [], ◌∷◌, length, nat_le, if◌then◌else◌, map, get_or, Option, Some, None, String, Global, string_bytes, refl, ap, sym, subst, arith}
 use Rattle.std.specs.List.{list_any}
 use Rattle.std.specs.Option.{option_or}
@@ -16,21 +16,21 @@ pub elements-items_of : (values : List Data) → elements (items_of values) ≡ 
 elements-items_of [] = refl
 elements-items_of (value ∷ values) = ap (λ more. value ∷ more) (elements-items_of values)
 
--- whether a table has an unknown key is whether one of its map's keys is unknown
+-- a table has an unknown key exactly if one of its map's keys is unknown
 pub has_unknown-view : (is_known : List ℕ → Bool) (entries : List (String Global × Value)) → has_unknown is_known (members_view entries) ≡ list_any (λ name. not (is_known (string_bytes name))) (keys_of entries)
 has_unknown-view is_known [] = refl
 has_unknown-view is_known (entry ∷ entries) = ap (λ more. not (is_known (string_bytes entry.0)) || more) (has_unknown-view is_known entries)
 
--- no answer from a first part and from the rest
+-- if neither of two results exists, each is none
 pub option_or-none : {A : Type 0} (a b : Option A) → option_or a b ≡ None → (a ≡ None) × (b ≡ None)
 option_or-none None b none = (refl, none)
 option_or-none (Some x) b none = absurd (cc)
 
--- what is wrong with an array, by the values of its vector
+-- the fault of an array, by the values of its vector
 pub array_problem-view : (element : Element) (values : List Value) → array_problem element (Some (items_view values)) ≡ (if nat_le (length values) 256 then first_of (element_problem element) (map view values) else Some OutOfRange)
 array_problem-view element values = rw (elements-items_of (map view values), length-map)
 
--- where no answer comes for the values, none comes at any index
+-- if a test gives no result for the values, it gives none at any index
 first_of_view-none : {B : Type 0} (answer : Data → Option B) (values : List Value) (i : ℕ) (value : Value) → first_of answer (map view values) ≡ None → i < length values → answer (view (get_or values i value)) ≡ None
 first_of_view-none answer [] i value none inside = absurd (omega arith)
 first_of_view-none answer (first ∷ values) zero value none inside =
@@ -38,14 +38,14 @@ first_of_view-none answer (first ∷ values) zero value none inside =
 first_of_view-none answer (first ∷ values) (suc i) value none inside =
     first_of_view-none answer values i value (option_or-none (answer (view first)) (first_of answer (map view values)) none).1 (omega arith)
 
--- where nothing is wrong with the values, nothing is with a table among them
+-- if the values have no fault, neither has a table among them
 pub table_problem-none : (element : Element) (values : List Value) (i : ℕ) (value : Value) (table : Members) → first_of (element_problem element) (map view values) ≡ None → i < length values → value ≡ get_or values i value → Some table ≡ as_table (view value) → table_problem element (Some table) ≡ None
 table_problem-none element values i value table none inside found seen =
     let at_value : Value → Type 0 = λ v. element_problem element (view v) ≡ None in
     let at_table : Option Members → Type 0 = λ t. table_problem element t ≡ None in
     subst at_table (sym seen) (subst at_value (sym found) (first_of_view-none (element_problem element) values i value none inside))
 
--- the elements of an array that was found
+-- the elements of an array
 pub values_read-array : (found : Option Data) (value : Data) (values : List Value) → Some value ≡ found → Some (items_view values) ≡ as_array value → map view values ≡ values_read found
 values_read-array found value values is_there is_array =
     rw (← is_there, ← is_array) (sym (elements-items_of (map view values)))

@@ -1,4 +1,4 @@
--- What holds at each key where nothing is wrong with a table.
+-- The value of each key of a table without a fault.
 use Rattle.std.proofs.Common.{◌≡◌, ℕ, zero, suc, ℤ, pos, negsuc, ◌<◌, ◌≤◌, ◌==◌, Bool, true, false, not, List, [], ◌∷◌, length, get_or, Option, Some, None, Result, Ok, Err, IfOk, refl, sym, subst, arith}
 use Rattle.std.specs.Prelude.{unwrap_or, nat_eq, codes, IsSomeAnd, MatchOption, IfSome}
 use Rattle.std.specs.Cmp.Lexicographic.{pointwise}
@@ -28,7 +28,7 @@ use Rattle.gopher_scope.specs.declared.settings.problem.Problem.TheVariants.{Out
 use Rattle.gopher_scope.specs.declared.settings.text.TextKind.{TextKind}
 use Rattle.gopher_scope.specs.declared.settings.text.TextKind.TheVariants.{Host, Path, PlaceKind, Selector}
 
--- a choice that gives nothing
+-- a choice without a result
 then_none : {A : Type 0} (test : Bool) (first : Option A) (x : A) → (if test then first else Some x) ≡ None → first ≡ None
 then_none true first x none = none
 then_none false first x none = absurd (cc)
@@ -41,14 +41,14 @@ option_map-none : {A B : Type 0} (f : A → B) (o : Option A) → option_map f o
 option_map-none f None none = refl
 option_map-none f (Some x) none = absurd (cc)
 
--- where no answer comes, none comes at any index
+-- if a test gives no result for the elements, it gives none at any index
 first_of-none : {A B : Type 0} (answer : A → Option B) (xs : List A) (i : ℕ) (x : A) → first_of answer xs ≡ None → i < length xs → answer (get_or xs i x) ≡ None
 first_of-none answer [] i x none inside = absurd (omega arith)
 first_of-none answer (y ∷ xs) zero x none inside = (option_or-none (answer y) (first_of answer xs) none).0
 first_of-none answer (y ∷ xs) (suc i) x none inside =
     first_of-none answer xs i x (option_or-none (answer y) (first_of answer xs) none).1 (omega arith)
 
--- an integer with which nothing is wrong is at most the largest of its range
+-- an integer without a fault is at most the maximum of its range
 number_read-most : (most : ℕ) (number : Option ℤ) → integer_problem most number ≡ None → number_read number ≤ most
 number_read-most most None none = absurd (cc)
 number_read-most most (Some (pos number)) none = grind (arith, common_steps, nat_tests)
@@ -67,7 +67,7 @@ pub integer_read-positive : (absent most : ℕ) (value : Option Data) → 1 ≤ 
 integer_read-positive absent most None positive none = positive
 integer_read-positive absent most (Some value) positive none = number_read-positive most (as_integer value) none
 
--- a text with which nothing is wrong is in its range
+-- a text without a fault is in range
 passed : {A : Type 0} (test : Bool) (x : A) → (if test then None else Some x) ≡ None → test ≡ true
 passed true x none = refl
 passed false x none = absurd (cc)
@@ -83,7 +83,7 @@ text_read-in_range PlaceKind None none = refl
 text_read-in_range Selector None none = refl
 text_read-in_range kind (Some value) none = text_problem-none kind (as_str value) none
 
--- an address and a place of parts that are in their ranges have no fault
+-- an address and a place of parts in range have no fault
 address_none : (is_good : Bool) (port : ℕ) → is_good ≡ true → 1 ≤ port → (if not is_good then Some BadHost else (if port == 0 then Some BadPort else None)) ≡ None
 address_none true port good_host good_port = grind (arith, nat_tests)
 address_none false port good_host good_port = absurd (cc)
@@ -111,7 +111,7 @@ seed_fault-none table none =
     let good_address = address_fault-none (field_text table field.Host) (field_integer table field.Port) good_host good_port in
     place_none _ _ _ (kind_is_good (pointwise nat_eq (field_text table field.Kind) (codes "0"))) good_selector good_address
 
--- nothing is wrong with an element of an array with which nothing is
+-- the elements of an array without a fault have none
 array_values-none : (element : Element) (items : Option Items) → array_problem element items ≡ None → first_of (element_problem element) (option_map_or elements items []) ≡ None
 array_values-none element None none = absurd (cc)
 array_values-none element (Some items) none = then_none _ _ _ none
@@ -120,7 +120,7 @@ pub values_read-none : (element : Element) (value : Option Data) → tables_prob
 values_read-none element None none = refl
 values_read-none element (Some value) none = array_values-none element (as_array value) none
 
--- nothing is wrong at a key that isn't at fault
+-- the value of a key without a fault has none
 key_fault-none : (table : Members) (key : Key) → key_fault table key ≡ None → form_problem (key_form key) (key_value table key) ≡ None
 unfolding key_fault
 key_fault-none table key none = option_map-none _ _ none
@@ -129,7 +129,7 @@ key_fault-at : (table : Members) (i : ℕ) → settings_fault table ≡ None →
 key_fault-at table i none inside =
     first_of-none (key_fault table) all_keys i key.Host (else_none (settings_have_unknown table) _ (first_of (key_fault table) all_keys) none) inside
 
--- nothing is wrong at any key of a table with which nothing is
+-- the value of each key of a table without a fault has none
 pub form_problem-none : (table : Members) (at : Key) → settings_fault table ≡ None → form_problem (key_form at) (key_value table at) ≡ None
 form_problem-none table key.Host none = key_fault-none table key.Host (key_fault-at table 0 none (omega arith))
 form_problem-none table key.Port none = key_fault-none table key.Port (key_fault-at table 1 none (omega arith))
@@ -142,7 +142,7 @@ form_problem-none table key.Workers none = key_fault-none table key.Workers (key
 form_problem-none table key.Threads none = key_fault-none table key.Threads (key_fault-at table 8 none (omega arith))
 form_problem-none table key.Tries none = key_fault-none table key.Tries (key_fault-at table 9 none (omega arith))
 
--- what is made of parts without a fault is refused only where memory is
+-- if the parts have no fault, making their value fails only if out of memory
 pub Makes-none : {T : Type 0} (fault : Option ItemFault) (value : T) (found : ItemFault) → fault ≡ None → Makes fault value (Err found) → found ≡ NoMemory
 Makes-none None value found none made = made
 Makes-none (Some first) value found none made = absurd (cc)
@@ -163,7 +163,7 @@ not_empty : (text : List ℕ) → is_in_range Path text ≡ true → 0 < length 
 not_empty [] good = absurd cc
 not_empty (byte ∷ text) good = omega arith
 
--- what is read of a table with which nothing is wrong is in its ranges
+-- the settings of a table without a fault are in range
 pub settings_in_range : (table : Members) → settings_fault table ≡ None → AreInRange (settings_read table)
 settings_in_range table none = record {
   port = integer_in_range table key.Port 70 65535 refl (omega arith) (omega arith) none;
@@ -174,7 +174,7 @@ settings_in_range table none = record {
   tries = integer_in_range table key.Tries 1 5 refl (omega arith) (omega arith) none;
 }
 
--- an integer with which nothing is wrong is the one that stands there
+-- an integer without a fault is the number that is read
 number_stands : (most : ℕ) (number : Option ℤ) → integer_problem most number ≡ None → number ≡ Some (pos (number_read number))
 number_stands most None none = absurd cc
 number_stands most (Some (pos number)) none = refl
@@ -201,7 +201,7 @@ path_stands : (value : Option Data) → scalar_problem (Text Path) value ≡ Non
 path_stands None none = absurd cc
 path_stands (Some value) none = text_stands Path (as_str value) none
 
--- what is read of a table with which nothing is wrong stands in it
+-- the settings of a table without a fault are its values
 pub settings_stand : (table : Members) → settings_fault table ≡ None → StandsIn table (settings_read table)
 settings_stand table none = record {
   host = host_stands (key_value table key.Host) (form_problem-none table key.Host none);
@@ -213,7 +213,7 @@ settings_stand table none = record {
   tries = integer_at-stands table key.Tries 1 5 refl none;
 }
 
--- what a table answers
+-- a property of the settings of a table, for a call that returns them
 answers_with : (P : SettingsData → Type 0) (table : Members) (result : Result Settings SettingsFault) → (settings_fault table ≡ None → P (settings_read table)) → Answers (settings_fault table) (settings_read table) result
     → IfOk result (λ settings. P (settings_data settings))
 answers_with P table (Err found) holds answers = tt

@@ -1,4 +1,4 @@
--- What is wrong with the value at a key, if anything is, and what it is read as.
+-- The fault of a key's value, if it has one, and the value that is read.
 use Rattle.std.specs.Prelude.{ℕ, ℤ, pos, negsuc, Bool, false, ◌&&◌, ◌||◌, not, List, [], ◌∷◌, length, Option, None, Some, is_some, unwrap_or, nat_eq, nat_le, if◌then◌else◌}
 use Rattle.std.specs.List.{list_any}
 use Rattle.std.specs.Option.{option_or, option_map_or}
@@ -15,23 +15,23 @@ use Rattle.gopher_scope.specs.declared.settings.text.TextKind.{TextKind}
 use Rattle.gopher_scope.specs.declared.settings.problem.Problem.{Problem}
 use Rattle.gopher_scope.specs.declared.settings.problem.Problem.TheVariants.{Missing, WrongKind, OutOfRange}
 
--- the first answer, if there is one
+-- the first result, if there is one
 abbrev pub first_of : {A B : Type 0} → (A → Option B) → List A → Option B
 first_of answer [] = None
 first_of answer (x ∷ xs) = option_or (answer x) (first_of answer xs)
 
--- an integer from 1 to `most` is wanted
+-- the value has to be an integer from 1 to `most`
 abbrev pub integer_problem : ℕ → Option ℤ → Option Problem
 integer_problem most None = Some WrongKind
 integer_problem most (Some (pos number)) = if nat_le 1 number && nat_le number most then None else Some OutOfRange
 integer_problem most (Some (negsuc number)) = Some OutOfRange
 
--- a text of this kind is wanted
+-- the value has to be a text of this kind
 abbrev pub text_problem : TextKind → Option (List ℕ) → Option Problem
 text_problem kind None = Some WrongKind
 text_problem kind (Some text) = if is_in_range kind text then None else Some OutOfRange
 
--- what is wrong with what stands at a key, where an integer or a text is wanted
+-- the fault of an integer or a text value, if it has one
 abbrev pub scalar_problem : Scalar → Option Data → Option Problem
 scalar_problem (Integer absent most) None = None
 scalar_problem (Integer absent most) (Some value) = integer_problem most (as_integer value)
@@ -48,7 +48,7 @@ field_value table field = get_member (field_name field) table
 abbrev pub field_problem : Members → Field → Option Problem
 field_problem table field = scalar_problem (field_scalar field) (field_value table field)
 
--- an element that is no table is of the wrong kind; otherwise its keys are checked in their order
+-- an element that isn't a table has the wrong type; the keys of a table are checked in order
 abbrev pub table_problem : Element → Option Members → Option Problem
 table_problem element None = Some WrongKind
 table_problem element (Some table) = first_of (field_problem table) (fields_of element)
@@ -56,7 +56,7 @@ table_problem element (Some table) = first_of (field_problem table) (fields_of e
 abbrev pub element_problem : Element → Data → Option Problem
 element_problem element value = table_problem element (as_table value)
 
--- an array of at most 256 tables is wanted
+-- the value has to be an array of at most 256 tables
 abbrev pub array_problem : Element → Option Items → Option Problem
 array_problem element None = Some WrongKind
 array_problem element (Some items) =
@@ -66,12 +66,12 @@ abbrev pub tables_problem : Element → Option Data → Option Problem
 tables_problem element None = None
 tables_problem element (Some value) = array_problem element (as_array value)
 
--- what is wrong with what stands at a key, if anything is
+-- the fault of a key's value, if it has one
 abbrev pub form_problem : Form → Option Data → Option Problem
 form_problem (One scalar) value = scalar_problem scalar value
 form_problem (Tables element) value = tables_problem element value
 
--- whether the table has a key that isn't known
+-- the table has an unknown key
 abbrev pub has_unknown : (List ℕ → Bool) → Members → Bool
 has_unknown is_known no_members = false
 has_unknown is_known (member name value more) = not (is_known name) || has_unknown is_known more
@@ -79,11 +79,11 @@ has_unknown is_known (member name value more) = not (is_known name) || has_unkno
 unfoldable pub is_field_name : Element → List ℕ → Bool
 is_field_name element name = list_any (λ field. pointwise nat_eq (field_name field) name) (fields_of element)
 
--- whether an element of an array is a table that has an unknown key
+-- the element is a table with an unknown key
 abbrev pub element_has_unknown : Element → Data → Bool
 element_has_unknown element value = option_map_or (has_unknown (is_field_name element)) (as_table value) false
 
--- whether an array has such an element
+-- the array has an element with an unknown key
 abbrev pub array_has_unknown : Element → Option Items → Bool
 array_has_unknown element None = false
 array_has_unknown element (Some items) = list_any (element_has_unknown element) (elements items)
@@ -93,25 +93,25 @@ form_has_unknown (One scalar) value = false
 form_has_unknown (Tables element) None = false
 form_has_unknown (Tables element) (Some value) = array_has_unknown element (as_array value)
 
--- the number that an integer is; below 0 it is none
+-- the number of an integer; 0 for a negative one
 abbrev pub number_read : Option ℤ → ℕ
 number_read None = 0
 number_read (Some (pos number)) = number
 number_read (Some (negsuc number)) = 0
 
--- what is read where an integer is wanted and nothing is wrong
+-- the integer that is read if the value has no fault
 abbrev pub integer_read : Scalar → Option Data → ℕ
 integer_read (Integer absent most) None = absent
 integer_read (Integer absent most) (Some value) = number_read (as_integer value)
 integer_read (Text kind) value = 0
 
--- what is read where a text is wanted and nothing is wrong
+-- the text that is read if the value has no fault
 abbrev pub text_read : Scalar → Option Data → List ℕ
 text_read (Integer absent most) value = []
 text_read (Text kind) None = unwrap_or (absent_text kind) []
 text_read (Text kind) (Some value) = unwrap_or (as_str value) []
 
--- the elements that are read where an array is wanted and nothing is wrong
+-- the elements of the array that is read if the value has no fault
 abbrev pub values_read : Option Data → List Data
 values_read None = []
 values_read (Some value) = option_map_or elements (as_array value) []

@@ -1,4 +1,4 @@
--- The keys of the settings, and what may stand at each.
+-- The keys of the settings, and the valid values of each.
 use Rattle.std.specs.Prelude.{ℕ, Bool, not, List, [], ◌∷◌, length, Option, None, Some, codes, nat_eq, ◌==◌, ◌||◌}
 use Rattle.std.specs.Cmp.Lexicographic.{pointwise}
 use Rattle.gopher_item.specs.Place.{is_host, is_selector}
@@ -31,7 +31,8 @@ key_name key.Workers = codes "workers"
 key_name key.Threads = codes "threads"
 key_name key.Tries = codes "tries"
 
--- an integer has what is read where its key is absent, and the largest of its range, which begins at 1
+-- the valid values of a key; an integer has its value for a missing key and its maximum, and is at
+-- least 1
 abbrev pub key_form : Key → Form
 key_form key.Host = One (Text Host)
 key_form key.Port = One (Integer 70 65535)
@@ -44,7 +45,7 @@ key_form key.Workers = One (Integer 4 16)
 key_form key.Threads = One (Integer 2 8)
 key_form key.Tries = One (Integer 1 5)
 
--- the keys of a table that is an element of an array, in the order in which they are checked
+-- the keys of a table in an array, in the order in which they are checked
 abbrev pub fields_of : Element → List Field
 fields_of element.Seed = field.Kind ∷ field.Host ∷ field.Port ∷ field.Selector ∷ []
 fields_of element.Rule = field.Host ∷ field.Port ∷ field.Prefix ∷ []
@@ -63,14 +64,14 @@ field_scalar field.Port = Integer 70 65535
 field_scalar field.Selector = Text Selector
 field_scalar field.Prefix = Text Selector
 
--- what is read where the key of such a text is absent; the key of a host or a path has to be there
+-- the value of such a text if its key is missing; the keys of a host and a path are required
 abbrev pub absent_text : TextKind → Option (List ℕ)
 absent_text Host = None
 absent_text Path = None
 absent_text PlaceKind = Some (codes "1")
 absent_text Selector = Some []
 
--- whether the text is in range
+-- the text is in range
 abbrev pub is_in_range : TextKind → List ℕ → Bool
 is_in_range Host text = is_host text
 is_in_range Path text = not (length text == 0)

@@ -1,4 +1,4 @@
--- A rule: the places of one server whose selectors begin with one prefix.
+-- A rule: the places of one server whose selectors begin with a prefix.
 use Rattle.std.specs.Prelude.{ℕ, Bool, ◌&&◌, not, List, map, Option, Some, nat_eq, ◌==◌, if◌then◌else◌}
 use Rattle.std.specs.List.{starts_with}
 use Rattle.std.specs.Cmp.Lexicographic.{pointwise}
@@ -12,7 +12,7 @@ pub record RuleData : Type 0 where
   pub port : ℕ
   pub prefix : List ℕ
 
--- the first fault of the parts of a rule, if there is one
+-- the first fault of the parts of a rule, if they have one
 abbrev pub rule_fault : List ℕ → ℕ → List ℕ → Option ItemFault
 rule_fault host port prefix = if not (is_selector prefix) then Some BadSelector else address_fault host port
 
@@ -20,6 +20,6 @@ rule_fault host port prefix = if not (is_selector prefix) then Some BadSelector 
 abbrev pub rule_of : List ℕ → ℕ → List ℕ → RuleData
 rule_of host port prefix = record { host = map lower_case host; port = port; prefix = prefix }
 
--- whether the place is one of the rule's
+-- the rule covers the place
 abbrev pub covers : RuleData → PlaceData → Bool
 covers rule place = pointwise nat_eq rule.host place.host && (rule.port == place.port) && starts_with nat_eq place.selector rule.prefix

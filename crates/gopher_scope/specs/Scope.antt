@@ -9,7 +9,7 @@ pub record ScopeData : Type 0 where
   pub allow : List RuleData
   pub deny : List RuleData
 
--- whether one of the rules covers the place
+-- one of the rules covers the place
 abbrev pub any_covers : List RuleData → PlaceData → Bool
 any_covers rules place = list_any (λ rule. covers rule place) rules
 

@@ -1,4 +1,4 @@
--- Settings, and how they are read.
+-- Settings and how they are read.
 use Rattle.std.specs.Prelude.{◌≡◌, ℕ, pos, ◌<◌, ◌≤◌, Bool, ◌||◌, List, [], length, map, Option, None, Some, IsSomeAnd, MatchOption, Result, Ok, Err, nat_eq, codes, string_bytes, if◌then◌else◌}
 use Rattle.std.specs.List.{list_any, filter_map}
 use Rattle.std.specs.Option.{option_map}
@@ -39,7 +39,7 @@ settings_data s = record { home = s.home; root = string_bytes s.root; seeds = s.
 abbrev pub IsUpTo : ℕ → ℕ → Type 0
 IsUpTo most number = (1 ≤ number) × (number ≤ most)
 
--- numbers within their limits, and a folder that is named
+-- the numbers are in range, and the folder has a name
 pub record AreInRange (settings : SettingsData) : Type 0 where
   pub port : IsUpTo 65535 settings.home.port
   pub root : 0 < length settings.root
@@ -48,15 +48,15 @@ pub record AreInRange (settings : SettingsData) : Type 0 where
   pub threads : IsUpTo 8 settings.threads
   pub tries : IsUpTo 5 settings.tries
 
--- a number is the one that stands at a name, or this one where nothing stands there
+-- the number is the value of a key, or `absent` if the key is missing
 abbrev pub IsNumberAt : Members → List ℕ → ℕ → ℕ → Type 0
 IsNumberAt table name absent number = MatchOption (get_member name table) (number ≡ absent) (λ value. as_integer value ≡ Some (pos number))
 
--- a text is the one that stands at a name
+-- the text is the value of a key
 abbrev pub IsTextAt : Members → List ℕ → List ℕ → Type 0
 IsTextAt table name text = IsSomeAnd (get_member name table) (λ value. as_str value ≡ Some text)
 
--- numbers and texts as a table has them, by their names
+-- the numbers and texts are the values of a table's keys
 pub record StandsIn (table : Members) (settings : SettingsData) : Type 0 where
   pub host : IsTextAt table (codes "host") settings.home.host
   pub port : IsNumberAt table (codes "port") 70 settings.home.port
@@ -74,7 +74,7 @@ settings_fault_code (fault.OutOfRange key) = 33
 settings_fault_code fault.UnknownKey = 34
 settings_fault_code fault.NoMemory = 90
 
--- the fault that a problem at a key is
+-- the fault of settings with this problem at a key
 abbrev pub fault_at : Key → Problem → SettingsFault
 fault_at key problem.Missing = fault.Missing key
 fault_at key problem.WrongKind = fault.WrongKind key
@@ -83,22 +83,23 @@ fault_at key problem.OutOfRange = fault.OutOfRange key
 abbrev pub key_value : Members → Key → Option Data
 key_value table key = get_member (key_name key) table
 
--- what is wrong at a key, if anything is; a fault inside an array is one of the array's key
+-- the fault of a key, if it has one; a fault inside an array is one of the array's key
 unfoldable pub key_fault : Members → Key → Option SettingsFault
 key_fault table key = option_map (fault_at key) (form_problem (key_form key) (key_value table key))
 
 unfoldable pub is_key_name : List ℕ → Bool
 is_key_name name = list_any (λ key. pointwise nat_eq (key_name key) name) all_keys
 
--- whether a table that is an element of the key's array has a key that isn't named for it
+-- a table in the key's array has an unknown key
 unfoldable pub key_has_unknown : Members → Key → Bool
 key_has_unknown table key = form_has_unknown (key_form key) (key_value table key)
 
--- whether the table, or a table that is an element of one of its arrays, has a key that isn't named for it
+-- the settings, or a table in one of their arrays, have an unknown key
 abbrev pub settings_have_unknown : Members → Bool
 settings_have_unknown table = has_unknown is_key_name table || list_any (key_has_unknown table) all_keys
 
--- what is wrong with a table, if anything is: an unknown key anywhere, or else the first key in their order at which something is wrong
+-- the fault of a table, if it has one: an unknown key anywhere or, without one, the fault of the
+-- first key with a fault, in order
 abbrev pub settings_fault : Members → Option SettingsFault
 settings_fault table = if settings_have_unknown table then Some fault.UnknownKey else first_of (key_fault table) all_keys
 
@@ -125,20 +126,20 @@ field_integer table field = integer_read (field_scalar field) (field_value table
 abbrev pub field_text : Members → Field → List ℕ
 field_text table field = text_read (field_scalar field) (field_value table field)
 
--- the type of a place: `0` is a file (48), and `1` a directory (49)
+-- the type of a place: `0` is a file (48), `1` a directory (49)
 abbrev pub kind_read : List ℕ → ℕ
 kind_read text = if pointwise nat_eq text (codes "0") then 48 else 49
 
--- the place that a table of `seeds` is read as
+-- the place of a table of `seeds`
 abbrev pub seed_read : Members → PlaceData
 seed_read table =
     place_of (kind_read (field_text table field.Kind)) (field_text table field.Selector) (field_text table field.Host) (field_integer table field.Port)
 
--- the rule that a table of `allow` or `deny` is read as
+-- the rule of a table of `allow` or `deny`
 abbrev pub rule_read : Members → RuleData
 rule_read table = rule_of (field_text table field.Host) (field_integer table field.Port) (field_text table field.Prefix)
 
--- what a table is read as where nothing is wrong with it
+-- the settings of a table without a fault
 abbrev pub settings_read : Members → SettingsData
 settings_read table = record {
   home = record { host = text_at table key.Host; port = integer_at table key.Port };
@@ -151,17 +152,17 @@ settings_read table = record {
   tries = integer_at table key.Tries;
 }
 
--- the settings or the fault of a table
+-- the settings of a table, or its fault
 abbrev pub read_or : Option SettingsFault → SettingsData → Result SettingsData SettingsFault
 read_or None settings = Ok settings
 read_or (Some found) settings = Err found
 
--- what a text is read as, given the table that it is, if it is TOML
+-- the result of reading a text, given its table if it is TOML
 abbrev pub settings_of : Option Members → Result SettingsData SettingsFault
 settings_of None = Err fault.NotToml
 settings_of (Some table) = read_or (settings_fault table) (settings_read table)
 
--- what reading a table answers: the fault of the table, or the settings, unless memory was refused
+-- reading a table fails with its fault, returns the settings, or is out of memory
 abbrev pub Answers : Option SettingsFault → SettingsData → Result Settings SettingsFault → Type 0
 Answers (Some found) settings result = result ≡ Err found
 Answers None settings (Ok made) = settings_data made ≡ settings

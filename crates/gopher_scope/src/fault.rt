@@ -1,4 +1,4 @@
-//! Why settings were refused.
+//! The errors of settings, with their numbers.
 
 ghost use Rattle.std.specs.Prelude.{◌≡◌};
 ghost use Rattle.gopher_scope.specs.Settings.{settings_fault_code};
@@ -6,25 +6,25 @@ ghost use Rattle.gopher_scope.specs.Settings.{settings_fault_code};
 use crate::settings::Key;
 use thiserror::Error;
 
-/// What is wrong with a settings text.
+/// Why a text isn't valid settings.
 #[derive(Clone, Copy, Debug, PartialEq, Eq, Error)]
 pub enum SettingsFault {
     /// 30: the text isn't TOML.
     #[error("the settings are not TOML")]
     NotToml,
-    /// 31: the key has to be there, or in a table of its array a key has to be there.
+    /// 31: the key, or a key of a table in its array, is required and missing.
     #[error("{0}: the key, or a key in one of its tables, is missing")]
     Missing(Key),
-    /// 32: the value of the key is of another kind, or a value inside its array is.
+    /// 32: the value of the key, or a value in its array, has the wrong type.
     #[error("{0}: the value, or one in its tables, is of the wrong kind")]
     WrongKind(Key),
-    /// 33: the value of the key is out of its range, or a value inside its array is.
+    /// 33: the value of the key, or a value in its array, is out of range.
     #[error("{0}: the value, or one in its tables, is out of its range")]
     OutOfRange(Key),
-    /// 34: the table, or a table inside one of its arrays, has a key that isn't named for it.
+    /// 34: the settings, or a table in one of their arrays, have an unknown key.
     #[error("a key is unknown")]
     UnknownKey,
-    /// 90: memory was refused.
+    /// 90: out of memory.
     #[error("no memory")]
     NoMemory,
 }

@@ -1,8 +1,12 @@
-//! Which places a crawl may visit, and the settings of a server.
+//! The scope of a crawl, which says which places it may visit, and the settings of a server.
 //!
-//! RFC 1436 says nothing of crawls, nor of what a server is set to: all of this is this profile's.
+//! The crates above use these contracts: `Scope::allows` returns what `allows` defines
+//! (`specs/Scope.antt`), and `Settings::read` reads a text as `settings_of` defines
+//! (`specs/Settings.antt`).
 //!
-//! The crates above rest on one promise: `Scope::allows` is the rule of allow and deny.
+//! Error 90 (`NoMemory`) means out of memory. Calls that can't fail with it allocate nothing.
+//!
+//! RFC 1436 defines neither crawls nor settings: this profile defines both.
 #![tactic(auto)]
 
 mod fault;

@@ -1,4 +1,4 @@
-//! Rules, of which a scope is made.
+//! Rules, the parts of a scope.
 
 ghost use Rattle.std.specs.Prelude.{◌≡◌};
 ghost use Rattle.gopher_item.specs.Fault.{Makes};
@@ -9,7 +9,7 @@ use gopher_item::{ByteString, ItemFault, Place, is_selector, lowered_host};
 use std::alloc::Global;
 use std::marker::Model;
 
-/// The places of one server whose selectors begin with one prefix.
+/// The places of one server whose selectors begin with a prefix.
 #[derive(Debug, Drop, PartialEq, Eq)]
 pub struct Rule {
     host: ByteString,
@@ -28,11 +28,16 @@ impl Model for Rule {
 }
 
 impl Rule {
-    /// The rule of these parts; letters of the host are lower-cased.
+    /// Makes the rule of these parts, with the ASCII letters of the host in lower case.
     ///
-    /// Refused, in this order: `BadSelector` (2) where the prefix is over 255 bytes or holds a TAB,
-    /// CR, LF or NUL; `BadHost` (3) where the host is empty, over 255 bytes, or holds a space or a
-    /// control byte; `BadPort` (4) where the port is 0; `NoMemory` (90).
+    /// # Errors
+    ///
+    /// The first fault in this order:
+    /// - `BadSelector` (2): the prefix has over 255 bytes, or contains a TAB, CR, LF or NUL
+    /// - `BadHost` (3): the host is empty, has over 255 bytes, or contains a space or a control
+    ///   byte
+    /// - `BadPort` (4): the port is 0
+    /// - `NoMemory` (90)
     pub fn new(alloc: Global, host: &[u8], port: u16, prefix: &[u8]) -> Result<Rule, ItemFault>
         ensures { Makes (rule_fault host.now port prefix.now)
             (rule_of host.now port prefix.now) result }
@@ -45,29 +50,29 @@ impl Rule {
         Ok(Rule { host, port, prefix })
     }
 
-    /// The host, in lower case.
+    /// Returns the host in lower case.
     pub fn host(&self) -> &[u8]
         ensures { result.now ≡ self.now.host }
     {
         self.host.as_slice()
     }
 
-    /// The port, from 1.
+    /// Returns the port, at least 1.
     pub fn port(&self) -> u16
         ensures { result ≡ self.now.port }
     {
         self.port
     }
 
-    /// What the selectors of the rule's places begin with.
+    /// Returns the prefix of the selectors of the rule's places.
     pub fn prefix(&self) -> &[u8]
         ensures { result.now ≡ self.now.prefix }
     {
         self.prefix.as_slice()
     }
 
-    /// Whether the place is one of the rule's: its host and port are the rule's, and its selector
-    /// begins with the rule's prefix. Takes no memory.
+    /// Returns whether the place has the rule's host and port, and its selector begins with the
+    /// rule's prefix.
     pub fn covers(&self, place: &Place) -> bool
         ensures { result ≡ covers self.now place.now }
     {

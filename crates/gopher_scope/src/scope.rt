@@ -1,4 +1,4 @@
-//! Scopes, which say where a crawl may go.
+//! Scopes: which places a crawl may visit.
 
 ghost use Rattle.std.specs.Prelude.{◌≡◌};
 ghost use Rattle.gopher_scope.specs.Rule.{RuleData};
@@ -8,7 +8,7 @@ use crate::rule::Rule;
 use gopher_item::Place;
 use std::marker::Model;
 
-/// Which places a crawl may visit: those that an allow rule covers and no deny rule does.
+/// The places that a crawl may visit: those that an allow rule covers and no deny rule covers.
 #[derive(Debug, Drop)]
 pub struct Scope {
     allow: Vec<Rule>,
@@ -30,7 +30,7 @@ fn any_covers(rules: &[Rule], place: &Place) -> bool
 }
 
 impl Scope {
-    /// The scope of these rules. Takes no memory.
+    /// Makes the scope of these rules.
     pub fn new(allow: Vec<Rule>, deny: Vec<Rule>) -> Scope
         ensures allowing { result.allow ≡ allow.items }
         ensures denying { result.deny ≡ deny.items }
@@ -38,7 +38,7 @@ impl Scope {
         Scope { allow, deny }
     }
 
-    /// The allow rules and the deny rules, as they were given. Takes no memory.
+    /// Returns the allow rules and the deny rules, in their order.
     pub fn into_rules(self) -> (Vec<Rule>, Vec<Rule>)
         ensures allowing { result.0.items ≡ self.allow }
         ensures denying { result.1.items ≡ self.deny }
@@ -46,7 +46,7 @@ impl Scope {
         (self.allow, self.deny)
     }
 
-    /// Whether some allow rule covers the place and no deny rule does. Takes no memory.
+    /// Returns whether some allow rule covers the place and no deny rule does.
     #[tactic(auto, unfolding(crate::specs::Scope::allows))]
     pub fn allows(&self, place: &Place) -> bool
         ensures { result ≡ allows self.now place.now }

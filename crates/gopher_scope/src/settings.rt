@@ -1,4 +1,4 @@
-//! Settings: how they are read.
+//! Settings and how they are read.
 
 ghost use Rattle.std.specs.Prelude.{◌≡◌, ◌≢◌, map, Ok, Err, Some, None, IfOk, IfErr, IfSome};
 ghost use Rattle.toml.specs.Parse.{parse_document};
@@ -27,24 +27,24 @@ pub use key::Key;
 use std::alloc::Global;
 use toml::Table;
 
-/// What a server and its crawl are to do.
+/// The settings of a server and its crawl.
 #[derive(Debug, Drop)]
 pub struct Settings {
     /// The server's own host and port.
     pub home: Home,
-    /// The folder that is served.
+    /// The folder to serve.
     pub root: String,
-    /// The places at which the crawl starts, in the order of the text.
+    /// The places from which the crawl starts, in the order of the text.
     pub seeds: Vec<Place>,
-    /// Where the crawl may go.
+    /// The places that the crawl may visit.
     pub scope: Scope,
-    /// How many places are known at most, from 1 to 65,536.
+    /// The most places that the crawl knows, from 1 to 65,536.
     pub places: u32,
-    /// How many workers crawl, from 1 to 16.
+    /// The number of workers that crawl, from 1 to 16.
     pub workers: u32,
-    /// How many server threads answer, from 1 to 8.
+    /// The number of server threads, from 1 to 8.
     pub threads: u32,
-    /// How often a place is claimed at most, from 1 to 5.
+    /// How often the crawl claims a place at most, from 1 to 5.
     pub tries: u32,
 }
 
@@ -133,15 +133,21 @@ fn settings_of(alloc: Global, table: &Table) -> Result<Settings, SettingsFault>
 }
 
 impl Settings {
-    /// The settings that a text in TOML states.
+    /// Reads the settings of a text in TOML.
     ///
-    /// Refused, in this order: `NotToml` (30) where the text isn't TOML; `UnknownKey` (34) where the
-    /// table, or a table inside `seeds`, `allow` or `deny`, has a key that isn't named for it; then,
-    /// key by key in the order of `Key`, `Missing` (31) where a key has to be there and isn't,
-    /// `WrongKind` (32) where a value is of another kind, `OutOfRange` (33) where it is out of its
-    /// range; `NoMemory` (90), which comes before all of these where memory was refused while the
-    /// text was read as TOML. A fault inside an array names the array's key: the array's kind and its
-    /// length come first, then its elements in their order, and in each of them its keys.
+    /// # Errors
+    ///
+    /// The first fault in this order:
+    /// - `NotToml` (30): the text isn't TOML
+    /// - `UnknownKey` (34): the settings, or a table in `seeds`, `allow` or `deny`, have an unknown
+    ///   key
+    /// - for each key in the order of `Key`: `Missing` (31) if it is required and missing,
+    ///   `WrongKind` (32) if its value has the wrong type, `OutOfRange` (33) if its value is out of
+    ///   range
+    /// - `NoMemory` (90); out of memory while the text is parsed comes before all other faults
+    ///
+    /// A fault inside an array names the key of the array. The array's type and length are checked
+    /// first, then its elements in order, and the keys of each element in order.
     pub fn read(alloc: Global, text: &str) -> Result<Settings, SettingsFault>
         ensures read { IfOk result (λ settings.
             settings_of (parse_document text.now) ≡ Ok (settings_data settings)) }

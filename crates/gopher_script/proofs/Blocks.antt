@@ -1,4 +1,4 @@
--- How the lines of a block are taken one by one.
+-- Reading the lines of a block one by one.
 use Rattle.std.proofs.Common.{◌≡◌, ℕ, ◌+◌, Bool, true, false, List, [], ◌∷◌, ◌++◌, Option, refl, sym, ap, subst, ◌∙◌, append_assoc}
 use Rattle.std.proofs.lemmas.List.Sums.{take_while-cons}
 use Rattle.gopher_script.specs.Statement.{StatementData}
@@ -10,7 +10,7 @@ use Rattle.gopher_script.specs.Script.{is_block_line, begins_block, block_of, re
 reply-more : (text : List ℕ) (lines : List (List ℕ)) → reply_of (block_of ((124 ∷ text) ∷ lines)) ≡ (text ++ 13 ∷ 10 ∷ []) ++ reply_of (block_of lines)
 reply-more text lines = ap reply_of (take_while-cons is_block_line (124 ∷ text) lines)
 
--- one more line of a block was taken, its text and its end
+-- after one more line of a block, with its text and CR LF
 pub reply-step : (done mid new text all : List ℕ) (now lines : List (List ℕ)) → now ≡ (124 ∷ text) ∷ lines → mid ≡ done ++ text → new ≡ mid ++ 13 ∷ 10 ∷ []
     → done ++ reply_of (block_of now) ≡ all → new ++ reply_of (block_of lines) ≡ all
 reply-step done mid new text all now lines is first second whole =
@@ -23,18 +23,18 @@ pub statements-step : (number : ℕ) (text : List ℕ) (now lines : List (List �
 unfolding statements_of
 statements-step number text now lines all is whole = sym (ap (statements_of number true) is) ∙ whole
 
--- no more line of it is there
+-- after the last line of a block
 pub statements-end : (number : ℕ) (lines : List (List ℕ)) → begins_block lines ≡ false → statements_of number true lines ≡ statements_of number false lines
 unfolding statements_of
 statements-end number [] e = refl
 statements-end number (line ∷ lines) e = rw e refl
 
--- bytes that are none have no statements
+-- no bytes contain no statements
 pub statements-none : (number : ℕ) (bytes : List ℕ) → bytes ≡ [] → statements_of number false (lines_of bytes) ≡ []
 unfolding statements_of
 statements-none number bytes e = ap (λ (b : List ℕ). statements_of number false (lines_of b)) e
 
--- the first line makes a statement, with the block after it, and the others follow
+-- the first line and the block after it are a statement, and the others follow
 pub statements-next : (number : ℕ) (line reply : List ℕ) (now lines : List (List ℕ)) (command : Option Command) (others : List StatementData)
     → now ≡ line ∷ lines → command ≡ command_of line → reply ≡ reply_after command lines → others ≡ statements_of (number + 1) (takes_block command) lines
     → statements_of number false now ≡ (record { number = number; command = command; reply = reply }) ∷ others

@@ -1,4 +1,4 @@
--- What a `found` and a `seed` answer, by whether their place is refused.
+-- The answers to `found` and `seed`, for a valid place and for an invalid one.
 use Rattle.std.proofs.Common.{◌≡◌, ◌≢◌, ℕ, List, Option, Some, None, Result, Ok, Err, IfOk, OnOk, refl, sym, ap, ◌∙◌}
 use Rattle.std.specs.Option.{option_map_or}
 use Rattle.std.specs.Global.{Vec}
@@ -27,7 +27,7 @@ is_value None value made m = m
 abbrev line_of : List EventData → ℕ → PlaceData → List ℕ → Option ItemFault → List ℕ
 line_of events number place reply fault = option_map_or (λ f. refused_line (item_fault_code f)) fault (page_line events number (page_in events place reply))
 
--- ---- a place that is refused
+-- ---- an invalid place
 
 pub refused_answer : {E : Type 0} (events : List EventData) (number : ℕ) (place : PlaceData) (reply : List ℕ) (fault : ItemFault) (result : Result (Vec ℕ) E) → Makes (fault_of_place place) (made_place place) (Err fault)
     → OnOk result (fault ≢ NoMemory) → IfOk result (λ line. line.items ≡ refused_line (item_fault_code fault)) → IfOk result (λ line. line.items ≡ found_line events number place reply)
@@ -47,7 +47,7 @@ pub refused_seed : {E : Type 0} (place : PlaceData) (seeds : List PlaceData) (fa
 refused_seed place seeds fault (Ok line) made cause is = rw (with_fault (fault_of_place place) (made_place place) fault made cause) (is, refl)
 refused_seed place seeds fault (Err e) made cause is = is
 
--- ---- a place that is taken
+-- ---- a valid place
 
 pub taken_answer : {E : Type 0} (events : List EventData) (number : ℕ) (place taken : PlaceData) (reply : List ℕ) (result : Result (Vec ℕ) E) → Makes (fault_of_place place) (made_place place) (Ok taken)
     → IfOk result (λ line. line.items ≡ page_line events number (page_of (scope_in events) taken reply)) → IfOk result (λ line. line.items ≡ found_line events number place reply)

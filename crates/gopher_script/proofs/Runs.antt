@@ -13,7 +13,7 @@ use Rattle.gopher_script.specs.declared.stage.Stage.{Stage}
 use Rattle.gopher_script.specs.declared.fault.ReplayFault.{ReplayFault}
 use Rattle.gopher_script.specs.declared.fault.ReplayFault.TheVariants.{ReadFailed, TooManyTurns, ScriptTooLong, WriteFailed, BadScript, NoMemory}
 
--- a run that has come so far: what was written, and what the statements that are left still write
+-- the state of a run: the bytes written, and the output of the statements that are left
 pub record RunsOn (run : RunData) (old now : Option (List ℕ)) (before after : ℕ) (stage : Stage) (statements : List StatementData) : Type 0 where
   pub written : List ℕ
   pub appended : Appends old now written
@@ -47,12 +47,12 @@ goes_on run old now new before after later stage next s ss all is so (answer, an
   counted = omega (arith, so.counted, counted);
 }
 
--- the next statement is one that a page can be made of
+-- the next statement has a reply that is short enough for a page
 pub next-small : (run : RunData) (old now : Option (List ℕ)) (before after : ℕ) (stage : Stage) (s : StatementData) (ss all : List StatementData) → all ≡ s ∷ ss
     → RunsOn run old now before after stage all → HasSmallReply s
 next-small run old now before after stage s ss all is so = All-head HasSmallReply s ss (subst (All HasSmallReply) is so.small)
 
--- a run ends where no statement is left
+-- the run succeeds after the last statement
 pub ends_well : (run : RunData) (old now : Option (List ℕ)) (before after : ℕ) (stage : Stage) (all : List StatementData) → all ≡ []
     → RunsOn run old now before after stage all → RunEnds {T = Unit {0}} run old now before after (Ok tt)
 unfolding run_of
@@ -61,7 +61,7 @@ ends_well run old now before after stage all is so =
     let all_written : run.output ≡ so.written = ap (λ r. r.output) whole ∙ append-nil so.written in
     (ap (λ r. r.bad_line) whole, subst (Appends old now) (sym all_written) so.appended, so.counted)
 
--- memory is refused
+-- the run fails because it is out of memory
 pub ends_early : (run : RunData) (old now : Option (List ℕ)) (before after : ℕ) (stage : Stage) (all : List StatementData)
     → RunsOn run old now before after stage all → RunEnds {T = Unit {0}} run old now before after (Err NoMemory)
 ends_early run old now before after stage all so = (so.written, (run_of stage all).output, ap (λ r. r.output) so.left, so.appended)
@@ -70,7 +70,7 @@ pub has_failed-since : (before after later : ℕ) → before ≤ after → HasFa
 has_failed-since before after later a (inl e) b = inl (omega arith)
 has_failed-since before after later a (inr e) b = grind arith
 
--- a statement ends it
+-- the run fails with a statement
 pub stops : (run : RunData) (old now new : Option (List ℕ)) (before after later : ℕ) (stage : Stage) (s : StatementData) (ss all : List StatementData) (fault : ReplayFault) → all ≡ s ∷ ss
     → RunsOn run old now before after stage all → StatementEnds stage s now new after later (Err fault) → RunEnds {T = Unit {0}} run old new before later (Err fault)
 stops run old now new before after later stage s ss all (BadScript line) is so (bad, number, sent) =

@@ -1,4 +1,4 @@
--- Bytes that are sent in several parts, and a writer that is flushed.
+-- Sending bytes in several parts, and flushing the writer.
 use Rattle.std.proofs.Common.{◌≡◌, ℕ, ◌+◌, ◌-◌, ◌^◌, ◌<◌, ◌≤◌, ◌⊎◌, List, [], ◌∷◌, ◌++◌, Option, None, Some, Result, Ok, Err, refl, sym, ap, ◌∙◌, inl, inr, append_assoc, append-nil, arith}
 use Rattle.std.specs.Io.KnownBytes.{Appends, IsAtEnd, Keeps}
 use Rattle.std.proofs.KnownBytes.{Appends-trans, Appends-kept, Keeps-trans}
@@ -9,7 +9,7 @@ use Rattle.gopher_script.specs.declared.fault.ReplayFault.{ReplayFault}
 use Rattle.gopher_script.specs.declared.fault.ReplayFault.TheVariants.{ReadFailed, TooManyTurns, ScriptTooLong, WriteFailed, BadScript, NoMemory}
 use Rattle.gopher_script.proofs.Runs.{has_failed-since}
 
--- the first part went out, and the second was tried
+-- the first part was sent, and the second was tried
 pub sent-then : {T : Type 0} (a b : List ℕ) (old mid new : Option (List ℕ)) (before after later : ℕ) (end : Result T ReplayFault)
     → AnswerEnds {T = Unit {0}} a old mid before after (Ok tt) → AnswerEnds b mid new after later end → AnswerEnds (a ++ b) old new before later end
 sent-then a b old mid new before after later (Ok end) (sent, counted) (more, count) = (Appends-trans old mid new a b sent more, omega arith)
@@ -21,7 +21,7 @@ sent-then a b old mid new before after later (Err ScriptTooLong) first never = a
 sent-then a b old mid new before after later (Err (BadScript line)) first never = absurd never
 sent-then a b old mid new before after later (Err NoMemory) first never = absurd never
 
--- the first part didn't go out whole
+-- sending the first part failed
 pub sent-stopped : (T : Type 0) (a b : List ℕ) (old new : Option (List ℕ)) (before after : ℕ) (fault : ReplayFault)
     → AnswerEnds {T = T} a old new before after (Err fault) → AnswerEnds {T = T} (a ++ b) old new before after (Err fault)
 sent-stopped T a b old new before after WriteFailed ((part, rest, split, sent), failed, count) = ((part, rest ++ b, ap (λ l. l ++ b) split ∙ append_assoc part rest b, sent), failed, count)
@@ -31,7 +31,7 @@ sent-stopped T a b old new before after ScriptTooLong never = absurd never
 sent-stopped T a b old new before after (BadScript line) never = absurd never
 sent-stopped T a b old new before after NoMemory never = absurd never
 
--- a line of three parts, by the part that ended it
+-- sending a line of three parts, by the part that failed
 pub line-first : (a b c : List ℕ) (old new : Option (List ℕ)) (before after : ℕ) (fault : ReplayFault)
     → AnswerEnds {T = Unit {0}} a old new before after (Err fault) → AnswerEnds {T = Unit {0}} (a ++ b ++ c) old new before after (Err fault)
 line-first a b c old new before after fault first = sent-stopped (Unit {0}) (a ++ b) c old new before after fault (sent-stopped (Unit {0}) a b old new before after fault first)
@@ -47,7 +47,7 @@ pub line-third : (a b c : List ℕ) (old mid then new : Option (List ℕ)) (befo
 line-third a b c old mid then new before after later last end first second third =
     sent-then (a ++ b) c old then new before later last end (sent-then {T = Unit {0}} a b old mid then before after later (Ok tt) first second) third
 
--- a count of failures doesn't fall
+-- a count of failures never decreases
 pub counts-grow : {T E : Type 0} (before after : ℕ) (end : Result T E) → CountsErrors before after end → before ≤ after
 counts-grow before after (Ok value) same = omega arith
 counts-grow before after (Err error) (inl (room, one)) = omega arith
@@ -75,7 +75,7 @@ ends-kept bytes left missed missing old mid new before after later (Err ScriptTo
 ends-kept bytes left missed missing old mid new before after later (Err ReadFailed) kept more (few, failed, none) = (few, failed, Keeps-trans old mid new none kept)
 ends-kept bytes left missed missing old mid new before after later (Err TooManyTurns) kept more (few, failed, spent, none) = (few, failed, spent, Keeps-trans old mid new none kept)
 
--- what a writer holds is kept, and its count of failures doesn't fall
+-- the contents of the writer stay, and its count of failures never decreases
 pub replays-kept : {T : Type 0} (had left : Option (List ℕ)) (missed missing : ℕ) (old mid new : Option (List ℕ)) (before after later : ℕ) (end : Result T ReplayFault)
     → Keeps mid new → after ≤ later → Replays had left missed missing old mid before after end → Replays had left missed missing old new before later end
 replays-kept had left missed missing old mid new before after later end kept more (bytes, read, ends) =

@@ -1,4 +1,4 @@
--- How long the replies of a script's blocks are.
+-- The lengths of the replies in a script's blocks.
 use Rattle.std.proofs.Common.{◌≡◌, ℕ, suc, ◌+◌, ◌-◌, ◌<◌, ◌≤◌, Bool, true, false, List, [], ◌∷◌, ◌++◌, length, Option, cond, eqb, take, drop, get_or, refl, sym, ap, ◌∙◌, arith, length-append, length-take}
 use Rattle.std.specs.Prelude.{All, take_while, ◌==◌, ◌&&◌}
 use Rattle.std.specs.List.{slice_split, onto_first}
@@ -71,7 +71,7 @@ length-reply_after : (command : Option Command) (lines : List (List ℕ)) → le
 length-reply_after command lines =
     cond_both (takes_block command) (reply_of (block_of lines)) [] (λ r. length r ≤ size lines) (λ _. length-reply lines) (λ _. omega arith)
 
--- a reply that is shorter than so many bytes
+-- a reply with fewer bytes than the limit
 abbrev IsBelow : ℕ → StatementData → Type 0
 IsBelow limit statement = length statement.reply < limit
 
@@ -86,7 +86,7 @@ below limit number in_block (line ∷ lines) fits =
     (All (IsBelow limit)) (λ _. below limit (number + 1) true lines rest)
     (λ _. All-cons (IsBelow limit) _ _ here (below limit (number + 1) (takes_block (command_of line)) lines rest))
 
--- every reply of a script is one that a page can be made of
+-- every reply of a script is short enough for a page
 pub small_replies : (bytes : List ℕ) → length bytes ≤ 1048576 → All HasSmallReply (statements_in bytes)
 small_replies bytes short =
     let whole = below (suc (length bytes)) 1 false (lines_of bytes) (size-all bytes) in

@@ -1,4 +1,4 @@
--- What a script's commands answer, as bytes: lines that end in LF, with numbers in decimal.
+-- The answers of a script's commands, as bytes: lines that end in LF, with numbers in decimal.
 use Rattle.std.specs.Prelude.{ℕ, List, [], ◌∷◌, ◌++◌, codes, length, Option, None, Some}
 use Rattle.std.specs.List.{flat_map}
 use Rattle.std.specs.Fmt.{decimal}
@@ -20,11 +20,11 @@ finished_line = codes "finished\n"
 abbrev pub refused_line : ℕ → List ℕ
 refused_line code = codes "refused " ++ decimal code ++ 10 ∷ []
 
--- a place: its type, host, port and selector, with TABs between them
+-- a place: its type, host, port and selector, separated by TABs
 abbrev pub place_fields : PlaceData → List ℕ
 place_fields place = place.kind ∷ 9 ∷ place.host ++ 9 ∷ decimal place.port ++ 9 ∷ place.selector
 
--- a claimed place, behind its number
+-- a claimed place, after its number
 abbrev pub take_line : ℕ → PlaceData → List ℕ
 take_line number place = codes "take\t" ++ decimal number ++ 9 ∷ place_fields place ++ 10 ∷ []
 
@@ -40,14 +40,14 @@ status_line status =
 abbrev pub hit_line : Hit → List ℕ
 hit_line hit = codes "hit\t" ++ decimal hit.score ++ 9 ∷ place_fields hit.place ++ 9 ∷ hit.title ++ 10 ∷ []
 
--- how many hits there are, and each of them
+-- the number of hits, and each hit
 abbrev pub hits_lines : List Hit → List ℕ
 hits_lines hits = codes "hits " ++ decimal (length hits) ++ 10 ∷ [] ++ flat_map hit_line hits
 
--- a place with a word, behind how often it stands there
+-- a place whose page contains a word, after the number of times
 abbrev pub at_line : PlaceData × ℕ → List ℕ
 at_line occurrence = codes "at\t" ++ decimal occurrence.1 ++ 9 ∷ place_fields occurrence.0 ++ 10 ∷ []
 
--- how many places have the word, and each of them
+-- the number of places with the word, and each place
 abbrev pub places_lines : List (PlaceData × ℕ) → List ℕ
 places_lines list = codes "places " ++ decimal (length list) ++ 10 ∷ [] ++ flat_map at_line list

@@ -13,7 +13,7 @@ use Rattle.gopher_script.specs.declared.command.Command.TheVariants.{Nothing, Al
 
 -- ---- fields
 
--- the number of a field of at most `width` digits, where it is at most `limit`
+-- the number of a field of at most `width` digits, if it is at most `limit`
 abbrev pub short_number : ℕ → ℕ → List ℕ → Option ℕ
 short_number width limit digits = if nat_le (length digits) width then number_of limit digits else None
 
@@ -21,7 +21,7 @@ short_number width limit digits = if nat_le (length digits) width then number_of
 abbrev pub port_in : List ℕ → Option ℕ
 port_in digits = short_number 5 65535 digits
 
--- any other number: 1 to 10 digits, of a value that 32 bits hold
+-- any other number: 1 to 10 digits, with a value that fits into 32 bits
 abbrev pub number_in : List ℕ → Option ℕ
 number_in digits = short_number 10 4294967295 digits
 
@@ -30,7 +30,7 @@ abbrev pub kind_in : List ℕ → Option ℕ
 kind_in (kind ∷ []) = Some kind
 kind_in field = None
 
--- why a place could not be fetched: its number, in one digit
+-- the reason why a place could not be fetched: its number, as one digit
 abbrev pub why_of : ℕ → Option Why
 why_of digit =
     if digit == 49 then Some Connect else if digit == 50 then Some Read else if digit == 51 then Some Write else if digit == 52 then Some TooLong else if digit == 53 then Some NoMemory else None
@@ -39,7 +39,7 @@ abbrev pub why_in : List ℕ → Option Why
 why_in (digit ∷ []) = why_of digit
 why_in field = None
 
--- ---- what follows a command's name
+-- ---- the fields after a command's name
 
 -- a host, a port and a prefix
 abbrev pub rule_in : List (List ℕ) → Option RuleData
@@ -52,7 +52,7 @@ place_in (kind ∷ host ∷ port ∷ selector ∷ []) =
     option_and_then (λ byte. option_map (λ number. record { host = host; port = number; selector = selector; kind = byte }) (port_in port)) (kind_in kind)
 place_in fields = None
 
--- how many places, and how many tries: one, where they aren't given
+-- the limits of places and of tries; without the second, one try
 abbrev pub start_in : List (List ℕ) → Option Command
 start_in (places ∷ []) = option_map (λ limit. Start limit 1) (number_in places)
 start_in (places ∷ tries ∷ []) = option_and_then (λ limit. option_map (λ number. Start limit number) (number_in tries)) (number_in places)
@@ -63,7 +63,7 @@ abbrev pub found_in : List (List ℕ) → Option Command
 found_in [] = None
 found_in (number ∷ place) = option_and_then (λ n. option_map (λ p. Found n p) (place_in place)) (number_in number)
 
--- a place's number, and why it failed
+-- a place's number, and the reason why it failed
 abbrev pub fail_in : List (List ℕ) → Option Command
 fail_in (number ∷ why ∷ []) = option_and_then (λ n. option_map (λ w. Fail n w) (why_in why)) (number_in number)
 fail_in fields = None
@@ -84,7 +84,7 @@ search_in fields = option_and_then query_text (last_field fields)
 abbrev pub occurs_in : List (List ℕ) → Option Command
 occurs_in fields = option_map Occurs (last_field fields)
 
--- a command that has no fields but its name
+-- a command without fields after its name
 abbrev pub alone : Command → List (List ℕ) → Option Command
 alone command [] = Some command
 alone command fields = None
@@ -94,7 +94,7 @@ alone command fields = None
 abbrev pub is_name : List ℕ → List ℕ → Bool
 is_name field name = pointwise nat_eq field name
 
--- the command of this name and these further fields, if it is one
+-- the command with this name and these further fields, if they make one
 abbrev pub named : List ℕ → List (List ℕ) → Option Command
 named name fields =
     if is_name name (codes "allow") then option_map Allow (rule_in fields)
@@ -112,11 +112,11 @@ abbrev pub command_in : List (List ℕ) → Option Command
 command_in [] = None
 command_in (name ∷ fields) = named name fields
 
--- an empty line, and one that begins with `#`, do nothing
+-- an empty line or a comment, which begins with `#`, does nothing
 abbrev pub is_idle_line : List ℕ → Bool
 is_idle_line [] = true
 is_idle_line (byte ∷ bytes) = byte == 35
 
--- the command of a line, if it is one: its fields stand between TABs
+-- the command of a line, if it is one: TABs separate its fields
 abbrev pub command_of : List ℕ → Option Command
 command_of line = if is_idle_line line then Some Nothing else command_in (fields_of line)

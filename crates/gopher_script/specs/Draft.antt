@@ -1,9 +1,9 @@
--- What a script states before its crawl begins.
+-- The rules and seeds of a script before its crawl starts.
 use Rattle.std.specs.Prelude.{List}
 use Rattle.gopher_item.specs.Place.{PlaceData}
 use Rattle.gopher_scope.specs.Rule.{RuleData}
 
--- the rules and the seeds so far
+-- the rules and seeds so far
 pub record DraftData : Type 0 where
   pub allow : List RuleData
   pub deny : List RuleData

@@ -5,7 +5,7 @@ use Rattle.gopher_text.specs.declared.fault.ReplyFault.TheVariants.{ReadFailed a
 use Rattle.gopher_script.specs.declared.fault.ReplayFault.{ReplayFault}
 use Rattle.gopher_script.specs.declared.fault.ReplayFault.TheVariants.{ReadFailed, TooManyTurns, ScriptTooLong, WriteFailed, BadScript, NoMemory}
 
--- why a script wasn't read to its end
+-- the fault of a replay whose script can't be read to its end
 abbrev pub unread : ReplyFault → ReplayFault
 unread ReplyReadFailed = ReadFailed
 unread ReplyTurns = TooManyTurns

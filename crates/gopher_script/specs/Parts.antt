@@ -1,4 +1,4 @@
--- Rules and places of the parts that a script states.
+-- Rules and places made of the parts that a script contains.
 use Rattle.std.specs.Prelude.{ℕ, List, Option}
 use Rattle.gopher_item.specs.Place.{PlaceData, place_fault, place_of}
 use Rattle.gopher_item.specs.declared.fault.ItemFault.{ItemFault}

@@ -1,4 +1,4 @@
--- What a replay read and wrote, by how it ended.
+-- The bytes that a replay reads and writes, for each way in which it ends.
 use Rattle.std.specs.Prelude.{◌≡◌, ℕ, ◌<◌, ◌≤◌, ◌⊎◌, List, [], ◌++◌, length, Option, None, Some, Result, Ok, Err}
 use Rattle.std.specs.Io.KnownBytes.{Appends, Consumes, IsAtEnd, Keeps}
 use Rattle.gopher_text.specs.Reply.{SpendsTurns}
@@ -9,13 +9,13 @@ use Rattle.gopher_script.specs.declared.stage.Stage.{Stage}
 use Rattle.gopher_script.specs.declared.fault.ReplayFault.{ReplayFault}
 use Rattle.gopher_script.specs.declared.fault.ReplayFault.TheVariants.{ReadFailed, TooManyTurns, ScriptTooLong, WriteFailed, BadScript, NoMemory}
 
--- some bytes at the front of these were written
+-- a prefix of these bytes was written
 abbrev pub AppendsPart : Option (List ℕ) → Option (List ℕ) → List ℕ → Type 0
 AppendsPart old new bytes = (written : List ℕ) × (rest : List ℕ) × (bytes ≡ written ++ rest) × Appends old new written
 
--- what a run wrote, by how it ended: all of its output where it ended by itself, well or at its bad
--- line, and a part of it where a write failed or memory was refused. The contents of the writer and
--- its count of failures come before and after.
+-- the bytes that a run wrote: all of its output if it succeeds or stops at its bad line, and a
+-- prefix of it if a write fails or it is out of memory; the contents of the writer and its count of
+-- failures are given before and after
 abbrev pub RunEnds : {T : Type 0} → RunData → Option (List ℕ) → Option (List ℕ) → ℕ → ℕ → Result T ReplayFault → Type 0
 RunEnds run old new before after (Ok end) = (run.bad_line ≡ None) × Appends old new run.output × (before ≤ after)
 RunEnds run old new before after (Err (BadScript line)) = (run.bad_line ≡ Some line) × Appends old new run.output
@@ -23,13 +23,13 @@ RunEnds run old new before after (Err WriteFailed) = AppendsPart old new run.out
 RunEnds run old new before after (Err NoMemory) = AppendsPart old new run.output
 RunEnds run old new before after (Err fault) = ⊥
 
--- the same of one answer
+-- the bytes of one answer that were written, with the writer's contents and count of failures
 abbrev pub AnswerEnds : {T : Type 0} → List ℕ → Option (List ℕ) → Option (List ℕ) → ℕ → ℕ → Result T ReplayFault → Type 0
 AnswerEnds answer old new before after (Ok end) = Appends old new answer × (before ≤ after)
 AnswerEnds answer old new before after (Err WriteFailed) = AppendsPart old new answer × HasFailed before after × (before ≤ after)
 AnswerEnds answer old new before after (Err fault) = ⊥
 
--- the same of one statement, which leads to another stage where it ends well
+-- the bytes of one statement's answer that were written, and the next stage if it succeeds
 abbrev pub StatementEnds : Stage → StatementData → Option (List ℕ) → Option (List ℕ) → ℕ → ℕ → Result Stage ReplayFault → Type 0
 StatementEnds stage statement old new before after (Ok next) =
     (answer : List ℕ) × (answer_at stage statement ≡ Some answer) × Appends old new answer × (next ≡ after_at stage statement) × (before ≤ after)
@@ -40,12 +40,13 @@ StatementEnds stage statement old new before after (Err WriteFailed) =
 StatementEnds stage statement old new before after (Err NoMemory) = Appends old new []
 StatementEnds stage statement old new before after (Err fault) = ⊥
 
--- the limit of a script, in bytes
+-- the most bytes of a script
 abbrev pub script_limit : ℕ
 script_limit = 1048576
 
--- how a replay ended, after these bytes of the script were read: what the reader has left, its count
--- of failures before and after, and the writer's contents and count of failures before and after
+-- the end of a replay that has read these bytes of the script: the bytes left to read, the reader's
+-- count of failures before and after, and the writer's contents and count of failures before and
+-- after
 abbrev pub ReplayEnds : {T : Type 0} → List ℕ → Option (List ℕ) → ℕ → ℕ → Option (List ℕ) → Option (List ℕ) → ℕ → ℕ → Result T ReplayFault → Type 0
 ReplayEnds bytes left missed missing old new before after (Ok end) =
     (length bytes ≤ script_limit) × IsAtEnd left × RunEnds (script_output bytes) old new before after (Ok end)
@@ -61,7 +62,7 @@ ReplayEnds bytes left missed missing old new before after (Err ReadFailed) =
 ReplayEnds bytes left missed missing old new before after (Err TooManyTurns) =
     (length bytes ≤ script_limit) × HasFailed missed missing × SpendsTurns 2097152 missed missing (length bytes) × Keeps old new
 
--- a replay, by how it ended: what the reader has left before and after, its count of failures before
--- and after, and the writer's contents and count of failures before and after
+-- a replay: the bytes left to read before and after, the reader's count of failures before and
+-- after, and the writer's contents and count of failures before and after
 abbrev pub Replays : {T : Type 0} → Option (List ℕ) → Option (List ℕ) → ℕ → ℕ → Option (List ℕ) → Option (List ℕ) → ℕ → ℕ → Result T ReplayFault → Type 0
 Replays had left missed missing old new before after end = (bytes : List ℕ) × Consumes had left bytes × ReplayEnds bytes left missed missing old new before after end

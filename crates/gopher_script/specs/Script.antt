@@ -1,4 +1,4 @@
--- Scripts: the statements of their lines, and what running them writes.
+-- Scripts: the statements of their lines, and the output of running them.
 use Rattle.std.specs.Prelude.{ℕ, ◌+◌, Bool, true, false, ◌&&◌, List, [], ◌∷◌, ◌++◌, drop, take_while, Option, None, Some, ◌==◌, if◌then◌else◌}
 use Rattle.std.specs.List.{flat_map}
 use Rattle.std.specs.Option.{option_map_or, option_and_then}
@@ -18,7 +18,7 @@ abbrev pub is_block_line : List ℕ → Bool
 is_block_line [] = false
 is_block_line (byte ∷ bytes) = byte == 124
 
--- whether a block begins here
+-- a block begins here
 abbrev pub begins_block : List (List ℕ) → Bool
 begins_block [] = false
 begins_block (line ∷ lines) = is_block_line line
@@ -32,7 +32,7 @@ abbrev pub takes_block : Option Command → Bool
 takes_block (Some (Found number place)) = true
 takes_block command = false
 
--- the block at the front of lines
+-- the block at the start of lines
 abbrev pub block_of : List (List ℕ) → List (List ℕ)
 block_of lines = take_while is_block_line lines
 
@@ -41,8 +41,8 @@ reply_after command lines = if takes_block command then reply_of (block_of lines
 
 -- ---- statements
 
--- the statements of lines, of which the first has this number; block lines at their front belong to
--- the statement before, where that takes a block, and are statements of their own elsewhere
+-- the statements of lines, of which the first has this number; block lines at their start belong to
+-- the statement before if it takes a block, and are statements of their own otherwise
 unfoldable pub statements_of : ℕ → Bool → List (List ℕ) → List StatementData
 statements_of number in_block [] = []
 statements_of number in_block (line ∷ lines) =
@@ -52,12 +52,13 @@ statements_of number in_block (line ∷ lines) =
 
 -- ---- running
 
--- what a run writes, and the number of the bad line where it ends, if it ends at one
+-- the output of a run, and the number of the bad line at which it stops, if it stops at one
 pub record RunData : Type 0 where
   pub output : List ℕ
   pub bad_line : Option ℕ
 
--- the answer of a statement, or none where its line is bad: no command, or one whose time it isn't
+-- the answer of a statement, or none if its line is bad: no command, or one that isn't valid at
+-- this stage
 abbrev pub answer_at : Stage → StatementData → Option (List ℕ)
 answer_at stage statement = option_and_then (λ command. answer_of stage command statement.reply) statement.command
 
@@ -83,7 +84,7 @@ run_of stage (statement ∷ statements) =
 abbrev pub first_stage : Stage
 first_stage = Gathering (record { allow = []; deny = []; seeds = [] })
 
--- the statements of the bytes after so many lines, where no block goes on there
+-- the statements of the bytes after this many lines, which don't begin inside a block
 abbrev pub statements_after : ℕ → List ℕ → List StatementData
 statements_after lines_read bytes = statements_of (lines_read + 1) false (lines_of bytes)
 

@@ -1,4 +1,4 @@
--- What the commands of a script do, and what they answer, where memory is ample.
+-- The effects and answers of a script's commands, if memory suffices.
 use Rattle.std.specs.Prelude.{◌≡◌, ℕ, List, [], ◌∷◌, ◌++◌, Option, None, Some, is_some, if◌then◌else◌}
 use Rattle.std.specs.Option.{option_map_or}
 use Rattle.gopher_item.specs.Fault.{item_fault_code}
@@ -28,7 +28,7 @@ use Rattle.gopher_script.specs.declared.stage.Stage.TheVariants.{Gathering, Craw
 
 -- ---- before the crawl
 
--- a rule or a seed is taken without a word, or refused
+-- the answer to a rule or a seed: empty if it is valid
 abbrev pub taken_line : Option ItemFault → List ℕ
 taken_line None = []
 taken_line (Some fault) = refused_line (item_fault_code fault)
@@ -52,12 +52,12 @@ abbrev pub start_line : Option OpenFault → List ℕ
 start_line None = ok_line
 start_line (Some fault) = refused_line (open_fault_code fault)
 
--- what the rules and seeds are after a refused start: as they were
+-- after a failed start the rules and seeds are unchanged
 abbrev pub after_start : DraftData → ℕ → ℕ → Stage
 after_start draft places tries =
     if is_some (fault_of_start draft places tries) then Gathering draft else Crawling (opened_record (scope_of_draft draft) draft.seeds places tries)
 
--- the answer of a command before the crawl, or none for a command whose time it isn't
+-- the answer of a command before the crawl, or none for a command that needs a crawl
 abbrev pub answer_before : DraftData → Command → Option (List ℕ)
 answer_before draft Nothing = Some []
 answer_before draft (Allow rule) = Some (taken_line (fault_of_rule rule))
@@ -85,7 +85,7 @@ abbrev pub scope_in : List EventData → ScopeData
 scope_in (Opened opening ∷ events) = opening.scope
 scope_in events = record { allow = []; deny = [] }
 
--- a page is handed in for a number
+-- the answer to a page for a number
 abbrev pub page_line : List EventData → ℕ → PageData → List ℕ
 page_line events number page =
     option_map_or (λ fault. refused_line (found_fault_code fault)) (found_fault events number page.place) (added_line (added_by events number page))
@@ -93,7 +93,7 @@ page_line events number page =
 abbrev pub after_page : List EventData → ℕ → PageData → List EventData
 after_page events number page = if is_some (found_fault events number page.place) then events else events ++ FoundEvent number page ∷ []
 
--- the page of a reply, by the scope of the record
+-- the page of a reply, in the scope of the record
 abbrev pub page_in : List EventData → PlaceData → List ℕ → PageData
 page_in events place reply = page_of (scope_in events) (made_place place) reply
 
@@ -110,7 +110,7 @@ fail_line events number = if is_out_in events number then ok_line else refused_l
 abbrev pub after_fail : List EventData → ℕ → Why → List EventData
 after_fail events number why = if is_out_in events number then events ++ Failed number why ∷ [] else events
 
--- a text without words is refused
+-- a text without words is refused with 40
 abbrev pub query_lines : List EventData → List TermData → List ℕ
 query_lines events [] = refused_line 40
 query_lines events query = hits_lines (hits_found (pages_found events) query)
@@ -121,7 +121,8 @@ search_lines events text = query_lines events (query_of text)
 abbrev pub occurs_lines : List EventData → List ℕ → List ℕ
 occurs_lines events word = places_lines (occurrences_of (pages_found events) word)
 
--- the answer of a command in the crawl, with the reply of its block, or none for a command whose time it isn't
+-- the answer of a command in the crawl, with the reply of its block, or none for a command that has
+-- to come before the crawl
 abbrev pub answer_in : List EventData → Command → List ℕ → Option (List ℕ)
 answer_in events Nothing reply = Some []
 answer_in events Claim reply = Some (turn_line (turn_of events))
@@ -148,7 +149,8 @@ abbrev pub after : Stage → Command → List ℕ → Stage
 after (Gathering draft) command reply = after_before draft command
 after (Crawling events) command reply = Crawling (after_in events command reply)
 
--- what performing a command led to: this answer and this stage, or nothing for a command whose time it isn't
+-- the result of a command: this answer and this stage, or nothing if the command isn't valid at
+-- this stage
 abbrev pub IsPerformed : Option (List ℕ) → Stage → Option Performed → Type 0
 IsPerformed answer next None = answer ≡ None
 IsPerformed answer next (Some done) = (answer ≡ Some done.answer.items) × (done.stage ≡ next)

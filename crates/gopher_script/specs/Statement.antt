@@ -8,6 +8,6 @@ pub record StatementData : Type 0 where
   pub command : Option Command
   pub reply : List ℕ
 
--- a reply that a page can be made of
+-- a reply that is short enough for a page
 abbrev pub HasSmallReply : StatementData → Type 0
 HasSmallReply statement = length statement.reply ≤ 1048576

@@ -10,34 +10,34 @@ use gopher_scope::Rule;
 use std::alloc::Global;
 use std::marker::Model;
 
-/// A command of a script.
+/// A command of a script, one for each line.
 #[derive(Drop)]
 pub enum Command<'a> {
-    /// An empty line or a comment, which does nothing.
+    /// Does nothing: an empty line or a comment.
     Nothing,
-    /// One more allow rule.
+    /// Adds an allow rule.
     Allow(RuleParts<'a>),
-    /// One more deny rule.
+    /// Adds a deny rule.
     Deny(RuleParts<'a>),
-    /// One more seed.
+    /// Adds a seed.
     Seed(PlaceParts<'a>),
-    /// The crawl begins, with so many places and so many tries at most.
+    /// Starts the crawl with these limits: the places that become known, and the tries of a place.
     Start(u32, u32),
-    /// The next place is claimed.
+    /// Claims the next place.
     Claim,
-    /// The place of this number was found; its reply stands in the command's block.
+    /// Records the page of the place with this number. The block of the command contains the reply.
     Found(u32, PlaceParts<'a>),
-    /// The place of this number failed.
+    /// Records that the place with this number failed.
     Fail(u32, Why),
-    /// The pages that match a query are asked for.
+    /// Searches the pages.
     Search(QueryText<'a>),
-    /// The places of the pages that have a word are asked for.
+    /// Looks up the places of the pages that contain a word.
     Occurs(WordText<'a>),
-    /// The sizes of the frontier are asked for.
+    /// Asks for the number of places in each state.
     Status,
 }
 
-/// A rule as a script states it.
+/// The parts of a rule, not checked yet.
 #[derive(Drop)]
 pub struct RuleParts<'a> {
     pub host: &'a [u8],
@@ -54,7 +54,7 @@ impl<'a> Model for RuleParts<'a> {
 }
 
 impl<'a> RuleParts<'a> {
-    /// The rule, or why its parts are refused.
+    /// Makes the rule. The errors are those of `Rule::new`.
     pub fn make(&self, alloc: Global) -> Result<Rule, ItemFault>
         ensures { Makes (fault_of_rule self.now) (made_rule self.now) result }
     {
@@ -62,7 +62,7 @@ impl<'a> RuleParts<'a> {
     }
 }
 
-/// A place as a script states it.
+/// The parts of a place, not checked yet.
 #[derive(Drop)]
 pub struct PlaceParts<'a> {
     pub kind: u8,
@@ -81,7 +81,7 @@ impl<'a> Model for PlaceParts<'a> {
 }
 
 impl<'a> PlaceParts<'a> {
-    /// The place, or why its parts are refused.
+    /// Makes the place. The errors are those of `Place::new`.
     pub fn make(&self, alloc: Global) -> Result<Place, ItemFault>
         ensures { Makes (fault_of_place self.now) (made_place self.now) result }
     {
@@ -89,7 +89,7 @@ impl<'a> PlaceParts<'a> {
     }
 }
 
-/// The text of a query as a script states it: at most 1,024 bytes.
+/// The text of a query: at most 1,024 bytes.
 #[derive(Drop)]
 pub struct QueryText<'a> {
     pub bytes: &'a [u8],
@@ -106,7 +106,7 @@ impl<'a> Model for QueryText<'a> {
 }
 
 impl<'a> QueryText<'a> {
-    /// The text.
+    /// Returns the text.
     pub fn as_slice(&self) -> &'a [u8]
         ensures text { result.now ≡ self.now }
         ensures few { length result.now ≤ 1024 }
@@ -115,7 +115,7 @@ impl<'a> QueryText<'a> {
     }
 }
 
-/// A word as a script states it.
+/// The word of an `occurs` command.
 #[derive(Drop)]
 pub struct WordText<'a> {
     pub bytes: &'a [u8],

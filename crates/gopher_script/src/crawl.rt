@@ -1,5 +1,4 @@
-//! What the commands of a script do in its crawl. Each function answers the bytes of the command's
-//! answer.
+//! The commands of a script in its crawl. Each function returns the bytes of the command's answer.
 
 ghost use Rattle.std.specs.Prelude.{◌≡◌, ◌≤◌, IfOk, OnOk, length};
 ghost use Rattle.gopher_catalogue.specs.Step.{turn_of, after_turn};
@@ -29,7 +28,7 @@ pub fn claim(alloc: Global, catalogue: &mut Catalogue) -> Result<Vec<u8>, NoMemo
     }
 }
 
-/// Hands in the page of a reply for a number.
+/// Records the page that `reply` makes for a number.
 pub fn found(
     alloc: Global,
     catalogue: &mut Catalogue,
@@ -90,7 +89,7 @@ fn hand_in(
     }
 }
 
-/// Tells that a number's place failed.
+/// Records that the place of a number failed.
 pub fn fail(
     alloc: Global,
     catalogue: &mut Catalogue,
@@ -121,7 +120,7 @@ pub fn search(
     }
 }
 
-/// Looks up the places of the pages that have a word.
+/// Looks up the places of the pages that contain a word.
 pub fn occurs(alloc: Global, catalogue: &Catalogue, word: &[u8]) -> Result<Vec<u8>, NoMemory>
     ensures { IfOk result (λ answer. answer.items ≡ occurs_lines catalogue.now word.now) }
 {

@@ -1,4 +1,4 @@
-//! What a script states before its crawl begins.
+//! The rules and seeds of a script before its crawl starts.
 
 ghost use Rattle.std.specs.Prelude.{◌≡◌, [], IfOk};
 ghost use Rattle.gopher_script.specs.Draft.{DraftData};
@@ -12,7 +12,7 @@ use gopher_scope::{Rule, Scope};
 use std::alloc::Global;
 use std::marker::Model;
 
-/// The rules and the seeds that a script has stated.
+/// The rules and seeds that the script has added so far.
 #[derive(Drop)]
 pub struct Draft {
     pub allow: Vec<Rule>,
@@ -29,7 +29,7 @@ impl Model for Draft {
 }
 
 impl Draft {
-    /// No rules and no seeds.
+    /// A draft without rules and seeds.
     pub fn new(alloc: Global) -> Self
         ensures { result ≡ record { allow = []; deny = []; seeds = [] } }
     {
@@ -41,7 +41,7 @@ impl Draft {
     }
 }
 
-/// Adds a rule. Answers the bytes of the command's answer.
+/// Adds a rule. Returns the bytes of the command's answer.
 pub fn add_rule(
     alloc: Global,
     rules: &mut Vec<Rule>,
@@ -59,7 +59,7 @@ pub fn add_rule(
     }
 }
 
-/// Adds a seed. Answers the bytes of the command's answer.
+/// Adds a seed. Returns the bytes of the command's answer.
 pub fn add_seed(
     alloc: Global,
     seeds: &mut Vec<Place>,

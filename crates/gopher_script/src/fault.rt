@@ -1,4 +1,4 @@
-//! Why a replay ended before the end of its script.
+//! The errors of a replay, with their numbers.
 
 ghost use Rattle.std.specs.Prelude.{◌≡◌};
 ghost use Rattle.gopher_script.specs.Fault.{replay_fault_code};
@@ -7,25 +7,25 @@ use gopher_item::NoMemory;
 use gopher_text::ReplyFault;
 use thiserror::Error;
 
-/// Why a replay ended before the end of its script.
+/// Why a replay stopped before the end of its script.
 #[derive(Clone, Copy, Debug, PartialEq, Eq, Error)]
 pub enum ReplayFault {
-    /// 10: a read failed otherwise than by an interruption.
+    /// 10: a read failed for another reason than an interruption.
     #[error("a read failed")]
     ReadFailed,
-    /// 11: the end of the script wasn't reached by 2,097,152 reads, interrupted ones too.
+    /// 11: 2,097,152 reads, including interrupted ones, didn't reach the end of the script.
     #[error("too many reads")]
     TooManyTurns,
     /// 12: the script has more than 1,048,576 bytes.
     #[error("the script is too long")]
     ScriptTooLong,
-    /// 13: a write failed, or took nothing, or 4,096 writes of one answer were interrupted.
+    /// 13: a write failed or took no bytes, or 4,096 writes of one answer were interrupted.
     #[error("a write failed")]
     WriteFailed,
-    /// 70: the line of this number, from 1, is bad.
+    /// 70: the line with this number, from 1, is bad.
     #[error("line {0} of the script is bad")]
     BadScript(usize),
-    /// 90: memory was refused.
+    /// 90: out of memory.
     #[error("no memory")]
     NoMemory,
 }

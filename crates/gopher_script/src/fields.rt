@@ -6,7 +6,7 @@ ghost use Rattle.gopher_item.specs.Menu.{fields_of};
 use gopher_item::split_once;
 use std::marker::Model;
 
-/// The fields of a line that are still to be read. TABs stand between them.
+/// The fields of a line that haven't been read yet. TABs separate fields.
 #[derive(Drop)]
 pub struct Fields<'a> {
     rest: Option<&'a [u8]>,
@@ -22,14 +22,14 @@ impl<'a> Model for Fields<'a> {
 }
 
 impl<'a> Fields<'a> {
-    /// All fields of a line.
+    /// Starts before the first field of a line.
     pub fn of(line: &'a [u8]) -> Self
         ensures { result ≡ fields_of line.now }
     {
         Fields { rest: Some(line) }
     }
 
-    /// The next field.
+    /// Returns the next field, if there is one.
     pub fn next(&mut self) -> Option<&'a [u8]>
         ensures { MatchOption result ((self.old ≡ []) × (self.new ≡ []))
             (λ field. self.old ≡ field.now ∷ self.new) }

@@ -1,8 +1,10 @@
-//! A crawl replayed from a script.
+//! The replay of a crawl from a script.
 //!
-//! RFC 1436 names no script: its commands and its answers are this profile's.
+//! The crate above uses one contract: `replay` writes the output of its script, `script_output` in
+//! `specs/Script.antt`, or a prefix of it if it fails.
 //!
-//! The crate above rests on one promise: what `replay` writes is the output of the script.
+//! Error 90 (`NoMemory`) means out of memory. RFC 1436 doesn't define scripts: this profile defines
+//! their commands and answers.
 #![tactic(auto)]
 
 mod command;

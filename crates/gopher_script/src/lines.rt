@@ -1,4 +1,4 @@
-//! The answers of a script's commands, as bytes.
+//! The answers of commands, as bytes.
 
 ghost use Rattle.std.specs.Prelude.{◌≡◌, ◌≢◌, ◌++◌, IfOk, OnOk};
 ghost use Rattle.gopher_item.specs.Fault.{item_fault_code};
@@ -32,7 +32,7 @@ pub fn refused_line(alloc: Global, code: u8) -> Result<Vec<u8>, NoMemory>
     Ok(format!(in alloc; "refused {code}\n")?.into_bytes())
 }
 
-/// The line of a refused rule or place, unless it was memory that was refused.
+/// Makes the answer to an invalid rule or place. It fails if the fault is out of memory.
 pub fn refusal(alloc: Global, fault: ItemFault) -> Result<Vec<u8>, NoMemory>
     ensures cause { OnOk result (fault ≢ ItemFault.NoMemory) }
     ensures line { IfOk result (λ line. line.items ≡ refused_line (item_fault_code fault)) }
@@ -73,9 +73,7 @@ pub fn added_line(alloc: Global, added: Added) -> Result<Vec<u8>, NoMemory>
     Ok(format!(in alloc; "added {fresh} {dropped}\n")?.into_bytes())
 }
 
-/// The line of a crawl's sizes: how many places are known, waiting, out, done and dropped.
-///
-/// Refused only where memory is (90).
+/// Makes the line of a crawl's numbers: known, waiting, out and done places, and dropped mentions.
 pub fn status_line(alloc: Global, status: Status) -> Result<Vec<u8>, NoMemory>
     ensures { IfOk result (λ line. line.items ≡ status_line status) }
 {

@@ -1,4 +1,4 @@
-//! The answers of a script's searches, as bytes.
+//! The answers of searches, as bytes.
 
 ghost use Rattle.std.specs.Prelude.{◌≡◌, ◌++◌, IfOk, OnOk};
 ghost use Rattle.std.specs.List.{flat_map};
@@ -21,7 +21,7 @@ fn push_hit(alloc: Global, hit: &Hit, lines: &mut Vec<u8>) -> Result<(), NoMemor
     Ok(())
 }
 
-/// How many hits there are, and a line for each.
+/// Makes a line with the number of hits, and one line for each hit.
 pub fn hits_lines(alloc: Global, hits: &[Hit]) -> Result<Vec<u8>, NoMemory>
     ensures { IfOk result (λ lines. lines.items ≡ hits_lines hits.now) }
 {
@@ -47,7 +47,7 @@ fn push_occurrence(
     Ok(())
 }
 
-/// How many places have a word, and a line for each.
+/// Makes a line with the number of places that contain a word, and one line for each place.
 pub fn places_lines(alloc: Global, list: &[(Place, u32)]) -> Result<Vec<u8>, NoMemory>
     ensures { IfOk result (λ lines. lines.items ≡ places_lines list.now) }
 {

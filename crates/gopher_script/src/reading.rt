@@ -121,7 +121,7 @@ fn fail<'a>(mut fields: Fields<'a>) -> Option<Command<'a>>
     Some(Command::Fail(number(digits)?, why(why_field)?))
 }
 
-// The only field that is left.
+// The next field, if it is the last one.
 fn last_field<'a>(mut fields: Fields<'a>) -> Option<&'a [u8]>
     ensures { option_map (λ field. field.now) result ≡ last_field fields.entry }
 {
@@ -202,7 +202,7 @@ fn is_idle_line(line: &[u8]) -> bool
     }
 }
 
-/// The command of a line, or `None` where the line is no command. Takes no memory.
+/// Returns the command of a line, or `None` if the line is bad.
 pub fn read_command(line: &[u8]) -> Option<Command<'_>>
     ensures { result ≡ command_of line.now }
 {

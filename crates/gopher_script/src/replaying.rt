@@ -1,4 +1,4 @@
-//! Scripts, replayed.
+//! Replaying scripts.
 
 ghost use Rattle.std.specs.Prelude.{◌≡◌, ◌≤◌, ◌⊎◌, [], All, length};
 ghost use Rattle.gopher_script.specs.Statement.{HasSmallReply};
@@ -13,11 +13,15 @@ use gopher_text::{Watched, read_reply, send};
 use std::alloc::Global;
 use std::io::{Read, Write};
 
-// How many bytes a script may have.
+// The most bytes of a script.
 const SCRIPT_LIMIT: usize = 1_048_576;
 
-/// Sends all bytes, as `gopher_text::send` does. Refused (13) where a write fails, takes nothing, or is
-/// interrupted 4,096 times; a beginning of the bytes was sent then.
+/// Sends all bytes with `gopher_text::send`.
+///
+/// # Errors
+///
+/// `WriteFailed` (13): a write failed or took no bytes, or 4,096 writes were interrupted. A prefix
+/// of the bytes was sent.
 pub fn send_all<W: Write>(output: &mut Watched<W>, answer: &[u8]) -> Result<(), ReplayFault>
     ensures { AnswerEnds answer.now (W.contents output.old.device) (W.contents output.new.device)
         output.old.failures output.new.failures result }
@@ -28,8 +32,7 @@ pub fn send_all<W: Write>(output: &mut Watched<W>, answer: &[u8]) -> Result<(), 
     }
 }
 
-/// Runs a statement: performs its command and sends the answer. Gives how far the script has come
-/// then.
+/// Performs the command of a statement and sends its answer. Returns the next stage of the script.
 fn run_statement<W: Write>(
     alloc: Global,
     stage: Stage,
@@ -79,20 +82,21 @@ fn run_script<W: Write>(
     Ok(())
 }
 
-/// Replays the script that `input` holds, and writes to `output` what its commands answer.
+/// Replays the script that `input` contains, and writes the answers of its commands to `output`.
 ///
-/// The whole script is read first. Each command's answer is sent before the next command runs.
+/// It reads the whole script first. It sends the answer of each command before it runs the next
+/// one.
 ///
 /// # Errors
 ///
-/// - `ReadFailed` (10) where a read failed otherwise than by an interruption, `TooManyTurns` (11)
-///   where 2,097,152 reads didn't reach the end, `ScriptTooLong` (12) where the script has more
-///   than 1,048,576 bytes. Nothing was written.
-/// - `WriteFailed` (13) where an answer couldn't be sent whole. A part of the script's output was
-///   written.
-/// - `BadScript` (70) at the first line that is no command, or one whose time it isn't. The answers
-///   of all commands before that line were written, and nothing else.
-/// - `NoMemory` (90). A part of the script's output was written.
+/// - `ReadFailed` (10): a read failed for another reason than an interruption; nothing was written
+/// - `TooManyTurns` (11): 2,097,152 reads, including interrupted ones, didn't reach the end;
+///   nothing was written
+/// - `ScriptTooLong` (12): the script has more than 1,048,576 bytes; nothing was written
+/// - `WriteFailed` (13): a write of an answer failed; a prefix of the script's output was written
+/// - `BadScript` (70): a line isn't a command, or not at this stage; exactly the answers of all
+///   commands before it were written
+/// - `NoMemory` (90): a prefix of the script's output was written
 pub fn replay<R: Read, W: Write>(
     alloc: Global,
     input: &mut Watched<R>,

@@ -11,14 +11,14 @@ use gopher_item::{NoMemory, first_line};
 use std::alloc::Global;
 use std::marker::Model;
 
-/// A line of a script that is in no block, with the reply of its own block.
+/// A line of a script outside blocks, with the reply of its own block.
 #[derive(Drop)]
 pub struct Statement<'a> {
     /// The number of the line, from 1.
     pub number: usize,
-    /// The line's command, or `None` where the line is bad.
+    /// The command of the line, or `None` if the line is bad.
     pub command: Option<Command<'a>>,
-    /// The reply of the block after a `found`; of any other line it is empty.
+    /// The reply in the block after a `found`; empty for other commands.
     pub reply: Vec<u8>,
 }
 
@@ -30,12 +30,12 @@ impl<'a> Model for Statement<'a> {
     ghost view = { λ s. record { number = s.number; command = s.command; reply = s.reply.items } };
 }
 
-/// The statements of a script that are still to be read.
+/// The statements of a script that haven't been read yet.
 #[derive(Drop)]
 pub struct Script<'a> {
-    // How many lines were read.
+    // The number of lines read.
     lines_read: usize,
-    // The bytes after them. No block that belongs to a line before goes on there.
+    // The bytes after these lines. They don't begin inside a block.
     rest: &'a [u8],
 }
 
@@ -51,16 +51,16 @@ impl<'a> Model for Script<'a> {
     ghost invariant = { λ s. s.lines_read + length s.rest.now < 2 ^ 64 };
 }
 
-/// The block at the front of bytes.
+/// The block at the start of bytes.
 #[derive(Drop)]
 struct Block<'a> {
     reply: Vec<u8>,
-    // How many lines of the script were read up to its end.
+    // The number of lines read up to the end of the block.
     lines_read: usize,
     rest: &'a [u8],
 }
 
-/// The text of the block line at the front of the bytes, and what follows that line.
+/// Returns the text of the block line at the start of the bytes, and the bytes after that line.
 fn block_line(bytes: &[u8]) -> Option<(&[u8], &[u8])>
     ensures line { MatchOption result (begins_block (lines_of bytes.now) ≡ false)
         (λ parts. lines_of bytes.now ≡ (124 ∷ parts.0.now) ∷ lines_of parts.1.now) }
@@ -73,7 +73,7 @@ fn block_line(bytes: &[u8]) -> Option<(&[u8], &[u8])>
     }
 }
 
-/// Takes the block at the front of the bytes, before which `before` lines were read.
+/// Reads the block at the start of the bytes, which follow the first `before` lines.
 fn take_block<'a>(alloc: Global, before: usize, bytes: &'a [u8]) -> Result<Block<'a>, NoMemory>
     requires { before + length bytes.now < 2 ^ 64 }
     ensures reply { IfOk result
@@ -99,7 +99,7 @@ fn take_block<'a>(alloc: Global, before: usize, bytes: &'a [u8]) -> Result<Block
     })
 }
 
-/// Takes the block of a line's command, if it takes one, at the front of the bytes.
+/// Reads the block at the start of the bytes if the command takes one.
 fn block_after<'a>(
     alloc: Global,
     command: &Option<Command<'_>>,
@@ -125,7 +125,7 @@ fn block_after<'a>(
 }
 
 impl<'a> Script<'a> {
-    /// All statements of a script.
+    /// Starts before the first statement of a script.
     pub fn of(bytes: &'a [u8]) -> Self
         ensures { result ≡ statements_in bytes.now }
     {
@@ -135,7 +135,7 @@ impl<'a> Script<'a> {
         }
     }
 
-    /// The next statement, or `None` where none is left. Refused only where memory is (90).
+    /// Returns the next statement, or `None` after the last one.
     pub fn next(&mut self, alloc: Global) -> Result<Option<Statement<'a>>, NoMemory>
         ensures { IfOk result (λ next. MatchOption next (self.old ≡ [])
             (λ statement. self.old ≡ statement ∷ self.new)) }

@@ -1,4 +1,4 @@
-//! How far a script has come, and what its commands do.
+//! The stages of a script, and performing its commands.
 
 ghost use Rattle.std.specs.Prelude.{◌≡◌, ◌≤◌, ◌≢◌, [], IfOk, OnOk, MatchOption, None, Some, length};
 ghost use Rattle.gopher_catalogue.specs.Fault.{open_fault_code};
@@ -14,25 +14,25 @@ use gopher_item::NoMemory;
 use gopher_scope::Scope;
 use std::alloc::Global;
 
-/// How far a script has come.
+/// The stage of a script.
 #[derive(Drop)]
 pub enum Stage {
-    /// The crawl hasn't begun: rules and seeds are gathered.
+    /// The crawl hasn't started: the script adds rules and seeds.
     Gathering(Draft),
-    /// The crawl began.
+    /// The crawl has started.
     Crawling(Catalogue),
 }
 
-/// What a command led to.
+/// The result of a command.
 #[derive(Drop)]
 pub struct Performed {
-    /// How far the script has come then.
+    /// The stage after the command.
     pub stage: Stage,
     /// The bytes of the command's answer.
     pub answer: Vec<u8>,
 }
 
-/// Begins the crawl, unless its catalogue can't be opened.
+/// Starts the crawl, unless its catalogue can't be opened.
 fn start(alloc: Global, draft: Draft, places: u32, tries: u32) -> Result<Performed, NoMemory>
     ensures answer { IfOk result
         (λ done. done.answer.items ≡ start_line (fault_of_start draft places tries)) }
@@ -48,7 +48,7 @@ fn start(alloc: Global, draft: Draft, places: u32, tries: u32) -> Result<Perform
     }
 }
 
-/// The rules and seeds as they were before a start that was refused.
+/// Restores the rules and seeds after a failed start.
 fn restored(alloc: Global, refused: OpenRefused) -> Result<Performed, NoMemory>
     ensures cause { OnOk result (refused.fault ≢ OpenFault.NoMemory) }
     ensures answer { IfOk result
@@ -71,7 +71,7 @@ fn restored(alloc: Global, refused: OpenRefused) -> Result<Performed, NoMemory>
     })
 }
 
-/// Performs a command before the crawl, or `None` for a command whose time it isn't.
+/// Performs a command before the crawl. Returns `None` for a command that needs a crawl.
 fn perform_before(
     alloc: Global,
     draft: Draft,
@@ -98,8 +98,8 @@ fn perform_before(
     Ok(Some(Performed { stage, answer }))
 }
 
-/// Performs a command in the crawl, with the reply of its block, or `None` for a command whose time
-/// it isn't.
+/// Performs a command in the crawl, with the reply of its block. Returns `None` for a command that
+/// has to come before the crawl.
 fn perform_in(
     alloc: Global,
     catalogue: Catalogue,
@@ -127,8 +127,8 @@ fn perform_in(
     Ok(Some(Performed { stage, answer }))
 }
 
-/// Performs a command, with the reply of its block, or answers `None` for a command whose time it
-/// isn't. Refused only where memory is.
+/// Performs a command, with the reply of its block. Returns `None` for a command that isn't valid
+/// at this stage.
 pub fn perform(
     alloc: Global,
     stage: Stage,

@@ -1,5 +1,2 @@
-pub mod FirstLines
 pub mod Searches
-pub mod Talking
 pub mod Fetches
-pub mod StepLemmas

@@ -1,5 +1,5 @@
 -- The reply to a request line: a function of the tree's files, the server's address, the line, and how its search ended.
-use Rattle.std.specs.Prelude.{◌≡◌, ℕ, Bool, nat_eq, List, [], ◌∷◌, map, Option, None, Some, if◌then◌else◌}
+use Rattle.std.specs.Prelude.{◌≡◌, ℕ, Bool, nat_eq, codes, List, [], ◌∷◌, map, Option, None, Some, if◌then◌else◌}
 use Rattle.std.specs.Cmp.Lexicographic.{pointwise}
 use Rattle.std.specs.List.{flat_map}
 use mathlib.Core.List.{IsPrefix}
@@ -12,24 +12,22 @@ use Rattle.gopher_page.specs.Query.{TermData, query_of}
 use Rattle.gopher_index.specs.declared.hit.Hit.{Hit}
 use Rattle.gopher_tree.specs.Files.{File}
 use Rattle.gopher_tree.specs.Reply.{error_bytes, tree_reply}
-use Rattle.gopher_replies.specs.Kept.{reply_bytes}
-use Rattle.gopher_replies.specs.declared.replies.Reply.{Reply}
 use Rattle.gopher_catalogue.specs.Legal.{IsLegal}
 use Rattle.gopher_crew.specs.Crew.{PassData, hits_of}
 
 -- `/search`
 abbrev pub is_search : List ℕ → Bool
-is_search selector = pointwise nat_eq selector (47 ∷ 115 ∷ 101 ∷ 97 ∷ 114 ∷ 99 ∷ 104 ∷ [])
+is_search selector = pointwise nat_eq selector (codes "/search")
 
 -- the error replies `Bad request`, `No words` and `No catalogue`
 abbrev pub bad_request_bytes : HomeData → List ℕ
-bad_request_bytes home = error_bytes (66 ∷ 97 ∷ 100 ∷ 32 ∷ 114 ∷ 101 ∷ 113 ∷ 117 ∷ 101 ∷ 115 ∷ 116 ∷ []) home
+bad_request_bytes home = error_bytes (codes "Bad request") home
 
 abbrev pub no_words_bytes : HomeData → List ℕ
-no_words_bytes home = error_bytes (78 ∷ 111 ∷ 32 ∷ 119 ∷ 111 ∷ 114 ∷ 100 ∷ 115 ∷ []) home
+no_words_bytes home = error_bytes (codes "No words") home
 
 abbrev pub no_catalogue_bytes : HomeData → List ℕ
-no_catalogue_bytes home = error_bytes (78 ∷ 111 ∷ 32 ∷ 99 ∷ 97 ∷ 116 ∷ 97 ∷ 108 ∷ 111 ∷ 103 ∷ 117 ∷ 101 ∷ []) home
+no_catalogue_bytes home = error_bytes (codes "No catalogue") home
 
 -- a hit as a line of a menu: the type, title, selector, host and port of the page that was found
 abbrev pub hit_line : Hit → MenuLineData
@@ -109,7 +107,3 @@ pub record AnswersLine (files : List File) (home : HomeData) (old new : PassData
   pub outcome : Option (List Hit)
   pub searched : Searches old new (terms_of_line line) outcome
   pub reply_is : reply ≡ reply_of files home line outcome
-
--- this holds of the bytes of a reply
-abbrev pub HasBytes : (List ℕ → Type 0) → Reply → Type 0
-HasBytes P reply = P (reply_bytes reply)

@@ -6,7 +6,7 @@ use Rattle.gopher_item.specs.Place.{HomeData}
 use Rattle.gopher_tree.specs.Files.{File}
 use Rattle.gopher_crew.specs.Crew.{PassData}
 use Rattle.gopher_crew.proofs.Beginnings.{prefix_self, prefix_trans}
-use Rattle.gopher_serve.specs.Leads.{IsChain, Leads}
+use Rattle.gopher_conversation.specs.Leads.{IsChain, Leads}
 use Rattle.gopher_serve.specs.Answer.{AnswersLine, SeesOn}
 
 -- a tree's files, the server's address, and what its pass has seen and was told of

@@ -8,22 +8,67 @@ use crate::searching::search;
 use gopher_crew::{Crew, Pass};
 use gopher_item::{ByteString, Home, NoMemory, Request, RequestFault, read_request};
 use gopher_replies::{Replies, Reply};
-use gopher_tree::error_reply;
+use gopher_tree::{Tree, error_reply};
 use std::alloc::Global;
 
-/// The reply of a server to a request line, given without its end.
+/// The reply of a server to a request line (RFC 1436, section 2), given without its end.
 ///
-/// The error reply `Bad request` where the line is over 1,024 bytes, or its selector is over 255 bytes
-/// or holds a CR, LF or NUL. Else, at the selector `/search`: the error reply `No words` where the line
-/// has no search string or one without words; the error reply `No catalogue` where the published
-/// catalogue can't be entered (61); and else the hits as a menu. At any other selector what
-/// `Replies::reply` gives.
+/// - The error reply `Bad request`, if the line is over 1,024 bytes, or its selector is over 255 bytes or
+///   holds a CR, LF or NUL.
+/// - At the selector `/search`: the hits as a menu. The error reply `No words`, if the line has no search
+///   string or one without words. The error reply `No catalogue`, if the published catalogue can't be
+///   entered (61).
+/// - At any other selector what `Tree::reply` gives.
 ///
-/// What the pass was told of and has seen is a beginning of the record that it answers from. It is asked
-/// only where there are words to search for.
+/// What the pass was told of and has seen is a prefix of the record that it answers from. It is asked
+/// only if there are words to search for.
 ///
-/// Refused only where memory is (90). The pass may have seen more then.
-pub fn answer<'a, C: Crew>(
+/// # Errors
+///
+/// Out of memory (90). The pass may have seen more then.
+pub fn answer<C: Crew>(
+    alloc: Global,
+    tree: &Tree,
+    home: &Home,
+    pass: &mut Pass<C>,
+    line: &[u8],
+) -> Result<Vec<u8>, NoMemory>
+    ensures answered { IfOk result (λ reply.
+        AnswersLine tree.now home.now pass.old pass.new line.now reply.items) }
+    ensures refused { OnErr result (SeesOn pass.old pass.new) }
+{
+    match read_request(alloc, line) {
+        Ok(request) => answer_request(alloc, tree, home, pass, &request),
+        Err(RequestFault::NoMemory) => Err(NoMemory),
+        Err(_bad) => bad_request(alloc, home),
+    }
+}
+
+// The reply to a request of a line that isn't too long.
+fn answer_request<C: Crew>(
+    alloc: Global,
+    tree: &Tree,
+    home: &Home,
+    pass: &mut Pass<C>,
+    request: &Request,
+) -> Result<Vec<u8>, NoMemory>
+    requires { IfSome request.now.search (λ text. length text ≤ 1024) }
+    ensures answered { IfOk result (λ reply.
+        AnswersRequest tree.now home.now pass.old pass.new request.now reply.items) }
+    ensures refused { OnErr result (SeesOn pass.old pass.new) }
+{
+    if is_search(request.selector.as_slice()) {
+        return search(alloc, home, pass, &request.search);
+    }
+    tree.reply(alloc, request.selector.as_slice(), home)
+}
+
+/// The reply that `answer` gives, from replies that are kept.
+///
+/// # Errors
+///
+/// Out of memory (90). The pass may have seen more then.
+pub fn answer_kept<'a, C: Crew>(
     alloc: Global,
     replies: &'a Replies,
     pass: &mut Pass<C>,
@@ -34,14 +79,14 @@ pub fn answer<'a, C: Crew>(
     ensures refused { OnErr result (SeesOn pass.old pass.new) }
 {
     match read_request(alloc, line) {
-        Ok(request) => answer_request(alloc, replies, pass, &request),
+        Ok(request) => answer_kept_request(alloc, replies, pass, &request),
         Err(RequestFault::NoMemory) => Err(NoMemory),
-        Err(_bad) => bad_request(alloc, replies.home()),
+        Err(_bad) => Ok(Reply::Made(bad_request(alloc, replies.home())?)),
     }
 }
 
-// The reply to a request of a line that isn't too long.
-fn answer_request<'a, C: Crew>(
+// The reply to a request of a line that isn't too long, from replies that are kept.
+fn answer_kept_request<'a, C: Crew>(
     alloc: Global,
     replies: &'a Replies,
     pass: &mut Pass<C>,
@@ -53,7 +98,7 @@ fn answer_request<'a, C: Crew>(
     ensures refused { OnErr result (SeesOn pass.old pass.new) }
 {
     if is_search(request.selector.as_slice()) {
-        return search(alloc, replies.home(), pass, &request.search);
+        return Ok(Reply::Made(search(alloc, replies.home(), pass, &request.search)?));
     }
     replies.reply(alloc, request.selector.as_slice())
 }
@@ -66,8 +111,8 @@ fn is_search(selector: &[u8]) -> bool
 }
 
 // The reply to a line that is refused.
-fn bad_request<'a>(alloc: Global, home: &Home) -> Result<Reply<'a>, NoMemory>
-    ensures { IfOk result (λ reply. reply_bytes reply ≡ bad_request_bytes home.now) }
+fn bad_request(alloc: Global, home: &Home) -> Result<Vec<u8>, NoMemory>
+    ensures { IfOk result (λ reply. reply.items ≡ bad_request_bytes home.now) }
 {
-    Ok(Reply::Made(error_reply(alloc, b"Bad request", home)?))
+    error_reply(alloc, b"Bad request", home)
 }

@@ -1,26 +1,18 @@
-//! Requests answered, replies fetched, and conversations with clients: what a server says to the bytes
-//! that it hears.
+//! What a server answers: the reply to each request line, from a tree and a pass, and the reply that is
+//! fetched from another server.
 //!
-//! No socket appears here: a conversation is over any reader and any writer, and one over streams that
-//! never block is a state machine that is told when it may go on.
-//!
-//! The program rests on one promise: what goes out is a beginning of the reply to the first line that
-//! came in, all of it where the conversation ends well, and nothing before that line's end.
+//! The program rests on one promise: what `answer` gives to a line is `reply_of` of the tree's files,
+//! the server's address, the line, and how its search ended. No socket appears here.
 #![tactic(auto)]
 
-mod advancing;
 mod answering;
-mod conversation;
-mod fault;
 mod fetching;
 mod searching;
 mod serving;
 mod site;
 
-pub use advancing::{Turn, advance};
-pub use answering::answer;
-pub use conversation::Conversation;
-pub use fault::ServeFault;
+pub use answering::{answer, answer_kept};
 pub use fetching::fetch_over;
+pub use gopher_conversation::{Answers, Conversation, Progress, ServeFault, advance, serve_with};
 pub use serving::serve_one;
-pub use site::{Answers, Site};
+pub use site::Site;

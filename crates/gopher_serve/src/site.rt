@@ -1,35 +1,17 @@
-//! What answers the request lines of a server.
+//! What a server answers request lines with.
 
 ghost use Rattle.std.specs.Prelude.{◌≡◌};
 ghost use Rattle.gopher_serve.specs.Site.{site_with};
 
-use crate::answering::answer;
+use crate::answering::answer_kept;
+use gopher_conversation::Answers;
 use gopher_crew::{Crew, Pass};
 use gopher_item::NoMemory;
 use gopher_replies::{Replies, Reply};
 use std::alloc::Global;
 use std::marker::Model;
 
-/// Answers request lines, one after another.
-///
-/// What it gives to a line may depend on its state, and may change it: `gives` is said of the state
-/// before, the state after, the line and the bytes of the reply; `leads_to` of the state before and the
-/// state after alone, also where memory is refused.
-pub trait Answers<'a> {
-    ghost use Rattle.std.specs.Prelude.{ℕ, List, IfOk};
-    ghost use Rattle.gopher_serve.specs.Answer.{HasBytes};
-
-    ghost gives: { Self → Self → List ℕ → List ℕ → Type 0 };
-
-    ghost leads_to: { Self → Self → Type 0 };
-
-    /// The reply to a line, given without its end. Refused only where memory is (90).
-    fn answer(&mut self, alloc: Global, line: &[u8]) -> Result<Reply<'a>, NoMemory>
-        ensures gives { IfOk result (HasBytes (gives self.old self.new line.now)) }
-        ensures leads { leads_to self.old self.new };
-}
-
-/// A tree's replies and a pass, which answer as `answer` does.
+/// A tree's replies and a pass, which answer as `answer_kept` does.
 #[derive(Drop)]
 pub struct Site<'a, C: Crew> {
     replies: &'a Replies,
@@ -68,6 +50,6 @@ impl<'a, C: Crew> Answers<'a> for Site<'a, C> {
     ghost leads_to = { LeadsOn };
 
     fn answer(&mut self, alloc: Global, line: &[u8]) -> Result<Reply<'a>, NoMemory> {
-        answer(alloc, self.replies, &mut self.pass, line)
+        answer_kept(alloc, self.replies, &mut self.pass, line)
     }
 }

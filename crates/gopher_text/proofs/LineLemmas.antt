@@ -1,4 +1,4 @@
--- What the reads of a line's bytes did, and how many turns they took.
+-- Reading the bytes of a line: what was read, and in how many turns.
 use Rattle.std.proofs.Common.{◌≡◌, ℕ, ◌+◌, ◌-◌, ◌<◌, ◌≤◌, Bool, true, false, ◌||◌, ◌&&◌, ◌==◌, List, [], ◌∷◌, ◌++◌, take, length, IfSome, None, Some, Result, Ok, Err, IfOk, IfErr, OnOk, refl, sym, subst, ap, ◌∙◌, arith, inl, inr, append-nil, append_assoc, length-append, length-take, if◌then◌else◌}
 use Rattle.std.proofs.Math.Seq.{take-append_seam}
 use Rattle.std.proofs.lemmas.List.{take_all}
@@ -12,7 +12,8 @@ use Rattle.gopher_text.specs.Line.{has_feed, without_end, IsWholeLine, StopsInLi
 use Rattle.gopher_text.specs.declared.fault.LineFault.{LineFault}
 use Rattle.gopher_text.specs.declared.fault.LineFault.TheVariants.{LineTooLong, ReadFailed, TooManyTurns, NoMemory}
 
--- how the reading of a line stands after some turns: what is filled was read and holds no LF, and each turn took a byte or failed, not both
+-- the state after some turns: the filled bytes were read and contain no LF, and each turn either
+-- took a byte or failed
 pub record InLine (old new : Option (List ℕ)) (before after turns filled : ℕ) (held : List ℕ) : Type 0 where
   pub within : filled ≤ 1025
   pub read : Consumes old new (take filled held)
@@ -28,7 +29,7 @@ neither : (s t : Bool) → (s || t) ≡ false → (s ≡ false) × (t ≡ false)
 neither true t e = absurd (cc)
 neither false t e = (refl, e)
 
--- what stands before the first LF
+-- the bytes through the first LF, after bytes without LF
 take_through-unfed : (front rest : List ℕ) → has_feed front ≡ false → take_through 10 (front ++ rest) ≡ front ++ take_through 10 rest
 take_through-unfed [] rest unfed = refl
 take_through-unfed (byte ∷ front) rest unfed =
@@ -41,7 +42,7 @@ drop_through-unfed (byte ∷ front) rest unfed =
     let parts = neither (byte == 10) (has_feed front) unfed in
     rw (parts.0, drop_through-unfed front rest parts.1) refl
 
--- a whole line was read, and nothing after it
+-- a whole line was read, and no byte after it
 pub line_read : (old new : Option (List ℕ)) (bytes : List ℕ) → Consumes old new bytes → IsWholeLine new bytes
     → IfSome old (λ all. take_through 10 all ≡ bytes) × DropsThrough old new 10
 line_read None new bytes read whole = (tt, tt)
@@ -79,7 +80,7 @@ long_line_read (Some all) new bytes read whole within long =
       subst (λ l. Consumes (Some all) new (take 1026 l)) (sym through) (subst (Consumes (Some all) new) (sym (take_all 1026 bytes within)) read),
     )
 
--- at most one byte is stripped, and at most two are an end
+-- stripping drops at most one byte, and a line's end has at most two
 length-strip_last : (byte : ℕ) (bytes : List ℕ) → length bytes ≤ length (strip_last byte bytes) + 1
 length-strip_last byte bytes = by (ends_with_byte byte bytes)
   where
@@ -116,7 +117,7 @@ long_without_end : (bytes more : List ℕ) → has_feed bytes ≡ false → leng
 long_without_end bytes [] unfed long = rw (append-nil bytes, without_end-unfed bytes unfed) (omega arith)
 long_without_end bytes (byte ∷ more) unfed long = omega (arith, length-without_end (bytes ++ (byte ∷ more)), length-append bytes (byte ∷ more))
 
--- bytes without LF are too long for a line, whatever follows
+-- 1,026 bytes without LF are too long for a line, whatever follows
 pub long_line_begun : (old new : Option (List ℕ)) (bytes : List ℕ) → Consumes old new bytes → has_feed bytes ≡ false → length bytes ≡ 1026
     → IfSome old (λ all. (1024 < length (first_line all)) × Consumes old new (take 1026 (take_through 10 all)))
 long_line_begun None new bytes read unfed long = tt
@@ -137,7 +138,7 @@ line_refused old new before after bytes ReadFailed read stop = (bytes, (read, st
 line_refused old new before after bytes TooManyTurns read stop = (bytes, ((read, stop.0, stop.1, stop.2), stop.3))
 line_refused old new before after bytes NoMemory read stop = absurd stop
 
--- the whole line was read, but isn't given
+-- the whole line was read, but the call fails
 pub whole_line_refused : (old new : Option (List ℕ)) (before after : ℕ) (bytes : List ℕ) (fault : LineFault) → Consumes old new bytes → IsWholeLine new bytes
     → length bytes ≤ 1026 → RefusesLength (length (without_end bytes)) fault → RefusesLine old new before after fault
 whole_line_refused old new before after bytes LineTooLong read whole within long = long_line_read old new bytes read whole within long
@@ -146,7 +147,7 @@ whole_line_refused old new before after bytes TooManyTurns read whole within ref
 whole_line_refused old new before after bytes NoMemory read whole within short =
     let line = line_read old new bytes read whole in (short_line_read old bytes line.0 short, line.1)
 
--- what the answer for a whole line says, seen from the reader
+-- the result for a whole line, in terms of the reader
 pub line_answered : {V : Type 0} (items : V → List ℕ) (old : Option (List ℕ)) (bytes : List ℕ) (result : Result V LineFault)
     → IfSome old (λ all. take_through 10 all ≡ bytes) → IfOk result (λ line. items line ≡ without_end bytes)
     → IfOk result (λ line. IfSome old (λ all. items line ≡ first_line all))
@@ -163,7 +164,7 @@ pub refusal_answered : {V : Type 0} (old new : Option (List ℕ)) (before after 
 refusal_answered old new before after bytes (Ok line) read whole within refused = tt
 refusal_answered old new before after bytes (Err fault) read whole within refused = whole_line_refused old new before after bytes fault read whole within refused
 
--- what was read, in so many turns
+-- at most 4,096 turns read these bytes
 pub few_turns : (old new : Option (List ℕ)) (before after filled : ℕ) (held : List ℕ) → Consumes old new (take filled held)
     → before ≤ after → after + filled ≤ before + 4096
     → (before ≤ after) × ((bytes : List ℕ) × Consumes old new bytes × (after + length bytes ≤ before + 4096))

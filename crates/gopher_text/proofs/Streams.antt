@@ -1,4 +1,4 @@
--- What several reads or writes did to known bytes, and how many turns they took.
+-- Several reads or writes of known bytes, and how many turns they took.
 use Rattle.std.proofs.Common.{◌≡◌, ℕ, ◌+◌, ◌<◌, ◌≤◌, List, take, drop, length, sym, subst, arith, inl, inr}
 use Rattle.std.proofs.Math.Seq.{take-add}
 use Rattle.std.specs.declared.option.Option.{Option}
@@ -7,7 +7,7 @@ use Rattle.std.proofs.KnownBytes.{Appends-trans, Consumes-trans, Consumes-kept}
 use Rattle.gopher_text.specs.Watched.{CountsFailure}
 use Rattle.gopher_text.specs.Reply.{SpendsTurns}
 
--- the front of a buffer was read before, and then what stands after it
+-- the front of a buffer was read before, and then the bytes after it
 pub consumes_more : (a b c : Option (List ℕ)) (old new : List ℕ) (filled count : ℕ) → take filled new ≡ take filled old
     → Consumes a b (take filled old) → Consumes b c (take count (drop filled new)) → Consumes a c (take (filled + count) new)
 consumes_more a b c old new filled count front before read =
@@ -18,13 +18,14 @@ pub consumes_kept : (a b c : Option (List ℕ)) (old new : List ℕ) (filled : �
     → Consumes a b (take filled old) → Keeps b c → Consumes a c (take filled new)
 consumes_kept a b c old new filled front before kept = Consumes-kept a b c _ (subst (Consumes a b) (sym front) before) kept
 
--- the front of the bytes was written before, and then what stands after it
+-- the front of the bytes was written before, and then bytes after it
 pub appends_more : (a b c : Option (List ℕ)) (bytes : List ℕ) (sent count : ℕ)
     → Appends a b (take sent bytes) → Appends b c (take count (drop sent bytes)) → Appends a c (take (sent + count) bytes)
 appends_more a b c bytes sent count before more =
     subst (Appends a c) (sym (take-add sent count bytes)) (Appends-trans a b c _ _ before more)
 
--- how a reading stands after some turns: what is filled was read and is within the limit, and each turn took a byte or failed
+-- the state of a reading after some turns: the filled bytes were read and are within the limit, and
+-- each turn took a byte or failed
 pub record Filled (old new : Option (List ℕ)) (before after limit turns filled : ℕ) (bytes : List ℕ) : Type 0 where
   pub within : filled ≤ length bytes
   pub short : length bytes ≤ limit + 1
@@ -45,7 +46,7 @@ spent_interrupted before between after turns filled spent (inr full) = inl (omeg
 spent_interrupted before between after turns filled (inl full) (inl more) = inl (omega arith)
 spent_interrupted before between after turns filled (inr each) (inl more) = inr (omega arith)
 
--- a turn that took bytes
+-- after a turn that took bytes
 pub filled_took : (a b c : Option (List ℕ)) (before between after limit turns filled count : ℕ) (old new : List ℕ)
     → Filled a b before between limit turns filled old → take filled new ≡ take filled old → length new ≤ limit + 1
     → Consumes b c (take count (drop filled new)) → 0 < count → filled + count ≤ length new → filled + count ≤ limit → after ≡ between
@@ -60,7 +61,7 @@ filled_took a b c before between after limit turns filled count old new so_far f
   spent = spent_took before between after turns filled count so_far.spent some same;
 }
 
--- a turn that was interrupted
+-- after a turn that was interrupted
 pub filled_interrupted : (a b c : Option (List ℕ)) (before between after limit turns filled : ℕ) (old new : List ℕ)
     → Filled a b before between limit turns filled old → take filled new ≡ take filled old → filled ≤ length new → length new ≤ limit + 1
     → Keeps b c → CountsFailure between after

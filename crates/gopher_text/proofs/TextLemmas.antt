@@ -1,4 +1,4 @@
--- What one more line gives to a text, and that what was written is read back.
+-- The effect of one more line on a text; written lines are read back.
 use Rattle.std.proofs.Common.{◌≡◌, ℕ, ◌+◌, ◌-◌, ◌<◌, Bool, true, false, ◌||◌, eqb, cond, List, [], ◌∷◌, ◌++◌, length, get_or, slice_get, Some, take, map, one-add, refl, sym, ap, ◌∙◌, append_assoc, arith, length-append}
 use Rattle.std.specs.Io.{StartsWith}
 use Rattle.std.specs.List.{slice_split, flat_map, AllByRecursion}
@@ -18,18 +18,18 @@ use Rattle.gopher_item.proofs.MenuLemmas.{any_last_line-line}
 use Rattle.gopher_text.specs.Line.{has_feed}
 use Rattle.gopher_text.specs.Text.{begins_with_period, line_sent, line_read, text_line_bytes, text_bytes, text_lines, ReadsText}
 
--- what begins with more begins with less
+-- bytes that begin with `front` and more begin with `front`
 pub begins_with_less : (all front more : List ℕ) → StartsWith all (front ++ more) → StartsWith all front
 begins_with_less all front more begins =
     ap (take (length front)) (starts_with_rest all (front ++ more) begins ∙ append_assoc front more _) ∙ take_at front _ (length front) refl
 
--- the first line of a text comes first
+-- a text begins with its first line
 pub text_bytes-line : (line : List ℕ) (lines : List (List ℕ)) → text_bytes (line ∷ lines) ≡ text_line_bytes line ++ text_bytes lines
 text_bytes-line line lines =
     ap (λ l. l ++ 46 ∷ 13 ∷ 10 ∷ []) (flat_map-cons text_line_bytes line lines)
     ∙ append_assoc (text_line_bytes line) (flat_map text_line_bytes lines) (46 ∷ 13 ∷ 10 ∷ [])
 
--- the lines up to an index, and the line there
+-- the lines up to an index, and the line at it
 pub sent_one_more : (lines : List (List ℕ)) (index : ℕ) (line : List ℕ) → index < length lines → slice_get lines index ≡ Some line
     → flat_map text_line_bytes (take (index + 1) lines) ≡ flat_map text_line_bytes (take index lines) ++ text_line_bytes line
 sent_one_more lines index line within here =
@@ -76,7 +76,7 @@ sent_unfed line unfed = by (begins_with_period line)
     by true = neither (eqb 46 10) (has_feed line) refl unfed
     by false = unfed
 
--- a line that is sent isn't a period alone, and is read as it was
+-- a sent line isn't a single period, and is read as it was
 sent_not_last : (line : List ℕ) → is_last_line (line_sent line) ≡ false
 sent_not_last [] = refl
 sent_not_last (byte ∷ line) = by (eqb byte 46) refl
@@ -111,6 +111,6 @@ read_lines (line ∷ lines) unfed =
       ap any_last_line split ∙ any_last_line-line (line_sent line) (lines_of (text_bytes lines)) (sent_not_last line) ∙ rest.1,
     )
 
--- what was written of these lines is read as them, ended
+-- the bytes of these lines are read back as the same lines, ended
 pub read_back : (lines : List (List ℕ)) → AllByRecursion (λ line. has_feed line ≡ false) lines → ReadsText (text_bytes lines) lines true
 read_back lines unfed = let both = read_lines lines unfed in record { all_lines = sym both.0; is_ended = sym both.1 }

@@ -1,4 +1,4 @@
--- The numbers of the faults of streams.
+-- The numbers of the faults of reading a line or a reply.
 use Rattle.std.specs.Prelude.{ℕ}
 use Rattle.gopher_text.specs.declared.fault.LineFault as line
 use Rattle.gopher_text.specs.declared.fault.LineFault.TheVariants as line_fault

@@ -1,4 +1,4 @@
--- One line that is read from a stream, and not a byte after it.
+-- Reading one line of a stream.
 use Rattle.std.specs.Prelude.{◌≡◌, ℕ, ◌<◌, ◌≤◌, ◌⊎◌, false, List, [], ◌∷◌, ◌++◌, length, take, Option, Result, Ok, Err, IfSome, if◌then◌else◌}
 use Rattle.std.specs.Io.BufRead.{take_through, first_line, ends_with_byte, strip_last, DropsThrough}
 use Rattle.std.specs.Io.KnownBytes.{Consumes, IsAtEnd}
@@ -10,33 +10,33 @@ use Rattle.gopher_text.specs.declared.fault.LineFault.TheVariants.{LineTooLong, 
 use Rattle.gopher_text.specs.declared.reading.ByteRead.{ByteRead}
 use Rattle.gopher_text.specs.declared.reading.ByteRead.TheVariants.{Byte, Ended, Interrupted, Failed}
 
--- how the read of one byte went: what a reader has left before and after, and its count of failures
--- before and after
+-- the outcome of reading one byte: the bytes left to read before and after, and the count of
+-- failures before and after
 abbrev pub ReadsByte : Option (List ℕ) → Option (List ℕ) → ℕ → ℕ → ByteRead → Type 0
 ReadsByte old new before after (Byte byte) = Consumes old new (byte ∷ []) × (after ≡ before)
 ReadsByte old new before after Ended = Consumes old new [] × IsAtEnd new × (after ≡ before)
 ReadsByte old new before after Interrupted = Consumes old new [] × CountsFailure before after
 ReadsByte old new before after Failed = Consumes old new [] × CountsFailure before after
 
--- the line that such bytes are, without its end
+-- the bytes of a line without its end
 abbrev pub without_end : List ℕ → List ℕ
 without_end bytes =
     if ends_with_byte 10 bytes then strip_last 13 (strip_last 10 bytes) else strip_last 10 bytes
 
--- the bytes are a line with its LF, its only one, or all up to the end of the input
+-- the bytes are a line with its only LF at the end, or all bytes up to the end of the input
 abbrev pub IsWholeLine : Option (List ℕ) → List ℕ → Type 0
 IsWholeLine new bytes =
     ((front : List ℕ) × (bytes ≡ front ++ 10 ∷ []) × (has_feed front ≡ false))
     ⊎ ((has_feed bytes ≡ false) × IsAtEnd new)
 
--- these bytes without LF were read, and then reads failed
+-- these bytes without LF were read before a read failed
 abbrev pub FailsInLine : Option (List ℕ) → Option (List ℕ) → ℕ → ℕ → List ℕ → Type 0
 FailsInLine old new before after bytes =
     Consumes old new bytes × (has_feed bytes ≡ false) × (length bytes ≤ 1025)
     × HasFailed before after
 
--- what was read where no line is given: of a line that is too long, at most 1,026 bytes; a part of the
--- line where reads failed; the line and its end where memory was refused
+-- the bytes that a failed call read: at most 1,026 of a line that is too long, a part of the line
+-- if reads failed, and the line with its end if out of memory
 abbrev pub RefusesLine : Option (List ℕ) → Option (List ℕ) → ℕ → ℕ → LineFault → Type 0
 RefusesLine old new before after LineTooLong =
     IfSome old (λ bytes. (1024 < length (first_line bytes))
@@ -62,7 +62,7 @@ StopsInLine new before after bytes (Err TooManyTurns) =
     × SpendsTurns 4096 before after (length bytes)
 StopsInLine new before after bytes (Err NoMemory) = ⊥
 
--- why a line of this length, which was read whole, isn't given
+-- why a call fails after it has read all of a line of this length
 abbrev pub RefusesLength : ℕ → LineFault → Type 0
 RefusesLength length LineTooLong = 1024 < length
 RefusesLength length NoMemory = length ≤ 1024

@@ -1,4 +1,4 @@
-//! Why a stream was given up.
+//! The errors of reading and sending, with their numbers.
 
 ghost use Rattle.std.specs.Prelude.{◌≡◌};
 ghost use Rattle.gopher_text.specs.Fault.{line_fault_code, reply_fault_code};
@@ -12,13 +12,13 @@ pub enum LineFault {
     /// 7: the line has more than 1,024 bytes before its end.
     #[error("the line is too long")]
     LineTooLong,
-    /// 10: a read failed otherwise than by an interruption.
+    /// 10: a read failed for another reason than an interruption.
     #[error("a read failed")]
     ReadFailed,
-    /// 11: 4,096 reads, interrupted ones too, didn't reach the end of the line.
+    /// 11: 4,096 reads, including interrupted ones, didn't reach the end of the line.
     #[error("too many reads")]
     TooManyTurns,
-    /// 90: memory was refused.
+    /// 90: out of memory.
     #[error("no memory")]
     NoMemory,
 }
@@ -50,16 +50,16 @@ impl From<AllocError> for LineFault {
 /// Why a reply wasn't read to its end.
 #[derive(Clone, Copy, Debug, PartialEq, Eq, Error)]
 pub enum ReplyFault {
-    /// 10: a read failed otherwise than by an interruption.
+    /// 10: a read failed for another reason than an interruption.
     #[error("a read failed")]
     ReadFailed,
-    /// 11: 2,097,152 reads, interrupted ones too, didn't reach the end.
+    /// 11: 2,097,152 reads, including interrupted ones, didn't reach the end.
     #[error("too many reads")]
     TooManyTurns,
     /// 12: the reply has more bytes than the limit.
     #[error("the reply is too long")]
     ReplyTooLong,
-    /// 90: memory was refused.
+    /// 90: out of memory.
     #[error("no memory")]
     NoMemory,
 }
@@ -88,11 +88,12 @@ impl From<AllocError> for ReplyFault {
     }
 }
 
-/// Why bytes weren't all sent (13): a write failed, took nothing, or 4,096 writes were interrupted.
+/// Why not all bytes were sent (13): a write failed or took no bytes, or 4,096 writes were
+/// interrupted.
 #[derive(Clone, Copy, Debug, PartialEq, Eq, Error)]
 #[error("a write failed")]
 pub struct SendFault {
-    /// How many bytes went out before: exactly the first of those to be sent.
+    /// The number of bytes sent before the failure: exactly the first ones.
     pub sent: usize,
 }
 

@@ -1,7 +1,13 @@
-//! Texts of Gopher (RFC 1436), and what a stream read and sent.
+//! Texts of Gopher (RFC 1436), and the bytes that were read from or sent to a stream.
 //!
-//! The crates above rest on one promise: texts are read and written by the grammar, and each call on
-//! a stream says exactly which bytes were read or sent.
+//! The crates above use these contracts: texts are read and written as `specs/Text.antt` defines,
+//! and each call on a stream says exactly which bytes it consumed or sent.
+//!
+//! Error 90 (`NoMemory`) means out of memory. A public call that fails with it leaves the vector to
+//! which it appends unchanged. Bytes that a reader consumed stay consumed. Calls that can't fail
+//! with it allocate nothing.
+//!
+//! Library API that only tests and benchmarks here call: `read_text` and `write_text`.
 #![tactic(auto)]
 
 mod fault;

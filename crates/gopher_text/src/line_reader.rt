@@ -1,4 +1,4 @@
-//! Reading one line of a stream, and not a byte after it.
+//! Reading one line of a stream.
 
 ghost use Rattle.std.specs.Prelude.{◌≡◌, ℕ, ◌+◌, ◌≤◌, List, length, take, IfErr, IfOk, IfSome, OnOk, vec_len};
 ghost use Rattle.std.specs.Io.BufRead.{DropsThrough, first_line};
@@ -11,26 +11,28 @@ use crate::watched::Watched;
 use std::alloc::Global;
 use std::io::Read;
 
-// How many reads a line may take.
+// The most reads for a line.
 const MOST_TURNS: u64 = 4_096;
 
-// How many bytes a line may have before its end.
+// The most bytes of a line before its end.
 const MOST_IN_LINE: usize = 1_024;
 
-// How many bytes a line may have with its end, CR LF.
+// The most bytes of a line with its end, CR LF.
 const MOST_WITH_END: usize = 1_026;
 
-/// Reads the next line of `reader`, up to an LF or the end of the input, one byte a read, and not a
-/// byte after it. The LF and one CR directly before it are the line's end, and aren't given; a last
-/// line without LF is given as it stands. An interrupted read is tried again.
+/// Reads the next line of `reader` and not a byte after it.
+///
+/// The line ends at an LF or the end of the input, and each read asks for one byte. The result
+/// doesn't contain the LF and one CR directly before it; a last line without LF keeps all its
+/// bytes. Interrupted reads are tried again.
 ///
 /// # Errors
 ///
-/// - `LineTooLong` (7) where the line has more than 1,024 bytes before its end; at most 1,026 bytes of
-///   it are then read.
-/// - `ReadFailed` (10) where a read failed otherwise than by an interruption.
-/// - `TooManyTurns` (11) where 4,096 reads, interrupted ones too, didn't reach the end of the line.
-/// - `NoMemory` (90): the whole line and its end were read.
+/// - `LineTooLong` (7): the line has more than 1,024 bytes before its end; at most 1,026 bytes of
+///   it were read
+/// - `ReadFailed` (10): a read failed for another reason than an interruption
+/// - `TooManyTurns` (11): 4,096 reads, including interrupted ones, didn't reach the end of the line
+/// - `NoMemory` (90): the whole line and its end were read
 pub fn read_line_from<R: Read>(alloc: Global, reader: &mut Watched<R>) -> Result<Vec<u8>, LineFault>
     ensures line { IfOk result (λ line. IfSome (R.remaining reader.old.device)
         (λ bytes. line.items ≡ first_line bytes)) }
@@ -65,7 +67,7 @@ fn line_of(alloc: Global, bytes: &[u8]) -> Result<Vec<u8>, LineFault>
     Ok(Vec::from_slice(alloc, line)?)
 }
 
-// Reads into `held` up to an LF or the end of the input, and says how many bytes were read and why
+// Reads into `held` up to an LF or the end of the input. Returns the number of bytes read, and why
 // reading stopped.
 fn fill<R: Read>(reader: &mut Watched<R>, held: &mut [u8]) -> (usize, Result<(), LineFault>)
     requires { length held.old ≡ 1026 }
@@ -98,7 +100,6 @@ fn fill<R: Read>(reader: &mut Watched<R>, held: &mut [u8]) -> (usize, Result<(),
     (filled, Err(LineFault::TooManyTurns))
 }
 
-// The bytes of a line without its end.
 fn without_end(bytes: &[u8]) -> &[u8]
     ensures { result.now ≡ without_end bytes.now }
 {

@@ -1,4 +1,4 @@
-//! One read, by how it went.
+//! One read and its outcome.
 
 ghost use Rattle.std.specs.Prelude.{◌<◌, length};
 ghost use Rattle.gopher_text.specs.Reply.{ReadsAfter};
@@ -7,16 +7,16 @@ ghost use Rattle.gopher_text.specs.Line.{ReadsByte};
 use crate::watched::Watched;
 use std::io::{ErrorKind, Read};
 
-/// How one read went.
+/// The outcome of one read.
 #[derive(Clone, Copy)]
 pub(crate) enum Reading {
-    /// It gave this many bytes, one at least.
+    /// The read returned this many bytes, at least one.
     Took(usize),
-    /// The input is at its end.
+    /// The input has ended.
     Ended,
-    /// It was interrupted.
+    /// The read was interrupted.
     Interrupted,
-    /// It failed.
+    /// The read failed.
     Failed,
 }
 
@@ -39,16 +39,16 @@ pub(crate) fn read_once<R: Read>(reader: &mut Watched<R>, buffer: &mut [u8]) -> 
     }
 }
 
-/// How the read of one byte went.
+/// The outcome of a read of one byte.
 #[derive(Clone, Copy)]
 pub(crate) enum ByteRead {
-    /// It gave this byte.
+    /// The read returned this byte.
     Byte(u8),
-    /// The input is at its end.
+    /// The input has ended.
     Ended,
-    /// It was interrupted.
+    /// The read was interrupted.
     Interrupted,
-    /// It failed.
+    /// The read failed.
     Failed,
 }
 

@@ -10,24 +10,24 @@ use crate::watched::Watched;
 use std::alloc::{AllocError, Global};
 use std::io::Read;
 
-// How many reads a reply may take.
+// The most reads for a reply.
 const MOST_TURNS: u64 = 2_097_152;
 
-// How many bytes the first read has room for.
+// How many bytes the first read asks for.
 const FIRST_ROOM: usize = 8_192;
 
-/// Reads `reader` to its end: a reply, or any input, of at most `limit` bytes, `limit` being at most
-/// 1,048,576. An interrupted read is tried again.
+/// Reads all of `reader`: a reply or other input of at most `limit` bytes, with `limit` at most
+/// 1,048,576. Interrupted reads are tried again.
 ///
 /// # Errors
 ///
-/// - `ReadFailed` (10) where a read failed otherwise than by an interruption.
-/// - `TooManyTurns` (11) where 2,097,152 reads, interrupted ones too, didn't reach the end.
-/// - `ReplyTooLong` (12) as soon as one byte more than `limit` was read.
-/// - `NoMemory` (90).
-///
-/// After an error the bytes that were read are gone: `limit + 1` of them at 12, and at most `limit`
-/// otherwise.
+/// The bytes that were read are lost: `limit + 1` of them for error 12, at most `limit` for the
+/// others.
+/// - `ReadFailed` (10): a read failed for another reason than an interruption
+/// - `TooManyTurns` (11): 2,097,152 reads, including interrupted ones, didn't reach the end
+/// - `ReplyTooLong` (12): the reply has more than `limit` bytes; reading stops at the first byte
+///   over it
+/// - `NoMemory` (90)
 pub fn read_reply<R: Read>(
     alloc: Global,
     reader: &mut Watched<R>,
@@ -49,7 +49,7 @@ pub fn read_reply<R: Read>(
     Ok(bytes)
 }
 
-// Appends all that `reader` gives to the empty `bytes`, up to one byte more than `limit`.
+// Appends all bytes of `reader` to the empty `bytes`, up to one byte more than `limit`.
 fn read_within<R: Read>(
     reader: &mut Watched<R>,
     bytes: &mut Vec<u8>,
@@ -69,7 +69,7 @@ fn read_within<R: Read>(
     end
 }
 
-// Reads into `bytes`, and says how many of them were read and why reading stopped.
+// Reads into `bytes`. Returns the number of bytes read, and why reading stopped.
 #[tactic(auto, using(crate::proofs::Streams::consumes_more, crate::proofs::Streams::consumes_kept))]
 fn fill<R: Read>(
     reader: &mut Watched<R>,
@@ -106,7 +106,7 @@ fn fill<R: Read>(
     (filled, Err(ReplyFault::TooManyTurns))
 }
 
-// Makes `bytes` longer than `filled`, where it isn't. What isn't filled is zeros.
+// Makes `bytes` longer than `filled` if it isn't. The bytes after `filled` are zeros.
 fn make_room(bytes: &mut Vec<u8>, filled: usize, limit: usize) -> Result<(), AllocError>
     requires limit { limit ≤ 1048576 }
     requires filled { filled ≤ limit }
@@ -124,7 +124,7 @@ fn make_room(bytes: &mut Vec<u8>, filled: usize, limit: usize) -> Result<(), All
     bytes.resize(room, 0)
 }
 
-// Reads once into what `bytes` has after `filled`.
+// Reads once into the part of `bytes` after `filled`.
 fn read_after<R: Read>(reader: &mut Watched<R>, bytes: &mut Vec<u8>, filled: usize) -> Reading
     requires { filled < length bytes.old.items }
     ensures length { length bytes.new.items ≡ length bytes.old.items }

@@ -9,27 +9,26 @@ use crate::fault::SendFault;
 use crate::watched::Watched;
 use std::io::{ErrorKind, Write};
 
-// How many interrupted writes make a call fail.
+// A call fails after this many interrupted writes.
 const MOST_INTERRUPTIONS: u64 = 4_096;
 
-// How one write went.
+// The outcome of one write.
 #[derive(Clone, Copy)]
 enum Writing {
-    // It took this many bytes, one at least.
+    // The write took this many bytes, at least one.
     Took(usize),
-    // It was interrupted, and took nothing.
+    // The write was interrupted and took no bytes.
     Interrupted,
-    // It failed, or took nothing.
+    // The write failed or took no bytes.
     Failed,
 }
 
-/// Sends all of `bytes`, in as many writes as `writer` asks for. An interrupted write is tried again.
-/// Takes no memory.
+/// Sends all of `bytes`, in as many writes as `writer` needs. Interrupted writes are tried again.
 ///
 /// # Errors
 ///
-/// A `SendFault` (13) where a write failed otherwise than by an interruption or took nothing, or
-/// where 4,096 writes of the call were interrupted. Exactly the first `sent` bytes went out.
+/// `SendFault` (13): a write failed for another reason than an interruption, a write took no bytes,
+/// or 4,096 writes of the call were interrupted. Exactly the first `sent` bytes were sent.
 #[tactic(auto, using(crate::proofs::Streams::appends_more))]
 pub fn send<W: Write>(writer: &mut Watched<W>, bytes: &[u8]) -> Result<(), SendFault>
     ensures all { OnOk result (Appends (W.contents writer.old.device)
@@ -58,7 +57,7 @@ pub fn send<W: Write>(writer: &mut Watched<W>, bytes: &[u8]) -> Result<(), SendF
     Ok(())
 }
 
-// Writes once of what `bytes` have after the first `sent`.
+// Writes once from the part of `bytes` after the first `sent` bytes.
 fn write_after<W: Write>(writer: &mut Watched<W>, bytes: &[u8], sent: usize) -> Writing
     requires { sent < length bytes.now }
     ensures { WritesAfter (W.contents writer.old.device) (W.contents writer.new.device)

@@ -1,4 +1,4 @@
-//! Texts, in and out.
+//! Reading texts.
 
 ghost use Rattle.std.specs.Prelude.{◌≡◌, ◌<◌, ◌++◌, ◌==◌, [], ◌∷◌, false, true, not, length, IfOk, IfSome, MatchOption, OnOk, OnErr};
 ghost use Rattle.std.specs.Io.{StartsWith};
@@ -12,23 +12,26 @@ ghost use Rattle.gopher_text.specs.Text.{HoldNoFeed, ReadsText, line_read, text_
 use gopher_item::{ByteStrings, NoMemory, first_line, is_last_line};
 use std::alloc::Global;
 
-// How long a line of a text is at least, mostly: room for where the lines end is made once.
+// Most lines of a text are at least this long: room for the ends of all lines is reserved at once.
 const BYTES_OF_A_LINE: usize = 32;
 
 /// A text that was read.
 #[derive(Debug, Drop)]
 pub struct Text {
-    /// The lines, in their order, without their ends, and without the period that was put in front.
+    /// The lines in order, without their ends and without the period that the sender put in front.
     pub lines: ByteStrings,
-    /// Whether a line that is a period alone ended the text.
+    /// Whether a line with a single period ended the text.
     pub ended: bool,
 }
 
-/// Reads a text (RFC 1436, section 2 and the appendix), whatever the bytes are.
+/// Reads a text from any bytes (RFC 1436, appendix: TextFile Entity).
 ///
-/// Its lines are those up to the first that is a period alone; what follows is ignored. A line that
-/// begins with two periods loses one. Refused (90) only where memory is, or where the lines have over
-/// 4,294,967,295 bytes together.
+/// The text ends at the first line that is a single period; bytes after it are ignored. A line that
+/// begins with two periods loses one.
+///
+/// # Errors
+///
+/// `NoMemory` (90): out of memory, or the lines have over 4,294,967,295 bytes together.
 pub fn read_text(alloc: Global, bytes: &[u8]) -> Result<Text, NoMemory>
     ensures read { IfOk result (λ text. ReadsText bytes.now text.lines text.ended) }
     ensures no_feed { IfOk result (λ text. HoldNoFeed text.lines) }
@@ -45,8 +48,9 @@ pub fn read_text(alloc: Global, bytes: &[u8]) -> Result<Text, NoMemory>
     })
 }
 
-/// The first line of a text, as it is read, and the bytes after the line's end; or `None` where there
-/// are no bytes, or the first line is the period alone that ends the text. Takes no memory.
+/// Returns the first line of a text, as it is read, and the bytes after its end; `None` if there
+/// are no bytes, or the first line is the single period that ends the text (RFC 1436, appendix:
+/// Lastline).
 pub fn first_text_line(bytes: &[u8]) -> Option<(&[u8], &[u8])>
     ensures line { MatchOption result (text_lines bytes.now ≡ [])
         (λ parts. text_lines bytes.now ≡ parts.0.now ∷ text_lines parts.1.now) }
@@ -64,7 +68,7 @@ pub fn first_text_line(bytes: &[u8]) -> Option<(&[u8], &[u8])>
     Some((line_as_read(line), rest))
 }
 
-// A line without the period that was put in front of it.
+// A line without the period that the sender put in front of it.
 fn line_as_read(line: &[u8]) -> &[u8]
     ensures read { result.now ≡ line_read line.now }
     ensures no_feed { has_feed line.now ≡ false → has_feed result.now ≡ false }

@@ -1,4 +1,4 @@
-//! A reader or a writer whose failed calls are counted.
+//! Readers and writers that count their failed calls.
 
 ghost use Rattle.std.specs.Prelude.{◌≡◌, ℕ, ◌+◌, ◌-◌, ◌^◌, ◌<◌, ◌≤◌, min, length, OnOk};
 ghost use Rattle.std.specs.Io.{ReadsAtMost, WritesAtMost};
@@ -8,9 +8,10 @@ ghost use Rattle.gopher_text.specs.Watched.{WatchedData, CountsFailure, CountsEr
 use std::io::{self, Read, Write};
 use std::marker::Model;
 
-/// A reader or a writer over another one. It passes each call on, and counts those that failed:
-/// those that answer an error, an interruption too, and the writes that take nothing of bytes that
-/// are not empty. The count stops at the last value of a `u64`.
+/// A reader or a writer that passes each call on to `device` and counts the calls that failed.
+///
+/// A call failed if it returned an error, including an interruption, or if it was a write that took
+/// none of one or more bytes. The count stops at `u64::MAX`.
 #[derive(Debug, Drop)]
 pub struct Watched<D> {
     device: D,
@@ -26,7 +27,7 @@ impl<D> Model for Watched<D> {
 }
 
 impl<D> Watched<D> {
-    /// Watches `device`, none of whose calls has failed yet. Takes no memory.
+    /// Watches `device`, with a count of 0.
     pub fn new(device: D) -> Self
         ensures { result ≡ record { device = device; failures = 0 } }
     {
@@ -36,7 +37,7 @@ impl<D> Watched<D> {
         }
     }
 
-    /// The reader or writer that was watched. Takes no memory.
+    /// Returns the reader or writer that was watched.
     pub fn into_inner(self) -> D
         ensures { result ≡ self.device }
     {
@@ -44,7 +45,7 @@ impl<D> Watched<D> {
         device
     }
 
-    /// How many calls failed, up to the last value of a `u64`. Takes no memory.
+    /// Returns the number of failed calls, at most `u64::MAX`.
     pub fn failures(&self) -> u64
         ensures { result ≡ self.now.failures }
     {

@@ -1,4 +1,4 @@
-//! Texts out: the bytes of lines.
+//! Writing texts.
 
 ghost use Rattle.std.specs.Prelude.{◌≡◌, ◌++◌, true, OnOk, OnErr};
 ghost use Rattle.std.specs.Io.{StartsWith};
@@ -8,14 +8,13 @@ ghost use Rattle.gopher_text.specs.Text.{HoldNoFeed, ReadsText, begins_with_peri
 use gopher_item::{ByteStrings, NoMemory, first_line};
 use std::alloc::AllocError;
 
-// How many bytes a line has more than its own, at most: a period, and CR LF.
+// The most bytes that a line needs besides its own: a period, and CR LF.
 const MOST_MORE: usize = 3;
 
-/// Appends the text of these lines, none of which holds an LF, ended by a period alone (RFC 1436,
-/// section 2 and the appendix).
+/// Appends the text of these lines, which a single period ends (RFC 1436, appendix: TextFile
+/// Entity). No line may contain an LF.
 ///
-/// All or nothing: refused only where memory is (90), and then `out` is as it was. What was written
-/// is read back by `read_text` as these lines, ended.
+/// `read_text` reads the bytes back as these lines, ended.
 pub fn write_text(lines: &ByteStrings, out: &mut Vec<u8>) -> Result<(), NoMemory>
     requires { HoldNoFeed lines.now }
     ensures written { OnOk result (out.new.items ≡ out.old.items ++ text_bytes lines.now) }
@@ -30,9 +29,8 @@ pub fn write_text(lines: &ByteStrings, out: &mut Vec<u8>) -> Result<(), NoMemory
     Ok(())
 }
 
-/// Appends the text of the lines of `bytes`, ended by a period alone: a file as it is sent.
-///
-/// All or nothing: refused only where memory is (90), and then `out` is as it was.
+/// Appends the text of the lines of `bytes`, the contents of a file, which a single period ends
+/// (RFC 1436, appendix: TextFile Entity).
 pub fn write_text_of(bytes: &[u8], out: &mut Vec<u8>) -> Result<(), NoMemory>
     ensures written { OnOk result
         (out.new.items ≡ out.old.items ++ text_bytes (lines_of bytes.now)) }
@@ -46,7 +44,7 @@ pub fn write_text_of(bytes: &[u8], out: &mut Vec<u8>) -> Result<(), NoMemory>
     Ok(())
 }
 
-// As many bytes as the text of the lines has, or more.
+// At least as many bytes as the text of the lines has.
 fn room_for(lines: &ByteStrings) -> usize {
     lines
         .len()
@@ -55,7 +53,7 @@ fn room_for(lines: &ByteStrings) -> usize {
         .saturating_add(MOST_MORE)
 }
 
-// Appends the bytes of the lines and of the last line.
+// Appends the lines and the last line.
 fn push_lines(lines: &ByteStrings, out: &mut Vec<u8>) -> Result<(), AllocError>
     ensures written { OnOk result (out.new.items ≡ out.old.items ++ text_bytes lines.now) }
     ensures kept { StartsWith out.new.items out.old.items }
@@ -66,7 +64,7 @@ fn push_lines(lines: &ByteStrings, out: &mut Vec<u8>) -> Result<(), AllocError>
     out.extend_from_slice(b".\r\n")
 }
 
-// Appends the bytes of the lines that `bytes` are, and of the last line.
+// Appends the lines of `bytes` and the last line.
 fn push_lines_of(bytes: &[u8], out: &mut Vec<u8>) -> Result<(), AllocError>
     ensures written { OnOk result
         (out.new.items ≡ out.old.items ++ text_bytes (lines_of bytes.now)) }
@@ -80,7 +78,6 @@ fn push_lines_of(bytes: &[u8], out: &mut Vec<u8>) -> Result<(), AllocError>
     out.extend_from_slice(b".\r\n")
 }
 
-// Appends the bytes of one line.
 fn push_line(line: &[u8], out: &mut Vec<u8>) -> Result<(), AllocError>
     ensures written { OnOk result (out.new.items ≡ out.old.items ++ text_line_bytes line.now) }
     ensures kept { StartsWith out.new.items out.old.items }

@@ -1,4 +1,4 @@
--- What leads to a path, what leads to that, and that none of these is a file.
+-- The folders above a path, the folders above those, and that none of them is a file.
 use Rattle.std.proofs.Common.{◌≡◌, ℕ, Bool, true, false, cond, ◌||◌, eqb, List, [], ◌∷◌, ◌++◌, length, Option, None, Some, is_some, refl, sym, ap, ◌∙◌, eq-eqb, append_assoc}
 use Rattle.std.proofs.Math.Bool.{or-true}
 use Rattle.std.proofs.Math.Dec.{eqb-suc-zero}
@@ -8,7 +8,7 @@ use Rattle.std.specs.Cmp.Lexicographic.{bytes_decides, nat_list_eq_equiv}
 use Rattle.gopher_tree.specs.Path.{rest_after, is_below}
 use Rattle.gopher_tree.specs.Files.{File, has_path, is_file, is_folder}
 
--- a path has what leads to it, a slash, and the rest
+-- a path through a folder is the folder, a slash and the rest
 pub rest_after-is : (q p r : List ℕ) → rest_after q p ≡ Some r → p ≡ q ++ 47 ∷ r
 rest_after-is q [] r h = absurd cc
 rest_after-is [] (b ∷ p) r h = by (eqb b 47) refl h
@@ -34,7 +34,7 @@ pub some_of : {A : Type 0} (o : Option A) → is_some o ≡ true → (x : A) × 
 some_of None h = absurd cc
 some_of (Some x) h = (x, refl)
 
--- what leads to a path leads to what that leads to
+-- a path through a folder also leads through the folders above that folder
 pub rest_after-more : (q p path r s : List ℕ) → rest_after q p ≡ Some r → rest_after p path ≡ Some s → rest_after q path ≡ Some (r ++ 47 ∷ s)
 rest_after-more q p path r s h k =
     ap (rest_after q) (rest_after-is p path s k ∙ ap (λ l. l ++ 47 ∷ s) (rest_after-is q p r h) ∙ append_assoc q (47 ∷ r) (47 ∷ s))
@@ -76,7 +76,7 @@ folder_above files [] p folder above = refl
 folder_above files (c ∷ q) [] folder above = absurd cc
 folder_above files (c ∷ q) (d ∷ p) folder above = is_folder-cons files c q ∙ any_above files (c ∷ q) (d ∷ p) above (sym (is_folder-cons files d p) ∙ folder)
 
--- what leads to a file or a folder is a folder
+-- a path that leads to a file or a folder is a folder
 pub node_above : (files : List File) (q p : List ℕ) → (is_file files p || is_folder files p) ≡ true → is_below q p ≡ true → is_folder files q ≡ true
 node_above files [] p node above = refl
 node_above files (c ∷ q) p node above = by (is_file files p) refl node
@@ -85,9 +85,9 @@ node_above files (c ∷ q) p node above = by (is_file files p) refl node
     by true e h = is_folder-cons files c q ∙ any_above_file files (c ∷ q) p above e
     by false e h = folder_above files (c ∷ q) p h above
 
--- ---- no file leads to a file or a folder
+-- ---- no file is above a file or a folder
 
--- no folder of these files is one of them
+-- no folder of these files is one of the files
 abbrev pub AreApart : List File → Type 0
 AreApart files = (path : List ℕ) → is_folder files path ≡ true → is_file files path ≡ false
 
@@ -115,7 +115,7 @@ none_through files p apart node = by (list_any (λ f. is_some (rest_after f.0 p)
         let folder : is_folder files file.0 ≡ true = node_above files file.0 p node (is_below-after file.0 p file.2) in
         sym file.1 ∙ apart file.0 folder
 
--- a file of these leads to no folder of theirs, and is none
+-- a file of these is neither above nor equal to a folder of theirs
 pub folder_file : (files : List File) (p folder : List ℕ) → AreApart files → is_folder files folder ≡ true → is_file files p ≡ true → is_some (rest_after p folder) ≡ false
 folder_file files p folder apart is file = by (is_some (rest_after p folder)) refl
   where

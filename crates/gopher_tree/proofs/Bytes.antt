@@ -3,7 +3,7 @@ use Rattle.std.proofs.Common.{◌≡◌, ℕ, Bool, true, false, eqb, List, refl
 use Rattle.std.specs.Prelude.{IsTrue, ◌↔◌}
 use Rattle.std.specs.Cmp.Lexicographic.{pointwise, bytes_decides}
 
--- a test that says whether two lists are equal is their comparison
+-- a test that decides whether two lists are equal is their comparison
 pub test_is_pointwise : (r : Bool) (a b : List ℕ) → IsTrue r ↔ (a ≡ b) → r ≡ pointwise eqb a b
 test_is_pointwise true a b h = sym ((bytes_decides a b).1 (h.0 refl))
 test_is_pointwise false a b h = by (pointwise eqb a b) refl

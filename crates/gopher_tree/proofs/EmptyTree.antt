@@ -1,4 +1,4 @@
--- The tree of no files: its index has the root alone.
+-- The tree without files: its index contains only the root.
 use Rattle.std.proofs.Common.{◌≡◌, ℕ, cond, false, ◌||◌, eqb, List, [], ◌∷◌, length, None, Some, is_some, refl, sym, ap, ◌∙◌, arith}
 use Rattle.std.proofs.Math.Dec.{eqb-suc-zero}
 use Rattle.std.specs.Ordering.{nat_cmp}
@@ -12,7 +12,7 @@ use Rattle.gopher_tree.specs.Tree.{IsTree}
 use Rattle.gopher_tree.specs.declared.tree.index.Entry.{Entry}
 use Rattle.gopher_tree.specs.declared.tree.index.Entry.TheVariants as entry
 
--- an index without entries has nothing at any path
+-- an index without entries has none at any path
 pub held_at-empty : {A : Type 0} (index : BTreeMap (Vec ℕ A) Entry) → index.entries ≡ [] → (q : List ℕ) → held_at index q ≡ None
 held_at-empty index empty q = ap (lookup (is_at (λ key. slice_cmp nat_cmp q key.items))) empty
 

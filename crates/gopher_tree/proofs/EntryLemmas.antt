@@ -1,4 +1,5 @@
--- What stands at a path: the number of a file, or a folder's names; after one file more, and as it is read.
+-- The entry at a path, the number of a file or a folder's names: after one more file, and when
+-- looked up.
 use Rattle.std.proofs.Common.{◌≡◌, ℕ, suc, ◌+◌, ◌-◌, ◌<◌, ◌≤◌, Bool, true, false, cond, ◌||◌, eqb, List, [], ◌∷◌, ◌++◌, length, slice_get, fold, Option, None, Some, is_some, refl, sym, ap, subst, ◌∙◌, arith}
 use Rattle.std.specs.List.{list_any, filter_map, cons_option}
 use Rattle.std.specs.Cmp.Lexicographic.{pointwise, bytes_decides}
@@ -87,7 +88,7 @@ children_at-entry files q none = ap (λ o. children_at (entry_by files q o)) (nu
     by true e = refl
     by false e = sym (ap (fold add_child []) (no_child files q (or_parts (eqb (length q) 0) (list_any (λ g. is_below q g.0) files) e).1))
 
--- ---- after one file more
+-- ---- after one more file
 
 no_file_below : (files : List File) (q path : List ℕ) → is_some (rest_after q path) ≡ true → list_any (λ f. is_some (rest_after f.0 path)) files ≡ false → is_file files q ≡ false
 no_file_below [] q path below none = refl
@@ -138,7 +139,7 @@ entry_of-push files f once root q = by (pointwise eqb q f.0) refl
         ap (λ k. Some (entry.File k)) count ∙ ap (entry_by (files ++ f ∷ []) q) (sym (number_from-new 0 files f q none e))
     by false e = below (is_below q f.0) refl ∙ ap (entry_by (files ++ f ∷ []) q) (sym (number_from-other 0 files f q e))
 
--- no folder is a file then
+-- after one more file, no folder is a file
 pub apart_push : (files : List File) (f : File) → AreApart files → is_twice files f.0 ≡ false → 0 < length f.0 → AreApart (files ++ f ∷ [])
 apart_push files f apart once some q folder = list_any-append (has_path q) files (f ∷ []) ∙ by (is_folder files q) refl (sym (is_folder-push files f q) ∙ folder)
   where
@@ -149,7 +150,7 @@ apart_push files f apart once some q folder = list_any-append (has_path q) files
     itself [] none = absurd (omega arith)
     itself (c ∷ p) more = rest_after-short (c ∷ p) (c ∷ p) (omega arith)
 
-    -- the file's own path is no folder of these, and doesn't lead to itself
+    -- the file's own path isn't a folder of these files, and isn't above itself
     other : (t : Bool) → has_path q f ≡ t → is_folder (files ++ f ∷ []) f.0 ≡ false → t ≡ false
     other false e none = refl
     other true e none = sym folder ∙ ap (is_folder (files ++ f ∷ [])) ((bytes_decides q f.0).0 e) ∙ none
@@ -161,7 +162,7 @@ apart_push files f apart once some q folder = list_any-append (has_path q) files
     by true e h = ap (λ t. t || (has_path q f || false)) (apart q e) ∙ ap (λ t. t || false) (other (has_path q f) refl own)
     by false e h = ap (λ t. t || (has_path q f || false)) (no_folder_file files q f.0 h (apart [] refl) first.1) ∙ ap (λ t. t || false) (other (has_path q f) refl own)
 
--- ---- as it is read
+-- ---- looking up an entry
 
 file_at-some : (files : List File) (q : List ℕ) → is_some (file_at files q) ≡ is_file files q
 file_at-some [] q = refl
@@ -214,7 +215,7 @@ entry_by-file files q k None e = by (is_folder files q) e
     by true h = absurd cc
     by false h = absurd cc
 
--- an entry of a file has its number
+-- the entry of a file contains its number
 pub entry_of-file : (files : List File) (q : List ℕ) (k : ℕ) → entry_of files q ≡ Some (entry.File k) → (k < length files) × (slice_get files k ≡ file_at files q)
 entry_of-file files q k e =
     let found = number_from-is 0 k files q (entry_by-file files q k (number_from 0 files q) e) in
@@ -230,13 +231,13 @@ entry_by-folder files q names None e = let found = by (is_folder files q) refl e
     by true h e = let same : names ≡ children files q = cc in (h, same)
     by false h e = absurd cc
 
--- an entry of a folder has its names
+-- the entry of a folder contains its names
 pub entry_of-folder : (files : List File) (q : List ℕ) (names : List Child) → entry_of files q ≡ Some (entry.Folder names) → (file_at files q ≡ None) × (is_folder files q ≡ true) × (names ≡ children files q)
 entry_of-folder files q names e =
     let found = entry_by-folder files q names (number_from 0 files q) e in
     (file_at-none files q (sym (number_from-some 0 files q) ∙ found.0), found.1, found.2)
 
--- no entry: neither a file nor a folder
+-- without an entry, the path is neither a file nor a folder
 pub entry_of-none : (files : List File) (q : List ℕ) → entry_of files q ≡ None → (file_at files q ≡ None) × (is_folder files q ≡ false)
 entry_of-none files q e =
     let neither = or_parts (is_file files q) (is_folder files q) (sym (entry_of-some files q) ∙ ap is_some e) in

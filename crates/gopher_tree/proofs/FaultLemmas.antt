@@ -1,4 +1,4 @@
--- A file without a fault, and the tree that it is added to.
+-- A file without a fault, and the tree after it was added.
 use Rattle.std.proofs.Common.{◌≡◌, ℕ, ◌+◌, ◌<◌, ◌≤◌, Bool, true, false, cond, ◌||◌, ltb, List, [], ◌∷◌, ◌++◌, length, fold, sum_by, Option, None, Some, is_some, Ok, Err, ◌⊎◌, inl, inr, refl, sym, ap, ◌∙◌, arith}
 use Rattle.std.specs.BTreeMap.{BTreeMap}
 use Rattle.std.specs.declared.vec.Vec.{Vec}
@@ -55,20 +55,20 @@ good_of files file h =
 pub total_bytes-push : (files : List File) (file : File) → total_bytes (files ++ file ∷ []) ≡ total_bytes files + length file.1
 total_bytes-push files file = let one : sum_by (λ g. length g.1) (file ∷ []) ≡ length file.1 = omega arith in sum_by-append (λ g. length g.1) files (file ∷ []) ∙ ap (λ n. total_bytes files + n) one
 
--- the limits that a file without a fault keeps
+-- a file without a fault keeps the limits
 pub few_bytes : (files : List File) (file : File) → is_too_big files file ≡ false → total_bytes (files ++ file ∷ []) ≤ 67108864
 few_bytes files file h = ltb-false 67108864 _ (or_parts (ltb 16777216 (length file.1)) _ (or_parts (ltb 16777216 (length file.1) || ltb 67108864 (total_bytes (files ++ file ∷ []))) _ h).0).1
 
 pub few_nodes : (files : List File) (file : File) → is_too_big files file ≡ false → length (nodes (files ++ file ∷ [])) ≤ 4096
 few_nodes files file h = ltb-false 4096 _ (or_parts (ltb 16777216 (length file.1) || ltb 67108864 (total_bytes (files ++ file ∷ []))) _ h).1
 
--- the nodes are few with those of a file without a fault
+-- the nodes with those of a file without a fault are within the limit
 pub few_after : (files : List File) (file : File) (added : ℕ) → file_fault files file ≡ None → Adds files file.0 added → length (nodes files) + added ≤ 4096
 few_after files file added none more =
     let few = few_nodes files file (good_of files file none).large in
     let counted = ap length (nodes-push files file) ∙ more in omega (arith, few, counted)
 
--- what adds a file is refused for its fault, or for want of memory
+-- adding a file fails with the file's fault, or because it is out of memory
 pub adds_refused : {T : Type 0} (found : Option TreeFault) (files : T) (fault : TreeFault) → AddsFile found files (Err fault) → (found ≡ Some fault) ⊎ ((found ≡ None) × (fault ≡ NoMemory))
 adds_refused None files fault adds = inr (refl, adds)
 adds_refused (Some first) files fault adds = let same : first ≡ fault = cc in inl (ap (λ f. Some f) same)
@@ -77,7 +77,7 @@ pub adds_one : {T : Type 0} (found : Option TreeFault) (files tree : T) → Adds
 adds_one None files tree adds = (refl, adds)
 adds_one (Some first) files tree adds = absurd cc
 
--- the fault of a file is that of the files that it begins
+-- the fault of a file is the fault of the list whose rest it begins
 pub makes_refused : {T : Type 0} (done rest : List File) (file : File) (files : List File) (tree : T) (fault : TreeFault)
     → fault_after done (file ∷ rest) ≡ files_fault files → first_fault files ≡ None → AddsFile (file_fault done file) tree (Err fault) → MakesTree files (Err fault)
 makes_refused done rest file files tree fault is first adds = by (adds_refused (file_fault done file) tree fault adds)
@@ -86,7 +86,7 @@ makes_refused done rest file files tree fault is first adds = by (adds_refused (
     by (inl due) = inl (sym is ∙ ap (λ f. or_fault f (fault_after (done ++ file ∷ []) rest)) due)
     by (inr memory) = inr (memory.1, first)
 
--- the fault of the first file is the files' own
+-- the fault of the first file is the fault of the list
 pub first_is : (files : List File) (fault : TreeFault) → first_fault files ≡ Some fault → files_fault files ≡ Some fault
 first_is [] fault h = absurd cc
 first_is (file ∷ files) fault h = ap (λ f. or_fault f (fault_after (file ∷ []) files)) h
@@ -97,7 +97,7 @@ makes_on done rest file all tree is adds =
     let one = adds_one (file_fault done file) (done ++ file ∷ []) tree adds in
     ap (λ l. fault_after l rest) one.1 ∙ sym (ap (λ f. or_fault f (fault_after (done ++ file ∷ []) rest)) one.0) ∙ is
 
--- the tree of one file more
+-- the tree with one more file
 pub IsTree-push : {A : Type 0} (files : List File) (file : File) (old new : BTreeMap (Vec ℕ A) Entry) (bytes count added : ℕ)
     → file_fault files file ≡ None → IsTree files old bytes count
     → ((q : List ℕ) → held_at new q ≡ entry_after (held_at old q) (length files) (kind_of file.0 file.1) file.0 q)

@@ -1,11 +1,11 @@
 -- The fault of a file that comes first: its nodes are few, and nothing has its path.
-use Rattle.std.proofs.Common.{◌≡◌, ℕ, zero, suc, ◌+◌, ◌<◌, ◌≤◌, Bool, true, false, cond, ◌||◌, eqb, ltb, List, [], ◌∷◌, ◌++◌, length, get_or, take, fold, Option, None, Some, refl, sym, ap, ◌∙◌, arith, lt-ltb, le-ltb}
+use Rattle.std.proofs.Common.{◌≡◌, ℕ, zero, suc, ◌+◌, ◌<◌, ◌≤◌, Bool, true, false, cond, ◌||◌, eqb, ltb, List, [], ◌∷◌, ◌++◌, length, get_or, take, fold, Option, None, Some, refl, ap, ◌∙◌, arith, lt-ltb, le-ltb}
 use Rattle.std.proofs.lemmas.Bool.{ltb-false}
 use Rattle.std.proofs.lemmas.List.{length-append}
 use Rattle.std.proofs.Math.Dec.{eqb-suc-zero}
 use Rattle.gopher_tree.specs.Path.{folders_within, folders_of}
 use Rattle.gopher_tree.specs.Files.{File, is_among, add_path, paths_of, nodes, total_bytes}
-use Rattle.gopher_tree.specs.Fault.{path_fault, is_too_big, is_twice, menu_fault, twice_fault, or_fault, file_fault, first_fault}
+use Rattle.gopher_tree.specs.Fault.{path_fault, is_too_big, is_twice, menu_fault, twice_fault, or_fault, file_fault}
 use Rattle.gopher_tree.specs.declared.fault.TreeFault.{TreeFault}
 use Rattle.gopher_tree.specs.declared.fault.TreeFault.TheVariants.{TooBig, Twice}
 use Rattle.gopher_tree.proofs.FaultLemmas.{path_fault-none, total_bytes-push}
@@ -50,14 +50,14 @@ once-first : (path : List ℕ) → 0 < length path → is_twice [] path ≡ fals
 once-first [] some = absurd (omega arith)
 once-first (b ∷ path) some = ap (λ t. (t || false) || false) (eqb-suc-zero (length path))
 
--- a path without a fault, of a file that is too big
+-- a file with a valid path that has too many bytes
 pub first_too_big : (path bytes : List ℕ) → path_fault 0 path ≡ None → 16777216 < length bytes → file_fault [] (path, bytes) ≡ Some (TooBig 0)
 first_too_big path bytes none big =
     let lengths = path_fault-none 0 path none in
     ap (λ f. or_fault f (cond (is_too_big [] (path, bytes)) (Some (TooBig 0)) (or_fault (menu_fault 0 (path, bytes)) (twice_fault [] path)))) none
     ∙ ap (λ t. cond t (Some (TooBig 0)) (or_fault (menu_fault 0 (path, bytes)) (twice_fault [] path))) (too_big-first (path, bytes) lengths.1 ∙ lt-ltb 16777216 (length bytes) big)
 
--- and of one that isn't
+-- a file with a valid path that doesn't have too many bytes
 pub first_menu : (path bytes : List ℕ) → path_fault 0 path ≡ None → length bytes ≤ 16777216 → file_fault [] (path, bytes) ≡ menu_fault 0 (path, bytes)
 first_menu path bytes none small =
     let lengths = path_fault-none 0 path none in
@@ -70,6 +70,6 @@ first_menu path bytes none small =
     or_none None = refl
     or_none (Some fault) = refl
 
--- a path that has a fault
+-- a file with an invalid path
 pub first_path : (path bytes : List ℕ) (fault : TreeFault) → path_fault 0 path ≡ Some fault → file_fault [] (path, bytes) ≡ Some fault
 first_path path bytes fault due = ap (λ f. or_fault f (cond (is_too_big [] (path, bytes)) (Some (TooBig 0)) (or_fault (menu_fault 0 (path, bytes)) (twice_fault [] path)))) due

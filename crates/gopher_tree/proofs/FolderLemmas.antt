@@ -9,12 +9,12 @@ use Rattle.gopher_tree.specs.Files.{Child, child_of, child_of_rest}
 use Rattle.gopher_tree.specs.Index.{folder_with, folders_after}
 use Rattle.gopher_tree.specs.declared.tree.index.Entry.{Entry}
 
--- an entry that was put where one was taken out
+-- removing an entry and then putting one replaces it
 pub put_taken : (t : Bool) (new mid old put wanted : Option Entry) → new ≡ cond t put mid → mid ≡ cond t None old → put ≡ wanted → new ≡ cond t wanted old
 put_taken true new mid old put wanted n m e = n ∙ e
 put_taken false new mid old put wanted n m e = n ∙ m
 
--- a path that is no longer than the folder leads through no such folder
+-- a path leads through no folder that is at least as long
 pub rest_after-short : (q path : List ℕ) → length path ≤ length q → is_some (rest_after q path) ≡ false
 rest_after-short q [] short = refl
 rest_after-short [] (b ∷ path) short = absurd (omega arith)
@@ -32,12 +32,12 @@ eqb-zero : (n : ℕ) → 0 < n → eqb n 0 ≡ false
 eqb-zero zero some = absurd (omega arith)
 eqb-zero (suc n) some = eqb-suc-zero n
 
--- below the root, the folder's name is compared
+-- below a folder other than the root, the folder's bytes are compared
 rest_below-long : (folder path : List ℕ) → 0 < length folder → rest_below folder path ≡ rest_after folder path
 rest_below-long [] path some = absurd (omega arith)
 rest_below-long (c ∷ folder) path some = refl
 
--- one byte more of a path
+-- a prefix of a path with one more byte
 pub rest_after-take : (q path : List ℕ) (n : ℕ) → n < length path
     → is_some (rest_after q (take (suc n) path)) ≡ (is_some (rest_after q (take n path)) || (pointwise eqb q (take n path) && eqb (get_or path n 0) 47))
 rest_after-take q [] n low = absurd (omega arith)
@@ -55,7 +55,7 @@ rest_after-take (c ∷ q) (b ∷ path) (suc n) low = by (eqb c b) (rest_after-ta
     by true h = h
     by false h = refl
 
--- the folder before a slash
+-- the path after the folder before a slash
 pub rest_after-at : (path : List ℕ) (n : ℕ) → n < length path → eqb (get_or path n 0) 47 ≡ true → rest_after (take n path) path ≡ Some (drop (suc n) path)
 rest_after-at [] n low slash = absurd (omega arith)
 rest_after-at (b ∷ path) zero low slash = ap (λ t. cond t (Some path) None) slash
@@ -64,7 +64,7 @@ rest_after-at (b ∷ path) (suc n) low slash = ap (λ t. cond t (rest_after (tak
 pub length_take_one : (path : List ℕ) → length (take 1 path) ≤ 1
 length_take_one path = omega (arith, length-take 1 path)
 
--- whether a path is the root, or the first `n` bytes of `path` lead through it
+-- a path is the root, or the first `n` bytes of `path` lead through it
 abbrev pub is_in : ℕ → List ℕ → List ℕ → Bool
 is_in n path q = eqb (length q) 0 || is_some (rest_after q (take n path))
 
@@ -86,19 +86,19 @@ is_in-other q path n low other =
     ap (λ t. eqb (length q) 0 || t) (rest_after-take q path n low ∙ ap (λ t. is_some (rest_after q (take n path)) || (pointwise eqb q (take n path) && t)) other
     ∙ ap (λ t. is_some (rest_after q (take n path)) || t) (and-false (pointwise eqb q (take n path))) ∙ or-false _)
 
--- a folder is not among those that lead only so far
+-- a prefix of n bytes isn't among the folders that those bytes lead through
 pub is_in-self : (path : List ℕ) (n : ℕ) → 0 < n → n < length path → is_in n path (take n path) ≡ false
 is_in-self path n some low =
     let long : length (take n path) ≡ n = length-take-le n path (omega arith) in
     let nonempty : eqb (length (take n path)) 0 ≡ false = eqb-zero _ (omega arith) in
     ap (λ t. t || is_some (rest_after (take n path) (take n path))) nonempty ∙ rest_after-short (take n path) (take n path) (omega arith)
 
--- the whole path
+-- the folders of the whole path
 pub is_in-whole : (q path : List ℕ) → is_in (length path) path q ≡ is_below q path
 is_in-whole [] path = refl
 is_in-whole (c ∷ q) path = is_in-cons (length path) path c q ∙ ap (λ p. is_some (rest_after (c ∷ q) p)) (take_all (length path) path (omega arith))
 
--- what stands at `q` once the folders behind the first `n` bytes have what they have of the file
+-- the entry at `q` after the file was added to the folders behind the first `n` bytes of its path
 abbrev pub folders_from : Option Entry → ℕ → List ℕ → ℕ → List ℕ → Option Entry
 folders_from held kind path n q = cond (is_in n path q) held (folders_after held kind path q)
 
@@ -109,13 +109,13 @@ folders_from-whole held kind path q = ap (λ t. cond t held (folders_after held 
     by true = refl
     by false = refl
 
--- the folder before a slash leads to the path
+-- the path leads through the folder before a slash
 pub below-slash : (path : List ℕ) (n : ℕ) → 0 < n → n < length path → eqb (get_or path n 0) 47 ≡ true → rest_below (take n path) path ≡ Some (drop (suc n) path)
 below-slash path n some low slash =
     let long : length (take n path) ≡ n = length-take-le n path (omega arith) in
     rest_below-long (take n path) path (omega arith) ∙ rest_after-at path n low slash
 
--- the folder before a slash is as it was, where only those behind it were added to
+-- adding to the folders behind a slash doesn't change the folder before the slash
 pub kept_before : (h g : List ℕ → Option Entry) (kind : ℕ) (path : List ℕ) (n : ℕ) → 0 < n → n < length path → eqb (get_or path n 0) 47 ≡ true
     → ((q : List ℕ) → g q ≡ folders_from (h q) kind path (n + 1) q) → g (take n path) ≡ h (take n path)
 kept_before h g kind path n some low slash after =
@@ -150,7 +150,7 @@ folders_from-slash h g kind path n some low slash after q = by (pointwise eqb q 
     by true y = subst (λ l. folder_with (g folder) (child_of kind (names_of (drop (suc n) path))) ≡ folders_from (h l) kind path n l) (sym ((bytes_decides q folder).0 y)) at_folder
     by false y = after q ∙ ap (λ t. cond t (h q) (folders_after (h q) kind path q)) (is_in-slash q path n low slash ∙ ap (λ t. is_in n path q || t) y ∙ or-false (is_in n path q))
 
--- the folder before a place, where a slash is there
+-- after adding to the folder before this position, if a slash is at the position
 pub folders_from-step : (h g : List ℕ → Option Entry) (kind : ℕ) (path : List ℕ) (n : ℕ) → 0 < n → n < length path
     → ((q : List ℕ) → g q ≡ folders_from (h q) kind path (n + 1) q)
     → (q : List ℕ) → cond (eqb (get_or path n 0) 47 && pointwise eqb q (take n path)) (folder_with (g (take n path)) (child_of kind (names_of (drop (n + 1) path)))) (g q) ≡ folders_from (h q) kind path n q
@@ -163,7 +163,7 @@ folders_from-step h g kind path n some low after q =
     by true slash later = folders_from-slash h g kind path n some low slash later q
     by false other later = later q ∙ ap (λ t. cond t (h q) (folders_after (h q) kind path q)) (is_in-other q path n low other)
 
--- the root, behind all others
+-- after adding to the root, the last step
 pub folders_from-root : (h g : List ℕ → Option Entry) (kind : ℕ) (path : List ℕ) (n : ℕ) (child : Option Child) → n ≤ 1 → child ≡ child_of kind (names_of path)
     → ((q : List ℕ) → g q ≡ folders_from (h q) kind path n q)
     → (q : List ℕ) → cond (pointwise eqb q []) (folder_with (g []) child) (g q) ≡ folders_after (h q) kind path q
@@ -172,7 +172,7 @@ folders_from-root h g kind path n child few is after (c ∷ q) =
     after (c ∷ q)
     ∙ ap (λ t. cond t (h (c ∷ q)) (folders_after (h (c ∷ q)) kind path (c ∷ q))) (is_in-cons n path c q ∙ rest_after-short (c ∷ q) (take n path) (omega (arith, length-take n path)))
 
--- above a folder that was there nothing is new
+-- if a folder existed, the folders above it already have their child on the path
 pub folders_from-settled : (h : List ℕ → Option Entry) (kind : ℕ) (path : List ℕ) (n : ℕ) → 0 < n → n < length path → eqb (get_or path n 0) 47 ≡ true
     → ((q : List ℕ) → is_below (take n path) path ≡ true → is_below q (take n path) ≡ true → folder_with (h q) (child_of_rest kind (rest_below q path)) ≡ h q)
     → (q : List ℕ) → folders_from (h q) kind path n q ≡ folders_after (h q) kind path q

@@ -1,4 +1,4 @@
--- What an index has at each path after a change at one.
+-- The entries of an index after a change at one path.
 use Rattle.std.proofs.Common.{◌≡◌, ℕ, Bool, true, false, cond, eqb, List, Option, refl, sym, subst, ◌∙◌}
 use Rattle.std.specs.Ordering.{is_eq, nat_cmp}
 use Rattle.std.specs.Cmp.{eq_by_cmp_equiv}

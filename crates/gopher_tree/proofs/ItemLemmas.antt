@@ -1,4 +1,4 @@
--- The tests of a written line's parts, and the refusals of a line that is made.
+-- The tests of a written line's parts are the tests of a menu line that is made.
 use Rattle.std.proofs.Common.{◌≡◌, ℕ, Bool, true, false, cond, ◌&&◌, not, List, Option, None, Some, is_some, refl}
 use Rattle.gopher_item.specs.Bytes.{has_special}
 use Rattle.gopher_item.specs.MenuLine.{is_bad_type}

@@ -1,4 +1,4 @@
--- The names of a folder's listing: in which order they stand, and which they are.
+-- The names of a folder's listing and their order.
 use Rattle.std.proofs.Common.{◌≡◌, ℕ, Bool, true, false, cond, ◌&&◌, ◌||◌, not, List, [], ◌∷◌, fold, Option, None, Some, is_some, refl, sym, ap, ◌∙◌}
 use Rattle.std.specs.Prelude.{nat_eq}
 use Rattle.std.specs.List.{list_any, filter_map, cons_option}
@@ -19,7 +19,7 @@ use Rattle.gopher_tree.proofs.SettledLemmas.{names_of-one, names_ascend, none_as
 pub listings_ascend : ListingsAscend
 listings_ascend files folder = names_ascend [] (filter_map (child_below folder) files) none_ascend
 
--- ---- the names that were put in
+-- ---- inserted names
 
 abbrev is_named : List ℕ → Child → Bool
 is_named name child = is_eq (order name child.0)
@@ -45,7 +45,7 @@ some_put name names (c ∷ put) =
     by false None rest = refl
     by false (Some k) rest = refl
 
--- ---- which names the files give a folder
+-- ---- the names that files give a folder
 
 abbrev is_child : List ℕ → Option Child → Bool
 is_child name None = false

@@ -1,4 +1,4 @@
--- Names put in one after another, each in its place: what is found at a name, and that they ascend.
+-- Inserting names one by one into a sorted list: looking up a name, and the order of the names.
 use Rattle.std.proofs.Common.{◌≡◌, ℕ, Bool, true, false, cond, List, [], ◌∷◌, Option, None, Some, refl, sym, ap, subst, ◌∙◌}
 use Rattle.std.specs.Ordering.{nat_cmp, is_eq, match_ordering, ordering_reverse}
 use Rattle.std.specs.declared.cmp.Ordering.{Ordering}
@@ -17,7 +17,7 @@ use Rattle.gopher_tree.specs.Files.{Child}
 abbrev pub order : List ℕ → List ℕ → Ordering
 order = slice_cmp nat_cmp
 
--- what a list has at a name
+-- the type at a name in a list
 abbrev pub at_name : List ℕ → List Child → Option ℕ
 at_name name children = lookup (is_at (order name)) children
 
@@ -40,7 +40,7 @@ same_name a b h = by (order a b) refl h
 pub at_name-same : (name : List ℕ) → is_eq (order name name) ≡ true
 at_name-same name = ap is_eq (order_self name)
 
--- after one more, or one again
+-- looking up a name after one was inserted or replaced
 pub at_name-insert : (children : List Child) (name : List ℕ) (kind : ℕ) (q : List ℕ)
     → at_name q (insert_entry order children name kind) ≡ cond (is_eq (order q name)) (Some kind) (at_name q children)
 at_name-insert [] name kind q = refl
@@ -102,7 +102,7 @@ sorted-insert (e ∷ es) name kind sorted = by (order name e.0) refl (sorted-ins
     by Equal is rest = sorted
     by Greater is rest = (all-insert (λ y. order e.0 y ≡ Less) es name kind sorted.0 (turned name e.0 is), rest)
 
--- what is there already isn't put in twice
+-- inserting a name again with its type changes nothing
 pub insert-again : (children : List Child) (name : List ℕ) (kind : ℕ) → IsStrictlySortedBy order (keys_of children) → at_name name children ≡ Some kind → insert_entry order children name kind ≡ children
 insert-again [] name kind sorted there = absurd cc
 insert-again (e ∷ es) name kind sorted there = by (order name e.0) refl (insert-again es name kind (sorted_tail order e.0 (keys_of es) sorted))

@@ -1,4 +1,4 @@
--- Fields that make no line of a menu file, and one line more.
+-- Fields that don't make a line of a menu file, and one more line.
 use Rattle.std.proofs.Common.{◌≡◌, ℕ, ◌<◌, Bool, true, false, eqb, List, [], ◌∷◌, length, None, refl, ap, ◌∙◌, arith}
 use Rattle.std.specs.List.{onto_first}
 use Rattle.std.proofs.lemmas.List.Splits.{slice_split-cons_yes, slice_split-cons_no}
@@ -20,7 +20,7 @@ untyped field (b ∷ []) = refl
 untyped field (b ∷ c ∷ []) = refl
 untyped field (b ∷ c ∷ d ∷ more) = refl
 
--- an empty first field of several
+-- several fields whose first is empty
 pub line_of_fields-untyped : (first rest : List ℕ) → length first < 1 → line_of_fields (first ∷ fields_of rest) ≡ None
 line_of_fields-untyped [] rest short = let some = fields_of-some rest in ap (λ fields. line_of_fields ([] ∷ fields)) some.2 ∙ untyped some.0 some.1
 line_of_fields-untyped (b ∷ first) rest short = absurd (omega arith)

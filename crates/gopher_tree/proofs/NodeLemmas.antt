@@ -36,7 +36,7 @@ is_among-fold known [] q = sym (or-false (is_among known q))
 is_among-fold known (path ∷ paths) q =
     is_among-fold (add_path known path) paths q ∙ ap (λ t. t || is_among paths q) (is_among-add known path q) ∙ or_assoc (is_among known q) (pointwise eqb q path) (is_among paths q)
 
--- the root and the folders within so many bytes
+-- the root and the folders within the first bytes of a path
 pub folders-among : (n : ℕ) (path q : List ℕ) → n < length path → is_among ([] ∷ folders_within (suc n) path) q ≡ is_in (suc n) path q
 folders-among zero path [] low = refl
 folders-among zero path (c ∷ q) low = sym (is_in-cons 1 path c q ∙ rest_after-short (c ∷ q) (take 1 path) (omega (arith, length_take_one path)))
@@ -60,7 +60,7 @@ paths_of-among path q some =
     ∙ ap (λ t. t || (pointwise eqb q path || false)) (folders_of-among path q some)
     ∙ ap (λ t. is_below q path || t) (or-false (pointwise eqb q path))
 
--- the paths that an index has after one file more are the nodes
+-- the paths of an index after one more file are the nodes
 pub entry_after-some : (held : Option Entry) (number kind : ℕ) (path q : List ℕ) (known : List (List ℕ)) → 0 < length path → is_some held ≡ is_among known q
     → is_some (entry_after held number kind path q) ≡ is_among (fold add_path known (paths_of path)) q
 entry_after-some held number kind path q known some e = by (pointwise eqb q path) (is_below q path) ∙ sym all
@@ -91,7 +91,7 @@ count_path known paths path t e new =
     by true all = omega arith
     by false all = omega (arith, length-append all (path ∷ []))
 
--- nothing but the root is counted before the first slash
+-- only the root is counted before the first slash
 pub count_root : (files : List File) (path : List ℕ) → length (fold add_path (nodes files) ([] ∷ folders_within 1 path)) ≡ length (nodes files)
 count_root files path = ap (λ t. length (cond t (nodes files) (nodes files ++ [] ∷ []))) (nodes-root files)
 
@@ -116,7 +116,7 @@ count_last known path t some e = count_path known ([] ∷ folders_of path) path 
     itself [] some = absurd (omega arith)
     itself (c ∷ p) some = rest_after-short (c ∷ p) (c ∷ p) (omega arith)
 
--- the nodes that the folder before a place adds
+-- the nodes that the folder before a position adds
 pub count_step : (known : List (List ℕ)) (path : List ℕ) (n : ℕ) → 0 < n → n < length path
     → length (fold add_path known ([] ∷ folders_within (n + 1) path)) ≡ length (fold add_path known ([] ∷ folders_within n path)) + cond (eqb (get_or path n 0) 47 && not (is_among known (take n path))) 1 0
 count_step known path n some low =
@@ -128,14 +128,14 @@ count_step known path n some low =
     by true slash false e = count_folder known path n false some low slash e
     by false other t e = let zero_more : length (fold add_path known ([] ∷ folders_within n path)) ≡ length (fold add_path known ([] ∷ folders_within n path)) + 0 = omega arith in count_other known path n some other ∙ zero_more
 
--- what is among them already adds nothing
+-- adding known paths adds no node
 fold_known : (known paths : List (List ℕ)) → ((q : List ℕ) → is_among paths q ≡ true → is_among known q ≡ true) → fold add_path known paths ≡ known
 fold_known known [] among = refl
 fold_known known (path ∷ paths) among =
     ap (λ t. fold add_path (cond t known (known ++ path ∷ [])) paths) (among path (ap (λ t. t || is_among paths path) (nat_list_eq_equiv.refl path)))
     ∙ fold_known known paths (λ q h. among q (ap (λ t. pointwise eqb q path || t) h ∙ or-true (pointwise eqb q path)))
 
--- above a node nothing is new
+-- the folders above a node add no node
 count_known : (known : List (List ℕ)) (path : List ℕ) (n : ℕ) → 0 < n → n < length path → ((q : List ℕ) → is_below q (take n path) ≡ true → is_among known q ≡ true)
     → length (fold add_path known ([] ∷ folders_within n path)) ≡ length known
 count_known known path zero some low above = absurd (omega arith)
@@ -145,7 +145,7 @@ count_known known path (suc n) some low above = ap length (fold_known known ([] 
     below [] e = refl
     below (c ∷ q) e = sym (is_in-cons (suc n) path c q) ∙ e
 
--- a node before a slash
+-- a slash after a node
 pub count_there : (known : List (List ℕ)) (path : List ℕ) (n : ℕ) → 0 < n → n < length path → is_among known (take n path) ≡ true
     → ((q : List ℕ) → is_below q (take n path) ≡ true → is_among known q ≡ true)
     → length (fold add_path known ([] ∷ folders_within (n + 1) path)) ≡ length known
@@ -156,7 +156,7 @@ count_there known path n some low there above =
     ∙ ap (λ t. length (fold add_path known ([] ∷ folders_within n path)) + cond t 1 0) (and-false (eqb (get_or path n 0) 47))
     ∙ omega (arith, counted)
 
--- a slash with no node before it, or no slash
+-- a slash without a node before it, or no slash
 pub count_missing : (known : List (List ℕ)) (path : List ℕ) (n : ℕ) → 0 < n → n < length path → (eqb (get_or path n 0) 47 && is_among known (take n path)) ≡ false
     → length (fold add_path known ([] ∷ folders_within (n + 1) path)) ≡ length (fold add_path known ([] ∷ folders_within n path)) + cond (eqb (get_or path n 0) 47) 1 0
 count_missing known path n some low missing =
@@ -167,7 +167,7 @@ count_missing known path n some low missing =
     by true false h = refl
     by false t h = refl
 
--- the path itself, behind the folders
+-- the path itself, after its folders
 pub all_counted : (known : List (List ℕ)) (path : List ℕ) (t : Bool) (count : ℕ) → 0 < length path → is_among known path ≡ t
     → length (fold add_path known ([] ∷ folders_of path)) ≡ length known + count
     → length (fold add_path known (paths_of path)) ≡ length known + count + cond t 0 1

@@ -24,6 +24,6 @@ has_bad_name-more name after =
     let some = names_of-some after in
     ap (λ names. has_bad_name (name ∷ names)) some.2 ∙ sym (ap (λ names. is_bad_name name || has_bad_name names) some.2)
 
--- what a folder has of a file that is further below
+-- a file further below gives a folder the child of the next name
 pub child_of-more : (kind : ℕ) (name after : List ℕ) → child_of kind (name ∷ names_of after) ≡ Some (name, 49)
 child_of-more kind name after = ap (λ names. child_of kind (name ∷ names)) (names_of-some after).2

@@ -1,19 +1,19 @@
 -- The paths of an index.
-use Rattle.std.proofs.Common.{◌≡◌, ℕ, Bool, true, false, cond, ◌||◌, eqb, List, [], ◌∷◌, map, Option, None, Some, is_some, Result, Ok, Err, IfOk, refl, sym, ap, subst, ◌∙◌}
+use Rattle.std.proofs.Common.{◌≡◌, ℕ, Bool, true, false, cond, ◌||◌, List, [], ◌∷◌, map, Some, is_some, Result, Ok, Err, IfOk, refl, ap, subst, ◌∙◌}
 use Rattle.std.specs.List.{AllByRecursion}
 use Rattle.std.specs.List.Sorted.{IsStrictlySortedBy}
 use Rattle.std.specs.declared.cmp.Ordering.{Ordering}
 use Rattle.std.specs.declared.cmp.Ordering.TheVariants.{Less}
 use Rattle.std.specs.Ordering.{is_eq, nat_cmp}
-use Rattle.std.specs.Cmp.Lexicographic.{pointwise, slice_cmp, texts_ties}
+use Rattle.std.specs.Cmp.Lexicographic.{slice_cmp, texts_ties}
 use Rattle.std.specs.BTreeMap.{BTreeMap, keys}
 use Rattle.std.specs.Map.{keys_of, lookup}
 use Rattle.std.specs.declared.vec.Vec.{Vec}
 use Rattle.gopher_tree.specs.Files.{File, is_among, AreNodes}
-use Rattle.gopher_tree.specs.Index.{held_at, IndexPaths, IsIndex}
+use Rattle.gopher_tree.specs.Index.{IndexPaths, IsIndex}
 use Rattle.gopher_tree.specs.declared.tree.index.Entry.{Entry}
 
--- ---- keys in order, seen by what they hold
+-- ---- keys in order, by their contents
 
 below_map : {A B : Type 0} (c : B → B → Ordering) (f : A → B) (x : A) (xs : List A) → AllByRecursion (λ y. c (f x) (f y) ≡ Less) xs → AllByRecursion (λ y. c (f x) y ≡ Less) (map f xs)
 below_map c f x [] h = tt

@@ -1,4 +1,4 @@
--- The folders above a folder of a list of files have what they have of a path through it.
+-- In a list of files, the folders above a folder contain their child on each path through it.
 use Rattle.std.proofs.Common.{◌≡◌, ℕ, ◌<◌, Bool, true, false, cond, ◌||◌, eqb, List, [], ◌∷◌, ◌++◌, length, fold, Option, None, Some, is_some, ◌⊎◌, inl, inr, refl, sym, ap, ◌∙◌, arith}
 use Rattle.std.specs.List.{list_any, filter_map, cons_option, onto_first}
 use Rattle.std.specs.Ordering.{is_eq}
@@ -60,7 +60,7 @@ names_of-one (b ∷ r) name h = by (eqb b 47) refl (names_of-some r) (names_of-o
         let named : b ∷ some.0 ≡ name = cc in
         ap (λ l. b ∷ l) (rest some.0 (some.2 ∙ ap (λ l. some.0 ∷ l) last)) ∙ named
 
--- a path is its first name, or leads on behind it
+-- a path is its first name, or leads through it
 first_name-is : (r : List ℕ) → (r ≡ first_name (names_of r)) ⊎ (is_some (rest_after (first_name (names_of r)) r) ≡ true)
 first_name-is [] = inl refl
 first_name-is (b ∷ r) = by (eqb b 47) refl (names_of-some r) (first_name-is r)
@@ -79,17 +79,17 @@ first_name-is (b ∷ r) = by (eqb b 47) refl (names_of-some r) (first_name-is r)
         further (inl same) = inl (ap (λ l. b ∷ l) same ∙ sym named)
         further (inr leads) = inr (ap (λ n. is_some (rest_after n (b ∷ r))) named ∙ ap is_some (rest_after-same (b ∷ []) (first_name (names_of r)) r) ∙ leads)
 
--- what a folder has of a path that leads on behind a name
+-- the child that leads to a path below a name is a folder
 child_through : (kind : ℕ) (r s : List ℕ) → child_of kind (names_of (r ++ 47 ∷ s)) ≡ Some (first_name (names_of r), 49)
 child_through kind r s = let more = names_of-slash r s in ap (child_of kind) more.2
 
--- ---- each file has a folder of the name, where one stands there
+-- ---- the name of a folder, for which every file gives a folder
 
 abbrev Agrees : List ℕ → List ℕ → List File → Type 0
 Agrees q name [] = Unit {0}
 Agrees q name (file ∷ files) = ((kind : ℕ) → child_below q file ≡ Some (name, kind) → kind ≡ 49) × Agrees q name files
 
--- the file of a name of which a path is a folder, or leads through one
+-- if a folder's path begins with q and a name, no file has the path of q and that name
 file_of_name : (files : List File) (folder q r : List ℕ) → AreApart files → is_folder files folder ≡ true → folder ≡ q ++ r → (p : List ℕ) → p ≡ q ++ first_name (names_of r) → is_file files p ≡ true → ⊥
 file_of_name files folder q r apart is parts p p_is file = by (first_name-is r)
   where
@@ -104,7 +104,7 @@ file_of_name files folder q r apart is parts p p_is file = by (first_name-is r)
         let through : is_some (rest_after p folder) ≡ true = ap (λ l. is_some (rest_after l folder)) p_is ∙ ap (λ l. is_some (rest_after (q ++ name) l)) parts ∙ ap is_some (rest_after-same q name r) ∙ leads in
         let both : true ≡ false = sym through ∙ folder_file files p folder apart is file in cc
 
--- where a folder stands behind a slash, or in the root
+-- a folder's path with its slash; nothing for the root
 abbrev before : List ℕ → List ℕ
 before [] = []
 before (c ∷ q) = c ∷ (q ++ 47 ∷ [])
@@ -156,9 +156,9 @@ agrees files (file ∷ some) folder q r apart is parts among = (
   agrees files some folder q r apart is parts (λ p h. among p (ap (λ t. has_path p file || t) h ∙ or-true (has_path p file))),
 )
 
--- ---- what the names of a folder have at the name
+-- ---- the type of the name among the folder's names
 
--- these names, with those that the files give the folder, have a folder of the name
+-- these names, with those that the files give the folder, contain a folder with the name
 abbrev HasFolder : List ℕ → List ℕ → List File → List Child → Type 0
 HasFolder q name files names = at_name name (fold add_child names (filter_map (child_below q) files)) ≡ Some 49
 
@@ -201,9 +201,9 @@ pub none_ascend : IsStrictlySortedBy order (keys_of {X = ℕ} [])
 unfolding IsStrictlySortedBy
 none_ascend = tt
 
--- ---- a folder above a folder has what it has of a path through that
+-- ---- a folder above a folder contains its child on a path through it
 
--- what leads to a path leads to what that leads to, the root too
+-- a path through a folder also leads through the folders above that folder and the root
 rest_below-more : (q p path r s : List ℕ) → rest_below q p ≡ Some r → rest_after p path ≡ Some s → rest_below q path ≡ Some (r ++ 47 ∷ s)
 rest_below-more [] p path r s h k = let same : p ≡ r = cc in ap (λ l. Some l) (rest_after-is p path s k ∙ ap (λ l. l ++ 47 ∷ s) same)
 rest_below-more (c ∷ q) p path r s h k = rest_after-more (c ∷ q) p path r s h k
@@ -240,7 +240,7 @@ folder_at-is files q h = by (number_from 0 files q) h
     by (Some k) e = absurd cc
     by None e = folder (is_folder files q) e
 
--- in the index of a list of files
+-- the index of a list of files is settled
 pub settled : {A : Type 0} (files : List File) (index : BTreeMap (Vec ℕ A) Entry) (kind : ℕ) (path : List ℕ) → IsIndex files index → IsSettled index kind path
 settled files index kind path whole folder q some there leads above =
     let is : is_folder files folder ≡ true = folder_at-is files folder (ap (λ e. is_some (folder_at e)) (sym (whole.entries folder)) ∙ there) in
@@ -258,7 +258,7 @@ settled files index kind path whole folder q some there leads above =
     long [] some h = absurd (omega arith)
     long (c ∷ p) some h = h
 
--- all that leads to a file or a folder are folders
+-- all paths above a file or a folder are folders
 pub above_node : {A : Type 0} (files : List File) (index : BTreeMap (Vec ℕ A) Entry) (path : List ℕ) → IsIndex files index → (is_file files path || is_folder files path) ≡ true → AboveAreFolders files path
 above_node files index path whole node = record {
   known = λ q below. sym (whole.paths q) ∙ ap is_some (whole.entries q) ∙ entry_of-some files q ∙ ap (λ t. is_file files q || t) (node_above files q path node below) ∙ or-true (is_file files q);

@@ -21,13 +21,13 @@ through-take (f ∷ files) path n low =
     ∙ ap (λ t. (is_some (rest_after f.0 (take n path)) || (pointwise eqb (take n path) f.0 && eqb (get_or path n 0) 47)) || t) (through-take files path n low)
     ∙ or_split (is_some (rest_after f.0 (take n path))) (list_any (λ g. is_some (rest_after g.0 (take n path))) files) (eqb (get_or path n 0) 47) (pointwise eqb (take n path) f.0) (is_file files (take n path))
 
--- leading through a file before the next place
+-- the next byte of the path
 pub through_step : (files : List File) (path : List ℕ) (n : ℕ) (found : Bool) → n < length path → list_any (λ f. is_some (rest_after f.0 (take n path))) files ≡ found
     → list_any (λ f. is_some (rest_after f.0 (take (n + 1) path))) files ≡ (found || (eqb (get_or path n 0) 47 && is_file files (take n path)))
 through_step files path n found low e =
     ap (λ m. list_any (λ f. is_some (rest_after f.0 (take m path))) files) (add-one n) ∙ through-take files path n low ∙ ap (λ t. t || (is_file files (take n path) && eqb (get_or path n 0) 47)) e ∙ ap (λ t. found || t) (and_comm (is_file files (take n path)) (eqb (get_or path n 0) 47))
 
--- no node before a slash, or no slash
+-- a slash without a node before it, or no slash
 pub through_other : (files : List File) (path : List ℕ) (n : ℕ) → n < length path → (eqb (get_or path n 0) 47 && (is_file files (take n path) || is_folder files (take n path))) ≡ false
     → leads_through_file files (take (n + 1) path) ≡ leads_through_file files (take n path)
 through_other files path n low none =
@@ -40,7 +40,7 @@ through_other files path n low none =
     by true false folder h = refl
     by false file folder h = refl
 
--- a slash with a node before it, through which no file leads
+-- a slash after a node that no file is above
 pub through_node : (files : List File) (path : List ℕ) (n : ℕ) → n < length path → eqb (get_or path n 0) 47 ≡ true → leads_through_file files (take n path) ≡ false
     → leads_through_file files (take (n + 1) path) ≡ is_file files (take n path)
 through_node files path n low slash none =
@@ -48,7 +48,7 @@ through_node files path n low slash none =
     ∙ ap (λ t. t || (eqb (get_or path n 0) 47 && is_file files (take n path))) none
     ∙ ap (λ t. t && is_file files (take n path)) slash
 
--- no path leads through anything before its first byte
+-- no bytes lead through a file
 pub through_none : (files : List File) (path : List ℕ) → list_any (λ f. is_some (rest_after f.0 (take 0 path))) files ≡ false
 through_none [] path = refl
 through_none (f ∷ files) path = through_none files path

@@ -1,4 +1,4 @@
--- A child as the code gives it, its name borrowed from a path.
+-- A child of a folder as the code has it, with its name borrowed from a path.
 use Rattle.std.specs.Prelude.{ℕ, List, Option}
 use Rattle.std.specs.Option.{option_map}
 use Rattle.std.specs.Borrow.{Bor}

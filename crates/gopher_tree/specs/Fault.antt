@@ -1,4 +1,4 @@
--- Which lists of files are refused, and why.
+-- The faults of lists of files.
 use Rattle.std.specs.Prelude.{◌≡◌, ℕ, Bool, ◌||◌, nat_lt, List, [], ◌∷◌, ◌++◌, length, Option, None, Some, Result, Ok, Err, ◌⊎◌, if◌then◌else◌}
 use Rattle.gopher_tree.specs.Path.{names_of, first_name, is_search_name, has_bad_name, is_menu_path}
 use Rattle.gopher_tree.specs.MenuFile.{bad_line}
@@ -16,14 +16,14 @@ tree_fault_code (Twice file) = 25
 tree_fault_code (Unreadable file) = 26
 tree_fault_code NoMemory = 90
 
--- the first fault of a path by itself; `number` is its place in the list
+-- the first fault of a path alone; `number` is the index of its file in the list
 abbrev pub path_fault : ℕ → List ℕ → Option TreeFault
 path_fault number path =
     if has_bad_name (names_of path) then Some (BadName number) else
     (if is_search_name (first_name (names_of path)) then Some (Reserved number) else
     (if nat_lt 254 (length path) then Some (LongSelector number) else None))
 
--- a file, all files or the nodes are too many
+-- a file has too many bytes, all files have too many bytes, or there are too many nodes
 abbrev pub is_too_big : List File → File → Bool
 is_too_big files file =
     nat_lt 16777216 (length file.1) || nat_lt 67108864 (total_bytes (files ++ file ∷ []))
@@ -47,13 +47,13 @@ abbrev pub or_fault : Option TreeFault → Option TreeFault → Option TreeFault
 or_fault None later = later
 or_fault (Some fault) later = Some fault
 
--- the first fault of a file that follows these
+-- the first fault of a file after these files
 abbrev pub file_fault : List File → File → Option TreeFault
 file_fault files file =
     or_fault (path_fault (length files) file.0)
     (if is_too_big files file then Some (TooBig (length files)) else or_fault (menu_fault (length files) file) (twice_fault files file.0))
 
--- the fault of the first file that has one, where these came before
+-- the fault of the first file that has one, after the files `done`
 abbrev pub fault_after : List File → List File → Option TreeFault
 fault_after done [] = None
 fault_after done (file ∷ files) = or_fault (file_fault done file) (fault_after (done ++ file ∷ []) files)
@@ -61,7 +61,7 @@ fault_after done (file ∷ files) = or_fault (file_fault done file) (fault_after
 abbrev pub files_fault : List File → Option TreeFault
 files_fault files = fault_after [] files
 
--- a file with this fault, or none, is added to the files, or refused for that; memory is refused only where there is none
+-- adding a file fails with the file's fault, returns the tree with it, or is out of memory
 abbrev pub AddsFile : {T : Type 0} → Option TreeFault → T → Result T TreeFault → Type 0
 AddsFile (Some fault) files result = result ≡ Err fault
 AddsFile None files (Ok tree) = tree ≡ files
@@ -72,7 +72,8 @@ abbrev pub first_fault : List File → Option TreeFault
 first_fault [] = None
 first_fault (file ∷ files) = file_fault [] file
 
--- a tree is made of the files, or the fault is the one they have, or memory was refused, and then the first file has no fault
+-- making a tree returns the tree of the files, fails with their fault, or is out of memory, which
+-- it reports only if the first file has no fault
 abbrev pub MakesTree : List File → Result (List File) TreeFault → Type 0
 MakesTree files (Ok tree) = (files_fault files ≡ None) × (tree ≡ files)
 MakesTree files (Err fault) = (files_fault files ≡ Some fault) ⊎ ((fault ≡ NoMemory) × (first_fault files ≡ None))

@@ -8,7 +8,7 @@ use Rattle.std.specs.BTreeMap.{insert_entry}
 use Rattle.gopher_tree.specs.Path.{names_of, is_menu_name, rest_after, rest_below, is_below, folders_of}
 use Rattle.gopher_tree.specs.Kind.{kind_of}
 
--- a path and the file's bytes
+-- a file: its path and its bytes
 abbrev pub File : Type 0
 File = List ℕ × List ℕ
 
@@ -18,15 +18,15 @@ has_path path file = pointwise nat_eq path file.0
 abbrev pub is_file : List File → List ℕ → Bool
 is_file files path = list_any (has_path path) files
 
--- the file of a path, where there is one
+-- the file with a path, if there is one
 abbrev pub file_at : List File → List ℕ → Option File
 file_at files path = find (has_path path) files
 
--- the root, and what some file's path leads through
+-- a folder: the root, or a path that some file's path leads through
 abbrev pub is_folder : List File → List ℕ → Bool
 is_folder files path = (length path == 0) || list_any (λ file. is_below path file.0) files
 
--- whether a file's path leads to this one
+-- the path leads through a file
 abbrev pub leads_through_file : List File → List ℕ → Bool
 leads_through_file files path = list_any (λ file. is_some (rest_after file.0 path)) files
 
@@ -34,7 +34,8 @@ leads_through_file files path = list_any (λ file. is_some (rest_after file.0 pa
 abbrev pub Child : Type 0
 Child = List ℕ × ℕ
 
--- what a folder has of a file, of which these names are below the folder: a folder (type `1`, 49) or the file itself; a menu file is left out
+-- the child of a folder that leads to a file, from the names of the file's path below the folder: a
+-- folder (type `1`, 49) or the file itself; a menu file is no child
 abbrev pub child_of : ℕ → List (List ℕ) → Option Child
 child_of kind [] = None
 child_of kind (name ∷ []) = if is_menu_name name then None else Some (name, kind)
@@ -47,14 +48,14 @@ child_of_rest kind (Some rest) = child_of kind (names_of rest)
 abbrev pub child_below : List ℕ → File → Option Child
 child_below folder file = child_of_rest (kind_of file.0 file.1) (rest_below folder file.0)
 
--- each name once, by the names' bytes
+-- distinct names in byte order
 abbrev pub add_child : List Child → Child → List Child
 add_child children child = insert_entry (slice_cmp nat_cmp) children child.0 child.1
 
 abbrev pub children : List File → List ℕ → List Child
 children files folder = fold add_child [] (filter_map (child_below folder) files)
 
--- each path once, in the order of first mention
+-- distinct paths in the order of first mention
 abbrev pub is_among : List (List ℕ) → List ℕ → Bool
 is_among paths path = list_any (pointwise nat_eq path) paths
 
@@ -69,7 +70,7 @@ paths_of path = [] ∷ folders_of path ++ path ∷ []
 abbrev pub nodes : List File → List (List ℕ)
 nodes files = fold add_path ([] ∷ []) (flat_map (λ file. paths_of file.0) files)
 
--- the nodes, each once and in the order of their bytes
+-- the distinct nodes in byte order
 pub record AreNodes (files : List File) (paths : List (List ℕ)) : Type 0 where
   pub order : IsStrictlySortedBy (slice_cmp nat_cmp) paths
   pub whole : (path : List ℕ) → is_among paths path ≡ is_among (nodes files) path
@@ -77,7 +78,7 @@ pub record AreNodes (files : List File) (paths : List (List ℕ)) : Type 0 where
 abbrev pub total_bytes : List File → ℕ
 total_bytes files = sum_by (λ file. length file.1) files
 
--- all that leads to a path is among the nodes, and none of it is a file
+-- the folders above a path are among the nodes, and none of them is a file
 pub record AboveAreFolders (files : List File) (path : List ℕ) : Type 0 where
   pub known : (folder : List ℕ) → is_below folder path ≡ true → is_among (nodes files) folder ≡ true
   pub no_file : leads_through_file files path ≡ false

@@ -1,4 +1,4 @@
--- What the code finds in a tree, by the list of its files.
+-- Looking up a path in a tree.
 use Rattle.std.specs.Prelude.{◌≡◌, ℕ, true, false, List, Option, None, Some}
 use Rattle.std.specs.declared.vec.Vec.{Vec}
 use Rattle.gopher_tree.specs.Files.{File, file_at, is_folder, children}
@@ -8,17 +8,17 @@ use Rattle.gopher_tree.specs.declared.tree.Found.TheVariants as found
 use Rattle.gopher_tree.specs.declared.tree.Node.{Node}
 use Rattle.gopher_tree.specs.declared.tree.Node.TheVariants as node
 
--- a file as a list gives it
+-- a file of a list of vectors
 abbrev pub file_data : {A B : Type 0} → Vec ℕ A × Vec ℕ B → File
 file_data file = (file.0.items, file.1.items)
 
--- a path's file, or the folder that it is, or neither
+-- the file with the path, the folder at the path, or neither
 abbrev pub Finds : List File → List ℕ → Option Found → Type 0
 Finds files path (Some (found.File file)) = file_at files path ≡ Some file.now
 Finds files path (Some (found.Folder held)) = (file_at files path ≡ None) × (is_folder files path ≡ true) × (held.now ≡ children files path)
 Finds files path None = (file_at files path ≡ None) × (is_folder files path ≡ false)
 
--- a node is the file or the folder that a selector names
+-- the node is the file or the folder that a selector names
 abbrev pub Shows : Option Named → Option Node → Type 0
 Shows (Some (NamedFile kind bytes)) (Some (node.File of_kind held)) = (of_kind ≡ kind) × (held.now ≡ bytes)
 Shows (Some (NamedFolder path)) (Some node.Folder) = Unit {0}

@@ -1,4 +1,4 @@
--- The index of a list of files: what stands at each path.
+-- The index of a list of files: the file or folder at each path.
 use Rattle.std.specs.Prelude.{◌≡◌, ℕ, ◌+◌, ◌<◌, ◌&&◌, nat_eq, Bool, true, false, List, [], ◌∷◌, length, take, drop, Option, None, Some, is_some, if◌then◌else◌}
 use Rattle.std.specs.List.Sorted.{IsStrictlySortedBy}
 use Rattle.std.specs.Ordering.{nat_cmp}
@@ -10,11 +10,11 @@ use Rattle.gopher_tree.specs.Files.{File, Child, has_path, is_file, is_folder, c
 use Rattle.gopher_tree.specs.declared.tree.index.Entry.{Entry}
 use Rattle.gopher_tree.specs.declared.tree.index.Entry.TheVariants as entry
 
--- what an index has at a path
+-- the entry of an index at a path
 abbrev pub held_at : {A : Type 0} → BTreeMap (Vec ℕ A) Entry → List ℕ → Option Entry
 held_at index path = get_by (λ key. slice_cmp nat_cmp path key.items) index
 
--- the place of the first file that has the path, counted on from `number`
+-- the index of the first file with the path, counted on from `number`
 abbrev pub number_from : ℕ → List File → List ℕ → Option ℕ
 number_from number [] path = None
 number_from number (file ∷ files) path = if has_path path file then Some number else number_from (number + 1) files path
@@ -23,7 +23,7 @@ abbrev pub entry_by : List File → List ℕ → Option ℕ → Option Entry
 entry_by files path (Some number) = Some (entry.File number)
 entry_by files path None = if is_folder files path then Some (entry.Folder (children files path)) else None
 
--- the number of the file that has the path, and else the folder that it is
+-- the number of the file with the path or, without one, the folder at the path
 abbrev pub entry_of : List File → List ℕ → Option Entry
 entry_of files path = entry_by files path (number_from 0 files path)
 
@@ -31,12 +31,12 @@ abbrev pub is_file_entry : Option Entry → Bool
 is_file_entry (Some (entry.File number)) = true
 is_file_entry _ = false
 
--- the names of the folder at an entry, where it is one
+-- the children of the folder at an entry, if it is one
 abbrev pub folder_at : Option Entry → Option (List Child)
 folder_at (Some (entry.Folder children)) = Some children
 folder_at _ = None
 
--- these names, or none
+-- these children, or none
 abbrev pub names_at : Option (List Child) → List Child
 names_at (Some children) = children
 names_at None = []
@@ -48,36 +48,38 @@ abbrev pub with_child : List Child → Option Child → List Child
 with_child children None = children
 with_child children (Some child) = add_child children child
 
--- the folder at an entry, with one child more, where there is one
+-- the folder at an entry with one more child, if there is one
 abbrev pub folder_with : Option Entry → Option Child → Option Entry
 folder_with held child = Some (entry.Folder (with_child (children_at held) child))
 
--- what stands at a path after a file of the path `added` came
+-- the entry at a path after a file with the path `added` was added
 abbrev pub folders_after : Option Entry → ℕ → List ℕ → List ℕ → Option Entry
 folders_after held kind added path = if is_below path added then folder_with held (child_of_rest kind (rest_below path added)) else held
 
 abbrev pub entry_after : Option Entry → ℕ → ℕ → List ℕ → List ℕ → Option Entry
 entry_after held number kind added path = if pointwise nat_eq path added then Some (entry.File number) else folders_after held kind added path
 
--- what stands at each path after a file's path was added to the folder before a place, where a slash is there
+-- the entries after a file was added to the folder before this position, if a slash is at the
+-- position
 abbrev pub AddsBefore : {A : Type 0} → BTreeMap (Vec ℕ A) Entry → BTreeMap (Vec ℕ A) Entry → ℕ → List ℕ → ℕ → Type 0
 AddsBefore old new kind path place =
     (q : List ℕ) → held_at new q ≡ (if is_slash path place && pointwise nat_eq q (take place path)
     then folder_with (held_at old (take place path)) (child_of kind (names_of (drop (place + 1) path))) else held_at old q)
 
--- where the index has a folder that a path leads through, but the root, the folders above that have what they have of the path
+-- if the index contains a folder other than the root that the path leads through, the folders above
+-- it contain their child on that path
 abbrev pub IsSettled : {A : Type 0} → BTreeMap (Vec ℕ A) Entry → ℕ → List ℕ → Type 0
 IsSettled index kind path =
     (folder q : List ℕ) → 0 < length folder → is_some (folder_at (held_at index folder)) ≡ true
     → is_below folder path ≡ true → is_below q folder ≡ true
     → folder_with (held_at index q) (child_of_rest kind (rest_below q path)) ≡ held_at index q
 
--- the paths of an index, each once and in the order of their bytes
+-- the distinct paths of an index in byte order
 pub record IndexPaths {A : Type 0} (index : BTreeMap (Vec ℕ A) Entry) (paths : List (List ℕ)) : Type 0 where
   pub order : IsStrictlySortedBy (slice_cmp nat_cmp) paths
   pub whole : (path : List ℕ) → is_among paths path ≡ is_some (held_at index path)
 
--- the index has what stands at each path, which is one of the nodes; no folder is a file
+-- the index contains the entry of each path, its paths are the nodes, and no folder is a file
 pub record IsIndex {A : Type 0} (files : List File) (index : BTreeMap (Vec ℕ A) Entry) : Type 0 where
   pub entries : (path : List ℕ) → held_at index path ≡ entry_of files path
   pub paths : (path : List ℕ) → is_some (held_at index path) ≡ is_among (nodes files) path

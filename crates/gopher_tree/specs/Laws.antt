@@ -1,4 +1,4 @@
--- What a folder's listing has.
+-- Laws of folder listings and menu files.
 use Rattle.std.specs.Prelude.{◌≡◌, ℕ, Bool, true, false, ◌&&◌, not, is_some, List, map, Option, None, Some, Contains, IsTrue, ◌↔◌, nat_eq}
 use Rattle.std.specs.List.{list_any}
 use Rattle.std.specs.List.Sorted.{IsStrictlySortedBy}
@@ -14,27 +14,28 @@ use Rattle.gopher_tree.specs.Files.{File, children}
 abbrev pub listed_names : List File → List ℕ → List (List ℕ)
 listed_names files folder = map (λ child. child.0) (children files folder)
 
--- whether what a path has below a folder begins with this name, and isn't the folder's own menu file
+-- the path below a folder begins with this name, and isn't the folder's own menu file
 abbrev pub begins_with : List ℕ → Option (List ℕ) → Bool
 begins_with name None = false
 begins_with name (Some rest) = pointwise nat_eq name (first_name (names_of rest)) && not (is_menu_name rest)
 
--- whether a path leads from a folder through this name, or to it
+-- a path leads from a folder through this name, or to it
 abbrev pub leads_to_name : List ℕ → List ℕ → List ℕ → Bool
 leads_to_name folder name path = begins_with name (rest_below folder path)
 
--- the names of each listing ascend by their bytes, so that each stands there once
+-- the names of each listing are distinct and in byte order
 abbrev pub ListingsAscend : Type 0
 ListingsAscend = (files : List File) (folder : List ℕ) → IsStrictlySortedBy (slice_cmp nat_cmp) (listed_names files folder)
 
--- a name stands in a folder's listing exactly where some file's path leads from the folder through it, or to it
+-- a folder's listing contains a name exactly if some file's path leads from the folder through it,
+-- or to it
 abbrev pub ListingsAreWhole : Type 0
 ListingsAreWhole =
     (files : List File) (folder name : List ℕ)
     → Contains (listed_names files folder) name ↔ IsTrue (list_any (λ file. leads_to_name folder name file.0) files)
 
--- a line of a menu file has a form exactly where a menu line can be made of its type, display string and
--- selector, whatever the server
+-- a line of a menu file is valid exactly if a menu line can be made of its type, display string and
+-- selector, for any valid host
 abbrev pub WrittenLinesAreMade : Type 0
 WrittenLinesAreMade =
     (kind : ℕ) (display selector host : List ℕ)

@@ -1,4 +1,4 @@
--- A `.menu` file: the menu of its folder, written by hand.
+-- A `.menu` file: the menu of its folder. The format is this profile's.
 use Rattle.std.specs.Prelude.{ℕ, ◌+◌, Bool, not, List, [], ◌∷◌, codes, map, Option, None, Some, is_some, if◌then◌else◌}
 use Rattle.std.specs.List.{filter_map}
 use Rattle.gopher_item.specs.Lines.{lines_of}
@@ -7,21 +7,21 @@ use Rattle.gopher_item.specs.MenuLine.{MenuLineData, menu_line_fault, trim_space
 use Rattle.gopher_item.specs.Number.{number_of}
 use Rattle.gopher_item.specs.Place.{HomeData, is_host}
 
--- a line as it is written; without a server it is of the server that has the file
+-- a line of the file; a line without a server is of the server that sends the file
 pub record WrittenLineData : Type 0 where
   pub kind : ℕ
   pub display : List ℕ
   pub selector : List ℕ
   pub server : Option HomeData
 
--- whether a menu line that is made may have these parts, at a host that it may have
+-- a menu line can have these parts, together with a valid host
 abbrev pub is_item : ℕ → List ℕ → List ℕ → Bool
 is_item kind display selector = not (is_some (menu_line_fault kind display selector (codes "host")))
 
 abbrev pub item_of : ℕ → List ℕ → List ℕ → Option HomeData → Option WrittenLineData
 item_of kind display selector server = if is_item kind display selector then Some (record { kind = kind; display = display; selector = selector; server = server }) else None
 
--- the server that a host and a port name, without the spaces at their ends
+-- the server of a host and a port, after spaces at their ends are dropped
 abbrev pub server_of_port : List ℕ → Option ℕ → Option HomeData
 server_of_port host None = None
 server_of_port host (Some port) = if is_host host then Some (record { host = host; port = port }) else None
@@ -33,7 +33,7 @@ abbrev pub item_at : ℕ → List ℕ → List ℕ → Option HomeData → Optio
 item_at kind display selector None = None
 item_at kind display selector (Some server) = item_of kind display selector (Some server)
 
--- a text alone is an `i` line; of more fields, the first has the type and the display string
+-- a text alone is an `i` line; of several fields, the first is the type and the display string
 abbrev pub line_of_fields : List (List ℕ) → Option WrittenLineData
 line_of_fields (text ∷ []) = item_of 105 text [] None
 line_of_fields ((kind ∷ display) ∷ selector ∷ []) = item_of kind display selector None
@@ -43,7 +43,7 @@ line_of_fields _ = None
 abbrev pub written_line : List ℕ → Option WrittenLineData
 written_line line = line_of_fields (fields_of line)
 
--- the number, counted on from `number`, of the first line that has none of these forms
+-- the number, counted on from `number`, of the first line with none of these forms
 abbrev pub bad_line_from : ℕ → List (List ℕ) → Option ℕ
 bad_line_from number [] = None
 bad_line_from number (line ∷ lines) = if is_some (written_line line) then bad_line_from (number + 1) lines else Some number

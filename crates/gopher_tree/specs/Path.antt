@@ -1,10 +1,10 @@
--- Paths of files and folders, and the selectors that name them.
+-- Paths of files and folders, and their selectors.
 use Rattle.std.specs.Prelude.{ℕ, suc, zero, Bool, true, false, ◌&&◌, ◌||◌, not, nat_eq, ◌==◌, List, [], ◌∷◌, ◌++◌, codes, length, take, slice_index, Option, None, Some, is_some, if◌then◌else◌}
 use Rattle.std.specs.List.{slice_split}
 use Rattle.std.specs.Cmp.Lexicographic.{pointwise}
 use Rattle.gopher_item.specs.Bytes.{has_special}
 
--- the names of a path, which stand between slashes
+-- the names of a path: the pieces between slashes
 abbrev pub names_of : List ℕ → List (List ℕ)
 names_of path = slice_split (λ byte. byte == 47) path
 
@@ -26,12 +26,12 @@ is_menu_name name = pointwise nat_eq name menu_name
 abbrev pub is_search_name : List ℕ → Bool
 is_search_name name = pointwise nat_eq name (codes "search")
 
--- whether no file and no folder may have the name: it is empty, begins with a period, or holds a special byte
+-- a name that no file and no folder can have: empty, with a leading period, or with a special byte
 abbrev pub is_bad_name : List ℕ → Bool
 is_bad_name [] = true
 is_bad_name (byte ∷ more) = (byte == 46) || has_special (byte ∷ more)
 
--- `.menu` may be the last name
+-- `.menu` is valid as the last name
 abbrev pub has_bad_name : List (List ℕ) → Bool
 has_bad_name [] = false
 has_bad_name (name ∷ []) = not (is_menu_name name) && is_bad_name name
@@ -40,13 +40,13 @@ has_bad_name (name ∷ more) = is_bad_name name || has_bad_name more
 abbrev pub is_menu_path : List ℕ → Bool
 is_menu_path path = is_menu_name (last_name (names_of path))
 
--- what a path has behind a folder and a slash, where it leads through that folder
+-- the path after a folder and a slash, if the path leads through that folder
 abbrev pub rest_after : List ℕ → List ℕ → Option (List ℕ)
 rest_after folder [] = None
 rest_after [] (byte ∷ path) = if byte == 47 then Some path else None
 rest_after (first ∷ folder) (byte ∷ path) = if first == byte then rest_after folder path else None
 
--- the same; every path leads through the root
+-- the path below a folder; every path leads through the root
 abbrev pub rest_below : List ℕ → List ℕ → Option (List ℕ)
 rest_below [] path = Some path
 rest_below (byte ∷ folder) path = rest_after (byte ∷ folder) path
@@ -54,11 +54,12 @@ rest_below (byte ∷ folder) path = rest_after (byte ∷ folder) path
 abbrev pub is_below : List ℕ → List ℕ → Bool
 is_below folder path = is_some (rest_below folder path)
 
--- whether a slash stands at this place of a path
+-- a path has a slash at this position
 abbrev pub is_slash : List ℕ → ℕ → Bool
 is_slash path place = slice_index path place == 47
 
--- the folders that the first `count` bytes of a path lead through, but the root: its beginnings before each slash
+-- the folders that the first `count` bytes of a path lead through, except the root: its prefixes
+-- before each slash
 abbrev pub folders_within : ℕ → List ℕ → List (List ℕ)
 folders_within zero path = []
 folders_within (suc zero) path = []
@@ -67,7 +68,7 @@ folders_within (suc (suc count)) path = if slice_index path (suc count) == 47 th
 abbrev pub folders_of : List ℕ → List (List ℕ)
 folders_of path = folders_within (length path) path
 
--- the path that a selector names: none where the selector is not empty and has no slash in front
+-- the path of a selector, unless a nonempty selector doesn't begin with a slash
 abbrev pub path_of : List ℕ → Option (List ℕ)
 path_of [] = Some []
 path_of (byte ∷ path) = if byte == 47 then Some path else None

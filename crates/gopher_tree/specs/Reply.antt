@@ -1,4 +1,4 @@
--- What a tree replies to a selector: a function of its list of files.
+-- The reply of a tree to a selector (RFC 1436, section 2; folders as menus are this profile's).
 use Rattle.std.specs.Prelude.{ℕ, length, ◌==◌, List, [], ◌∷◌, ◌++◌, codes, map, Option, None, Some, if◌then◌else◌}
 use Rattle.std.specs.Option.{option_map}
 use Rattle.gopher_item.specs.Lines.{lines_of}
@@ -10,12 +10,12 @@ use Rattle.gopher_tree.specs.Kind.{kind_of}
 use Rattle.gopher_tree.specs.MenuFile.{written_menu}
 use Rattle.gopher_tree.specs.Files.{File, Child, file_at, is_folder, children}
 
--- what a selector names
+-- the file or folder that a selector names
 pub data Named : Type 0 where
   NamedFile : (kind : ℕ) (bytes : List ℕ) → Named
   NamedFolder : (path : List ℕ) → Named
 
--- a file where the list has the path and its last name is not `.menu`, and else a folder where it is one
+-- the file with the path, unless its name is `.menu`; without a file, the folder at the path
 abbrev pub named_by : List File → List ℕ → Option File → Option Named
 named_by files path (Some file) = if is_menu_path path then None else Some (NamedFile (kind_of file.0 file.1) file.1)
 named_by files path None = if is_folder files path then Some (NamedFolder path) else None
@@ -27,18 +27,18 @@ named_at files (Some path) = named_by files path (file_at files path)
 abbrev pub named : List File → List ℕ → Option Named
 named files selector = named_at files (path_of selector)
 
--- what stands before a name in its selector
+-- the bytes before a name in its selector
 abbrev pub front_of : List ℕ → List ℕ
 front_of folder = if length folder == 0 then 47 ∷ [] else 47 ∷ folder ++ 47 ∷ []
 
 abbrev pub child_line : HomeData → List ℕ → Child → MenuLineData
 child_line home front child = record { kind = child.1; display = child.0; selector = front ++ child.0; host = home.host; port = home.port }
 
--- of type `7` (55)
+-- the line of the search, of type `7` (55; RFC 1436, section 3.8)
 abbrev pub search_line : HomeData → MenuLineData
 search_line home = record { kind = 55; display = codes "Search"; selector = codes "/search"; host = home.host; port = home.port }
 
--- the root begins with the search line
+-- the root's menu begins with the search line
 abbrev pub head_lines : HomeData → List ℕ → List MenuLineData
 head_lines home folder = if length folder == 0 then search_line home ∷ [] else []
 
@@ -48,11 +48,11 @@ listing_of home folder names = head_lines home folder ++ map (child_line home (f
 abbrev pub listing : List File → HomeData → List ℕ → List MenuLineData
 listing files home folder = listing_of home folder (children files folder)
 
--- the bytes of a folder's own menu file, where it has one
+-- the bytes of a folder's own menu file, if it has one
 abbrev pub menu_file : List File → List ℕ → Option (List ℕ)
 menu_file files folder = option_map (λ file. file.1) (file_at files (menu_path folder))
 
--- it stands in place of the folder's listing
+-- the menu of a folder: its menu file or, without one, its listing
 abbrev pub folder_menu : List File → HomeData → List ℕ → Option (List ℕ) → List MenuLineData
 folder_menu files home folder (Some written) = written_menu home written
 folder_menu files home folder None = listing files home folder
@@ -60,11 +60,11 @@ folder_menu files home folder None = listing files home folder
 abbrev pub folder_reply : List File → HomeData → List ℕ → List ℕ
 folder_reply files home folder = menu_bytes (folder_menu files home folder (menu_file files folder))
 
--- a file of type `0` (48) is sent as a text, any other as it is
+-- a file of type `0` (48) is sent as a text, any other byte for byte (RFC 1436, appendix)
 abbrev pub file_reply : ℕ → List ℕ → List ℕ
 file_reply kind bytes = if kind == 48 then text_bytes (lines_of bytes) else bytes
 
--- a line of type `3` with this text, which a client shows as an error
+-- a line of type `3` (51; RFC 1436, section 3.8), whose text a client shows as an error
 abbrev pub error_line : List ℕ → HomeData → MenuLineData
 error_line text home = record { kind = 51; display = text; selector = []; host = home.host; port = home.port }
 

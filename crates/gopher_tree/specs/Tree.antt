@@ -1,4 +1,4 @@
--- A tree, by what it holds.
+-- The invariant of a tree.
 use Rattle.std.specs.Prelude.{◌≡◌, ℕ, ◌+◌, ◌≤◌, List, length, fold}
 use Rattle.std.specs.BTreeMap.{BTreeMap}
 use Rattle.std.specs.declared.vec.Vec.{Vec}
@@ -14,6 +14,6 @@ pub record IsTree {A : Type 0} (files : List File) (held : BTreeMap (Vec ℕ A) 
   pub few_bytes : bytes ≤ 67108864
   pub few_nodes : count ≤ 4096
 
--- a path adds so many nodes to those of the files
+-- a path adds this many nodes to those of the files
 abbrev pub Adds : List File → List ℕ → ℕ → Type 0
 Adds files path count = length (fold add_path (nodes files) (paths_of path)) ≡ length (nodes files) + count

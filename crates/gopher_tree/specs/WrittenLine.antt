@@ -1,4 +1,4 @@
--- A line of a menu file as the code holds it, its parts borrowed from the file.
+-- A line of a menu file as the code has it, with its parts borrowed from the file.
 use Rattle.std.specs.Prelude.{◌≡◌, ℕ, List, Option}
 use Rattle.std.specs.Option.{option_map}
 use Rattle.std.specs.Borrow.{Bor}
@@ -12,6 +12,6 @@ server_data server = option_map (λ s. record { host = s.0.now; port = s.1 }) se
 abbrev pub line_data : WrittenLine → WrittenLineData
 line_data line = record { kind = line.kind; display = line.display.now; selector = line.selector.now; server = server_data line.server }
 
--- the code's line is this one, or neither is there
+-- both are the same line, or neither is a line
 abbrev pub IsLine : Option WrittenLineData → Option WrittenLine → Type 0
 IsLine wanted line = option_map line_data line ≡ wanted

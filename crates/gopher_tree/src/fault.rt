@@ -1,4 +1,4 @@
-//! Why a list of files, or a folder, makes no tree.
+//! The errors of making a tree, with their numbers.
 
 ghost use Rattle.std.specs.Prelude.{◌≡◌};
 ghost use Rattle.gopher_tree.specs.Fault.{tree_fault_code};
@@ -7,44 +7,45 @@ use gopher_item::NoMemory;
 use std::alloc::{AllocError, AllocFailed};
 use thiserror::Error;
 
-/// What is wrong with the files of a tree. `file` is the index of the file in the list, from 0; for a
-/// folder that is read, how many files were listed before.
+/// Why files don't make a tree. `file` is the index of the file in the list, from 0; in a walk
+/// through a folder it is the number of files listed before.
 #[derive(Clone, Copy, Debug, PartialEq, Eq, Error)]
 pub enum TreeFault {
-    /// 20: a name of the path is empty, begins with a period (but for `.menu` at the end), or holds a
-    /// TAB, CR, LF or NUL.
+    /// 20: a name of the path is empty, begins with a period (except `.menu` as the last name), or
+    /// contains a TAB, CR, LF or NUL.
     #[error("file {file}: a name is empty, begins with a period or holds a special byte")]
     BadName { file: usize },
-    /// 21: the first name of the path is `search`, which the server keeps for itself.
+    /// 21: the first name of the path is `search`, which searches use.
     #[error("file {file}: the name search is reserved")]
     Reserved { file: usize },
-    /// 22: the selector, a slash and the path, is over 255 bytes.
+    /// 22: the selector, a slash and the path, has over 255 bytes.
     #[error("file {file}: the selector is too long")]
     LongSelector { file: usize },
-    /// 23: the file is over 16,777,216 bytes, the files together are over 67,108,864 bytes, or the
-    /// root, the folders and the files are more than 4,096.
+    /// 23: the file has over 16,777,216 bytes, all files together have over 67,108,864 bytes, or
+    /// there are over 4,096 nodes: the root, the folders and the files.
     #[error("file {file}: the file, all files or the number of files and folders is too big")]
     TooBig { file: usize },
-    /// 24: a line of a `.menu` file has none of its forms; `line` counts from 1.
+    /// 24: a line of a `.menu` file has none of the valid forms; `line` counts from 1.
     #[error("file {file}: line {line} is no menu line")]
     BadMenuLine { file: usize, line: usize },
-    /// 25: the path is there already, or a path is both a file and a folder.
+    /// 25: the path occurs twice, or a path is both a file and a folder.
     #[error("file {file}: the path is there already, or is both a file and a folder")]
     Twice { file: usize },
-    /// 26: a file or a folder can't be read, or a name is not UTF-8.
+    /// 26: a file or a folder can't be read, or a name isn't UTF-8.
     #[error("file {file}: not readable")]
     Unreadable { file: usize },
-    /// 90: memory was refused.
+    /// 90: out of memory.
     #[error("no memory")]
     NoMemory,
 }
 
-/// Why a folder makes no tree, and where.
+/// Why a folder of the file system doesn't make a tree, and the path of the fault.
 #[derive(Debug, Drop)]
 pub struct LoadRefused {
-    /// The fault.
+    /// Why the call failed.
     pub fault: TreeFault,
-    /// The path of what has it, from the root, without a slash in front; empty for the root itself.
+    /// The path of the file or folder with the fault, from the root and without a leading slash;
+    /// empty for the root itself.
     pub path: Vec<u8>,
 }
 

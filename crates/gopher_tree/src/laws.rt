@@ -1,20 +1,20 @@
-//! What holds of every folder's listing and of every menu file: each function has such a law as its contract, and does nothing.
+//! Laws of folder listings and menu files. Each function does nothing: its contract is the law.
 
 ghost use Rattle.gopher_tree.specs.Laws.{ListingsAscend, ListingsAreWhole, WrittenLinesAreMade};
 
-/// The names in a folder's listing ascend by their bytes, and each stands there once.
+/// The names in a folder's listing are distinct and in byte order.
 pub fn listings_ascend()
     ensures { ListingsAscend }
 {}
 
-/// A name stands in a folder's listing exactly where the path of some file leads from the folder
-/// through the name, or to it; the folder's own `.menu` file is left out.
+/// A folder's listing contains a name exactly if the path of some file leads from the folder
+/// through the name, or to it. The folder's own `.menu` file isn't listed.
 pub fn listings_are_whole()
     ensures { ListingsAreWhole }
 {}
 
-/// A line of a menu file that names its type and selector stands exactly where `MenuLine::new` would make
-/// a line of them, on a server whose host has no fault.
+/// A line of a menu file with a type and a selector is valid exactly if `MenuLine::new` makes a
+/// line of them for a server with a valid host.
 pub fn written_lines_are_made()
     ensures { WrittenLinesAreMade }
 {}

@@ -1,7 +1,14 @@
-//! A list of files as a tree of folders that a Gopher server sends: menus, texts and raw files.
+//! A tree of files and folders, and the replies that a Gopher server sends for it: menus, texts and
+//! raw files (RFC 1436).
 //!
-//! The crate above rests on one promise: `Tree::reply` is a function of the list of files, the
-//! server's address and the selector.
+//! The crates above use one contract: `Tree::reply` returns `tree_reply` (`specs/Reply.antt`),
+//! which depends only on the list of files, the server's address and the selector.
+//!
+//! Error 90 (`NoMemory`) means out of memory. `Tree::of_files` then drops its list; the other calls
+//! borrow their arguments. Calls that can't fail with it allocate nothing.
+//!
+//! Library API that only tests here call: `Tree::of_files`, which makes a tree without a file
+//! system.
 #![tactic(auto)]
 
 mod fault;

@@ -1,4 +1,4 @@
-//! Trees of folders of the file system.
+//! Loading a tree from a folder of the file system.
 
 ghost use Rattle.std.specs.Prelude.{◌≡◌, ◌<◌, ◌≤◌, ◌+◌, ◌++◌, [], ◌∷◌, length, None, Some, IfOk, IfErr, OnOk, MatchResult};
 ghost use Rattle.gopher_tree.specs.Fault.{file_fault, files_fault};
@@ -15,8 +15,8 @@ use std::alloc::Global;
 use std::fs::Files;
 use std::path::{Path, PathBuf};
 
-// A walk through a folder: the tree of the files that it listed, and how many nodes it visited, the
-// root, folders without files and these files among them.
+// A walk through a folder: the tree of the files listed so far, and the number of nodes visited:
+// the root, all folders, even without files, and these files.
 #[derive(Drop)]
 struct Walk {
     tree: Tree,
@@ -24,7 +24,7 @@ struct Walk {
     ghost counted: { length tree < nodes },
 }
 
-// Notes the path at which a walk is.
+// Records the path at which the walk is.
 fn note_path(at: &mut Vec<u8>, path: &[u8]) -> Result<(), NoMemory>
     ensures { OnOk result (at.new.items ≡ path.now) }
 {
@@ -44,7 +44,7 @@ impl Walk {
         Ok(Walk { tree, nodes: 1 })
     }
 
-    // Lists a file, or refuses it for its first fault; empty folders are among the nodes then.
+    // Lists a file, or fails with its first fault. Empty folders count among the nodes.
     fn with_file(self, alloc: Global, path: Vec<u8>, bytes: Vec<u8>) -> Result<Walk, TreeFault>
         ensures listed { IfOk result (λ walk.
             (file_fault self.tree (path.items, bytes.items) ≡ None)
@@ -66,7 +66,7 @@ impl Walk {
         Ok(Walk { tree, nodes })
     }
 
-    // Visits a folder, or refuses it for its first fault.
+    // Visits a folder, or fails with its first fault.
     fn with_folder(self, path: &[u8]) -> Result<Walk, TreeFault>
         ensures visited { IfOk result (λ walk.
             (walk.tree ≡ self.tree) × (walk.nodes ≡ self.nodes + 1)
@@ -88,7 +88,7 @@ impl Walk {
         })
     }
 
-    // Reads a file and lists it.
+    // Reads a file and lists it, unless it has vanished.
     fn through_file<R: Files>(
         self,
         rt: &R,
@@ -98,12 +98,14 @@ impl Walk {
     ) -> Result<Walk, TreeFault>
         ensures { WalksTo (λ walk. walk.tree) self.tree path.items result }
     {
-        let bytes = read_file(rt, alloc, file, self.tree.number_of_files())?;
-        self.with_file(alloc, path, bytes)
+        match read_file(rt, alloc, file, self.tree.number_of_files())? {
+            Some(bytes) => self.with_file(alloc, path, bytes),
+            None => Ok(self),
+        }
     }
 
-    // Lists what a folder has, and what its folders have, name by name. Where that fails, `at` is the
-    // path of what it failed at, where that is another than the folder itself.
+    // Lists everything in a folder and the folders below, name by name. If it fails below the
+    // folder, `at` is the path of the failure.
     #[cycle(walk)]
     fn through_folder<R: Files>(
         self,
@@ -116,7 +118,8 @@ impl Walk {
         requires { length path.now ≤ 254 }
         ensures { WalksTo (λ walk. walk.tree) self.tree at.new.items result }
     {
-        let names = names_in(rt, alloc, folder, self.tree.number_of_files())?;
+        let number = self.tree.number_of_files();
+        let names = names_in(rt, alloc, folder, path.is_empty(), number)?;
         let mut walk = self;
         for name in names {
             walk = walk.through_name(rt, alloc, folder, path, name.as_str(), at)?;
@@ -124,7 +127,7 @@ impl Walk {
         Ok(walk)
     }
 
-    // Lists what a name in a folder leads to. Where that fails, `at` is the path of what it failed at.
+    // Lists the file or folder to which a name leads. If it fails, `at` is the path of the failure.
     #[cycle(walk)]
     fn through_name<R: Files>(
         self,
@@ -161,24 +164,28 @@ impl Walk {
 }
 
 impl Tree {
-    /// The tree of the folder `root` of the file system, with the folders in it; a relative path starts
-    /// at the working directory.
+    /// Makes the tree of the folder `root` of the file system and the folders below. A relative
+    /// path starts at the working directory.
     ///
-    /// The files are listed depth first, the names of each folder in the order of their bytes. A link
-    /// counts as what it leads to. Names that begin with a period are left out, but for `.menu`, and so
-    /// is what is neither a file nor a folder, as a link that leads nowhere or through a file. No more of
-    /// a file is read than one byte over what a file may have. A folder without files has no place in the
-    /// tree.
+    /// The files are listed depth first, the names of each folder in byte order. A link counts as
+    /// its target. These names are skipped:
+    /// - names that begin with a period, except `.menu`
+    /// - names of devices, pipes and other things that are neither regular files nor folders
+    /// - links that lead nowhere or through a file
+    /// - names that vanish while the folder is read
+    ///
+    /// At most the length of a file at opening is read, and at most one byte over the limit of a
+    /// file. A folder without files isn't in the tree, but counts among the nodes.
     ///
     /// # Errors
     ///
-    /// The first fault in the order of the walk, `file` being how many files were listed before:
-    /// - `Unreadable` (26) where a folder can't be listed, one of its names, hidden or not, is not
-    ///   UTF-8, an entry can't be looked at, or a file can't be read. A link to itself is one of these.
-    /// - `BadName` to `Twice` (20 to 25) for a file as `Tree::of_files` has them. A folder without files
-    ///   counts among the nodes.
-    /// - `LongSelector` (22) and `TooBig` (23) for a folder too, whether it has files or not.
-    /// - `NoMemory` (90).
+    /// The first fault in the order of the walk; `file` is the number of files listed before:
+    /// - `Unreadable` (26): a folder can't be listed, one of its names, hidden or not, isn't UTF-8,
+    ///   an entry can't be examined, or a file can't be read, for example because a link leads to
+    ///   itself
+    /// - `BadName` to `Twice` (20 to 25): a file has the fault, as in `Tree::of_files`
+    /// - `LongSelector` (22), `TooBig` (23): a folder has the fault, with or without files
+    /// - `NoMemory` (90)
     #[tactic(auto, using(crate::proofs::LoadLemmas::loads_some))]
     pub fn load<R: Files>(rt: &R, alloc: Global, root: &str) -> Result<Tree, TreeFault>
         ensures { Loads result }
@@ -189,10 +196,12 @@ impl Tree {
         }
     }
 
-    /// The tree of a folder, as `load` makes it; where it is refused, the path of what was refused too,
-    /// from the root: of the file or the folder that has the fault, of the one that can't be read, or of
-    /// the folder with a name that is not UTF-8. The root's own path is empty. Where memory was refused,
-    /// the path says nothing.
+    /// Makes the tree of a folder as `load` does. The error also contains the path of the fault,
+    /// from the root.
+    ///
+    /// It is the path of the file or folder with the fault, of the one that can't be read, or of
+    /// the folder with a name that isn't UTF-8. The root's own path is empty. When out of memory,
+    /// the path has no meaning.
     ///
     /// # Errors
     ///
@@ -208,7 +217,7 @@ impl Tree {
     }
 }
 
-// The tree of a folder; where it is refused, `at` is the path of what was refused.
+// The tree of a folder. If it fails, `at` is the path of the failure.
 fn load_to<R: Files>(rt: &R, alloc: Global, root: &str, at: &mut Vec<u8>) -> Result<Tree, TreeFault>
     ensures { LoadsTo at.new.items result }
 {

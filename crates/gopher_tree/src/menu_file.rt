@@ -1,4 +1,4 @@
-//! Menu files: the menu of a folder, written by hand in `.menu`.
+//! Menu files: a `.menu` file contains the menu of its folder. The format is this profile's.
 
 ghost use Rattle.std.specs.Prelude.{◌≡◌, ℕ, ◌++◌, ◌&&◌, ◌||◌, ◌==◌, not, [], ◌∷◌, None, Some, MatchOption, OnOk, map};
 ghost use Rattle.std.specs.Io.{StartsWith};
@@ -18,7 +18,7 @@ use std::alloc::AllocError;
 
 const TAB: u8 = b'\t';
 
-// A line of a menu file. Without a server it is of the server that has the file.
+// A line of a menu file. A line without a server is of the server that sends the file.
 #[derive(Clone, Copy)]
 struct WrittenLine<'a> {
     kind: u8,
@@ -34,7 +34,7 @@ fn is_item(kind: u8, display: &[u8], selector: &[u8]) -> bool
     is_selector(selector) && !has_special(display) && !is_bad_type(kind)
 }
 
-// A written line of these parts, where it is one.
+// A line of these parts, if they are valid.
 fn item_of<'a>(
     kind: u8,
     display: &'a [u8],
@@ -54,7 +54,7 @@ fn item_of<'a>(
     })
 }
 
-// The server that a host and a port name, without the spaces at their ends.
+// The server of a host and a port, after spaces at their ends are dropped.
 fn server_of<'a>(host: &'a [u8], port: &[u8]) -> Option<(&'a [u8], u16)>
     ensures { server_data result ≡ server_of host.now port.now }
 {
@@ -67,7 +67,7 @@ fn server_of<'a>(host: &'a [u8], port: &[u8]) -> Option<(&'a [u8], u16)>
     }
 }
 
-// The line of a first field and what stands behind its TAB.
+// The line of a first field and the bytes after its TAB.
 fn line_of_fields<'a>(first: &'a [u8], rest: &'a [u8]) -> Option<WrittenLine<'a>>
     ensures { IsLine (line_of_fields (first.now ∷ fields_of rest.now)) result }
 {
@@ -94,7 +94,7 @@ fn written_line(line: &[u8]) -> Option<WrittenLine<'_>>
     }
 }
 
-// The number of the first line, from 1, that has none of a menu file's forms.
+// The number of the first line, from 1, with none of the valid forms.
 pub(crate) fn bad_line(bytes: &[u8]) -> Option<usize>
     ensures { result ≡ bad_line bytes.now }
 {

@@ -1,4 +1,4 @@
-//! Replies: menus, texts and raw files.
+//! Making replies: menus, texts and raw files.
 
 ghost use Rattle.std.specs.Prelude.{◌≡◌, false, ◌++◌, ◌==◌, length, IfOk, OnOk, if◌then◌else◌};
 ghost use Rattle.std.specs.List.{flat_map};
@@ -13,10 +13,10 @@ use gopher_item::{Home, NoMemory, push_last_line, push_menu_line};
 use gopher_text::write_text_of;
 use std::alloc::{AllocError, Global};
 
-/// The reply that tells a client of an error: a line of type `3` that has `text`, and the period alone
-/// that ends a menu (RFC 1436, sections 3.8 and 3.9). The text holds no TAB, CR, LF or NUL.
+/// Makes an error reply: a menu with one line of type `3` (RFC 1436, section 3.8) that displays
+/// `text`.
 ///
-/// Refused only where memory is (90).
+/// The text contains no TAB, CR, LF and NUL.
 pub fn error_reply(alloc: Global, text: &[u8], home: &Home) -> Result<Vec<u8>, NoMemory>
     requires { has_special text.now ≡ false }
     ensures { IfOk result (λ bytes. bytes.items ≡ error_bytes text.now home.now) }
@@ -27,15 +27,14 @@ pub fn error_reply(alloc: Global, text: &[u8], home: &Home) -> Result<Vec<u8>, N
     Ok(out)
 }
 
-/// The reply to a selector that names nothing: the error reply `Not found`. Refused only where memory
-/// is (90).
+/// Makes the reply to a selector that names nothing: the error reply `Not found`.
 pub fn not_found(alloc: Global, home: &Home) -> Result<Vec<u8>, NoMemory>
     ensures { IfOk result (λ bytes. bytes.items ≡ not_found_bytes home.now) }
 {
     error_reply(alloc, b"Not found", home)
 }
 
-// The reply of a file: a text is sent by its lines, any other file as it is.
+// The reply to a file's selector: type `0` is sent as a text, any other type byte for byte.
 pub(crate) fn file_reply(alloc: Global, kind: u8, bytes: &[u8]) -> Result<Vec<u8>, NoMemory>
     ensures { IfOk result (λ sent. sent.items ≡ file_reply kind bytes.now) }
 {
@@ -47,7 +46,7 @@ pub(crate) fn file_reply(alloc: Global, kind: u8, bytes: &[u8]) -> Result<Vec<u8
     Ok(out)
 }
 
-// What stands before a name in its selector.
+// The bytes before a name in its selector.
 fn front_of(alloc: Global, folder: &[u8]) -> Result<Vec<u8>, NoMemory>
     ensures { IfOk result (λ front. front.items ≡ front_of folder.now) }
 {
@@ -60,7 +59,7 @@ fn front_of(alloc: Global, folder: &[u8]) -> Result<Vec<u8>, NoMemory>
     Ok(front)
 }
 
-// Appends the search line, in the root.
+// Appends the search line if the folder is the root.
 fn push_head(folder: &[u8], home: &Home, out: &mut Vec<u8>) -> Result<(), AllocError>
     ensures { OnOk result (out.new.items ≡ out.old.items
         ++ flat_map menu_line_bytes (head_lines home.now folder.now)) }

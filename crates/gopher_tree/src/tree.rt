@@ -1,4 +1,4 @@
-//! Trees.
+//! Trees, their limits and their replies.
 
 ghost use Rattle.std.specs.Prelude.{◌≡◌, ℕ, ◌+◌, ◌≤◌, ◌<◌, ◌++◌, ◌∷◌, ◌||◌, ◌&&◌, ◌==◌, not, [], None, Some, List, length, take, slice_index, if◌then◌else◌, map, fold, count_by, IfOk, IsTrue, MatchResult};
 ghost use Rattle.gopher_tree.specs.Path.{is_menu_path, is_slash, folders_of};
@@ -31,12 +31,12 @@ use std::marker::Model;
 
 const MOST_BYTES: usize = 67_108_864;
 
-/// How many nodes a tree has at most: the root, the folders and the files.
+/// The most nodes of a tree: the root, the folders and the files.
 pub const MOST_NODES: usize = 4_096;
 
 /// Files and the folders that their paths lead through, as a server sends them.
 ///
-/// Contracts see it as the list of the files that it was made of, each a path and its bytes.
+/// Contracts see a tree as the list of its files, each a path and its bytes.
 #[derive(Debug, Drop)]
 pub struct Tree {
     files: Vec<File>,
@@ -56,7 +56,7 @@ impl Model for Tree {
     ghost invariant = { λ t. IsTree t.files.items t.index t.bytes t.nodes };
 }
 
-/// What a selector names.
+/// The node that a selector names.
 #[derive(Clone, Copy, Debug)]
 pub enum Node<'a> {
     /// A file: its type (RFC 1436, section 3.8) and its bytes.
@@ -65,7 +65,7 @@ pub enum Node<'a> {
     Folder,
 }
 
-// What stands at a path.
+// The node at a path.
 #[derive(Clone, Copy)]
 pub(crate) enum Found<'a> {
     File(&'a File),
@@ -73,7 +73,7 @@ pub(crate) enum Found<'a> {
 }
 
 impl Tree {
-    // The tree of no files: its root alone.
+    // The tree without files: only its root.
     pub(crate) fn empty(alloc: Global) -> Result<Tree, NoMemory>
         ensures { IfOk result (λ tree. tree ≡ []) }
     {
@@ -87,14 +87,14 @@ impl Tree {
         })
     }
 
-    /// How many files there are, menu files among them.
+    /// Returns the number of files, including menu files.
     pub fn number_of_files(&self) -> usize
         ensures { result ≡ length self.now }
     {
         self.files.len()
     }
 
-    /// How many of the files are menu files, which have the name `.menu`.
+    /// Returns the number of menu files, whose name is `.menu`.
     pub fn number_of_menus(&self) -> usize
         ensures { result ≡ count_by (λ file. is_menu_path file.0) self.now }
     {
@@ -104,7 +104,7 @@ impl Tree {
             .count()
     }
 
-    /// How many bytes the files have, at most 67,108,864.
+    /// Returns the number of bytes of all files, at most 67,108,864.
     pub fn number_of_bytes(&self) -> usize
         ensures count { result ≡ total_bytes self.now }
         ensures bound { result ≤ 67108864 }
@@ -112,8 +112,7 @@ impl Tree {
         self.bytes
     }
 
-    /// The paths of the root, the folders and the files, in the order of their bytes. Refused only where
-    /// memory is (90).
+    /// Returns the paths of the root, the folders and the files in byte order.
     pub fn paths(&self, alloc: Global) -> Result<Vec<&[u8]>, NoMemory>
         ensures { IfOk result (λ paths. AreNodes self.now (map (λ path. path.now) paths.items)) }
     {
@@ -144,7 +143,7 @@ impl Tree {
         self.index.contains_key(path)
     }
 
-    // Whether a slash is at this place of the path, and a node before it.
+    // Whether the path has a slash at this position, with a node before it.
     fn has_node_before(&self, path: &[u8], place: usize) -> bool
         requires { place < length path.now }
         ensures among { result
@@ -159,7 +158,7 @@ impl Tree {
         self.has_node(&path[..place])
     }
 
-    // Of the nodes that the path leads through only the last one can be a file.
+    // Whether a node that the path leads through is a file. Only the last such node can be one.
     fn leads_through_file(&self, path: &[u8]) -> bool
         ensures { result ≡ leads_through_file self.now path.now }
     {
@@ -179,7 +178,8 @@ impl Tree {
         self.has_node(path) || self.leads_through_file(path)
     }
 
-    // How many nodes a path adds. Above a folder that is there nothing is new.
+    // How many nodes a path adds. The search stops at the first existing folder: all above it exist
+    // too.
     fn new_nodes(&self, path: &[u8]) -> usize
         requires { 0 < length path.now }
         ensures count { Adds self.now path.now result }
@@ -225,7 +225,7 @@ impl Tree {
         self.nodes + new_nodes > MOST_NODES
     }
 
-    // The first fault of a file that comes behind these, and whose path has none by itself.
+    // The first fault of a file after these files, if its path alone has none.
     fn file_fault(&self, path: &[u8], bytes: &[u8], new_nodes: usize) -> Option<TreeFault>
         requires good { path_fault (length self.now) path.now ≡ None }
         requires added { Adds self.now path.now new_nodes }
@@ -245,7 +245,7 @@ impl Tree {
         None
     }
 
-    // Adds a file that has no fault, and whose path adds so many nodes.
+    // Adds a file without a fault, whose path adds `new_nodes` nodes.
     fn add(
         self,
         alloc: Global,
@@ -267,7 +267,7 @@ impl Tree {
         Ok(tree)
     }
 
-    // Adds a file, or refuses it for its first fault.
+    // Adds a file, or fails with its first fault.
     pub(crate) fn with_file(
         self,
         alloc: Global,
@@ -290,8 +290,7 @@ impl Tree {
         }
     }
 
-    /// The bytes of the menu file of the folder that has this path, where it has one. Refused only where
-    /// memory is (90).
+    /// Returns the bytes of the menu file in the folder with this path, if it has one.
     pub fn menu_file(&self, alloc: Global, folder: &[u8]) -> Result<Option<&[u8]>, NoMemory>
         ensures { IfOk result (λ menu.
             option_map (λ bytes. bytes.now) menu ≡ menu_file self.now folder.now) }
@@ -304,7 +303,7 @@ impl Tree {
         }
     }
 
-    // The menu of a folder that has these names.
+    // The menu of a folder with these names.
     fn folder_reply(
         &self,
         alloc: Global,
@@ -321,12 +320,18 @@ impl Tree {
         }
     }
 
-    /// The tree of a list of files, each a path, its names joined by slashes, and its bytes.
+    /// Makes the tree of a list of files. Each is a path, names joined by slashes, and its bytes.
     ///
-    /// The files are taken in their order. The first fault of the first file that has one is answered;
-    /// for a file these are, in this order: `BadName` (20), `Reserved` (21), `LongSelector` (22),
-    /// `TooBig` (23), `BadMenuLine` (24), `Twice` (25). `NoMemory` (90) where memory is refused before
-    /// that; the first file's fault comes before any memory is taken. The list is dropped then.
+    /// # Errors
+    ///
+    /// The fault of the first file that has one, in this order:
+    /// - `BadName` (20), `Reserved` (21), `LongSelector` (22): the path is invalid
+    /// - `TooBig` (23): the file or all files have too many bytes, or there are too many nodes
+    /// - `BadMenuLine` (24): the file is a `.menu` file with an invalid line
+    /// - `Twice` (25): an earlier file has the path or is below it, or the path leads through an
+    ///   earlier file
+    /// - `NoMemory` (90): out of memory before the fault was reached; the first file's fault is
+    ///   reported before anything is allocated
     pub fn of_files(alloc: Global, files: Vec<(Vec<u8>, Vec<u8>)>) -> Result<Tree, TreeFault>
         ensures { MakesTree (map file_data files.items) result }
     {
@@ -342,8 +347,8 @@ impl Tree {
         Ok(tree)
     }
 
-    /// What a selector names: a file or a folder; none where it is not empty and has no slash in front,
-    /// where nothing has its path, or where that is a `.menu` file. Takes no memory.
+    /// Returns the file or folder that a selector names. It is `None` if a nonempty selector
+    /// doesn't begin with a slash, if no node has its path, or if the path is a `.menu` file.
     pub fn find(&self, selector: &[u8]) -> Option<Node<'_>>
         ensures { Shows (named self.now selector.now) result }
     {
@@ -360,12 +365,12 @@ impl Tree {
         }
     }
 
-    /// The reply to a selector, from a server with the address `home` (RFC 1436, section 2).
+    /// Makes the reply to a selector from a server with the address `home` (RFC 1436, section 2,
+    /// and appendix: Menu Transaction and Textfile Transaction).
     ///
-    /// A folder is sent as a menu: its `.menu` file's lines, or else its names in the order of their
-    /// bytes, in the root behind a search line. A file of type `0` is sent as a text, any other as it
-    /// is. A selector that names nothing gets the error reply `Not found`. Refused only where memory
-    /// is (90).
+    /// For a folder it is a menu: the lines of its `.menu` file or, without one, its names in byte
+    /// order; the root's names follow a search line. For a file of type `0` it is a text, for other
+    /// files their bytes. If the selector names nothing, it is the error reply `Not found`.
     pub fn reply(&self, alloc: Global, selector: &[u8], home: &Home) -> Result<Vec<u8>, NoMemory>
         ensures { IfOk result (λ sent. sent.items ≡ tree_reply self.now home.now selector.now) }
     {
@@ -385,7 +390,7 @@ impl Tree {
     }
 }
 
-// How many slashes are at a place of a path: one, or none.
+// How many slashes are at one position of a path: 1 or 0.
 fn slashes_at(path: &[u8], place: usize) -> usize
     requires { place < length path.now }
     ensures count { result ≡ (if is_slash path.now place then 1 else 0) }

@@ -1,17 +1,9 @@
-//! Tests that cross crates, up to the program: worked examples with their bytes.
+//! Tests of the program's library over streams and sockets of a test: what the built program can't show.
 #![tactic(auto)]
 
 #[cfg(test)]
-mod devices;
+mod flushes;
 #[cfg(test)]
 mod network;
 #[cfg(test)]
-mod replays;
-#[cfg(test)]
-mod scripts;
-#[cfg(test)]
-mod searches;
-#[cfg(test)]
-mod streams;
-#[cfg(test)]
-mod worked;
+mod system;

@@ -1,5 +1,5 @@
 // A server and a fetch over a connection, in one process.
-use crate::scripts::{Host, system, words};
+use crate::system::{Host, system, words};
 use gopher_catalogue::Why;
 use gopher_crew::Fetch;
 use gopher_hole::{TcpFetch, run};
@@ -26,7 +26,7 @@ fn free_port(rt: &impl Host) -> Result<u16, Fail> {
 
 // The root of a server at this port.
 fn root_at(alloc: Global, port: u16) -> Result<Place, Fail> {
-    Ok(Place::new(alloc, b'1', b"", b"127.0.0.1", port)?)
+    Ok(Place::new(alloc, b'1', b"", b"localhost", port)?)
 }
 
 // What is fetched of a place, once somebody listens there.
@@ -55,7 +55,7 @@ fn write_site(rt: &impl Host, port: u16) -> Result<(), Fail> {
     fs::create_dir(rt, "served")?;
     fs::write(rt, "served/a.txt", "hello\n")?;
     let settings = format!(in rt.alloc();
-        "host = \"127.0.0.1\"\nport = {port}\nroot = \"served\""
+        "host = \"localhost\"\nport = {port}\nroot = \"served\""
     )?;
     fs::write(rt, "served.toml", settings.as_str())?;
     Ok(())
@@ -64,7 +64,7 @@ fn write_site(rt: &impl Host, port: u16) -> Result<(), Fail> {
 // The root's menu of a server at a port.
 fn menu_at(alloc: Global, port: u16) -> Result<String, AllocError> {
     format!(in alloc;
-        "7Search\t/search\t127.0.0.1\t{port}\r\n0a.txt\t/a.txt\t127.0.0.1\t{port}\r\n.\r\n"
+        "7Search\t/search\tlocalhost\t{port}\r\n0a.txt\t/a.txt\tlocalhost\t{port}\r\n.\r\n"
     )
 }
 

@@ -5,3 +5,5 @@
 mod books;
 #[cfg(test)]
 mod calls;
+#[cfg(test)]
+mod merges;

@@ -1,228 +1,235 @@
-// Crawls by one worker and by two, over tables in memory.
-ghost use Rattle.std.specs.Prelude.{◌≡◌, ◌≤◌, []};
+// Crawls by one worker and by more.
+ghost use Rattle.std.specs.Prelude.{◌≡◌, []};
 
 use crate::tables::{
-    Circle, First, TwoFiles, are_both_files, is_done, opened, query, root_catalogue,
+    FOUR_FILES, Fate, HOME_AND_FILE, Host, MOON, ONE_DIRECTORY, TWO_FILES, answered, are_files,
+    catalogue, hits, opened,
 };
-use gopher_catalogue::{Catalogue, Event, Hit, Why};
-use gopher_crew::{Blank, Crew, Desk, Fetch, Stop, WorkEnd, crawl};
+use gopher_catalogue::{Catalogue, Event, Why};
+use gopher_crew::{Answer, Blank, Crew, Desk, Fetch, Stop, WorkEnd, crawl};
 use std::marker::Brand;
 use std::process::Abort;
 use std::sync::Wait;
 use std::sync::atomic::AtomicU64;
-use std::test::Fail;
 use std::thread::Threads;
+use std::time::Clock;
 use test_tables::Fetcher;
 
-// The crawl is whole: three places, both files found by `moon`.
-fn is_whole<R: Abort + AllocGlobal>(rt: &R, catalogue: &Catalogue) -> Result<(), Fail> {
-    assert!(rt; is_done(&catalogue.status()));
-    assert!(rt; are_both_files(&catalogue.search(&query(rt.alloc(), b"moon")?)?));
-    Ok(())
+/// What is crawled, and by how many workers.
+#[derive(Clone, Copy, Drop)]
+pub struct Plan<'a> {
+    pub root: &'a [u8],
+    pub rest: &'a [u8],
+    pub fate: Fate<'a>,
+    pub workers: u8,
+    pub places: u32,
+    pub tries: u32,
 }
 
-// Crawls with one fetcher for each of these, and gives the catalogue at the end.
-fn crawled<
-    C: Crew + Send + Sync,
-    R: Threads + Wait + Abort + AllocGlobal + Sync,
-    F: Fetch<R> + Drop + Send,
->(rt: &R, blank: Blank, tries: u32, fetchers: Vec<F>) -> Result<Catalogue, Fail>
+/// A crawl that ended: its catalogue, what a pass answered to `moon` before the desk was closed, and how
+/// often the fetcher fetched that did so least.
+#[derive(Drop)]
+pub struct EndedCrawl {
+    pub catalogue: Catalogue,
+    pub moons: Answer,
+    pub least_calls: u64,
+}
+
+// Two files, by so many workers.
+fn two_files(workers: u8, tries: u32, fate: Fate<'_>) -> Plan<'_> {
+    Plan {
+        root: TWO_FILES,
+        rest: MOON,
+        fate,
+        workers,
+        places: 10,
+        tries,
+    }
+}
+
+/// Crawls a host by as many workers as are planned, each of which has to finish.
+pub fn crawled<C: Crew + Send + Sync, R: Threads + Wait + Clock + Abort + AllocGlobal + Sync>(
+    rt: &R,
+    blank: Blank,
+    plan: Plan<'_>,
+) -> EndedCrawl
     requires name { blank.name ≡ C.name }
     requires parts { blank.parts ≡ C.parts }
     requires history { blank.history ≡ C.history }
     requires begun { blank.begun ≡ [] }
 {
     let alloc = rt.alloc();
-    let catalogue = root_catalogue(alloc, b"h", tries)?;
-    let workers = fetchers.len().min(16) as u32;
-    let (desk, _passes, mut shares) = opened::<C, R>(rt, blank, catalogue, 1, workers);
+    let begun = catalogue(rt, b"h", plan.places, plan.tries);
+    let (desk, mut passes, shares) = opened::<C, R>(rt, blank, begun, 1, u32::from(plan.workers));
     let mut pairs = Vec::new(alloc);
-    for fetcher in fetchers {
-        pairs.push((fetcher, shares.pop().ok_or("a share")?))?;
+    for (number, share) in (0..plan.workers).zip(shares) {
+        let host = Host {
+            clock: rt,
+            root: plan.root,
+            rest: plan.rest,
+            fate: plan.fate,
+            number,
+        };
+        let Ok(()) = pairs.push((Fetcher::new(host), share)) else {
+            panic!(rt; "no memory");
+        };
     }
     let Ok(ends) = crawl(rt, alloc, &desk, pairs) else {
         panic!(rt; "the crawl isn't started");
     };
-    assert!(rt; ends.len() == workers as usize);
-    closed(rt, desk, ends)
+    let least_calls = least_calls::<C, R>(rt, &ends);
+    let Some(pass) = passes.first_mut() else {
+        panic!(rt; "no pass");
+    };
+    let moons = answered(rt, pass, b"moon");
+    EndedCrawl {
+        catalogue: closed(rt, desk, ends),
+        moons,
+        least_calls,
+    }
 }
 
-// Closes a desk with the shares of its workers, each of which finished.
+// How often the fetcher fetched that did so least. The ends are in the order of the pairs.
+fn least_calls<C: Crew, R: Clock + Abort>(
+    rt: &R,
+    ends: &[WorkEnd<Fetcher<Host<'_, R>>, C>],
+) -> u64 {
+    let mut least = u64::MAX;
+    for (number, end) in ends.iter().enumerate() {
+        assert!(rt; end.fetcher.table.number as usize == number);
+        assert!(rt; end.stop == Stop::Finished);
+        least = least.min(Fetch::<R>::calls(&end.fetcher));
+    }
+    least
+}
+
+// Closes a desk with the shares of its workers, after it was refused without them.
 fn closed<C: Crew, R: Wait + Abort + AllocGlobal, F: Drop>(
     rt: &R,
     desk: Desk<C, &R>,
     ends: Vec<WorkEnd<F, C>>,
-) -> Result<Catalogue, Fail> {
+) -> Catalogue {
     let mut shares = Vec::new(rt.alloc());
-    let (mut found, mut failed) = (0u64, 0u64);
     for end in ends {
-        assert!(rt; end.stop == Stop::Finished);
-        let outcomes = u64::from(end.found) + u64::from(end.failed);
-        assert!(rt; end.share.events() == 2 * outcomes);
-        found = found.saturating_add(u64::from(end.found));
-        failed = failed.saturating_add(u64::from(end.failed));
-        shares.push(end.share)?;
+        let Ok(()) = shares.push(end.share) else {
+            panic!(rt; "no memory");
+        };
     }
-    let Ok(catalogue) = desk.close(shares) else {
+    let Err(refused) = desk.close(Vec::new(rt.alloc())) else {
+        panic!(rt; "the desk is closed without its shares");
+    };
+    assert!(rt; refused.code() == 62);
+    let Ok(catalogue) = refused.desk.close(shares) else {
         panic!(rt; "the desk isn't closed");
     };
-    assert!(rt; (found, failed) == outcomes_of(catalogue.record()));
-    Ok(catalogue)
+    catalogue
 }
 
-// How many pages a record found, and how many failures it has.
-fn outcomes_of(record: &[Event]) -> (u64, u64) {
-    let found = record
-        .iter()
-        .filter(|event| matches!(event, Event::Found(..)));
-    let failed = record
-        .iter()
-        .filter(|event| matches!(event, Event::Failed(..)));
-    (found.count() as u64, failed.count() as u64)
+// The crawl is through: so many places, and these files are found by `moon`, by the pass as in the
+// catalogue.
+fn has_files<R: Abort + AllocGlobal>(rt: &R, crawled: &EndedCrawl, known: u32, letters: &[u8]) {
+    let status = crawled.catalogue.status();
+    assert!(rt; (status.known, status.done, status.dropped) == (known, known, 0));
+    assert!(rt; are_files(&crawled.moons.hits, letters));
+    assert!(rt; are_files(&hits(rt, &crawled.catalogue, b"moon"), letters));
 }
 
-// Crawls the table with two files by so many workers; so many fetches of `/a` fail first.
-fn crawl_table<C: Crew + Send + Sync, R: Threads + Wait + Abort + AllocGlobal + Sync>(
-    rt: &R,
-    blank: Blank,
-    workers: u32,
-    tries: u32,
-    failures: u64,
-) -> Result<Catalogue, Fail>
-    requires name { blank.name ≡ C.name }
-    requires parts { blank.parts ≡ C.parts }
-    requires history { blank.history ≡ C.history }
-    requires begun { blank.begun ≡ [] }
-{
-    let failures = AtomicU64::new(failures);
-    let mut fetchers = Vec::new(rt.alloc());
-    for _worker in 0..workers {
-        fetchers.push(TwoFiles::fetcher(0, First::Fails(&failures)))?;
+#[test]
+fn workers_crawl_two_files(rt: HostRuntime) {
+    for workers in 1..3u8 {
+        let plan = two_files(workers, 1, Fate::Answered);
+        let crawled = crawled::<Brand, _>(&rt, Blank::new(), plan);
+        has_files(&rt, &crawled, 3, b"ab");
     }
-    crawled::<C, R, Fetcher<TwoFiles>>(rt, blank, tries, fetchers)
-}
-
-#[test]
-fn one_worker_crawls_a_table(rt: HostRuntime) -> Result<(), Fail> {
-    is_whole(&rt, &crawl_table::<Brand, _>(&rt, Blank::new(), 1, 1, 0)?)
-}
-
-#[test]
-fn two_workers_crawl_a_table(rt: HostRuntime) -> Result<(), Fail> {
-    is_whole(&rt, &crawl_table::<Brand, _>(&rt, Blank::new(), 2, 1, 0)?)
 }
 
 // A place that failed once is found at its second try: four claims in all.
-fn is_tried_again<R: Abort + AllocGlobal>(rt: &R, catalogue: &Catalogue) -> Result<(), Fail> {
-    assert!(rt; catalogue.record().len() == 9);
-    is_whole(rt, catalogue)
-}
-
 #[test]
-fn a_worker_tries_again(rt: HostRuntime) -> Result<(), Fail> {
-    is_tried_again(&rt, &crawl_table::<Brand, _>(&rt, Blank::new(), 1, 2, 1)?)
-}
-
-#[test]
-fn two_workers_try_again(rt: HostRuntime) -> Result<(), Fail> {
-    is_tried_again(&rt, &crawl_table::<Brand, _>(&rt, Blank::new(), 2, 2, 1)?)
-}
-
-// The first file failed, and the second was found.
-fn has_second_alone<R: Abort + AllocGlobal>(rt: &R, catalogue: &Catalogue) -> Result<(), Fail> {
-    let hits = catalogue.search(&query(rt.alloc(), b"moon")?)?;
-    assert!(rt; hits.len() == 1);
-    assert!(rt; hits[0].place.selector() == b"/b".as_slice());
-    Ok(())
-}
-
-#[test]
-fn one_try_is_not_tried_again(rt: HostRuntime) -> Result<(), Fail> {
-    let catalogue = crawl_table::<Brand, _>(&rt, Blank::new(), 2, 1, 1)?;
-    has_second_alone(&rt, &catalogue)
-}
-
-#[test]
-fn a_failure_wakes_who_waits(rt: HostRuntime) -> Result<(), Fail> {
-    let mut fetchers = Vec::new(rt.alloc());
-    for number in 0..2u8 {
-        fetchers.push(TwoFiles::fetcher(number, First::FailsLate))?;
+fn workers_try_again(rt: HostRuntime) {
+    for workers in 1..3u8 {
+        let failures = AtomicU64::new(1);
+        let plan = two_files(workers, 2, Fate::Failing(&failures));
+        let crawled = crawled::<Brand, _>(&rt, Blank::new(), plan);
+        assert!(&rt; crawled.catalogue.record().len() == 9);
+        has_files(&rt, &crawled, 3, b"ab");
     }
-    let catalogue = crawled::<Brand, _, Fetcher<TwoFiles>>(&rt, Blank::new(), 1, fetchers)?;
-    has_second_alone(&rt, &catalogue)
 }
 
-#[test]
-fn a_circle_of_links_ends(rt: HostRuntime) -> Result<(), Fail> {
-    for workers in 1..3u32 {
-        let mut fetchers = Vec::new(rt.alloc());
-        for _worker in 0..workers {
-            fetchers.push(Fetcher::new(Circle))?;
-        }
-        holds_circle(
-            &rt,
-            &crawled::<Brand, _, Fetcher<Circle>>(&rt, Blank::new(), 1, fetchers)?,
-        )?;
-    }
-    Ok(())
-}
-
-// The third place could not be read.
-fn is_unread(event: &Event) -> bool {
-    matches!(event, Event::Failed(2, Why::Read))
-}
-
-// The directory alone is found.
-fn is_home(hits: &[Hit]) -> bool {
-    match hits {
-        [hit] => {
-            hit.place.selector() == b"/a".as_slice()
-                && hit.title.as_slice() == b"Home".as_slice()
-                && hit.score == 1
-        }
+// The place of this number failed for this reason.
+fn has_failure(catalogue: &Catalogue, number: u32, why: Why) -> bool {
+    catalogue.record().iter().any(|event| match event {
+        Event::Failed(failed, reason) => *failed == number && *reason == why,
         _ => false,
-    }
+    })
 }
 
-// Three places are known and done; the second one's page alone has `b` and `home`.
-fn holds_circle<R: Abort + AllocGlobal>(rt: &R, catalogue: &Catalogue) -> Result<(), Fail> {
-    let status = catalogue.status();
-    assert!(rt; (status.known, status.done, status.dropped) == (3, 3, 0));
-    assert!(rt; catalogue.record().iter().any(|event| is_unread(event)));
-    assert!(rt; is_home(&catalogue.search(&query(rt.alloc(), b"b")?)?));
-    let homes = catalogue.occurrences(b"home")?;
-    assert!(rt; homes.len() == 1);
-    Ok(())
-}
-
+// A late outcome, a failure or a page, wakes the worker that found nothing to do.
 #[test]
-fn two_workers_fetch_at_once(rt: HostRuntime) -> Result<(), Fail> {
-    crawl_gate::<Brand, _>(&rt, Blank::new())
+fn late_outcomes_end_a_crawl(rt: HostRuntime) {
+    for (why, letters) in [
+        (Some(Why::TooLong), b"b".as_slice()),
+        (None, b"ab".as_slice()),
+    ] {
+        let plan = two_files(2, 1, Fate::Late(why));
+        let crawled = crawled::<Brand, _>(&rt, Blank::new(), plan);
+        assert!(rt; has_failure(&crawled.catalogue, 1, Why::TooLong) == why.is_some());
+        has_files(&rt, &crawled, 3, letters);
+    }
 }
 
-fn crawl_gate<C: Crew + Send + Sync, R: Threads + Wait + Abort + AllocGlobal + Sync>(
-    rt: &R,
-    blank: Blank,
-) -> Result<(), Fail>
-    requires name { blank.name ≡ C.name }
-    requires parts { blank.parts ≡ C.parts }
-    requires history { blank.history ≡ C.history }
-    requires begun { blank.begun ≡ [] }
-{
-    let alloc = rt.alloc();
-    let answered = AtomicU64::new(0);
-    let catalogue = root_catalogue(alloc, b"h", 1)?;
-    let (desk, _passes, shares) = opened::<C, R>(rt, blank, catalogue, 1, 2);
-    let mut pairs = Vec::new(alloc);
-    let mut number = 0u8;
-    for share in shares {
-        pairs.push((TwoFiles::fetcher(number, First::Waits(&answered)), share))?;
-        number = 1;
+// A root whose directory leads back to it, and to a file that can't be read: three places are known and
+// done, and the second one's page alone has `b` and `home`.
+#[test]
+fn a_circle_of_links_ends(rt: HostRuntime) {
+    for workers in 1..3u8 {
+        let mut plan = two_files(workers, 1, Fate::Unread);
+        (plan.root, plan.rest) = (ONE_DIRECTORY, HOME_AND_FILE);
+        let crawled = crawled::<Brand, _>(&rt, Blank::new(), plan);
+        holds_circle(&rt, &crawled);
     }
-    let Ok(ends) = crawl(rt, alloc, &desk, pairs) else {
-        panic!(rt; "the crawl isn't started");
+}
+
+fn holds_circle<R: Abort + AllocGlobal>(rt: &R, crawled: &EndedCrawl) {
+    has_files(rt, crawled, 3, b"");
+    let catalogue = &crawled.catalogue;
+    assert!(rt; has_failure(catalogue, 2, Why::Read));
+    let found = hits(rt, catalogue, b"b");
+    assert!(rt; are_files(&found, b"a"));
+    for hit in found.iter() {
+        assert!(rt; hit.title.as_slice() == b"Home".as_slice());
+    }
+    let Ok(homes) = catalogue.occurrences(b"home") else {
+        panic!(rt; "no memory");
     };
-    assert!(rt; ends.len() == 2);
-    assert!(rt; (ends[0].fetcher.table.number, ends[1].fetcher.table.number) == (0, 1));
-    is_whole(rt, &closed(rt, desk, ends)?)
+    assert!(rt; homes.len() == 1 && homes[0].0.selector() == b"/a".as_slice() && homes[0].1 == 1);
+}
+
+// A root with as many files as there are workers, and the files' letters.
+fn files_for(workers: u8) -> (&'static [u8], &'static [u8]) {
+    if workers == 2 {
+        (TWO_FILES, b"ab")
+    } else {
+        (FOUR_FILES, b"abcd")
+    }
+}
+
+// Two workers, and four, must all fetch at once, and each does: a file is answered only after those behind
+// it were.
+#[test]
+fn workers_fetch_at_once(rt: HostRuntime) {
+    for workers in [2u8, 4] {
+        let answered = AtomicU64::new(0);
+        let (root, letters) = files_for(workers);
+        let plan = Plan {
+            root,
+            rest: MOON,
+            fate: Fate::Held(&answered, b'`' + workers),
+            workers,
+            places: 10,
+            tries: 1,
+        };
+        let crawled = crawled::<Brand, _>(&rt, Blank::new(), plan);
+        assert!(rt; crawled.least_calls > 0);
+        has_files(&rt, &crawled, 1 + u32::from(workers), letters);
+    }
 }

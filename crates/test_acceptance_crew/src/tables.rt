@@ -1,9 +1,9 @@
-// Catalogues, and fetchers over tables in memory.
+// Hosts in memory, catalogues of crawls over them, and desks.
 ghost use Rattle.std.specs.Prelude.{◌≡◌, ◌≤◌, length};
 ghost use mathlib.Core.List.{IsPrefix};
 
-use gopher_catalogue::{Catalogue, Hit, Status, Why};
-use gopher_crew::{Blank, Crew, Desk, Pass, Share};
+use gopher_catalogue::{Catalogue, Hit, Why};
+use gopher_crew::{Answer, Blank, Crew, Desk, Pass, Share};
 use gopher_item::Place;
 use gopher_page::Query;
 use gopher_scope::{Rule, Scope};
@@ -11,40 +11,154 @@ use std::alloc::Global;
 use std::process::Abort;
 use std::sync::Wait;
 use std::sync::atomic::{AtomicU64, Ordering};
-use std::test::Fail;
-use test_tables::{Fetcher, Table};
-
-/// A desk that was opened, with its passes and shares.
-pub type Opened<'a, C, R> = (Desk<C, &'a R>, Vec<Pass<C>>, Vec<Share<C>>);
-
-/// The menu of a seed with two files.
-pub const TWO_FILES: &[u8] = b"0A\t/a\th\t70\r\n0B\t/b\th\t70\r\n.\r\n";
+use std::thread;
+use std::time::{Clock, Duration};
+use test_tables::Table;
 
 /// A file.
 pub const MOON: &[u8] = b"moon\r\n.\r\n";
 
-/// A menu with one directory, whose links lead outside of what was allowed.
-pub const DOCS: &[u8] = b"1Docs\t/docs\tlocalhost\t70\r\n.\r\n";
+/// The menu of a root with two files, and of one with four.
+pub const TWO_FILES: &[u8] = b"0A\t/a\th\t70\r\n0B\t/b\th\t70\r\n.\r\n";
 
-/// A crawl of a host at port 70 that begins in its root and knows 10 places at most.
-pub fn root_catalogue(alloc: Global, host: &[u8], tries: u32) -> Result<Catalogue, Fail> {
-    catalogue_of(alloc, host, 10, tries)
+pub const FOUR_FILES: &[u8] =
+    b"0A\t/a\th\t70\r\n0B\t/b\th\t70\r\n0C\t/c\th\t70\r\n0D\t/d\th\t70\r\n.\r\n";
+
+/// The menu of a root with one directory, and that directory's.
+pub const ONE_DIRECTORY: &[u8] = b"1A\t/a\th\t70\r\n.\r\n";
+
+pub const HOME_AND_FILE: &[u8] = b"1Home\t\th\t70\r\n0B\t/b\th\t70\r\n.\r\n";
+
+// How often a fetch that is held looks whether it may go on, and for how many milliseconds it sleeps
+// between: ten seconds in all.
+const LOOKS: u32 = 1_000;
+
+const SLEEP: u64 = 10;
+
+// For how many milliseconds a late fetch sleeps, while another worker finds nothing to do.
+const LATE: u64 = 300;
+
+/// What befalls fetches.
+#[derive(Clone, Copy, Drop)]
+pub enum Fate<'a> {
+    /// Nothing.
+    Answered,
+    /// So many fetches of `/a`, of all fetchers together, can't be read.
+    Failing(&'a AtomicU64),
+    /// Fetches of `/a` are late, and are refused for this reason, if there is one.
+    Late(Option<Why>),
+    /// A fetch of a file is held until the files between it and this last letter were answered, of which
+    /// these are counted.
+    Held(&'a AtomicU64, u8),
+    /// `/b` can't be read.
+    Unread,
+}
+
+/// The replies of a host: its root, and what all else is.
+#[derive(Drop)]
+pub struct Host<'a, R> {
+    pub clock: &'a R,
+    pub root: &'a [u8],
+    pub rest: &'a [u8],
+    pub fate: Fate<'a>,
+    /// Which of several fetchers has them.
+    pub number: u8,
+}
+
+// Takes one of at most three failures that are left, if there is one.
+fn takes_failure(failures: &AtomicU64) -> bool {
+    let order = Ordering::SeqCst;
+    (1..4u64).any(|left| {
+        failures
+            .compare_exchange(left, left - 1, order, order)
+            .is_ok()
+    })
+}
+
+// Waits until so many files were answered, and counts one more. A file that waits in vain can't be read.
+fn hold(clock: &impl Clock, answered: &AtomicU64, before: u64) -> Result<(), Why> {
+    for _look in 0..LOOKS {
+        if answered.load(Ordering::SeqCst) >= before {
+            let _count = answered.fetch_add(1, Ordering::SeqCst);
+            return Ok(());
+        }
+        thread::sleep(clock, Duration::from_millis(SLEEP));
+    }
+    Err(Why::Read)
+}
+
+// Whether a file with this letter is answered, and when.
+fn befall(clock: &impl Clock, fate: Fate<'_>, letter: u8) -> Result<(), Why> {
+    match fate {
+        Fate::Failing(failures) if letter == b'a' && takes_failure(failures) => Err(Why::Read),
+        Fate::Late(why) if letter == b'a' => {
+            thread::sleep(clock, Duration::from_millis(LATE));
+            match why {
+                Some(why) => Err(why),
+                None => Ok(()),
+            }
+        }
+        Fate::Held(answered, last) => {
+            hold(clock, answered, u64::from(last.saturating_sub(letter)))
+        }
+        Fate::Unread if letter == b'b' => Err(Why::Read),
+        _ => Ok(()),
+    }
+}
+
+impl<R: Clock> Table for Host<'_, R> {
+    fn reply(&self, selector: &[u8]) -> Result<&[u8], Why> {
+        match selector.last() {
+            None => Ok(self.root),
+            Some(letter) => {
+                befall(self.clock, self.fate, *letter)?;
+                Ok(self.rest)
+            }
+        }
+    }
+}
+
+/// A scope that allows a host at port 70.
+pub fn scope<R: Abort + AllocGlobal>(rt: &R, host: &[u8]) -> Scope {
+    let alloc = rt.alloc();
+    let mut allow = Vec::new(alloc);
+    let Ok(rule) = Rule::new(alloc, host, 70, b"") else {
+        panic!(rt; "no rule");
+    };
+    let Ok(()) = allow.push(rule) else {
+        panic!(rt; "no memory");
+    };
+    Scope::new(allow, Vec::new(alloc))
+}
+
+/// A place at port 70.
+pub fn place<R: Abort + AllocGlobal>(rt: &R, kind: u8, selector: &[u8], host: &[u8]) -> Place {
+    let Ok(place) = Place::new(rt.alloc(), kind, selector, host, 70) else {
+        panic!(rt; "no place");
+    };
+    place
 }
 
 /// A crawl of a host at port 70 that begins in its root and knows so many places at most.
-pub fn catalogue_of(
-    alloc: Global,
+pub fn catalogue<R: Abort + AllocGlobal>(
+    rt: &R,
     host: &[u8],
     places: u32,
     tries: u32,
-) -> Result<Catalogue, Fail> {
-    let mut allow = Vec::new(alloc);
-    allow.push(Rule::new(alloc, host, 70, b"")?)?;
+) -> Catalogue {
+    let alloc = rt.alloc();
     let mut seeds = Vec::new(alloc);
-    seeds.push(Place::new(alloc, b'1', b"", host, 70)?)?;
-    let scope = Scope::new(allow, Vec::new(alloc));
-    Ok(Catalogue::open(alloc, scope, seeds, places, tries)?)
+    let Ok(()) = seeds.push(place(rt, b'1', b"", host)) else {
+        panic!(rt; "no memory");
+    };
+    let Ok(catalogue) = Catalogue::open(alloc, scope(rt, host), seeds, places, tries) else {
+        panic!(rt; "the crawl isn't opened");
+    };
+    catalogue
 }
+
+/// A desk that was opened, with its passes and shares.
+pub type Opened<'a, C, R> = (Desk<C, &'a R>, Vec<Pass<C>>, Vec<Share<C>>);
 
 /// A desk over a catalogue, which has to be opened.
 pub fn opened<'a, C: Crew, R: Wait + Abort + AllocGlobal>(
@@ -65,131 +179,40 @@ pub fn opened<'a, C: Crew, R: Wait + Abort + AllocGlobal>(
     opened
 }
 
-/// A query.
-pub fn query(alloc: Global, text: &[u8]) -> Result<Query, Fail>
+// A query.
+fn query<R: Abort + AllocGlobal>(rt: &R, text: &[u8]) -> Query
     requires { length text.now ≤ 1024 }
 {
-    Ok(Query::read(alloc, text)?)
+    let Ok(query) = Query::read(rt.alloc(), text) else {
+        panic!(rt; "the query isn't read");
+    };
+    query
 }
 
-/// Three places are known, and all are done.
-pub fn is_done(status: &Status) -> bool {
-    status.known == 3 && status.waiting == 0 && status.out == 0 && status.done == 3
+/// What a pass answers.
+pub fn answered<C: Crew, R: Abort + AllocGlobal>(rt: &R, pass: &mut Pass<C>, text: &[u8]) -> Answer
+    requires { length text.now ≤ 1024 }
+{
+    let Ok(answer) = pass.search(&query(rt, text)) else {
+        panic!(rt; "the search is refused");
+    };
+    answer
 }
 
-/// The hits are the two files, in place order, each with the word once.
-pub fn are_both_files(hits: &[Hit]) -> bool {
-    match hits {
-        [first, second] => {
-            first.place.selector() == b"/a".as_slice()
-                && second.place.selector() == b"/b".as_slice()
-                && first.score == 1
-                && second.score == 1
-        }
-        _ => false,
-    }
+/// What a catalogue's search finds.
+pub fn hits<R: Abort + AllocGlobal>(rt: &R, catalogue: &Catalogue, text: &[u8]) -> Vec<Hit>
+    requires { length text.now ≤ 1024 }
+{
+    let Ok(hits) = catalogue.search(&query(rt, text)) else {
+        panic!(rt; "the search is refused");
+    };
+    hits
 }
 
-/// The menu of a root with one directory, and that directory's.
-pub const ONE_DIRECTORY: &[u8] = b"1A\t/a\th\t70\r\n.\r\n";
-
-pub const HOME_AND_FILE: &[u8] = b"1Home\t\th\t70\r\n0B\t/b\th\t70\r\n.\r\n";
-
-/// What befalls the fetches of `/a` of a root with two files.
-#[derive(Drop)]
-pub enum First<'a> {
-    /// So many of them fail, of all fetchers together.
-    Fails(&'a AtomicU64),
-    /// They are held until a fetch of `/b` was answered.
-    Waits(&'a AtomicU64),
-    /// They fail, after another worker had long to find nothing to do.
-    FailsLate,
-}
-
-// Takes one of at most three failures that are left, if there is one.
-fn takes_failure(failures: &AtomicU64) -> bool {
-    let order = Ordering::SeqCst;
-    (1..4u64).any(|left| {
-        failures
-            .compare_exchange(left, left - 1, order, order)
-            .is_ok()
-    })
-}
-
-// Turns that a worker needs to find nothing to do, where a core is free for it.
-const LONG: u64 = 100_000_000;
-
-// Turns after which a fetch was not answered, however many threads share a core.
-const TOO_LONG: u64 = 100_000_000_000;
-
-// Whether the fetch of `/b` was answered within so many turns.
-fn is_answered(answered: &AtomicU64, turns: u64) -> bool {
-    for _turn in 0..turns {
-        if answered.load(Ordering::SeqCst) == 1 {
-            return true;
-        }
-    }
-    false
-}
-
-impl First<'_> {
-    // Whether a fetch of `/a` is answered.
-    fn is_answered(&self) -> bool {
-        match self {
-            First::Fails(failures) => !takes_failure(failures),
-            First::Waits(answered) => is_answered(answered, TOO_LONG),
-            First::FailsLate => is_answered(&AtomicU64::new(0), LONG),
-        }
-    }
-
-    // Takes note that `/b` is answered.
-    fn open(&self) {
-        match self {
-            First::Fails(_) | First::FailsLate => {}
-            First::Waits(answered) => answered.store(1, Ordering::SeqCst),
-        }
-    }
-}
-
-/// The replies of a root with two files.
-#[derive(Drop)]
-pub struct TwoFiles<'a> {
-    first: First<'a>,
-    /// Which of several fetchers has them.
-    pub number: u8,
-}
-
-impl<'a> TwoFiles<'a> {
-    /// A fetcher of them.
-    pub fn fetcher(number: u8, first: First<'a>) -> Fetcher<TwoFiles<'a>> {
-        Fetcher::new(TwoFiles { first, number })
-    }
-}
-
-impl Table for TwoFiles<'_> {
-    fn reply(&self, selector: &[u8]) -> Result<&[u8], Why> {
-        match selector {
-            b"" => Ok(TWO_FILES),
-            b"/a" if !self.first.is_answered() => Err(Why::Read),
-            b"/a" => Ok(MOON),
-            _ => {
-                self.first.open();
-                Ok(MOON)
-            }
-        }
-    }
-}
-
-/// The replies of a root whose directory leads back to it, and to a file that can't be read.
-#[derive(Drop)]
-pub struct Circle;
-
-impl Table for Circle {
-    fn reply(&self, selector: &[u8]) -> Result<&[u8], Why> {
-        match selector {
-            b"" => Ok(ONE_DIRECTORY),
-            b"/a" => Ok(HOME_AND_FILE),
-            _ => Err(Why::Read),
-        }
-    }
+/// The hits are files with these letters, in this order, each with a word once.
+pub fn are_files(hits: &[Hit], letters: &[u8]) -> bool {
+    hits.len() == letters.len()
+        && hits.iter().zip(letters.iter()).all(|(hit, letter)| hit.place.selector()
+            == [b'/', *letter].as_slice()
+            && hit.score == 1)
 }

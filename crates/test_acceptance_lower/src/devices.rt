@@ -1,106 +1,46 @@
-// Readers and writers in memory that are interrupted, that give or take little, and that fail.
+// A reader and a writer in memory that are interrupted, that give or take little, and that fail.
+ghost use Rattle.std.specs.Prelude.{◌≡◌, length, IfOk};
+
 use std::io;
 use std::io::{Error, ErrorKind, Read, Write};
 
-/// Gives `left` times the byte `a`, one a read, each after `interruptions` reads that are interrupted;
-/// then it is at its end, or fails.
+/// Gives the bytes one a read, each after so many reads that are interrupted; then it is at its end, or fails.
 #[derive(Drop)]
-pub struct Stutterer {
-    pub left: u32,
+pub struct Slow<'a> {
+    pub bytes: &'a [u8],
     pub interruptions: u32,
+    /// How many reads are interrupted before the next byte.
     pub now: u32,
     pub fails: bool,
+    /// The length of the buffer that it was given last.
+    pub length: usize,
 }
 
-impl Stutterer {
-    /// A reader whose first byte comes after so many interruptions.
-    pub fn new(left: u32, interruptions: u32, fails: bool) -> Stutterer {
-        Stutterer {
-            left,
+impl<'a> Slow<'a> {
+    pub fn new(bytes: &'a [u8], interruptions: u32, fails: bool) -> Slow<'a> {
+        Slow {
+            bytes,
             interruptions,
             now: interruptions,
             fails,
+            length: 0,
         }
     }
 }
 
-impl Read for Stutterer {
+impl Read for Slow<'_> {
     fn read(&mut self, buf: &mut [u8]) -> io::Result<usize> {
-        if self.left == 0 || buf.is_empty() {
-            return if self.fails {
-                Err(Error::other("broken"))
-            } else {
-                Ok(0)
-            };
+        self.length = buf.len();
+        if self.bytes.is_empty() && self.fails {
+            return Err(Error::other("broken"));
         }
-        if self.now > 0 {
+        if self.now > 0 && !self.bytes.is_empty() {
             self.now -= 1;
             return Err(Error::new(ErrorKind::Interrupted, "again"));
         }
         self.now = self.interruptions;
-        self.left -= 1;
-        buf[0] = b'a';
-        Ok(1)
-    }
-}
-
-/// Is interrupted so many times, and then gives the bytes.
-#[derive(Drop)]
-pub struct Interrupted<'a> {
-    pub times: u32,
-    pub bytes: &'a [u8],
-}
-
-impl Read for Interrupted<'_> {
-    fn read(&mut self, buf: &mut [u8]) -> io::Result<usize> {
-        if self.times > 0 {
-            self.times -= 1;
-            return Err(Error::new(ErrorKind::Interrupted, "again"));
-        }
-        self.bytes.read(buf)
-    }
-}
-
-/// Gives the bytes one a read, each and the end after three reads that are interrupted.
-#[derive(Drop)]
-pub struct Hesitant<'a> {
-    pub interrupted: u8,
-    pub bytes: &'a [u8],
-}
-
-impl Read for Hesitant<'_> {
-    fn read(&mut self, buf: &mut [u8]) -> io::Result<usize> {
-        if self.interrupted < 3 {
-            self.interrupted += 1;
-            return Err(Error::new(ErrorKind::Interrupted, "again"));
-        }
-        self.interrupted = 0;
         let one = buf.len().min(1);
         self.bytes.read(&mut buf[..one])
-    }
-}
-
-/// Holds the length of the buffer that it was given last. It gives nothing, and takes all.
-#[derive(Drop)]
-pub struct Measure {
-    pub length: usize,
-}
-
-impl Read for Measure {
-    fn read(&mut self, buf: &mut [u8]) -> io::Result<usize> {
-        self.length = buf.len();
-        Ok(0)
-    }
-}
-
-impl Write for Measure {
-    fn write(&mut self, buf: &[u8]) -> io::Result<usize> {
-        self.length = buf.len();
-        Ok(buf.len())
-    }
-
-    fn flush(&mut self) -> io::Result<()> {
-        Ok(())
     }
 }
 
@@ -112,32 +52,46 @@ pub enum Ending {
     Fails,
 }
 
-/// Takes `room` bytes, is interrupted so many times, and then goes on as `ending` says.
+/// Takes `room` bytes, which have to be those that `left` begins with, is interrupted so many times, and then
+/// goes on as `ending` says.
 #[derive(Drop)]
-pub struct Narrow {
-    pub held: Vec<u8>,
+pub struct Narrow<'a> {
+    pub left: &'a [u8],
     pub room: usize,
     pub interruptions: u32,
     pub ending: Ending,
 }
 
-impl Write for Narrow {
+impl Narrow<'_> {
+    fn take(&mut self, bytes: &[u8]) -> io::Result<usize>
+        ensures { IfOk result (λ count. count ≡ length bytes.now) }
+    {
+        match self.left.strip_prefix(bytes) {
+            Some(rest) => {
+                self.left = rest;
+                Ok(bytes.len())
+            }
+            None => Err(Error::other("other bytes")),
+        }
+    }
+}
+
+impl Write for Narrow<'_> {
     fn write(&mut self, buf: &[u8]) -> io::Result<usize> {
-        let mut count = buf.len();
-        if self.held.len() < self.room {
-            count = count.min(self.room - self.held.len());
-        } else if self.interruptions > 0 {
+        if self.room > 0 {
+            let count = buf.len().min(self.room);
+            self.room -= count;
+            return self.take(&buf[..count]);
+        }
+        if self.interruptions > 0 {
             self.interruptions -= 1;
             return Err(Error::new(ErrorKind::Interrupted, "again"));
-        } else {
-            match self.ending {
-                Ending::Takes => {}
-                Ending::TakesNothing => return Ok(0),
-                Ending::Fails => return Err(Error::other("broken")),
-            }
         }
-        self.held.extend_from_slice(&buf[..count])?;
-        Ok(count)
+        match self.ending {
+            Ending::Takes => self.take(buf),
+            Ending::TakesNothing => Ok(0),
+            Ending::Fails => Err(Error::other("broken")),
+        }
     }
 
     fn flush(&mut self) -> io::Result<()> {

@@ -1,302 +1,218 @@
-// Folders that are loaded as trees.
-use crate::trees::replies;
-use gopher_tree::{Node, Tree, TreeFault};
-use std::alloc::{Allocator, Global};
-use std::fs::{Files, Metadata, OpenFile, OpenOptions};
-use std::io::{Chain, Read};
-use std::os::unix::fs::symlink;
-use std::{fs, io};
+// Trees of lists of files: their replies, and lists that are refused. What folders are loaded as is shown by
+// tests/check.py and tests/requests.py.
+use gopher_item::Home;
+use gopher_tree::{Node, Tree, TreeFault, error_reply};
+use std::alloc::{AllocError, Global};
 
-const LARGEST: u64 = 16_777_216;
+/// Paths and bytes.
+pub type Rows = &'static [(&'static [u8], &'static [u8])];
 
-fn write(rt: &HostRuntime, path: &str, text: &str) -> Option<()> {
-    fs::write(rt, path, text).ok()
-}
-
-// A folder with the folders above it, and files.
-fn make_folder(rt: &HostRuntime, path: &str, files: &[(&str, &str)]) -> Option<()> {
-    fs::create_dir_all(rt, path).ok()?;
-    for (path, text) in files {
-        write(rt, *path, *text)?;
+fn list(alloc: Global, files: Rows) -> Result<Vec<(Vec<u8>, Vec<u8>)>, AllocError> {
+    let mut made = Vec::new(alloc);
+    for (path, bytes) in files {
+        made.push((
+            Vec::from_slice(alloc, path)?,
+            Vec::from_slice(alloc, bytes)?,
+        ))?;
     }
-    Some(())
+    Ok(made)
 }
 
-// A folder of links, each with what it leads to.
-fn make_links(rt: &HostRuntime, path: &str, links: &[(&str, &str)]) -> Option<()> {
-    fs::create_dir(rt, path).ok()?;
-    for (original, link) in links {
-        symlink(rt, *original, *link).ok()?;
-    }
-    Some(())
-}
-
-fn make_file(rt: &HostRuntime, path: &str, size: u64) -> Option<()> {
-    let file = fs::create(rt, path).ok()?;
-    OpenFile::set_len(&file, size).ok()
-}
-
-fn make_largest_files(rt: &HostRuntime, paths: &[&str]) -> Option<()> {
-    for path in paths {
-        make_file(rt, *path, LARGEST)?;
-    }
-    Some(())
-}
-
-// A folder in a folder, named by a number.
-fn make_numbered(rt: &HostRuntime, root: &str, number: usize) -> Option<()> {
-    let path = format!(in rt.alloc(); "{root}/{number}").ok()?;
-    fs::create_dir(rt, path.as_str()).ok()
-}
-
-// As many folders in a folder, named by numbers.
-fn make_folders(rt: &HostRuntime, root: &str, count: usize) -> Option<()> {
-    for number in 0..count {
-        make_numbered(rt, root, number)?;
-    }
-    Some(())
-}
-
-fn fault_of<R: Files>(rt: &R, alloc: Global, root: &str) -> Option<TreeFault> {
-    Tree::load(rt, alloc, root).err()
-}
-
-// Whether the selector names a text of these bytes.
-fn has_text(tree: &Tree, selector: &[u8], wanted: &[u8]) -> bool {
-    match tree.find(selector) {
-        Some(Node::File(b'0', bytes)) => bytes == wanted,
-        _ => false,
+/// The tree of these files.
+pub fn tree_of(alloc: Global, files: Rows) -> Result<Tree, TreeFault> {
+    match list(alloc, files) {
+        Ok(files) => Tree::of_files(alloc, files),
+        Err(_refused) => Err(TreeFault::NoMemory),
     }
 }
 
-fn tree_at(rt: &HostRuntime, root: &str) -> Option<Tree> {
-    Tree::load(rt, rt.alloc(), root).ok()
+/// The home of the worked replies.
+pub fn home(alloc: Global) -> Option<Home> {
+    Home::new(alloc, b"localhost", 7070).ok()
 }
 
-const ROOT: &[u8] =
-    b"7Search\t/search\tlocalhost\t7070\r\n0a.txt\t/a.txt\tlocalhost\t7070\r\n.\r\n";
-
-fn loads_a_text(rt: &HostRuntime) -> Option<bool> {
-    make_folder(rt, "loaded", &[("loaded/a.txt", "hello\n")])?;
-    let tree = tree_at(rt, "loaded")?;
-    Some(replies(rt.alloc(), &tree, b"", ROOT))
+fn has_reply(alloc: Global, tree: &Tree, home: &Home, selector: &[u8], wanted: &[u8]) -> bool {
+    match tree.reply(alloc, selector, home) {
+        Ok(reply) => reply.as_slice() == wanted,
+        Err(_refused) => false,
+    }
 }
 
-#[test]
-fn loads_a_folder(rt: HostRuntime) {
-    assert!(rt; loads_a_text(&rt) == Some(true));
-}
-
-#[test]
-fn refuses_what_is_no_folder(rt: HostRuntime) {
-    let fault = Some(TreeFault::Unreadable { file: 0 });
-    assert!(rt; write(&rt, "file", "hello\n").is_some());
-    assert!(rt; fault_of(&rt, rt.alloc(), "absent") == fault);
-    assert!(rt; fault_of(&rt, rt.alloc(), "file") == fault);
-}
-
-// Whether the tree has neither a text nor a folder of these selectors.
-fn has_none(tree: &Tree, selectors: &[&[u8]]) -> bool {
-    for selector in selectors {
-        if tree.find(selector).is_some() {
+// Whether each selector has its reply.
+fn has_replies(alloc: Global, tree: &Tree, home: &Home, rows: Rows) -> bool {
+    for (selector, wanted) in rows {
+        if !has_reply(alloc, tree, home, *selector, *wanted) {
             return false;
         }
     }
     true
 }
 
-const HIDING: &[(&str, &str)] = &[
-    ("hiding/.hidden/x", "x"),
-    ("hiding/.y", "y"),
-    ("hiding/z", "z"),
-];
-
-fn hides_names(rt: &HostRuntime) -> Option<bool> {
-    make_folder(rt, "hiding/.hidden", HIDING)?;
-    let tree = tree_at(rt, "hiding")?;
-    Some(has_text(&tree, b"/z", b"z") && has_none(&tree, &[b"/.hidden", b"/.y"]))
-}
-
-#[test]
-fn leaves_hidden_names_out(rt: HostRuntime) {
-    assert!(rt; hides_names(&rt) == Some(true));
-}
-
-const NAMED: &[(&str, &str)] = &[
-    ("named/a/.menu", "Welcome\n"),
-    ("named/a/x", "x"),
-    ("named/a.txt", ""),
-    ("named/b\tc", ""),
-];
-
-#[test]
-fn walks_by_names(rt: HostRuntime) {
-    assert!(rt; make_folder(&rt, "named/a", NAMED).is_some());
-    let fault = Some(TreeFault::BadName { file: 3 });
-    assert!(rt; fault_of(&rt, rt.alloc(), "named") == fault);
-    assert!(rt; write(&rt, "named/a/.menu", "Welcome\n0x\ta\tb").is_some());
-    let fault = Some(TreeFault::BadMenuLine { file: 0, line: 2 });
-    assert!(rt; fault_of(&rt, rt.alloc(), "named/") == fault);
-}
-
-const LINKS: &[(&str, &str)] = &[
-    ("../other/deep", "linked/folder"),
-    ("../other/deep/x", "linked/file"),
-    ("nowhere", "linked/nothing"),
-    ("../other/deep/x/y", "linked/through"),
-    ("/dev/null", "linked/device"),
-];
-
-// Whether the tree has what links to files and folders lead to, and nothing else.
-fn has_linked(tree: &Tree) -> bool {
-    has_text(tree, b"/folder/x", b"x")
-        && has_text(tree, b"/file", b"x")
-        && has_none(tree, &[b"/nothing", b"/through", b"/device"])
-}
-
-fn loads_links(rt: &HostRuntime) -> Option<bool> {
-    make_folder(rt, "other/deep", &[("other/deep/x", "x")])?;
-    make_links(rt, "linked", LINKS)?;
-    let tree = tree_at(rt, "linked")?;
-    Some(has_linked(&tree))
-}
-
-#[test]
-fn follows_links(rt: HostRuntime) {
-    assert!(rt; loads_links(&rt) == Some(true));
-}
-
-#[test]
-fn refuses_a_link_to_itself(rt: HostRuntime) {
-    assert!(rt; make_links(&rt, "cyclic", &[("self", "cyclic/self")]).is_some());
-    assert!(rt; write(&rt, "cyclic/a", "a").is_some());
-    let fault = Some(TreeFault::Unreadable { file: 1 });
-    assert!(rt; fault_of(&rt, rt.alloc(), "cyclic") == fault);
-}
-
-#[test]
-fn stops_at_a_link_to_its_folder(rt: HostRuntime) {
-    assert!(rt; make_links(&rt, "alone", &[(".", "alone/a")]).is_some());
-    let fault = Some(TreeFault::LongSelector { file: 0 });
-    assert!(rt; fault_of(&rt, rt.alloc(), "alone") == fault);
-}
-
-#[test]
-fn stops_at_two_links_to_a_wide_folder(rt: HostRuntime) {
-    let links = [("../wide", "wide/a"), ("../wide", "wide/b")];
-    assert!(rt; make_links(&rt, "wide", &links).is_some());
-    assert!(rt; make_folders(&rt, "wide", 40).is_some());
-    let fault = Some(TreeFault::TooBig { file: 0 });
-    assert!(rt; fault_of(&rt, rt.alloc(), "wide") == fault);
-}
-
-// A folder of as many folders as a tree may have.
-fn make_most_folders(rt: &HostRuntime) -> Option<()> {
-    fs::create_dir_all(rt, "folders/search").ok()?;
-    make_folders(rt, "folders", 4094)
-}
-
-#[test]
-fn counts_folders_without_files(rt: HostRuntime) {
-    assert!(rt; make_most_folders(&rt).is_some());
-    assert!(rt; fault_of(&rt, rt.alloc(), "folders") == None);
-    assert!(rt; write(&rt, "folders/zz", "").is_some());
-    let fault = Some(TreeFault::TooBig { file: 0 });
-    assert!(rt; fault_of(&rt, rt.alloc(), "folders") == fault);
-    assert!(rt; fs::create_dir(&rt, "folders/y").is_ok());
-    assert!(rt; fault_of(&rt, rt.alloc(), "folders") == fault);
-}
-
-// Four of the largest files.
-fn make_four(rt: &HostRuntime) -> Option<()> {
-    fs::create_dir(rt, "counted").ok()?;
-    make_largest_files(rt, &["counted/a", "counted/b", "counted/c", "counted/d"])
-}
-
-#[test]
-fn counts_bytes(rt: HostRuntime) {
-    assert!(rt; make_four(&rt).is_some());
-    assert!(rt; fault_of(&rt, rt.alloc(), "counted") == None);
-    assert!(rt; make_file(&rt, "counted/e", 1).is_some());
-    let fault = Some(TreeFault::TooBig { file: 4 });
-    assert!(rt; fault_of(&rt, rt.alloc(), "counted") == fault);
-    assert!(rt; make_file(&rt, "counted/b", LARGEST + 1).is_some());
-    let fault = Some(TreeFault::TooBig { file: 1 });
-    assert!(rt; fault_of(&rt, rt.alloc(), "counted") == fault);
-}
-
-// Files and folders of which none can be opened, or a folder with one more name.
-#[derive(Drop)]
-struct Faulty<'a, R> {
-    host: &'a R,
-    name: &'static [u8],
-    is_locked: bool,
-}
-
-impl<R: Files> Files for Faulty<'_, R> {
-    type File = R::File;
-
-    type Dir = Chain<R::Dir, &'static [u8]>;
-
-    fn open_file(&self, how: &OpenOptions, path: &str) -> io::Result<R::File> {
-        if self.is_locked {
-            return Err(io::Error::from(io::ErrorKind::PermissionDenied));
-        }
-        self.host.open_file(how, path)
-    }
-
-    fn open_dir(&self, path: &str) -> io::Result<Self::Dir> {
-        Ok(self.host.open_dir(path)?.chain(self.name))
-    }
-
-    fn metadata(&self, path: &str) -> io::Result<Metadata> {
-        self.host.metadata(path)
-    }
-
-    fn symlink_metadata(&self, path: &str) -> io::Result<Metadata> {
-        self.host.symlink_metadata(path)
-    }
-
-    fn copy(&self, from: &str, to: &str) -> io::Result<u64> {
-        self.host.copy(from, to)
-    }
-
-    fn rename(&self, from: &str, to: &str) -> io::Result<()> {
-        self.host.rename(from, to)
-    }
-
-    fn remove_file(&self, path: &str) -> io::Result<()> {
-        self.host.remove_file(path)
-    }
-
-    fn create_dir(&self, path: &str) -> io::Result<()> {
-        self.host.create_dir(path)
-    }
-
-    fn remove_dir(&self, path: &str) -> io::Result<()> {
-        self.host.remove_dir(path)
-    }
-
-    fn remove_dir_all<B: Allocator>(&self, alloc: B, path: &str) -> io::Result<()> {
-        self.host.remove_dir_all(alloc, path)
-    }
-}
-
-// The fault of the folder, where its files can't be opened or it has one more name.
-fn fault_of_faulty(rt: &HostRuntime, name: &'static [u8], is_locked: bool) -> Option<TreeFault> {
-    let faulty = Faulty {
-        host: rt,
-        name,
-        is_locked,
+// Whether the tree of these files has these replies.
+fn serves(alloc: Global, files: Rows, rows: Rows) -> bool {
+    let (Ok(tree), Some(home)) = (tree_of(alloc, files), home(alloc)) else {
+        return false;
     };
-    fault_of(&faulty, rt.alloc(), "locked")
+    has_replies(alloc, &tree, &home, rows)
+}
+
+const NOT_FOUND: &[u8] = b"3Not found\t\tlocalhost\t7070\r\n.\r\n";
+
+const ROOT: &[u8] =
+    b"7Search\t/search\tlocalhost\t7070\r\n0a.txt\t/a.txt\tlocalhost\t7070\r\n.\r\n";
+
+// Lists of files, and the replies of their trees.
+const SITES: &[(Rows, Rows)] = &[
+    (
+        &[(b"a.txt", b"hello\n")],
+        &[
+            (b"", ROOT),
+            (b"/", ROOT),
+            (b"/a.txt", b"hello\r\n.\r\n"),
+            (b"/b", NOT_FOUND),
+            (b"//a.txt", NOT_FOUND),
+            (b"/a.txt/", NOT_FOUND),
+            (b"a.txt", NOT_FOUND),
+        ],
+    ),
+    (
+        &[(b"p", b".\nhi"), (b"e", b"")],
+        &[(b"/p", b"..\r\nhi\r\n.\r\n"), (b"/e", b".\r\n")],
+    ),
+    (
+        &[
+            (b"a.txt", b"hello\n"),
+            (b"docs/b.gif", b"GIF\0.\n"),
+            (
+                b"docs/.menu",
+                b"Welcome\n0Read\t/a.txt\n1Far\t\tfar.example\t70\n",
+            ),
+        ],
+        &[
+            (
+                b"/",
+                b"7Search\t/search\tlocalhost\t7070\r\n0a.txt\t/a.txt\tlocalhost\t7070\r\n1docs\t/docs\tlocalhost\t7070\r\n.\r\n",
+            ),
+            (
+                b"/docs",
+                b"iWelcome\t\tlocalhost\t7070\r\n0Read\t/a.txt\tlocalhost\t7070\r\n1Far\t\tfar.example\t70\r\n.\r\n",
+            ),
+            (b"/docs/b.gif", b"GIF\0.\n"),
+            (b"/docs/.menu", NOT_FOUND),
+            (b"/docs/", NOT_FOUND),
+        ],
+    ),
+    (
+        &[(b"b/y", b""), (b"B", b""), (b"b/x", b""), (b"a/.menu", b"")],
+        &[
+            (
+                b"",
+                b"7Search\t/search\tlocalhost\t7070\r\n0B\t/B\tlocalhost\t7070\r\n1a\t/a\tlocalhost\t7070\r\n1b\t/b\tlocalhost\t7070\r\n.\r\n",
+            ),
+            (
+                b"/b",
+                b"0x\t/b/x\tlocalhost\t7070\r\n0y\t/b/y\tlocalhost\t7070\r\n.\r\n",
+            ),
+            (b"/a", b".\r\n"),
+        ],
+    ),
+];
+
+#[test]
+fn trees_have_replies(rt: HostRuntime) {
+    for (files, rows) in SITES {
+        assert!(rt; serves(rt.alloc(), files, rows));
+    }
+}
+
+const LONG: &[u8] = &[b'a'; 255];
+
+const FITTING: Rows = &[(&[b'a'; 254], b"")];
+
+// Lists of files, and their faults.
+const REFUSED: &[(Rows, TreeFault)] = &[
+    (&[(b"a//b", b"")], TreeFault::BadName { file: 0 }),
+    (
+        &[(b"a", b""), (b".menu/a", b"")],
+        TreeFault::BadName { file: 1 },
+    ),
+    (&[(b"search", b"")], TreeFault::Reserved { file: 0 }),
+    (&[(b"search//a", b"")], TreeFault::BadName { file: 0 }),
+    (&[(LONG, b"")], TreeFault::LongSelector { file: 0 }),
+    (
+        &[(b".menu", b"0x\ta\tb")],
+        TreeFault::BadMenuLine { file: 0, line: 1 },
+    ),
+    (&[(b"a", b""), (b"a/b", b"")], TreeFault::Twice { file: 1 }),
+    (
+        &[(b"a/b/c", b""), (b"a/b", b"")],
+        TreeFault::Twice { file: 1 },
+    ),
+];
+
+// Whether a list of files is refused with this fault.
+fn is_refused(alloc: Global, files: Rows, fault: TreeFault) -> bool {
+    match tree_of(alloc, files) {
+        Ok(_tree) => false,
+        Err(found) => found == fault,
+    }
 }
 
 #[test]
-fn refuses_what_is_not_readable(rt: HostRuntime) {
-    assert!(rt; make_folder(&rt, "locked", &[("locked/a", "a")]).is_some());
-    let fault = Some(TreeFault::Unreadable { file: 0 });
-    assert!(rt; fault_of_faulty(&rt, b".\xff\0", false) == fault);
-    assert!(rt; fault_of_faulty(&rt, b"z\xff\0", false) == fault);
-    assert!(rt; fault_of_faulty(&rt, b"", true) == fault);
+fn trees_are_refused(rt: HostRuntime) {
+    for (files, fault) in REFUSED {
+        assert!(rt; is_refused(rt.alloc(), files, *fault));
+    }
+    assert!(rt; tree_of(rt.alloc(), FITTING).is_ok());
+}
+
+/// A file of so many bytes, all of them this one.
+pub fn file_of(alloc: Global, path: &[u8], byte: u8, size: usize) -> Option<(Vec<u8>, Vec<u8>)> {
+    let path = Vec::from_slice(alloc, path).ok()?;
+    let bytes = vec![in alloc; byte; size].ok()?;
+    Some((path, bytes))
+}
+
+/// A list of this file.
+pub fn only(alloc: Global, file: Option<(Vec<u8>, Vec<u8>)>) -> Option<Vec<(Vec<u8>, Vec<u8>)>> {
+    let mut files = Vec::new(alloc);
+    files.push(file?).ok()?;
+    Some(files)
+}
+
+const TOO_BIG: TreeFault = TreeFault::TooBig { file: 0 };
+
+// The fault, if any, of a file of so many zeros.
+fn fault_of_size(alloc: Global, size: usize) -> Option<Option<TreeFault>> {
+    let files = only(alloc, file_of(alloc, b"a", 0, size))?;
+    Some(Tree::of_files(alloc, files).err())
+}
+
+#[test]
+fn a_file_has_at_most_16_mebibytes(rt: HostRuntime) {
+    assert!(rt; fault_of_size(rt.alloc(), 16_777_216) == Some(None));
+    assert!(rt; fault_of_size(rt.alloc(), 16_777_217) == Some(Some(TOO_BIG)));
+}
+
+// Whether a folder is found as one, and a file with its type.
+fn finds_nodes(tree: &Tree) -> bool {
+    matches!(tree.find(b"/docs"), Some(Node::Folder))
+        && matches!(tree.find(b"/docs/b.gif"), Some(Node::File(b'g', _)))
+        && tree.find(b"/docs/.menu").is_none()
+}
+
+#[test]
+fn trees_find_nodes(rt: HostRuntime) {
+    let files: Rows = &[(b"docs/b.gif", b"GIF"), (b"docs/.menu", b"")];
+    let tree = tree_of(rt.alloc(), files);
+    assert!(rt; tree.is_ok_and(|tree| finds_nodes(&tree)));
+}
+
+#[test]
+fn replies_with_an_error(rt: HostRuntime) {
+    let Some(home) = home(rt.alloc()) else {
+        panic!(rt; "no home");
+    };
+    let reply = error_reply(rt.alloc(), b"Not found", &home);
+    assert!(rt; reply.is_ok_and(|reply| reply.as_slice() == NOT_FOUND));
 }

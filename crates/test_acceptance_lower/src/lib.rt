@@ -1,4 +1,4 @@
-//! Tests of the crates below the catalogue: worked examples with their bytes.
+//! Tests of the crates below the catalogue: worked examples with their bytes, and devices that fail.
 #![tactic(auto)]
 
 #[cfg(test)]
@@ -6,26 +6,18 @@ mod devices;
 #[cfg(test)]
 mod folders;
 #[cfg(test)]
-mod kept_replies;
-#[cfg(test)]
-mod menu_files;
+mod items;
 #[cfg(test)]
 mod menus;
 #[cfg(test)]
 mod pages;
 #[cfg(test)]
-mod places;
+mod queries;
 #[cfg(test)]
-mod request_lines;
+mod replies;
 #[cfg(test)]
 mod settings;
 #[cfg(test)]
 mod streams;
 #[cfg(test)]
 mod texts;
-#[cfg(test)]
-mod tree_limits;
-#[cfg(test)]
-mod trees;
-#[cfg(test)]
-mod words;

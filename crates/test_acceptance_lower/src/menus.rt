@@ -1,206 +1,249 @@
-// Menus read, written and read again.
-use gopher_item::{Entry, Menu, MenuLine, NoMemory, read_menu, write_menu};
+// Menus read, with the places of their items, and written.
+use gopher_item::{Entry, Menu, MenuLine, read_menu, write_menu};
 use std::alloc::Global;
 
-// A line for each entry: an item's parts between bars, or an odd line's bytes; then whether it ended.
-fn described(alloc: Global, menu: &Menu) -> Result<Vec<u8>, NoMemory> {
-    let mut text = Vec::new(alloc);
-    for entry in &menu.entries {
-        match entry {
-            Entry::Item(line) => describe_item(alloc, line, &mut text)?,
-            Entry::Odd(bytes) => {
-                text.extend_from_slice(b"odd ")?;
-                text.extend_from_slice(bytes.as_slice())?;
-            }
+/// What an entry is read as.
+#[derive(Clone, Copy)]
+enum Wanted<'a> {
+    /// The type, display, selector, host and port of an item, and the host of its place, if it has one.
+    Item(u8, &'a [u8], &'a [u8], &'a [u8], u16, Option<&'a [u8]>),
+    Odd(&'a [u8]),
+}
+
+use Wanted::{Item, Odd};
+
+// Whether the place of an item has this host, or is refused for its type or its port.
+fn has_place(alloc: Global, line: &MenuLine, wanted: Option<&[u8]>) -> bool {
+    match line.place(alloc) {
+        Ok(place) => {
+            wanted == Some(place.host())
+                && place.kind() == line.kind()
+                && place.selector() == line.selector()
+                && place.port() == line.port()
         }
-        text.push(b'\n')?;
+        Err(fault) => wanted.is_none() && matches!(fault.code(), 1 | 4),
     }
-    text.extend_from_slice(if menu.ended { b"ended" } else { b"open!" })?;
-    Ok(text)
 }
 
-fn describe_item(alloc: Global, line: &MenuLine, text: &mut Vec<u8>) -> Result<(), NoMemory> {
-    text.extend_from_slice(b"item ")?;
-    text.push(line.kind())?;
-    for part in [line.display(), line.selector(), line.host()] {
-        text.push(b'|')?;
-        text.extend_from_slice(part)?;
+fn is_entry(alloc: Global, entry: &Entry, wanted: Wanted) -> bool {
+    match (entry, wanted) {
+        (Entry::Item(line), Item(kind, display, selector, host, port, place)) => {
+            line.kind() == kind
+                && line.display() == display
+                && line.selector() == selector
+                && line.host() == host
+                && line.port() == port
+                && has_place(alloc, line, place)
+        }
+        (Entry::Odd(bytes), Odd(wanted)) => bytes.as_slice() == wanted,
+        _ => false,
     }
-    let port = format!(in alloc; "|{}", line.port())?;
-    text.extend_from_slice(port.as_bytes())?;
-    Ok(())
 }
 
-fn read_as(alloc: Global, bytes: &[u8]) -> Result<Vec<u8>, NoMemory> {
-    described(alloc, &read_menu(alloc, bytes)?)
+fn are_entries(alloc: Global, menu: &Menu, wanted: &[Wanted]) -> bool {
+    if menu.entries.len() != wanted.len() {
+        return false;
+    }
+    for (entry, wanted) in menu.entries.iter().zip(wanted) {
+        if !is_entry(alloc, entry, *wanted) {
+            return false;
+        }
+    }
+    true
 }
 
-// Whether these bytes are read so.
-fn is_read_as(alloc: Global, bytes: &[u8], expected: &[u8]) -> Result<bool, NoMemory> {
-    Ok(read_as(alloc, bytes)?.as_slice() == expected)
+// Whether these bytes are read as these entries, and whether the menu ended.
+fn is_read_as(alloc: Global, bytes: &[u8], wanted: &[Wanted], ended: bool) -> bool {
+    match read_menu(alloc, bytes) {
+        Ok(menu) => menu.ended == ended && are_entries(alloc, &menu, wanted),
+        Err(_refused) => false,
+    }
 }
 
-// Menus, and what they are read as.
-const MENUS: &[(&[u8], &[u8])] = &[
-    (b"", b"open!"),
+const ABOUT: &[u8] = b"0About internet Gopher\tStuff:About us\trawBits.micro.umn.edu\t70\r\n";
+
+// Menus, what they are read as, and whether they ended.
+const MENUS: &[(&[u8], &[Wanted], bool)] = &[
     (
-        b"0About internet Gopher\tStuff:About us\trawBits.micro.umn.edu\t70\r\n",
-        b"item 0|About internet Gopher|Stuff:About us|rawBits.micro.umn.edu|70\nopen!",
+        ABOUT,
+        &[Item(
+            b'0',
+            b"About internet Gopher",
+            b"Stuff:About us",
+            b"rawBits.micro.umn.edu",
+            70,
+            Some(b"rawbits.micro.umn.edu"),
+        )],
+        false,
     ),
     (
         b"iWelcome\tfake\t(NULL)\t0\r\nhSite\tURL:http://x/\th\t70\r\n1Dir\t/d\t h \t 70 \t+\nbroken\r\n\r\n0T\t/t\th\t70",
-        b"item i|Welcome|fake|(NULL)|0\nitem h|Site|URL:http://x/|h|70\nitem 1|Dir|/d|h|70\nodd broken\nitem 0|T|/t|h|70\nopen!",
+        &[
+            Item(b'i', b"Welcome", b"fake", b"(NULL)", 0, None),
+            Item(b'h', b"Site", b"URL:http://x/", b"h", 70, None),
+            Item(b'1', b"Dir", b"/d", b"h", 70, Some(b"h")),
+            Odd(b"broken"),
+            Item(b'0', b"T", b"/t", b"h", 70, Some(b"h")),
+        ],
+        false,
     ),
     (
         b"0A\t/a\th\t65535\n0A\t/a\th\t00070\n0A\t/a\th\t65536\n0A\t/a\th\t7o\n0A\t/a\th\t",
-        b"item 0|A|/a|h|65535\nitem 0|A|/a|h|70\nodd 0A\nodd 0A\nodd 0A\nopen!",
+        &[
+            Item(b'0', b"A", b"/a", b"h", 65_535, Some(b"h")),
+            Item(b'0', b"A", b"/a", b"h", 70, Some(b"h")),
+            Odd(b"0A"),
+            Odd(b"0A"),
+            Odd(b"0A"),
+        ],
+        false,
     ),
     (
         b".x\r\n.x\ts\th\t70\r\n.\r\n1Z\t\th\t70\r\n",
-        b"odd .x\nitem .|x|s|h|70\nended",
+        &[Odd(b".x"), Item(b'.', b"x", b"s", b"h", 70, None)],
+        true,
     ),
-    (b".", b"ended"),
-    (b"0A\t/a\th\t70\r", b"odd 0A\nopen!"),
-    (b"\t/a\th\t70\r\n", b"odd \nopen!"),
-    (b"0A\t/a\0\th\t70\r\n", b"odd 0A\nopen!"),
+    (b"", &[], false),
+    (b".", &[], true),
+    (b"0A\t/a\th\t70\r", &[Odd(b"0A")], false),
+    (b"\t/a\th\t70\r\n", &[Odd(b"")], false),
+    (b"0A\t/a\0\th\t70\r\n", &[Odd(b"0A")], false),
+    (
+        b"1A\t/a\th\t0",
+        &[Item(b'1', b"A", b"/a", b"h", 0, None)],
+        false,
+    ),
 ];
 
 #[test]
-fn reads_menus_by_the_grammar(rt: HostRuntime) {
-    for (bytes, expected) in MENUS {
-        assert!(rt; is_read_as(rt.alloc(), bytes, expected) == Ok(true));
+fn reads_menus(rt: HostRuntime) {
+    for (bytes, wanted, ended) in MENUS {
+        assert!(rt; is_read_as(rt.alloc(), bytes, wanted, *ended));
     }
 }
 
-// What a line with this type byte is read as, where its type is no plain byte.
-fn odd_type(kind: u8) -> Option<&'static [u8]> {
-    match kind {
-        b'\t' => Some(b"odd \nopen!"),
-        b'\r' => Some(b"odd \rx\nopen!"),
-        b'\n' => Some(b"item x||/s|h|70\nopen!"),
-        0 => Some(b"odd \0x\nopen!"),
-        _ => None,
-    }
-}
-
-// The byte between these.
-fn around(alloc: Global, before: &[u8], byte: u8, after: &[u8]) -> Result<Vec<u8>, NoMemory> {
-    let mut bytes = Vec::from_slice(alloc, before)?;
-    bytes.push(byte)?;
-    bytes.extend_from_slice(after)?;
-    Ok(bytes)
-}
-
-// Whether a line with this type byte is read as it should be.
-fn reads_type(alloc: Global, kind: u8) -> Result<bool, NoMemory> {
-    let line = around(alloc, b"", kind, b"x\t/s\th\t70\r\n")?;
-    let found = read_as(alloc, &line)?;
-    match odd_type(kind) {
-        Some(expected) => Ok(found.as_slice() == expected),
-        None => Ok(found == around(alloc, b"item ", kind, b"|x|/s|h|70\nopen!")?),
-    }
+// Whether a line with this type byte is an item of that type, but for the bytes that end a field or a line.
+fn is_read_by_type(alloc: Global, kind: u8) -> bool {
+    let bytes = [
+        kind, b'x', b'\t', b'/', b's', b'\t', b'h', b'\t', b'7', b'0', b'\r', b'\n',
+    ];
+    let place: Option<&[u8]> = if kind == b'0' || kind == b'1' {
+        Some(b"h")
+    } else {
+        None
+    };
+    let wanted = match kind {
+        b'\t' => Odd(b""),
+        b'\r' => Odd(b"\rx"),
+        b'\n' => Item(b'x', b"", b"/s", b"h", 70, None),
+        0 => Odd(b"\0x"),
+        _ => Item(kind, b"x", b"/s", b"h", 70, place),
+    };
+    is_read_as(alloc, &bytes, &[wanted], false)
 }
 
 #[test]
 fn reads_every_type_byte(rt: HostRuntime) {
-    let mut items = 0u32;
     for kind in 0..=255u8 {
-        assert!(rt; reads_type(rt.alloc(), kind) == Ok(true));
-        if odd_type(kind).is_none() {
-            items = items.saturating_add(1);
-        }
-    }
-    assert!(rt; items == 252);
-}
-
-// Whether these bytes are read as one odd line.
-fn is_one_odd_line(alloc: Global, bytes: &[u8]) -> Result<bool, NoMemory> {
-    let menu = read_menu(alloc, bytes)?;
-    match menu.entries.as_slice() {
-        [Entry::Odd(line)] => Ok(line.as_slice() == bytes),
-        _ => Ok(false),
+        assert!(rt; is_read_by_type(rt.alloc(), kind));
     }
 }
 
-// How many entries these bytes are read as.
-fn count_of_entries(alloc: Global, bytes: &[u8]) -> Result<usize, NoMemory> {
-    Ok(read_menu(alloc, bytes)?.entries.len())
-}
-
-// How many entries a mebibyte of line feeds has, and whether one of letters is one odd line.
-fn mebibytes(alloc: Global) -> Result<(usize, bool), NoMemory> {
-    let feeds = vec![in alloc; b'\n'; 1_048_576]?;
-    let count = count_of_entries(alloc, &feeds)?;
-    let letters = vec![in alloc; b'a'; 1_048_576]?;
-    Ok((count, is_one_odd_line(alloc, &letters)?))
+// Whether a mebibyte of line feeds has no entry, and one of another byte is one odd line.
+fn is_mebibyte_read(alloc: Global, byte: u8) -> bool {
+    let Ok(bytes) = vec![in alloc; byte; 1_048_576] else {
+        return false;
+    };
+    if byte == b'\n' {
+        is_read_as(alloc, &bytes, &[], false)
+    } else {
+        is_read_as(alloc, &bytes, &[Odd(&bytes)], false)
+    }
 }
 
 #[test]
 fn reads_a_mebibyte_of_one_byte(rt: HostRuntime) {
-    assert!(rt; mebibytes(rt.alloc()) == Ok((0, true)));
+    assert!(rt; is_mebibyte_read(rt.alloc(), b'\n'));
+    assert!(rt; is_mebibyte_read(rt.alloc(), b'a'));
 }
 
-// The menu lines among the entries.
-fn lines_of(alloc: Global, menu: Menu) -> Result<Vec<MenuLine>, NoMemory> {
-    let mut lines = Vec::new(alloc);
-    for entry in menu.entries {
-        if let Entry::Item(line) = entry {
-            lines.push(line)?;
-        }
+// The line of the one item of a menu.
+fn only_line(alloc: Global, bytes: &[u8]) -> Option<MenuLine> {
+    match read_menu(alloc, bytes).ok()?.entries.pop() {
+        Some(Entry::Item(line)) => Some(line),
+        _ => None,
     }
-    Ok(lines)
 }
 
-// The lines of a menu of these bytes, written behind other bytes.
-fn written_again(alloc: Global, bytes: &[u8]) -> Result<Vec<u8>, NoMemory> {
-    let lines = lines_of(alloc, read_menu(alloc, bytes)?)?;
-    let mut out = Vec::from_slice(alloc, b"before")?;
-    write_menu(&lines, &mut out)?;
-    Ok(out)
+// What a menu of this line is written as.
+fn written(alloc: Global, line: MenuLine) -> Option<Vec<u8>> {
+    let mut out = Vec::new(alloc);
+    write_menu(&[line], &mut out).ok()?;
+    Some(out)
 }
 
-// Whether a menu of these bytes is written so.
-fn is_written_as(alloc: Global, bytes: &[u8], expected: &[u8]) -> Result<bool, NoMemory> {
-    Ok(written_again(alloc, bytes)?.as_slice() == expected)
+// Whether a menu of this one line is written so.
+fn is_written_as(alloc: Global, line: Option<MenuLine>, wanted: &[u8]) -> bool {
+    let Some(line) = line else {
+        return false;
+    };
+    match written(alloc, line) {
+        Some(out) => out.as_slice() == wanted,
+        None => false,
+    }
 }
 
 #[test]
 fn writes_what_it_read(rt: HostRuntime) {
-    let bytes = b"0About internet Gopher\tStuff:About us\trawBits.micro.umn.edu\t70\r\n";
-    let expected =
-        b"before0About internet Gopher\tStuff:About us\trawBits.micro.umn.edu\t70\r\n.\r\n";
-    assert!(rt; is_written_as(rt.alloc(), bytes, expected) == Ok(true));
+    let wanted: &[u8] =
+        b"0About internet Gopher\tStuff:About us\trawBits.micro.umn.edu\t70\r\n.\r\n";
+    assert!(rt; is_written_as(rt.alloc(), only_line(rt.alloc(), ABOUT), wanted));
 }
 
-// The type, display, selector, host and port of lines.
-const PARTS: &[(u8, &[u8], &[u8], &[u8], u16)] = &[
-    (b'0', b"About us", b"/about", b"Gopher.Example", 70),
-    (b'i', b"", b"", b"h", 0),
-    (b'1', b"Far", b"", b"far.example", 65_535),
+// The type, display, selector, host and port of a line that is made, and what it is written as, or the
+// number of its fault.
+const MADE: &[(u8, &[u8], &[u8], &[u8], u16, Result<&[u8], u8>)] = &[
+    (
+        b'0',
+        b"About us",
+        b"/about",
+        b"Gopher.Example",
+        70,
+        Ok(b"0About us\t/about\tGopher.Example\t70\r\n.\r\n"),
+    ),
+    (b'i', b"x", b"", b"h", 0, Ok(b"ix\t\th\t0\r\n.\r\n")),
+    (b'+', b"", b"", b"h", 65_535, Ok(b"+\t\th\t65535\r\n.\r\n")),
+    (b' ', b"x", b"", b"h", 0, Err(6)),
+    (b'.', b"x", b"", b"h", 0, Err(6)),
+    (7, b"x", b"", b"h", 0, Err(6)),
+    (b' ', b"x\t", b"", b"h", 0, Err(5)),
+    (b'0', b"x\t", b"", b"h", 0, Err(5)),
+    (b' ', b"x\t", b"", b"", 0, Err(3)),
+    (b' ', b"x\t", b"\t", b"", 0, Err(2)),
 ];
 
-fn made_lines(alloc: Global) -> Option<Vec<MenuLine>> {
-    let mut lines = Vec::new(alloc);
-    for (kind, display, selector, host, port) in PARTS {
-        let line = MenuLine::new(alloc, *kind, display, selector, host, *port).ok()?;
-        lines.push(line).ok()?;
+// Whether a line of these parts is made and written so, or refused so.
+fn is_made_as(
+    alloc: Global,
+    kind: u8,
+    display: &[u8],
+    selector: &[u8],
+    host: &[u8],
+    port: u16,
+    wanted: Result<&[u8], u8>,
+) -> bool {
+    match MenuLine::new(alloc, kind, display, selector, host, port) {
+        Ok(line) => match wanted {
+            Ok(bytes) => is_written_as(alloc, Some(line), bytes),
+            Err(_code) => false,
+        },
+        Err(fault) => wanted == Err(fault.code()),
     }
-    Some(lines)
-}
-
-fn written(alloc: Global) -> Option<Vec<u8>> {
-    let lines = made_lines(alloc)?;
-    let mut out = Vec::new(alloc);
-    write_menu(&lines, &mut out).ok()?;
-    Some(out)
 }
 
 #[test]
-fn writes_lines_that_were_made(rt: HostRuntime) {
-    let Some(out) = written(rt.alloc()) else {
-        panic!(rt; "no lines");
-    };
-    let expected: &[u8] =
-        b"0About us\t/about\tGopher.Example\t70\r\ni\t\th\t0\r\n1Far\t\tfar.example\t65535\r\n.\r\n";
-    assert!(rt; out.as_slice() == expected);
+fn makes_lines(rt: HostRuntime) {
+    for (kind, display, selector, host, port, wanted) in MADE {
+        assert!(rt; is_made_as(rt.alloc(), *kind, display, selector, host, *port, *wanted));
+    }
 }

@@ -1,152 +1,174 @@
-// Replies read from streams, and bytes sent: that calls succeed, and which failure is which.
+// Lines and replies read from streams, and bytes sent: where they end, and which failure is which.
 ghost use Rattle.std.specs.Prelude.{◌≤◌};
 
-use crate::devices::{Ending, Measure, Narrow, Stutterer};
-use gopher_text::{ReplyFault, Watched, read_reply, send};
+use crate::devices::{Ending, Narrow, Slow};
+use gopher_text::{Watched, read_line_from, read_reply, send};
 use std::alloc::Global;
 use std::io::{Read, Write};
 
-// Whether a text is read as this, and no call failed.
-fn reads_as(alloc: Global, text: &[u8], limit: usize, expected: Result<&[u8], ReplyFault>) -> bool
-    requires { limit ≤ 1_048_576 }
-{
-    let mut reader = Watched::new(text);
-    let reply = read_reply(alloc, &mut reader, limit);
-    let found = match &reply {
-        Ok(bytes) => Ok(bytes.as_slice()),
-        Err(fault) => Err(*fault),
-    };
-    found == expected && reader.failures() == 0
-}
-
-#[test]
-fn reads_a_reply_to_its_end(rt: HostRuntime) {
-    let alloc = rt.alloc();
-    let too_long = Err(ReplyFault::ReplyTooLong);
-    assert!(rt; reads_as(alloc, b"abc", 3, Ok(b"abc")));
-    assert!(rt; reads_as(alloc, b"abcd", 3, too_long));
-    assert!(rt; reads_as(alloc, b"", 0, Ok(b"")));
-    assert!(rt; reads_as(alloc, b"a", 0, too_long));
-}
-
-// How the reading of a mebibyte at most ends: the length of a reply of the byte `a` alone, or the code of
-// the fault. Then how many bytes the reader has left, and how many calls failed.
-fn end_of(alloc: Global, stutterer: Stutterer) -> (Result<usize, u8>, u32, u64) {
-    let mut reader = Watched::new(stutterer);
-    let end = match read_reply(alloc, &mut reader, 1_048_576) {
-        Ok(bytes) => length_of(&bytes),
+// The length of the line that a reader gives, or the number of its fault; how many bytes it has left, and how
+// many of its reads failed.
+fn line_of(alloc: Global, slow: Slow) -> (Result<usize, u8>, usize, u64) {
+    let mut reader = Watched::new(slow);
+    let end = match read_line_from(alloc, &mut reader) {
+        Ok(line) => Ok(line.len()),
         Err(fault) => Err(fault.code()),
     };
     let failures = reader.failures();
-    (end, reader.into_inner().left, failures)
+    (end, reader.into_inner().bytes.len(), failures)
 }
 
-// The length of bytes that are all `a`.
-fn length_of(bytes: &[u8]) -> Result<usize, u8> {
-    if bytes.iter().all(|byte| *byte == b'a') {
-        Ok(bytes.len())
-    } else {
-        Err(0)
+// Whether a line that ends so, behind so many times the byte `a`, is read so.
+fn bounds_a_line(
+    alloc: Global,
+    count: usize,
+    end: &[u8],
+    interruptions: u32,
+    wanted: (Result<usize, u8>, usize, u64),
+) -> Option<bool> {
+    let mut bytes = vec![in alloc; b'a'; count].ok()?;
+    bytes.extend_from_slice(end).ok()?;
+    Some(line_of(alloc, Slow::new(&bytes, interruptions, false)) == wanted)
+}
+
+// A count of letters, what follows them, how many reads are interrupted before each byte; the length of the line
+// or the number of its fault, how many bytes are left, and how many reads failed. With three interruptions each,
+// 4,096 reads reach the LF after 1,023 bytes.
+const LINES: &[(usize, &[u8], u32, (Result<usize, u8>, usize, u64))] = &[
+    (6, b"\r\nextra", 0, (Ok(6), 5, 0)),
+    (1, b"\r\r\n\n", 0, (Ok(2), 1, 0)),
+    (0, b"\n", 0, (Ok(0), 0, 0)),
+    (0, b"", 0, (Ok(0), 0, 0)),
+    (6, b"\r", 0, (Ok(7), 0, 0)),
+    (1_024, b"\r\nb", 0, (Ok(1_024), 1, 0)),
+    (1_024, b"", 0, (Ok(1_024), 0, 0)),
+    (1_025, b"\nb", 0, (Err(7), 1, 0)),
+    (1_024, b"\r", 0, (Err(7), 0, 0)),
+    (1_026, b"", 0, (Err(7), 0, 0)),
+    (1_030, b"\n", 0, (Err(7), 5, 0)),
+    (0, b"\n", 4_095, (Ok(0), 0, 4_095)),
+    (0, b"\n", 4_096, (Err(11), 1, 4_096)),
+    (1_023, b"\n", 3, (Ok(1_023), 0, 3_072)),
+    (1_024, b"\n", 3, (Err(11), 1, 3_072)),
+];
+
+#[test]
+fn reads_lines(rt: HostRuntime) {
+    for (count, end, interruptions, wanted) in LINES {
+        let is_bounded = bounds_a_line(rt.alloc(), *count, end, *interruptions, *wanted);
+        assert!(rt; is_bounded == Some(true), "at {count}");
     }
 }
 
 #[test]
-fn reads_on_after_interruptions_for_so_many_turns(rt: HostRuntime) {
-    let (end, _left, failures) = end_of(rt.alloc(), Stutterer::new(1_048_575, 1, false));
-    assert!(rt; end == Ok(1_048_575) && failures == 1_048_575);
-    let (end, left, _failures) = end_of(rt.alloc(), Stutterer::new(1_048_576, 1, false));
-    assert!(rt; end == Err(11) && left == 0);
+fn a_read_that_fails_ends_a_line_at_each_place(rt: HostRuntime) {
+    let line: &[u8] = b"/a.txt\r\n";
+    for count in 0..line.len() {
+        let (end, _left, _failures) = line_of(rt.alloc(), Slow::new(&line[..count], 0, true));
+        assert!(rt; end == Err(10));
+    }
+    assert!(rt; line_of(rt.alloc(), Slow::new(line, 0, true)) == (Ok(6), 0, 0));
+}
+
+// Whether the bytes are read as a reply of at most so many, or the number of the fault; and whether they are the
+// first that the reader had, of which so many are left.
+fn reply_of(alloc: Global, slow: Slow, limit: usize, wanted: Result<(), u8>, left: usize) -> bool
+    requires { limit ≤ 1048576 }
+{
+    let bytes = slow.bytes;
+    let mut reader = Watched::new(slow);
+    let end = match read_reply(alloc, &mut reader, limit) {
+        Ok(reply) if reply.as_slice() == bytes => Ok(()),
+        Ok(_other) => Err(0),
+        Err(fault) => Err(fault.code()),
+    };
+    end == wanted && reader.into_inner().bytes.len() == left
+}
+
+// So many bytes, how many reads are interrupted before each, how the reading of a mebibyte at most ends, and how
+// many bytes are left.
+const MEBIBYTES: &[(usize, u32, Result<(), u8>, usize)] = &[
+    (1_048_575, 1, Ok(()), 0),
+    (1_048_576, 1, Err(11), 0),
+    (1_048_576, 0, Ok(()), 0),
+    (1_048_580, 0, Err(12), 3),
+];
+
+#[test]
+fn reads_mebibytes(rt: HostRuntime) {
+    for (count, interruptions, wanted, left) in MEBIBYTES {
+        let bytes = vec![in rt.alloc(); b'a'; *count].expect(&rt, "memory");
+        let slow = Slow::new(&bytes, *interruptions, false);
+        assert!(rt; reply_of(rt.alloc(), slow, 1_048_576, *wanted, *left));
+    }
 }
 
 #[test]
-fn gives_up_where_a_read_fails(rt: HostRuntime) {
-    let (end, _left, failures) = end_of(rt.alloc(), Stutterer::new(2, 3, true));
-    assert!(rt; end == Err(10) && failures == 7);
+fn reads_replies(rt: HostRuntime) {
+    assert!(rt; reply_of(rt.alloc(), Slow::new(b"abc", 0, false), 3, Ok(()), 0));
+    assert!(rt; reply_of(rt.alloc(), Slow::new(b"abcd", 0, false), 3, Err(12), 0));
+    assert!(rt; reply_of(rt.alloc(), Slow::new(b"", 0, false), 0, Ok(()), 0));
+    assert!(rt; reply_of(rt.alloc(), Slow::new(b"a", 0, false), 0, Err(12), 0));
+    assert!(rt; reply_of(rt.alloc(), Slow::new(b"aa", 3, true), 3, Err(10), 0));
 }
 
-#[test]
-fn reads_a_whole_mebibyte_and_not_a_byte_more(rt: HostRuntime) {
-    let (end, _left, _failures) = end_of(rt.alloc(), Stutterer::new(1_048_576, 0, false));
-    assert!(rt; end == Ok(1_048_576));
-    let (end, left, _failures) = end_of(rt.alloc(), Stutterer::new(1_048_580, 0, false));
-    assert!(rt; end == Err(12) && left == 3);
-}
-
-// Whether the flush of a narrow writer fails, and is counted.
-fn counts_a_flush(writer: &mut Watched<Narrow>) -> bool {
-    let failures = writer.failures();
-    writer.flush().is_err() && writer.failures() == failures.saturating_add(1)
-}
-
-// The code of the fault of a sending, and how much was sent.
-fn fault_of(writer: &mut Watched<Narrow>, bytes: &[u8]) -> Option<(u8, usize)> {
-    match send(writer, bytes) {
+// How many bytes are sent before the fault, if there is one; how many are left to be taken, and how many calls
+// failed, of which the last is a flush.
+fn sent(bytes: &[u8], narrow: Narrow) -> (Option<(u8, usize)>, usize, u64) {
+    let mut writer = Watched::new(narrow);
+    let fault = match send(&mut writer, bytes) {
         Ok(()) => None,
         Err(fault) => Some((fault.code(), fault.sent)),
-    }
-}
-
-// Whether the writer takes all these bytes, or so many before its fault, and each failure is counted.
-fn sends(narrow: Narrow, bytes: &[u8], expected: Option<usize>) -> bool {
-    let interruptions = u64::from(narrow.interruptions);
-    let mut writer = Watched::new(narrow);
-    let fault = fault_of(&mut writer, bytes);
+    };
+    let _flushed = writer.flush();
     let failures = writer.failures();
-    let is_counted = counts_a_flush(&mut writer);
-    let held = writer.into_inner().held;
-    is_counted
-        && fault == expected.map(|sent| (13, sent))
-        && Some(held.as_slice()) == bytes.get(..expected.unwrap_or(bytes.len()))
-        && failures == interruptions.max(u64::from(expected.is_some()))
+    (fault, writer.into_inner().left.len(), failures)
 }
 
 #[test]
 fn sends_all_or_says_how_much(rt: HostRuntime) {
-    for (room, interruptions, ending, bytes, expected) in [
-        (3, 0, Ending::Takes, "abcdef", None),
-        (4, 0, Ending::Fails, "abcdef", Some(4)),
-        (0, 4_095, Ending::Takes, "ab", None),
-        (1, 4_096, Ending::Takes, "ab", Some(1)),
-        (0, 0, Ending::TakesNothing, "ab", Some(0)),
+    for (bytes, room, interruptions, ending, wanted) in [
+        (b"abcdef", 3, 0, Ending::Takes, (None, 0, 1)),
+        (b"abcdef", 4, 0, Ending::Fails, (Some((13, 4)), 2, 2)),
+        (b"ab....", 0, 4_095, Ending::Takes, (None, 0, 4_096)),
+        (
+            b"ab....",
+            1,
+            4_096,
+            Ending::Takes,
+            (Some((13, 1)), 5, 4_097),
+        ),
+        (b"ab....", 0, 0, Ending::TakesNothing, (Some((13, 0)), 6, 2)),
     ] {
         let narrow = Narrow {
-            held: Vec::new(rt.alloc()),
+            left: bytes,
             room,
             interruptions,
             ending,
         };
-        assert!(rt; sends(narrow, bytes.as_bytes(), expected), "at {room}");
+        assert!(rt; sent(bytes, narrow) == wanted, "at {room}");
     }
 }
 
-#[test]
-fn says_how_much_went_out_wherever_a_write_fails(rt: HostRuntime) {
-    let bytes = b"0123456789";
-    for taken in 0..bytes.len() {
-        let narrow = Narrow {
-            held: Vec::new(rt.alloc()),
-            room: taken,
-            interruptions: 0,
-            ending: Ending::Fails,
-        };
-        assert!(rt; sends(narrow, bytes, Some(taken)), "at {taken}");
+// Whether a call with this buffer has all of it.
+fn has_whole_buffer(buffer: &mut [u8]) -> bool {
+    let mut reader = Watched::new(Slow::new(b"", 0, false));
+    if reader.read(buffer).is_err() || reader.into_inner().length != buffer.len() {
+        return false;
     }
-}
-
-// The lengths of the buffers that a reader and a writer are given, for calls with this buffer.
-fn lengths_given(buffer: &mut [u8]) -> Option<(usize, usize)> {
-    let mut reader = Watched::new(Measure { length: usize::MAX });
-    let mut writer = Watched::new(Measure { length: usize::MAX });
-    if reader.read(buffer).is_err() || writer.write(buffer).is_err() {
-        return None;
-    }
-    Some((reader.into_inner().length, writer.into_inner().length))
+    let mut writer = Watched::new(Narrow {
+        left: buffer,
+        room: buffer.len(),
+        interruptions: 0,
+        ending: Ending::Fails,
+    });
+    matches!(writer.write(buffer), Ok(count) if count == buffer.len())
 }
 
 #[test]
 fn a_watched_call_has_the_whole_buffer(rt: HostRuntime) {
-    for length in [0usize, 1, 5, 4_097] {
+    for length in [1usize, 5, 4_097] {
         let mut buffer = vec![in rt.alloc(); b'a'; length].expect(&rt, "memory");
-        assert!(rt; lengths_given(&mut buffer) == Some((length, length)));
+        assert!(rt; has_whole_buffer(&mut buffer));
     }
 }

@@ -1,359 +1,182 @@
 // Conversations over streams in memory: whole ones, and those that come in pieces or break off.
-ghost use Rattle.std.specs.Prelude.{◌≡◌, ◌<◌, [], length};
+ghost use Rattle.std.specs.Prelude.{◌<◌, length};
 
-use crate::devices::{Ending, Narrow, Pieces};
-use crate::sites::{BAD_REQUEST, HELLO, ROOT, desk, replies};
-use gopher_crew::{Blank, Crew};
-use gopher_serve::{Answers, Conversation, ServeFault, Site, Turn, advance, serve_one};
+use crate::sites::{BAD_REQUEST, HELLO, ROOT};
+use crate::streams::{Ending, Stream};
+use gopher_item::NoMemory;
+use gopher_replies::Reply;
+use gopher_serve::{Answers, Conversation, Progress, ServeFault, advance, serve_with};
 use gopher_text::Watched;
 use std::alloc::Global;
-use std::io::{Read, Write};
-use std::marker::Brand;
-use std::sync::Wait;
 
-// A line, of which a part may come.
-const LINE: &[u8] = b"/a.txt\r\n";
+/// Gives the worked replies.
+#[derive(Drop)]
+pub struct Fixed;
 
-// A whole conversation by `advance` alone, over streams of which no call that would wait is made again.
-fn converse<'a, A: Answers<'a>, R: Read, W: Write>(
-    alloc: Global,
-    answers: &mut A,
-    reader: &mut Watched<R>,
-    writer: &mut Watched<W>,
-    buffer: &mut [u8],
-) -> Result<(), Turn>
-    requires { 0 < length buffer.old }
-{
-    let mut conversation = Conversation::new(alloc);
-    for _step in 0..10_000 {
-        match advance(alloc, &mut conversation, answers, reader, writer, buffer) {
-            Turn::Done => return Ok(()),
-            Turn::Paused => {}
-            turn => return Err(turn),
-        }
+impl<'a> Answers<'a> for Fixed {
+    ghost use Rattle.std.specs.Prelude.{◌≡◌};
+
+    ghost gives = { λ before after line reply. reply ≡ reply };
+
+    ghost leads_to = { λ before after. before ≡ before };
+
+    fn answer(&mut self, _alloc: Global, line: &[u8]) -> Result<Reply<'a>, NoMemory> {
+        Ok(Reply::Kept(match line {
+            b"" => ROOT,
+            b"/a.txt" => HELLO,
+            _ => BAD_REQUEST,
+        }))
     }
-    Err(Turn::Paused)
 }
 
-// What a conversation over these pieces sends into a room of so many bytes, and how it ends.
-fn conversed<'a, A: Answers<'a>>(
+// The turn at which a conversation stops to go on at once.
+fn last_turn(
     alloc: Global,
-    answers: &mut A,
-    pieces: Pieces,
-    room: usize,
-) -> (Vec<u8>, Result<(), Turn>) {
-    let mut reader = Watched::new(pieces);
-    let mut writer = Watched::new(Narrow::new(Vec::new(alloc), room, 3, Ending::Fails));
+    conversation: &mut Conversation<'static>,
+    reader: &mut Watched<Stream>,
+    writer: &mut Watched<Stream>,
+) -> Progress {
     let mut buffer = [0; 8];
-    let end = converse(alloc, answers, &mut reader, &mut writer, &mut buffer);
-    (writer.into_inner().held, end)
+    for _step in 0..10_000 {
+        match advance(alloc, conversation, &mut Fixed, reader, writer, &mut buffer) {
+            Progress::Paused => {}
+            turn => return turn,
+        }
+    }
+    Progress::Paused
 }
 
-// What `serve_one` sends for these pieces into a room of so many bytes, and how it ends.
-fn served<'a, A: Answers<'a>>(
-    alloc: Global,
-    answers: &mut A,
-    pieces: Pieces,
-    room: usize,
-) -> (Vec<u8>, Result<(), ServeFault>) {
-    let mut reader = Watched::new(pieces);
-    let mut writer = Watched::new(Narrow::new(Vec::new(alloc), room, 3, Ending::Fails));
-    let end = serve_one(alloc, answers, &mut reader, &mut writer);
-    (writer.into_inner().held, end)
+// How a conversation over these streams ends, and how much it leaves unsent.
+fn conversed(alloc: Global, reader: Stream, writer: Stream) -> (Progress, usize) {
+    let mut conversation = Conversation::new(alloc);
+    let mut reader = Watched::new(reader);
+    let mut writer = Watched::new(writer);
+    let turn = last_turn(alloc, &mut conversation, &mut reader, &mut writer);
+    (turn, writer.into_inner().left.len())
 }
 
-// Whether a conversation over these pieces ends so, and sends these bytes.
-fn converses<'a, A: Answers<'a>>(
+// How `serve_with` ends over these streams, and how much it leaves unsent.
+fn served(alloc: Global, reader: Stream, writer: Stream) -> (Option<ServeFault>, usize) {
+    let mut reader = Watched::new(reader);
+    let mut writer = Watched::new(writer);
+    let end = serve_with(alloc, &mut Fixed, &mut reader, &mut writer);
+    (end.err(), writer.into_inner().left.len())
+}
+
+// Whether both end so, with so much unsent.
+fn end_so(
     alloc: Global,
-    answers: &mut A,
-    pieces: Pieces,
-    room: usize,
-    wanted: Result<(), Turn>,
-    bytes: &[u8],
+    reader: Stream,
+    writer: Stream,
+    wanted: Option<ServeFault>,
+    left: usize,
 ) -> bool {
-    let (sent, end) = conversed(alloc, answers, pieces, room);
-    end == wanted && sent.as_slice() == bytes
+    let turn = match wanted {
+        None => Progress::Done,
+        Some(fault) => Progress::Failed(fault),
+    };
+    conversed(alloc, reader, writer) == (turn, left)
+        && served(alloc, reader, writer) == (wanted, left)
 }
 
-// Whether `serve_one` ends so, and sends these bytes.
-fn serves<'a, A: Answers<'a>>(
-    alloc: Global,
-    answers: &mut A,
-    pieces: Pieces,
-    room: usize,
-    wanted: Result<(), ServeFault>,
-    bytes: &[u8],
-) -> bool {
-    let (sent, end) = served(alloc, answers, pieces, room);
-    end == wanted && sent.as_slice() == bytes
-}
-
-// What of conversations a test looks at.
-#[derive(Clone, Copy)]
-enum Looked {
-    FirstLine,
-    LongLines,
-    Failures,
-    Waits,
-}
-
-// Whether conversations go as they should.
-fn go_well<'a, A: Answers<'a> + Drop>(alloc: Global, answers: A, looked: Looked) -> Option<bool> {
-    match looked {
-        Looked::FirstLine => Some(answers_the_first(alloc, answers)),
-        Looked::LongLines => bounds_a_line(alloc, answers),
-        Looked::Failures => Some(fails_with_its_stream(alloc, answers)),
-        Looked::Waits => Some(goes_on(alloc, answers)),
-    }
-}
-
-// Conversations go well with a site whose searches are a desk's.
-fn at_a_desk<C: Crew, R: Wait + AllocGlobal>(rt: &R, blank: Blank, looked: Looked) -> Option<bool>
-    requires name { blank.name ≡ C.name }
-    requires parts { blank.parts ≡ C.parts }
-    requires history { blank.history ≡ C.history }
-    requires begun { blank.begun ≡ [] }
-{
-    let alloc = rt.alloc();
-    let replies = replies(alloc)?;
-    let (_desk, _share, pass) = desk::<C, R>(rt, alloc, blank)?;
-    go_well(alloc, Site::new(&replies, pass), looked)
-}
-
-#[test]
-fn the_first_line_is_answered(rt: HostRuntime) {
-    assert!(rt; at_a_desk::<Brand, _>(&rt, Blank::new(), Looked::FirstLine) == Some(true));
-}
-
-// Whether it does, whatever the size of the pieces.
-fn answers_the_first<'a, A: Answers<'a> + Drop>(alloc: Global, answers: A) -> bool {
-    let mut answers = answers;
-    for size in 1..20 {
-        if !takes_the_first(alloc, &mut answers, size) {
-            return false;
-        }
-    }
-    leaves_the_rest(alloc, &mut answers)
-}
-
-// Whether a line is answered, and what follows it isn't read.
-fn leaves_the_rest<'a, A: Answers<'a>>(alloc: Global, answers: &mut A) -> bool {
-    let mut reader = Watched::new(b"/a.txt\r\nextra".as_slice());
-    let mut writer = Watched::new(Narrow::new(Vec::new(alloc), 100, 3, Ending::Fails));
-    let end = serve_one(alloc, answers, &mut reader, &mut writer);
-    end == Ok(())
-        && writer.into_inner().held.as_slice() == HELLO
-        && reader.into_inner() == b"extra".as_slice()
-}
-
-// Whether the first of two lines alone is answered, and no line as an empty one, in pieces of this size.
-fn takes_the_first<'a, A: Answers<'a>>(alloc: Global, answers: &mut A, size: usize) -> bool {
-    let lines = Pieces::new(b"/a.txt\r\n/b\r\n", size, Ending::Ends);
-    let nothing = Pieces::new(b"", size, Ending::Ends);
-    converses(alloc, answers, lines, 100, Ok(()), HELLO)
-        && converses(alloc, answers, nothing, 100, Ok(()), ROOT)
-}
-
-#[test]
-fn a_long_line_writes_nothing(rt: HostRuntime) {
-    assert!(rt; at_a_desk::<Brand, _>(&rt, Blank::new(), Looked::LongLines) == Some(true));
-}
-
-// Whether a line may have 1,024 bytes, and one byte more is refused, whatever its end.
-fn bounds_a_line<'a, A: Answers<'a> + Drop>(alloc: Global, answers: A) -> Option<bool> {
-    let mut answers = answers;
-    for end in ENDS {
-        if !bounds_a_line_at(alloc, &mut answers, *end)? {
-            return Some(false);
-        }
-    }
-    Some(true)
-}
-
-// Whether they are bounded so with this end.
-fn bounds_a_line_at<'a, A: Answers<'a>>(
-    alloc: Global,
-    answers: &mut A,
-    end: &[u8],
-) -> Option<bool> {
-    let short = line_of(alloc, 1_024, end)?;
-    let long = line_of(alloc, 1_025, end)?;
-    Some(is_answered(alloc, answers, &short) && is_refused(alloc, answers, &long))
-}
-
-// The ends of a line, and none.
-const ENDS: &[&[u8]] = &[b"\r\n", b"\n", b""];
-
-// A line of so many bytes, and its end.
-fn line_of(alloc: Global, length: usize, end: &[u8]) -> Option<Vec<u8>> {
-    let mut line = vec![in alloc; b'a'; length].ok()?;
-    line.extend_from_slice(end).ok()?;
-    Some(line)
-}
-
-// Whether a line of one long selector is answered as a bad request, whatever the pieces.
-fn is_answered<'a, A: Answers<'a>>(alloc: Global, answers: &mut A, line: &[u8]) -> bool {
-    for size in [1, 7, 64] {
-        let pieces = Pieces::new(line, size, Ending::Ends);
-        if !converses(alloc, answers, pieces, 100, Ok(()), BAD_REQUEST) {
-            return false;
-        }
-    }
-    let pieces = Pieces::new(line, 7, Ending::Ends);
-    serves(alloc, answers, pieces, 100, Ok(()), BAD_REQUEST)
-}
-
-// Whether a line is refused as too long, and nothing is sent, whatever the pieces.
-fn is_refused<'a, A: Answers<'a>>(alloc: Global, answers: &mut A, line: &[u8]) -> bool {
-    let fault = ServeFault::LineTooLong;
-    for size in [1, 7, 64] {
-        let pieces = Pieces::new(line, size, Ending::Ends);
-        if !converses(alloc, answers, pieces, 100, Err(Turn::Failed(fault)), b"") {
-            return false;
-        }
-    }
-    let pieces = Pieces::new(line, 7, Ending::Ends);
-    serves(alloc, answers, pieces, 100, Err(fault), b"")
-}
-
-#[test]
-fn a_stream_that_fails_ends_a_conversation(rt: HostRuntime) {
-    assert!(rt; at_a_desk::<Brand, _>(&rt, Blank::new(), Looked::Failures) == Some(true));
-}
-
-// Whether a stream that fails, or would wait, at any place ends both as it should.
-fn fails_with_its_stream<'a, A: Answers<'a> + Drop>(alloc: Global, answers: A) -> bool {
-    let mut answers = answers;
-    for room in 0..ROOT.len() {
-        if !fails_to_write(alloc, &mut answers, b"\r\n", ROOT, room) {
-            return false;
-        }
-    }
-    for room in 0..HELLO.len() {
-        if !fails_to_write(alloc, &mut answers, b"/a.txt\n", HELLO, room) {
-            return false;
-        }
-    }
-    for given in 0..LINE.len() {
-        if !fails_to_read(alloc, &mut answers, &LINE[..given])
-            || !would_wait(alloc, &mut answers, &LINE[..given])
-        {
+// Whether these bytes, in pieces of each size, are replied to so, or refused as too long where the reply is empty.
+fn replies_so(alloc: Global, bytes: &[u8], reply: &[u8]) -> bool {
+    let wanted = if reply.is_empty() {
+        Some(ServeFault::LineTooLong)
+    } else {
+        None
+    };
+    for size in [1usize, 2, 3, 7, 19, 64] {
+        let reader = Stream::giving(bytes, size, Ending::Ends);
+        let writer = Stream::taking(reply, 100, Ending::Fails);
+        if !end_so(alloc, reader, writer, wanted, 0) {
             return false;
         }
     }
     true
 }
 
-// Whether a reader that fails after these bytes ends both with 10, and nothing is sent.
-fn fails_to_read<'a, A: Answers<'a>>(alloc: Global, answers: &mut A, given: &[u8]) -> bool {
-    let pieces = Pieces::new(given, 9, Ending::Fails);
-    let fault = ServeFault::ReadFailed;
-    converses(alloc, answers, pieces, 100, Err(Turn::Failed(fault)), b"")
-        && serves(alloc, answers, pieces, 100, Err(fault), b"")
-}
+// So many times the byte `a`, what follows it, and the reply.
+const LINES: &[(usize, &[u8], &[u8])] = &[
+    (0, b"/a.txt\r\n/b\r\n", HELLO),
+    (0, b"", ROOT),
+    (1_024, b"\r\n", BAD_REQUEST),
+    (1_024, b"\n", BAD_REQUEST),
+    (1_024, b"", BAD_REQUEST),
+    (1_025, b"\r\n", b""),
+    (1_025, b"\n", b""),
+    (1_025, b"", b""),
+    (1_026, b"", b""),
+];
 
-// Whether a reader that would wait after these bytes lets a conversation wait, and fails for `serve_one`.
-fn would_wait<'a, A: Answers<'a>>(alloc: Global, answers: &mut A, given: &[u8]) -> bool {
-    let pieces = Pieces::new(given, 9, Ending::Waits);
-    let fault = ServeFault::ReadFailed;
-    converses(alloc, answers, pieces, 100, Err(Turn::Waits), b"")
-        && serves(alloc, answers, pieces, 100, Err(fault), b"")
-}
-
-// Whether a writer with too little room for the reply ends both with 13, after what it had room for.
-fn fails_to_write<'a, A: Answers<'a>>(
-    alloc: Global,
-    answers: &mut A,
-    line: &[u8],
-    reply: &[u8],
-    room: usize,
-) -> bool {
-    let pieces = Pieces::new(line, 9, Ending::Ends);
-    let fault = ServeFault::WriteFailed;
-    let sent = &reply[..room.min(reply.len())];
-    converses(alloc, answers, pieces, room, Err(Turn::Failed(fault)), sent)
-        && serves(alloc, answers, pieces, room, Err(fault), sent)
+fn is_replied_to(alloc: Global, count: usize, end: &[u8], reply: &[u8]) -> Option<bool> {
+    let mut bytes = vec![in alloc; b'a'; count].ok()?;
+    bytes.extend_from_slice(end).ok()?;
+    Some(replies_so(alloc, &bytes, reply))
 }
 
 #[test]
-fn a_conversation_waits_and_goes_on(rt: HostRuntime) {
-    assert!(rt; at_a_desk::<Brand, _>(&rt, Blank::new(), Looked::Waits) == Some(true));
+fn the_first_line_is_replied_to(rt: HostRuntime) {
+    for (count, end, reply) in LINES {
+        assert!(rt;
+            is_replied_to(rt.alloc(), *count, end, reply) == Some(true),
+            "at {count}"
+        );
+    }
 }
 
-// Whether a conversation waits for its line, and then for room for its reply.
-fn goes_on<'a, A: Answers<'a> + Drop>(alloc: Global, answers: A) -> bool {
-    let mut answers = answers;
-    let mut conversation = Conversation::new(alloc);
-    waits_for_its_line(alloc, &mut conversation, &mut answers)
-        && waits_for_room(alloc, &mut conversation, &mut answers)
-        && conversation.reply_len() == HELLO.len()
-}
-
-// Whether the conversation waits after each of three pieces of its line.
-fn waits_for_its_line<'a, A: Answers<'a>>(
-    alloc: Global,
-    conversation: &mut Conversation<'a>,
-    answers: &mut A,
-) -> bool {
-    waits_for_more(alloc, conversation, answers, b"/a.")
-        && waits_for_more(alloc, conversation, answers, b"")
-        && waits_for_more(alloc, conversation, answers, b"txt\r")
-}
-
-// Whether the conversation sends its reply in three parts, as there is room.
-fn waits_for_room<'a, A: Answers<'a>>(
-    alloc: Global,
-    conversation: &mut Conversation<'a>,
-    answers: &mut A,
-) -> bool {
-    sends(alloc, conversation, answers, 4, Turn::Waits, b"hell")
-        && sends(alloc, conversation, answers, 0, Turn::Waits, b"")
-        && sends(alloc, conversation, answers, 5, Turn::Waits, b"o\r\n.\r")
-        && sends(alloc, conversation, answers, 9, Turn::Done, b"\n")
-}
-
-// The first turn that isn't a pause.
-fn turn_of<'a, A: Answers<'a>>(
-    alloc: Global,
-    conversation: &mut Conversation<'a>,
-    answers: &mut A,
-    reader: &mut Watched<Pieces>,
-    writer: &mut Watched<Narrow>,
-) -> Turn {
-    let mut buffer = [0; 8];
-    for _step in 0..100 {
-        let turn = advance(alloc, conversation, answers, reader, writer, &mut buffer);
-        if turn != Turn::Paused {
-            return turn;
+#[test]
+fn a_write_that_fails_ends_a_conversation_at_each_place(rt: HostRuntime) {
+    for (line, reply) in [(b"\r\n".as_slice(), ROOT), (b"/a.txt\n", HELLO)] {
+        for room in 0..reply.len() {
+            let reader = Stream::giving(line, 9, Ending::Ends);
+            let writer = Stream::taking(reply, room, Ending::Fails);
+            let fault = Some(ServeFault::WriteFailed);
+            assert!(rt; end_so(rt.alloc(), reader, writer, fault, reply.len() - room));
         }
     }
-    Turn::Paused
 }
 
-// Whether the conversation waits after these bytes, and has sent nothing.
-fn waits_for_more<'a, A: Answers<'a>>(
-    alloc: Global,
-    conversation: &mut Conversation<'a>,
-    answers: &mut A,
-    piece: &[u8],
-) -> bool {
-    let mut reader = Watched::new(Pieces::new(piece, 2, Ending::Waits));
-    let mut writer = Watched::new(Narrow::new(Vec::new(alloc), 100, 3, Ending::Fails));
-    let turn = turn_of(alloc, conversation, answers, &mut reader, &mut writer);
-    turn == Turn::Waits && writer.into_inner().held.is_empty() && conversation.reply_len() == 0
+// Whether a reader that fails after these bytes ends both, and one that would wait lets a conversation wait.
+fn stops_reading(alloc: Global, bytes: &[u8]) -> bool {
+    let broken = Stream::giving(bytes, 9, Ending::Fails);
+    let waiting = Stream::giving(bytes, 9, Ending::Waits);
+    let writer = Stream::taking(HELLO, 100, Ending::Fails);
+    let left = HELLO.len();
+    let fault = Some(ServeFault::ReadFailed);
+    end_so(alloc, broken, writer, fault, left)
+        && conversed(alloc, waiting, writer) == (Progress::Waits, left)
+        && served(alloc, waiting, writer) == (fault, left)
 }
 
-// Whether the conversation, once its line has ended, sends these bytes into a room of so many.
-fn sends<'a, A: Answers<'a>>(
-    alloc: Global,
-    conversation: &mut Conversation<'a>,
-    answers: &mut A,
-    room: usize,
-    wanted: Turn,
-    bytes: &[u8],
-) -> bool {
-    let mut reader = Watched::new(Pieces::new(b"\n", 1, Ending::Fails));
-    let mut writer = Watched::new(Narrow::new(Vec::new(alloc), room, 3, Ending::Waits));
-    let turn = turn_of(alloc, conversation, answers, &mut reader, &mut writer);
-    turn == wanted && writer.into_inner().held.as_slice() == bytes
+#[test]
+fn a_read_that_fails_ends_a_conversation_at_each_place(rt: HostRuntime) {
+    let line = b"/a.txt\r\n";
+    for given in 0..line.len() {
+        assert!(rt; stops_reading(rt.alloc(), &line[..given]));
+    }
+}
+
+// What a conversation is given, the room that it has, how it stands then, and what it has sent in all.
+const STEPS: &[(&[u8], usize, Progress, usize)] = &[
+    (b"/a.", 100, Progress::Waits, 0),
+    (b"", 100, Progress::Waits, 0),
+    (b"txt\r", 100, Progress::Waits, 0),
+    (b"\n", 4, Progress::Waits, 4),
+    (b"", 0, Progress::Waits, 4),
+    (b"", 5, Progress::Waits, 9),
+    (b"", 9, Progress::Done, 10),
+];
+
+#[test]
+fn a_conversation_waits_and_goes_on(rt: HostRuntime) {
+    let mut conversation = Conversation::new(rt.alloc());
+    for (bytes, room, wanted, sent) in STEPS {
+        let left = &HELLO[conversation.sent_len().min(HELLO.len())..];
+        let mut reader = Watched::new(Stream::giving(bytes, 2, Ending::Waits));
+        let mut writer = Watched::new(Stream::taking(left, *room, Ending::Waits));
+        let turn = last_turn(rt.alloc(), &mut conversation, &mut reader, &mut writer);
+        assert!(rt; turn == *wanted && conversation.sent_len() == *sent);
+    }
+    assert!(rt; conversation.reply_len() == HELLO.len());
 }

@@ -1,82 +1,100 @@
-// Fetches over connections in memory.
-use crate::devices::{Connection, Ending, Narrow, Pieces};
+// Fetches over streams in memory.
+use crate::streams::{Ending, Stream};
 use gopher_catalogue::Why;
-use gopher_item::Place;
+use gopher_item::{Entry, Place, read_menu};
 use gopher_serve::fetch_over;
 use gopher_text::Watched;
 use std::alloc::Global;
 
-const LIMIT: usize = 1_048_576;
+const REQUEST: &[u8] = b"/moon\r\n";
 
-// What is fetched of `/moon` over a connection that gives these pieces and takes so many bytes, and what
-// is sent over it.
-fn fetched(alloc: Global, pieces: Pieces, room: usize) -> Option<(Result<Vec<u8>, Why>, Vec<u8>)> {
-    let place = Place::new(alloc, b'1', b"/moon", b"h", 70).ok()?;
-    let mut stream = Watched::new(Connection {
-        reader: pieces,
-        writer: Narrow::new(Vec::new(alloc), room, 3, Ending::Fails),
+// What is fetched of `/moon` over a stream that gives these bytes and takes so many of the request.
+fn fetched(
+    alloc: Global,
+    bytes: &[u8],
+    size: usize,
+    room: usize,
+    ending: Ending,
+) -> (Result<Vec<u8>, Why>, usize) {
+    let Ok(place) = Place::new(alloc, b'1', b"/moon", b"h", 70) else {
+        return (Err(Why::NoMemory), 0);
+    };
+    let mut stream = Watched::new(Stream {
+        bytes,
+        left: REQUEST,
+        room,
+        size,
+        ending,
+        interrupted: false,
     });
-    let reply = fetch_over(alloc, &mut stream, &place, LIMIT);
-    Some((reply, stream.into_inner().writer.held))
+    let reply = fetch_over(alloc, &mut stream, &place, 1_048_576);
+    (reply, stream.into_inner().left.len())
 }
 
-fn is_reply(reply: &Result<Vec<u8>, Why>, bytes: &[u8]) -> bool {
-    match reply {
-        Ok(reply) => reply.as_slice() == bytes,
-        Err(_why) => false,
+// Whether a reply is fetched, after the whole request.
+fn fetches(alloc: Global, bytes: &[u8]) -> bool {
+    match fetched(alloc, bytes, 65_536, REQUEST.len(), Ending::Ends) {
+        (Ok(reply), 0) => reply.as_slice() == bytes,
+        _ => false,
     }
 }
 
-// Whether a reply is fetched, and the request is sent.
-fn fetches(alloc: Global, bytes: &[u8]) -> Option<bool> {
-    let (reply, sent) = fetched(alloc, Pieces::new(bytes, 65_536, Ending::Ends), 100)?;
-    let is_sent = sent.as_slice() == b"/moon\r\n".as_slice();
-    Some(is_sent && is_reply(&reply, bytes))
-}
-
-// Whether a fetch fails for this reason, and this much of the request is sent.
-fn fails(alloc: Global, pieces: Pieces, room: usize, wanted: Why, request: &[u8]) -> Option<bool> {
-    let (reply, sent) = fetched(alloc, pieces, room)?;
-    Some(sent.as_slice() == request && reply.err() == Some(wanted))
+// Whether a fetch fails for this reason, with so much of the request unsent.
+fn fails(alloc: Global, bytes: &[u8], room: usize, ending: Ending, wanted: Why) -> bool {
+    let (reply, left) = fetched(alloc, bytes, 65_536, room, ending);
+    left == REQUEST.len().saturating_sub(room) && reply.is_err_and(|why| why == wanted)
 }
 
 #[test]
-fn a_reply_is_fetched(rt: HostRuntime) {
-    assert!(rt; fetches(rt.alloc(), b"1Mo") == Some(true));
-    assert!(rt; fetches(rt.alloc(), b"") == Some(true));
-}
-
-// Whether a mebibyte is fetched, and one byte more isn't.
-fn bounds_a_reply(alloc: Global) -> Option<bool> {
-    let bytes = vec![in alloc; b'a'; 1_048_577].ok()?;
-    let pieces = Pieces::new(&bytes, 65_536, Ending::Ends);
-    Some(fetches(alloc, bytes.get(1..)?)? && fails(alloc, pieces, 100, Why::TooLong, b"/moon\r\n")?)
-}
-
-#[test]
-fn a_mebibyte_is_fetched_and_not_a_byte_more(rt: HostRuntime) {
-    assert!(rt; bounds_a_reply(rt.alloc()) == Some(true));
-}
-
-// Whether a fetch fails to read after these bytes, whatever the end.
-fn fails_to_read(alloc: Global, given: &[u8]) -> Option<bool> {
-    let broken = Pieces::new(given, 2, Ending::Fails);
-    let waiting = Pieces::new(given, 2, Ending::Waits);
-    Some(
-        fails(alloc, broken, 100, Why::Read, b"/moon\r\n")?
-            && fails(alloc, waiting, 100, Why::Read, b"/moon\r\n")?,
-    )
+fn replies_are_fetched(rt: HostRuntime) {
+    assert!(rt; fetches(rt.alloc(), b"1Mo"));
+    assert!(rt; fetches(rt.alloc(), b""));
+    let bytes = vec![in rt.alloc(); b'a'; 1_048_577].expect(&rt, "memory");
+    assert!(rt; fetches(rt.alloc(), &bytes[1..]));
+    assert!(rt;
+        fails(
+            rt.alloc(),
+            &bytes,
+            REQUEST.len(),
+            Ending::Ends,
+            Why::TooLong
+        )
+    );
 }
 
 #[test]
-fn a_fetch_that_fails_says_why(rt: HostRuntime) {
+fn fetches_that_fail_say_why(rt: HostRuntime) {
     let reply = b"1Mo";
     for length in 0..4usize {
-        assert!(rt; fails_to_read(rt.alloc(), &reply[..length]) == Some(true));
+        for ending in [Ending::Fails, Ending::Waits] {
+            assert!(rt;
+                fails(
+                    rt.alloc(),
+                    &reply[..length],
+                    REQUEST.len(),
+                    ending,
+                    Why::Read
+                )
+            );
+        }
     }
-    let pieces = Pieces::new(reply, 2, Ending::Ends);
-    for room in 0..7usize {
-        let sent = &b"/moon\r\n"[..room];
-        assert!(rt; fails(rt.alloc(), pieces, room, Why::Write, sent) == Some(true));
+    for room in 0..REQUEST.len() {
+        assert!(rt; fails(rt.alloc(), reply, room, Ending::Fails, Why::Write));
     }
+}
+
+// Whether a reply is read as one odd line of the same bytes.
+fn is_odd_line(alloc: Global, bytes: &[u8]) -> bool {
+    match read_menu(alloc, bytes) {
+        Ok(menu) => match menu.entries.as_slice() {
+            [Entry::Odd(line)] => line.as_slice() == bytes,
+            _ => false,
+        },
+        Err(_refused) => false,
+    }
+}
+
+#[test]
+fn a_reply_that_is_no_menu_is_read(rt: HostRuntime) {
+    assert!(rt; is_odd_line(rt.alloc(), b"1Mo"));
 }

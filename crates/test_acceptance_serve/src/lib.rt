@@ -1,13 +1,13 @@
-//! Tests of answers, fetches and conversations: worked rows with their bytes.
+//! Tests of answers, fetches and conversations: worked rows with their bytes, and streams that fail.
 #![tactic(auto)]
 
 #[cfg(test)]
-mod conversations;
+mod answers;
 #[cfg(test)]
-mod devices;
+mod conversations;
 #[cfg(test)]
 mod fetches;
 #[cfg(test)]
-mod searches;
-#[cfg(test)]
 mod sites;
+#[cfg(test)]
+mod streams;

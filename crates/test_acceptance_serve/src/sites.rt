@@ -2,7 +2,7 @@
 ghost use Rattle.std.specs.Prelude.{◌≡◌, ◌≤◌, [], length};
 
 use gopher_catalogue::Catalogue;
-use gopher_crew::{Blank, Crew, Desk, Note, Pass, Share};
+use gopher_crew::{Blank, Crew, Desk, Pass, Share};
 use gopher_item::{Home, Place};
 use gopher_page::Page;
 use gopher_replies::Replies;
@@ -29,6 +29,9 @@ pub const NO_CATALOGUE: &[u8] = b"3No catalogue\t\tlocalhost\t7070\r\n.\r\n";
 
 /// The reply to a search of `docs`, once the pass has seen the page.
 pub const FOUND: &[u8] = b"1Docs\t\tlocalhost\t70\r\n.\r\n";
+
+/// The reply to a search that finds nothing.
+pub const NOTHING: &[u8] = b".\r\n";
 
 /// The page's bytes.
 const DOCS: &[u8] = b"1Docs\t/docs\tlocalhost\t70\r\n.\r\n";
@@ -80,32 +83,33 @@ fn page(alloc: Global) -> Option<Page> {
     Page::of(alloc, &scope, &root, DOCS).ok()
 }
 
-// The page of that root is fetched; the note of it.
-fn noted<C: Crew, R: Wait>(
-    rt: &R,
-    alloc: Global,
-    desk: &Desk<C, &R>,
-    share: &mut Share<C>,
-) -> Option<Note<C>> {
-    let _turn = desk.claim(rt, share).ok()?;
-    let page = page(alloc)?;
-    match desk.found(rt, share, 0, page) {
-        Ok((_added, note)) => note,
-        Err(_refused) => None,
-    }
-}
-
-/// The page of that root is fetched; the pass is told of it.
+/// Whether the page of that root is fetched, and the pass is told of it.
 pub fn finds_docs<C: Crew, R: Wait>(
     rt: &R,
     alloc: Global,
     desk: &Desk<C, &R>,
     share: &mut Share<C>,
     pass: &mut Pass<C>,
-) -> Option<()> {
-    let note = noted(rt, alloc, desk, share)?;
-    pass.hear(note);
-    Some(())
+) -> bool {
+    let Some(page) = page(alloc) else {
+        return false;
+    };
+    if desk.claim(rt, share).is_err() {
+        return false;
+    }
+    match desk.found(rt, share, 0, page) {
+        Ok((_added, Some(note))) => {
+            pass.hear(note);
+            true
+        }
+        _ => false,
+    }
+}
+
+/// Whether the desk is closed with its one share.
+pub fn closes<C: Crew, R: Wait>(alloc: Global, desk: Desk<C, &R>, share: Share<C>) -> bool {
+    let mut shares = Vec::new(alloc);
+    shares.push(share).is_ok() && desk.close(shares).is_ok()
 }
 
 // The share, and the pass.

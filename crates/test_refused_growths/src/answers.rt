@@ -7,7 +7,7 @@ use crate::opening::{Checked, opened};
 use gopher_crew::{Blank, Crew, Pass};
 use gopher_item::Home;
 use gopher_replies::Replies;
-use gopher_serve::answer;
+use gopher_serve::answer_kept;
 use gopher_tree::Tree;
 use std::alloc::Global;
 use std::sync::Wait;
@@ -42,9 +42,9 @@ fn replies(alloc: Global) -> Option<Replies> {
 
 fn check_lines<C: Crew>(alloc: Global, replies: &Replies, pass: &mut Pass<C>) -> Checked<()> {
     for (line, wanted) in LINES {
-        let mut reply = answer(alloc, replies, pass, *line);
+        let mut reply = answer_kept(alloc, replies, pass, *line);
         if reply.is_err() {
-            reply = answer(alloc, replies, pass, *line);
+            reply = answer_kept(alloc, replies, pass, *line);
         }
         let reply = reply.map_err(|_again| "a line is refused twice")?;
         if reply.as_slice() != *wanted {

@@ -35,7 +35,7 @@ impl Model for ByteString {
 }
 
 impl ByteString {
-    /// A copy of `bytes`. Refused only where memory is (90).
+    /// Copies `bytes`.
     pub fn from_slice(alloc: Global, bytes: &[u8]) -> Result<Self, NoMemory>
         ensures { IfOk result (λ b. b ≡ bytes.now) }
     {
@@ -44,7 +44,7 @@ impl ByteString {
         })
     }
 
-    /// A copy of `bytes` with its ASCII letters in lower case. Refused only where memory is (90).
+    /// Copies `bytes` with their ASCII letters in lower case.
     pub fn lower_cased(alloc: Global, bytes: &[u8]) -> Result<Self, NoMemory>
         ensures { IfOk result (λ b. b ≡ map lower_case bytes.now) }
     {
@@ -53,14 +53,14 @@ impl ByteString {
         })
     }
 
-    /// The bytes. Takes no memory.
+    /// Returns the bytes.
     pub fn as_slice(&self) -> &[u8]
         ensures { result.now ≡ self.now }
     {
         &self.held
     }
 
-    /// The bytes, as a vector. Takes no memory.
+    /// Converts to a vector without a copy.
     pub fn into_vec(self) -> Vec<u8>
         ensures { result.items ≡ self }
     {
@@ -68,14 +68,14 @@ impl ByteString {
         held
     }
 
-    /// How many bytes there are.
+    /// Returns the number of bytes.
     pub fn len(&self) -> usize
         ensures { result ≡ length self.now }
     {
         self.held.len()
     }
 
-    /// Whether there are none.
+    /// Returns whether there are no bytes.
     pub fn is_empty(&self) -> bool
         ensures { result ≡ (length self.now == 0) }
     {

@@ -1,4 +1,4 @@
-//! A list of strings of bytes, packed.
+//! A packed list of byte strings.
 
 ghost use Rattle.std.specs.Prelude.{◌≡◌, ◌<◌, ◌==◌, Some, [], ◌∷◌, ◌++◌, length, slice_get, sum_by, IfOk, OnErr, OnOk};
 
@@ -7,10 +7,10 @@ use crate::fault::NoMemory;
 use std::alloc::Global;
 use std::marker::Model;
 
-// How many bytes the strings have together at most, so that 32 bits name where each ends.
+// The most bytes of all strings together, so that an end fits into 32 bits.
 const MOST_BYTES: usize = 4_294_967_295;
 
-/// Strings of bytes, one after another in one piece of memory.
+/// A list of byte strings that share one allocation.
 #[derive(Debug, Drop)]
 pub struct ByteStrings {
     bytes: Vec<u8>,
@@ -30,7 +30,7 @@ impl Model for ByteStrings {
 }
 
 impl ByteStrings {
-    /// No strings. Takes no memory.
+    /// An empty list.
     pub fn new(alloc: Global) -> ByteStrings
         ensures { result ≡ [] }
     {
@@ -40,7 +40,7 @@ impl ByteStrings {
         }
     }
 
-    /// No strings, with room for so many of so many bytes together. Refused only where memory is (90).
+    /// An empty list with room for `strings` strings with `bytes` bytes together.
     pub fn with_capacity(
         alloc: Global,
         strings: usize,
@@ -54,28 +54,28 @@ impl ByteStrings {
         })
     }
 
-    /// How many strings there are.
+    /// Returns the number of strings.
     pub fn len(&self) -> usize
         ensures { result ≡ length self.now }
     {
         self.ends.len()
     }
 
-    /// Whether there are none.
+    /// Returns whether there are no strings.
     pub fn is_empty(&self) -> bool
         ensures { result ≡ (length self.now == 0) }
     {
         self.len() == 0
     }
 
-    /// How many bytes the strings have together.
+    /// Returns the number of bytes of all strings together.
     pub fn bytes_len(&self) -> usize
         ensures { result ≡ sum_by length self.now }
     {
         self.bytes.len()
     }
 
-    /// The string at an index.
+    /// Returns the string at `index`.
     pub fn get(&self, index: usize) -> &[u8]
         requires { index < length self.now }
         ensures { slice_get self.now index ≡ Some result.now }
@@ -84,8 +84,12 @@ impl ByteStrings {
         &self.bytes[start..end]
     }
 
-    /// Adds a string at the end. Refused (90) where memory is, or past 4,294,967,295 bytes together, and
-    /// then the strings are as they were.
+    /// Appends a string.
+    ///
+    /// # Errors
+    ///
+    /// `NoMemory` (90): out of memory, or all strings together would exceed 4,294,967,295 bytes.
+    /// The list stays unchanged.
     pub fn push(&mut self, string: &[u8]) -> Result<(), NoMemory>
         ensures added { OnOk result (self.new ≡ self.old ++ string.now ∷ []) }
         ensures refused { OnErr result (self.new ≡ self.old) }

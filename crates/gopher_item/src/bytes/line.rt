@@ -12,10 +12,12 @@ use crate::fault::NoMemory;
 use std::alloc::Global;
 use std::marker::Model;
 
-/// The first line of the bytes and the bytes after its end, or `None` where there are no bytes.
+/// Returns the first line of the bytes without its end, and the bytes after its end; `None` if
+/// there are no bytes.
 ///
-/// A line ends in LF, and one CR directly before the LF belongs to the end; a last line without LF
-/// is a line as it stands. Takes no memory.
+/// A line ends in LF, and one CR directly before the LF is part of the end. A last line without LF
+/// keeps all its bytes. RFC 1436 ends lines with CR LF (section 2); this profile also reads a lone
+/// LF.
 pub fn first_line(bytes: &[u8]) -> Option<(&[u8], &[u8])>
     ensures line { MatchOption result (bytes.now ≡ [])
         (λ parts. lines_of bytes.now ≡ parts.0.now ∷ lines_of parts.1.now) }
@@ -43,15 +45,15 @@ fn without_carriage_return(line: &[u8]) -> &[u8]
     }
 }
 
-/// Whether the line is a period alone, which ends a menu and a text (RFC 1436, section 2 and the
-/// appendix).
+/// Returns whether the line is a single period, which ends a menu and a text (RFC 1436, appendix:
+/// Lastline).
 pub fn is_last_line(line: &[u8]) -> bool
     ensures { result ≡ is_last_line line.now }
 {
     matches!(line, [b'.'])
 }
 
-/// The lines of bytes, one after another, as `first_line` cuts them. Takes no memory.
+/// An iterator over the lines of bytes, cut as `first_line` cuts them.
 #[derive(Debug, Drop)]
 pub struct EachLine<'a> {
     rest: &'a [u8],
@@ -66,14 +68,14 @@ impl<'a> Model for EachLine<'a> {
 }
 
 impl<'a> EachLine<'a> {
-    /// Before the first line of the bytes.
+    /// Starts before the first line of `bytes`.
     pub fn of(bytes: &'a [u8]) -> EachLine<'a>
         ensures { result ≡ bytes.now }
     {
         EachLine { rest: bytes }
     }
 
-    /// The bytes of the lines that didn't come yet.
+    /// Returns the bytes of the lines that the iterator hasn't returned yet.
     pub fn rest(&self) -> &'a [u8]
         ensures { result.now ≡ self.now }
     {
@@ -95,7 +97,7 @@ impl<'a> Iterator for EachLine<'a> {
     }
 }
 
-/// The lines of the bytes. Refused only where memory is (90).
+/// Returns all lines of the bytes, cut as `first_line` cuts them.
 pub fn lines(alloc: Global, bytes: &[u8]) -> Result<Vec<&[u8]>, NoMemory>
     ensures { IfOk result (λ found. map (λ line. line.now) found.items ≡ lines_of bytes.now) }
 {

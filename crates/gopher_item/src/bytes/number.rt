@@ -6,8 +6,8 @@ ghost use Rattle.std.specs.Char.{is_ascii_digit, digit_value};
 ghost use Rattle.std.specs.Str.Parse.{digits_value};
 ghost use Rattle.gopher_item.specs.Number.{is_number, number_of};
 
-/// The number that `digits` write, where they are one ASCII digit or more, nothing else, and write
-/// at most `limit`. Takes no memory.
+/// Returns the number that `digits` spell if they are one or more ASCII digits and nothing else,
+/// and the number is at most `limit`.
 pub fn read_number(limit: u32, digits: &[u8]) -> Option<u32>
     ensures value { result ≡ number_of limit digits.now }
     ensures bound { IfSome result (λ number. number ≤ limit) }

@@ -1,9 +1,9 @@
-//! Where packed strings start and end.
+//! The ranges of packed strings.
 
 ghost use Rattle.std.specs.Prelude.{◌≡◌, ℕ, ◌<◌, ◌≤◌, length, slice_index};
 ghost use Rattle.gopher_item.specs.Parts.{AreEnds, start_at};
 
-/// Where the string at an index starts and ends, of strings that end there.
+/// Returns the start and the end of the string at `index`, from the ends of all strings.
 pub(crate) fn range_at(ends: &[u32], index: usize) -> (usize, usize)
     requires { index < length ends.now }
     ensures start { result.0 ≡ start_at 0 ends.now index }

@@ -1,4 +1,4 @@
-//! Bytes that are cut at the first of one byte.
+//! Cutting bytes at a delimiter.
 
 ghost use Rattle.std.specs.Prelude.{◌≡◌, ◌<◌, false, [], ◌∷◌, ◌++◌, length, IfSome, MatchOption};
 ghost use Rattle.std.specs.Io.BufRead.{drop_through};
@@ -6,8 +6,8 @@ ghost use Rattle.gopher_item.specs.Lines.{cut_at, has_byte};
 
 use memchr::memchr;
 
-/// What stands before the first `byte` and what stands after it, or `None` where there is none.
-/// Takes no memory.
+/// Returns the bytes before the first `byte` and the bytes after it, or `None` if `bytes` doesn't
+/// contain it.
 pub fn split_once(byte: u8, bytes: &[u8]) -> Option<(&[u8], &[u8])>
     ensures parts { MatchOption result (cut_at byte bytes.now ≡ bytes.now ∷ [])
         (λ parts. cut_at byte bytes.now ≡ parts.0.now ∷ cut_at byte parts.1.now) }

@@ -5,14 +5,15 @@ ghost use Rattle.gopher_item.specs.MenuLine.{trim_front, trim_spaces};
 
 use bstr::ByteSlice;
 
-/// The bytes without the spaces (32 alone) at both their ends. Takes no memory.
+/// Returns the bytes without the spaces (32 alone) at both ends.
 pub fn trim_spaces(bytes: &[u8]) -> &[u8]
     ensures { result.now ≡ trim_spaces bytes.now }
 {
     trim_back(trim_front(bytes))
 }
 
-// A search makes a table of the set first, so it is for bytes that begin with a space.
+// The search first builds a table of its set, which pays off only if the bytes begin with a
+// space.
 fn trim_front(bytes: &[u8]) -> &[u8]
     ensures { result.now ≡ trim_front bytes.now }
 {
@@ -25,7 +26,8 @@ fn trim_front(bytes: &[u8]) -> &[u8]
     }
 }
 
-// The same at the back.
+// The search first builds a table of its set, which pays off only if the bytes end with a
+// space.
 fn trim_back(bytes: &[u8]) -> &[u8]
     ensures { result.now ≡ reverse (trim_front (reverse bytes.now)) }
 {

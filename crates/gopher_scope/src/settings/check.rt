@@ -1,4 +1,4 @@
-//! What is wrong with a settings table.
+//! Finding the first fault of a settings table.
 
 ghost use Rattle.std.specs.Prelude.{◌≡◌};
 ghost use Rattle.std.specs.List.{list_any};
@@ -58,7 +58,7 @@ fn first_fault(table: &Table, keys: &[Key]) -> Option<SettingsFault>
     None
 }
 
-/// Whether the settings have a key of this name. Takes no memory.
+/// Returns whether the settings have a key of this name.
 #[tactic(auto, unfolding(crate::specs::Settings::is_key_name))]
 pub fn is_key_name(name: &str) -> bool
     ensures { result ≡ is_key_name name.now }
@@ -77,8 +77,7 @@ fn has_unknown_key(table: &Table) -> bool
     false
 }
 
-/// Whether at this key stands an array that has a table with a key that isn't named for it. Takes no
-/// memory.
+/// Returns whether the value of this key is an array with a table that has an unknown key.
 #[tactic(auto, unfolding(crate::specs::Settings::key_has_unknown))]
 pub fn key_has_unknown(table: &Table, key: Key) -> bool
     ensures { result ≡ key_has_unknown (table_view table.now) key }
@@ -98,8 +97,8 @@ fn have_unknown(table: &Table) -> bool
     has_unknown_key(table) || arrays_have_unknown(table, &Key::ALL)
 }
 
-/// What is wrong with the table, if anything is: an unknown key anywhere (34), or else the first key
-/// in their order at which something is wrong (31, 32, 33).
+/// Returns the fault of the table, if it has one: an unknown key anywhere (34) or, without one, the
+/// fault of the first key with a fault, in the order of `Key` (31, 32, 33).
 pub(crate) fn settings_fault(table: &Table) -> Option<SettingsFault>
     ensures { result ≡ settings_fault (table_view table.now) }
 {

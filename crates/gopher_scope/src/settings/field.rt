@@ -1,4 +1,4 @@
-//! The keys of a table that is an element of an array.
+//! The keys of the tables in `seeds`, `allow` and `deny`.
 
 ghost use Rattle.std.specs.Prelude.{◌≡◌};
 ghost use Rattle.gopher_scope.specs.Rows.{fields_of, field_name, field_scalar};
@@ -6,7 +6,7 @@ ghost use Rattle.gopher_scope.specs.Rows.{fields_of, field_name, field_scalar};
 use super::form::{Element, Scalar};
 use super::text::TextKind;
 
-/// A key of such a table.
+/// A key of a table in an array.
 #[derive(Clone, Copy, Debug, PartialEq, Eq)]
 pub(crate) enum Field {
     /// `type`: the type of a place.
@@ -22,7 +22,7 @@ pub(crate) enum Field {
 }
 
 impl Field {
-    /// The key as it is written in the text.
+    /// Returns the name of the key in the text.
     pub(crate) fn name(self) -> &'static str
         ensures { result.now ≡ field_name self }
     {
@@ -35,7 +35,7 @@ impl Field {
         }
     }
 
-    /// What may stand at the key.
+    /// Returns the kind and the range of the key's value.
     pub(crate) fn scalar(self) -> Scalar
         ensures { result ≡ field_scalar self }
     {
@@ -52,7 +52,7 @@ impl Field {
 }
 
 impl Element {
-    /// The keys of such a table, in the order in which they are checked.
+    /// Returns the keys of such a table in the order in which they are checked.
     pub(crate) fn fields(self) -> &'static [Field]
         ensures { result.now ≡ fields_of self }
     {

@@ -1,30 +1,30 @@
-//! What may stand at a key.
+//! The valid values of a key.
 
 use super::text::TextKind;
 
-/// A value that is read on its own.
+/// The valid values of a key whose value is an integer or a text.
 #[derive(Clone, Copy, Debug, PartialEq, Eq)]
 pub(crate) enum Scalar {
-    /// An integer from 1 to `most`; where the key is absent, `absent` is read.
+    /// An integer from 1 to `most`; `absent` if the key is missing.
     Integer { absent: u32, most: u32 },
-    /// A text; its kind says its range, and what is read where the key is absent.
+    /// A text. Its kind gives its range, and its value if the key is missing.
     Text(TextKind),
 }
 
-/// The tables of an array.
+/// The kind of the tables in an array.
 #[derive(Clone, Copy, Debug, PartialEq, Eq)]
 pub(crate) enum Element {
-    /// Tables that are places.
+    /// Tables of places.
     Seed,
-    /// Tables that are rules.
+    /// Tables of rules.
     Rule,
 }
 
-/// What may stand at a key of the settings.
+/// The valid values of a key of the settings.
 #[derive(Clone, Copy, Debug, PartialEq, Eq)]
 pub(crate) enum Form {
     /// An integer or a text.
     Scalar(Scalar),
-    /// An array of at most 256 tables; where the key is absent, an empty one is read.
+    /// An array of at most 256 tables; an empty one if the key is missing.
     Tables(Element),
 }

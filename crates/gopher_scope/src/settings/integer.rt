@@ -1,4 +1,4 @@
-//! Integers.
+//! Integer values.
 
 ghost use Rattle.std.specs.Prelude.{◌≡◌, None};
 ghost use Rattle.toml.specs.Data.{as_integer};
@@ -8,7 +8,7 @@ ghost use Rattle.gopher_scope.specs.Reading.{integer_problem, number_read};
 use super::problem::Problem;
 use toml::Value;
 
-/// What is wrong with the value, if anything is, where an integer from 1 to `most` is wanted.
+/// Returns the fault of a value that has to be an integer from 1 to `most`, if it has one.
 pub(crate) fn integer_problem(most: u32, value: &Value) -> Option<Problem>
     ensures { result ≡ integer_problem most (as_integer (view value.now)) }
 {
@@ -19,7 +19,7 @@ pub(crate) fn integer_problem(most: u32, value: &Value) -> Option<Problem>
     }
 }
 
-/// The number that the value is, from 1 to `most`.
+/// Returns the value as a number from 1 to `most`.
 pub(crate) fn number_read(most: u32, value: &Value) -> u32
     requires { integer_problem most (as_integer (view value.now)) ≡ None }
     ensures { result ≡ number_read (as_integer (view value.now)) }

@@ -1,4 +1,4 @@
-//! The seeds and the rules of arrays in which nothing is wrong.
+//! Reading the seeds and the rules of arrays without a fault.
 
 ghost use Rattle.std.specs.Prelude.{◌≡◌, map, Some, None, IfOk};
 ghost use Rattle.std.specs.List.{filter_map};
@@ -15,7 +15,7 @@ use gopher_item::{ItemFault, NoMemory, Place};
 use std::alloc::Global;
 use toml::{Table, Value};
 
-/// The elements of the array at a key; none where the key is absent.
+/// Returns the elements of the array of a key; none if the key is missing.
 pub(crate) fn values_at<'a>(table: &'a Table, name: &str) -> &'a [Value]
     ensures { map view result.now ≡ values_read (get_member name.now (table_view table.now)) }
 {
@@ -88,7 +88,7 @@ fn rule(alloc: Global, table: &Table) -> Result<Rule, NoMemory>
     }
 }
 
-/// The seeds of these elements of `seeds`.
+/// Reads the tables of `seeds`.
 pub(crate) fn seeds(alloc: Global, values: &[Value]) -> Result<Vec<Place>, NoMemory>
     requires { first_of (element_problem Element.Seed) (map view values.now) ≡ None }
     ensures { IfOk result (λ seeds.
@@ -103,7 +103,7 @@ pub(crate) fn seeds(alloc: Global, values: &[Value]) -> Result<Vec<Place>, NoMem
     Ok(seeds)
 }
 
-/// The rules of these elements of `allow` or `deny`.
+/// Reads the tables of `allow` or `deny`.
 pub(crate) fn rules(alloc: Global, values: &[Value]) -> Result<Vec<Rule>, NoMemory>
     requires { first_of (element_problem Element.Rule) (map view values.now) ≡ None }
     ensures { IfOk result (λ rules.

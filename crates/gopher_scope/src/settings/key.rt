@@ -7,32 +7,33 @@ use super::form::{Element, Form, Scalar};
 use super::text::TextKind;
 use std::fmt;
 
-/// A key of the settings, in the order in which they are checked.
+/// A key of the settings. Keys are checked in this order.
 #[derive(Clone, Copy, Debug, PartialEq, Eq)]
 pub enum Key {
-    /// `host`: the server's own host, a string; it has to be there.
+    /// `host`: the server's own host, a string; required.
     Host,
-    /// `port`: the server's port, an integer from 1 to 65,535; 70 where it is absent.
+    /// `port`: the server's port, an integer from 1 to 65,535; 70 if missing.
     Port,
-    /// `root`: the folder that is served, a string that isn't empty; it has to be there.
+    /// `root`: the folder to serve, a string that isn't empty; required.
     Root,
-    /// `seeds`: the places at which the crawl starts, at most 256 tables; none where it is absent.
+    /// `seeds`: the places from which the crawl starts, at most 256 tables; none if missing.
     Seeds,
-    /// `allow`: the rules of what may be visited, at most 256 tables; none where it is absent.
+    /// `allow`: the rules for places that the crawl may visit, at most 256 tables; none if missing.
     Allow,
-    /// `deny`: the rules of what may not be visited, at most 256 tables; none where it is absent.
+    /// `deny`: the rules for places that the crawl may not visit, at most 256 tables; none if
+    /// missing.
     Deny,
-    /// `places`: how many places are known at most, from 1 to 65,536; 4,096 where it is absent.
+    /// `places`: the most places that the crawl knows, from 1 to 65,536; 4,096 if missing.
     Places,
-    /// `workers`: how many workers crawl, from 1 to 16; 4 where it is absent.
+    /// `workers`: the number of workers that crawl, from 1 to 16; 4 if missing.
     Workers,
-    /// `threads`: how many server threads answer, from 1 to 8; 2 where it is absent.
+    /// `threads`: the number of server threads, from 1 to 8; 2 if missing.
     Threads,
-    /// `tries`: how often a place is claimed at most, from 1 to 5; 1 where it is absent.
+    /// `tries`: how often the crawl claims a place at most, from 1 to 5; 1 if missing.
     Tries,
 }
 
-/// The name of a key, and what may stand there.
+/// The name and the valid values of a key.
 #[derive(Clone, Copy)]
 struct Row {
     name: &'static str,
@@ -102,14 +103,14 @@ impl Key {
         }
     }
 
-    /// The key as it is written in the text.
+    /// Returns the name of the key in the text.
     pub fn name(self) -> &'static str
         ensures { result.now ≡ key_name self }
     {
         self.row().name
     }
 
-    /// What may stand at the key.
+    /// Returns the valid values of the key.
     pub(crate) fn form(self) -> Form
         ensures { result ≡ key_form self }
     {

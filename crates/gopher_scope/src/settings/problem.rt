@@ -1,4 +1,4 @@
-//! What may be wrong at a key.
+//! The faults of a value, before its key is known.
 
 ghost use Rattle.std.specs.Prelude.{◌≡◌};
 ghost use Rattle.gopher_scope.specs.Settings.{fault_at};
@@ -6,19 +6,19 @@ ghost use Rattle.gopher_scope.specs.Settings.{fault_at};
 use super::key::Key;
 use crate::fault::SettingsFault;
 
-/// What is wrong with what stands at a key.
+/// The fault of a value, or of a key without one.
 #[derive(Clone, Copy, Debug, PartialEq, Eq)]
 pub(crate) enum Problem {
-    /// The key has to be there.
+    /// The key is required and missing.
     Missing,
-    /// The value is of another kind.
+    /// The value has the wrong type.
     WrongKind,
-    /// The value is out of its range.
+    /// The value is out of range.
     OutOfRange,
 }
 
 impl Problem {
-    /// The fault that it is at this key.
+    /// Returns the fault of settings with this problem at `key`.
     pub(crate) fn at(self, key: Key) -> SettingsFault
         ensures { result ≡ fault_at key self }
     {

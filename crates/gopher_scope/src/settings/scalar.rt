@@ -1,4 +1,4 @@
-//! Integers and texts at a key.
+//! The integer or text value of a key.
 
 ghost use Rattle.std.specs.Prelude.{◌≡◌, ◌≤◌, None};
 ghost use Rattle.std.specs.Option.{option_map};
@@ -11,7 +11,7 @@ use super::integer::{integer_problem, number_read};
 use super::problem::Problem;
 use toml::{Table, Value};
 
-/// The value at a key.
+/// Returns the value of a key.
 pub(crate) fn value_at<'a>(table: &'a Table, name: &str) -> Option<&'a Value>
     ensures { option_map (λ value. view value.now) result
         ≡ get_member name.now (table_view table.now) }
@@ -20,7 +20,7 @@ pub(crate) fn value_at<'a>(table: &'a Table, name: &str) -> Option<&'a Value>
 }
 
 impl Scalar {
-    /// What is wrong with what stands at a key, if anything is, where such a value is wanted.
+    /// Returns the fault of the key's value, if it has one.
     pub(crate) fn problem(self, table: &Table, name: &str) -> Option<Problem>
         ensures { result ≡ scalar_problem self (get_member name.now (table_view table.now)) }
     {
@@ -35,7 +35,7 @@ impl Scalar {
         }
     }
 
-    /// The integer that stands at a key, or what is read where the key is absent.
+    /// Returns the integer value of a key, or the value for a missing key.
     pub(crate) fn integer(self, table: &Table, name: &str) -> u32
         requires { scalar_problem self (get_member name.now (table_view table.now)) ≡ None }
         ensures { result ≡ integer_read self (get_member name.now (table_view table.now)) }
@@ -47,7 +47,7 @@ impl Scalar {
         }
     }
 
-    /// The text that stands at a key, or what is read where the key is absent.
+    /// Returns the text value of a key, or the value for a missing key.
     pub(crate) fn text<'a>(self, table: &'a Table, name: &str) -> &'a str
         ensures { result.now ≡ text_read self (get_member name.now (table_view table.now)) }
     {

@@ -14,7 +14,7 @@ use super::scalar::value_at;
 use toml::value::Array;
 use toml::{Table, Value};
 
-/// How many tables an array holds at most.
+/// The most tables in an array.
 const MOST_TABLES: usize = 256;
 
 impl Element {
@@ -60,8 +60,7 @@ impl Element {
         }
     }
 
-    /// What is wrong with what stands at a key, if anything is, where an array of such tables is
-    /// wanted.
+    /// Returns the fault of a key's value that has to be an array of such tables, if it has one.
     pub(crate) fn problem(self, table: &Table, name: &str) -> Option<Problem>
         ensures { result ≡ tables_problem self (get_member name.now (table_view table.now)) }
     {
@@ -112,7 +111,7 @@ impl Element {
         false
     }
 
-    /// Whether one of the tables of the array has a key that isn't named for it.
+    /// Returns whether a table of the array has an unknown key.
     pub(crate) fn array_has_unknown(self, array: &Array) -> bool
         ensures { result ≡ array_has_unknown self (Some (array_view array.now)) }
     {

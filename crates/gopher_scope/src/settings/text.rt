@@ -1,4 +1,4 @@
-//! Texts.
+//! Text values.
 
 ghost use Rattle.std.specs.Prelude.{◌≡◌};
 ghost use Rattle.std.specs.Option.{option_copied};
@@ -11,22 +11,22 @@ use super::problem::Problem;
 use gopher_item::{is_host, is_selector};
 use toml::Value;
 
-/// The texts that stand in settings.
+/// The kinds of texts in settings.
 #[derive(Clone, Copy, Debug, PartialEq, Eq)]
 pub(crate) enum TextKind {
-    /// A host: 1 to 255 bytes, none of them a space or a control byte. The key has to be there.
+    /// A host: 1 to 255 bytes without spaces and control bytes; required.
     Host,
-    /// A path: anything but an empty text. The key has to be there.
+    /// A path: any text that isn't empty; required.
     Path,
-    /// The type of a place, `0` or `1`; `1` where the key is absent.
+    /// The type of a place, `0` or `1`; `1` if missing.
     PlaceKind,
-    /// A selector or the beginning of one: at most 255 bytes, none of them a TAB, CR, LF or NUL;
-    /// empty where the key is absent.
+    /// A selector or a prefix of selectors: at most 255 bytes without TAB, CR, LF and NUL; empty if
+    /// missing.
     Selector,
 }
 
 impl TextKind {
-    /// What is read where the key is absent, if it may be.
+    /// Returns the value for a missing key, unless the key is required.
     pub(crate) fn absent(self) -> Option<&'static str>
         ensures { option_copied result ≡ absent_text self }
     {
@@ -48,7 +48,7 @@ impl TextKind {
         }
     }
 
-    /// What is wrong with the value, if anything is, where such a text is wanted.
+    /// Returns the fault of a value that has to be such a text, if it has one.
     pub(crate) fn problem(self, value: &Value) -> Option<Problem>
         ensures { result ≡ text_problem self (as_str (view value.now)) }
     {

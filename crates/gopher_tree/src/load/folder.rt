@@ -1,25 +1,28 @@
-//! Folders of the file system: their names, what these lead to, and the bytes of files.
+//! Folders of the file system: their names, the targets of names, and the bytes of files.
+//!
+//! A name can vanish between any two calls, because other programs change the folder while it is
+//! read. A name that has vanished counts as a link that leads nowhere.
 
-ghost use Rattle.std.specs.Prelude.{◌≡◌, ◌≢◌, true, IfErr, IfOk, IfSome, MatchResult, take, string_bytes, string_cmp};
+ghost use Rattle.std.specs.Prelude.{◌≡◌, ◌≢◌, true, IfErr, IfOk, IfSome, None, Some, take, string_bytes, string_cmp};
 ghost use Rattle.std.specs.List.{All};
 ghost use Rattle.std.specs.List.Sorted.{IsSorted};
-ghost use Rattle.std.specs.Fs.{IsDir, IsFile, file_type};
+ghost use Rattle.std.specs.Fs.{IsDir, IsFile, file_type, metadata_len};
 ghost use Rattle.std.specs.IoError.{error_kind};
-ghost use Rattle.gopher_tree.specs.Load.{is_shown, IsUnreadable};
+ghost use Rattle.gopher_tree.specs.Load.{is_shown, IsUnreadable, most_read};
 
 use crate::fault::TreeFault;
 use crate::tree::alone::LARGEST_FILE;
 use crate::tree::path::is_menu_name;
 use std::alloc::{AllocError, Global};
-use std::fs::Files;
+use std::fs::{Files, OpenFile};
 use std::io::{ErrorKind, Read};
 use std::path::{Path, PathBuf};
 use std::{fs, io};
 
-// How many bytes of a file are read: at most one more than a file may have.
+// The most bytes of a file that are read: one more than a file may have.
 const MOST_READ: u64 = LARGEST_FILE as u64 + 1;
 
-// What an entry of a folder leads to.
+// The target of an entry of a folder.
 #[derive(Clone, Copy)]
 pub(crate) enum Target {
     File,
@@ -27,7 +30,7 @@ pub(crate) enum Target {
     Neither,
 }
 
-// The fault of what can't be read; `number` files were listed before.
+// The fault of a file or folder that can't be read; `number` files were listed before.
 fn read_fault(error: io::Error, number: usize) -> TreeFault
     ensures memory { error_kind error ≡ ErrorKind.OutOfMemory → result ≡ TreeFault.NoMemory }
     ensures unreadable { error_kind error ≢ ErrorKind.OutOfMemory
@@ -40,7 +43,7 @@ fn read_fault(error: io::Error, number: usize) -> TreeFault
     }
 }
 
-// Whether a name is listed: a hidden one is not, but for `.menu`.
+// Whether a name is listed. Hidden names aren't, except `.menu`.
 fn is_shown(name: &[u8]) -> bool
     ensures { result ≡ is_shown name.now }
 {
@@ -51,7 +54,7 @@ fn is_shown(name: &[u8]) -> bool
     }
 }
 
-// Adds the name, where it is listed.
+// Appends the name if it is listed.
 fn push_shown(alloc: Global, name: &str, names: &mut Vec<String>) -> Result<(), AllocError>
     requires { All (λ shown. is_shown (string_bytes shown) ≡ true) names.old.items }
     ensures { All (λ shown. is_shown (string_bytes shown) ≡ true) names.new.items }
@@ -62,41 +65,49 @@ fn push_shown(alloc: Global, name: &str, names: &mut Vec<String>) -> Result<(), 
     Ok(())
 }
 
-// The names in a folder that are listed.
-fn shown_names<R: Files>(
-    rt: &R,
-    alloc: Global,
-    folder: Path<'_>,
-    number: usize,
-) -> Result<Vec<String>, TreeFault>
-    ensures { MatchResult result
-        (λ names. All (λ name. is_shown (string_bytes name) ≡ true) names.items)
-        (IsUnreadable number) }
+// The listed names of a folder.
+fn shown_names<R: Files>(rt: &R, alloc: Global, folder: Path<'_>) -> io::Result<Vec<String>>
+    ensures { IfOk result (λ names.
+        All (λ name. is_shown (string_bytes name) ≡ true) names.items) }
 {
-    let entries = match fs::read_dir(&(rt, alloc), folder) {
-        Ok(entries) => entries,
-        Err(error) => return Err(read_fault(error, number)),
-    };
     let mut names = Vec::new(alloc);
-    for entry in entries {
-        match entry {
-            Ok(entry) => {
-                let Ok(()) = push_shown(alloc, entry.file_name(), &mut names) else {
-                    return Err(TreeFault::NoMemory);
-                };
-            }
-            Err(error) => return Err(read_fault(error, number)),
-        }
+    for entry in fs::read_dir(&(rt, alloc), folder)? {
+        push_shown(alloc, entry?.file_name(), &mut names)?;
     }
     Ok(names)
 }
 
-// The names in a folder that are listed, in the order of their bytes. A name that is not UTF-8 can't
-// be read, hidden or not. `number` files were listed before.
+// Whether nothing exists: a link leads nowhere or through a file, or a name has vanished.
+fn is_missing(kind: ErrorKind) -> bool {
+    matches!(kind, ErrorKind::NotFound | ErrorKind::NotADirectory)
+}
+
+// The listed names of a folder in no order. A folder that has vanished has none, except the root.
+fn names_there<R: Files>(
+    rt: &R,
+    alloc: Global,
+    folder: Path<'_>,
+    is_root: bool,
+    number: usize,
+) -> Result<Vec<String>, TreeFault>
+    ensures shown { IfOk result (λ names.
+        All (λ name. is_shown (string_bytes name) ≡ true) names.items) }
+    ensures refused { IfErr result (IsUnreadable number) }
+{
+    match shown_names(rt, alloc, folder) {
+        Ok(names) => Ok(names),
+        Err(error) if !is_root && is_missing(error.kind()) => Ok(Vec::new(alloc)),
+        Err(error) => Err(read_fault(error, number)),
+    }
+}
+
+// The listed names of a folder in byte order. A name that isn't UTF-8 can't be read, hidden or not.
+// A folder that has vanished has none, except the root. `number` files were listed before.
 pub(crate) fn names_in<R: Files>(
     rt: &R,
     alloc: Global,
     folder: Path<'_>,
+    is_root: bool,
     number: usize,
 ) -> Result<Vec<String>, TreeFault>
     ensures shown { IfOk result (λ names.
@@ -104,15 +115,15 @@ pub(crate) fn names_in<R: Files>(
     ensures order { IfOk result (λ names. IsSorted string_cmp names.items) }
     ensures refused { IfErr result (IsUnreadable number) }
 {
-    let mut names = shown_names(rt, alloc, folder, number)?;
+    let mut names = names_there(rt, alloc, folder, is_root, number)?;
     let Ok(()) = names.sort() else {
         return Err(TreeFault::NoMemory);
     };
     Ok(names)
 }
 
-// What a path leads to, through links; one that leads nowhere, as a link through a file does, leads to
-// neither a file nor a folder.
+// The target of a path, through links. A link that leads nowhere or through a file leads to neither
+// a file nor a folder. The path isn't opened, because opening a device or a pipe can block.
 pub(crate) fn target_of<R: Files>(
     rt: &R,
     path: Path<'_>,
@@ -122,14 +133,12 @@ pub(crate) fn target_of<R: Files>(
 {
     match fs::metadata(rt, path) {
         Ok(found) => Ok(target_found(found)),
-        Err(error) if matches!(error.kind(), ErrorKind::NotFound | ErrorKind::NotADirectory) => {
-            Ok(Target::Neither)
-        }
+        Err(error) if is_missing(error.kind()) => Ok(Target::Neither),
         Err(error) => Err(read_fault(error, number)),
     }
 }
 
-// What it is that was found.
+// The target by its metadata.
 fn target_found(found: fs::Metadata) -> Target
     ensures folder { IsDir (file_type found) → result ≡ Target.Folder }
     ensures file { IsFile (file_type found) → result ≡ Target.File }
@@ -145,8 +154,8 @@ fn target_found(found: fs::Metadata) -> Target
     }
 }
 
-// The folder's path without links, so that a path through a link to a folder above it stays openable;
-// the path itself where that can't be found out.
+// The folder's path without links, so that a path through a link to a folder above stays short
+// enough to open. If it can't be computed, the path itself.
 pub(crate) fn without_links<R: Files>(
     rt: &R,
     alloc: Global,
@@ -161,28 +170,72 @@ pub(crate) fn without_links<R: Files>(
     }
 }
 
-// The bytes of a file, but no more than one over the largest file.
+// How many bytes of an open file are read: at most its length, and one over the largest file;
+// `None` if it isn't a regular file.
+fn most_read(found: &fs::Metadata) -> Option<u64>
+    ensures file { IsFile (file_type found.now)
+        → result ≡ Some (most_read (metadata_len found.now)) }
+    ensures other { (IsFile (file_type found.now) → ⊥) → result ≡ None }
+{
+    if !found.is_file() {
+        return None;
+    }
+    let length = found.len();
+    if length < MOST_READ {
+        Some(length)
+    } else {
+        Some(MOST_READ)
+    }
+}
+
+// The bytes of a file; `None` if it has vanished, or its path leads to no regular file by now.
 pub(crate) fn read_file<R: Files>(
     rt: &R,
     alloc: Global,
     path: Path<'_>,
     number: usize,
-) -> Result<Vec<u8>, TreeFault>
+) -> Result<Option<Vec<u8>>, TreeFault>
     ensures { IfErr result (IsUnreadable number) }
 {
     match fs::open(rt, path) {
-        Ok(file) => read_most(alloc, file, number),
+        Ok(file) => read_open(alloc, file, number),
+        Err(error) if is_missing(error.kind()) => Ok(None),
         Err(error) => Err(read_fault(error, number)),
     }
 }
 
-fn read_most<R: Read + Drop>(alloc: Global, reader: R, number: usize) -> Result<Vec<u8>, TreeFault>
+// The bytes of an open file up to its length, because reading can block at files of the kernel that
+// have length 0; `None` if it isn't a regular file.
+fn read_open<F: Read + OpenFile + Drop>(
+    alloc: Global,
+    file: F,
+    number: usize,
+) -> Result<Option<Vec<u8>>, TreeFault>
+    ensures { IfErr result (IsUnreadable number) }
+{
+    let found = match file.metadata() {
+        Ok(found) => found,
+        Err(error) => return Err(read_fault(error, number)),
+    };
+    match most_read(&found) {
+        Some(most) => Ok(Some(read_most(alloc, file, most, number)?)),
+        None => Ok(None),
+    }
+}
+
+// The first `most` bytes of a reader, or all bytes if there are fewer.
+fn read_most<R: Read + Drop>(
+    alloc: Global,
+    reader: R,
+    most: u64,
+    number: usize,
+) -> Result<Vec<u8>, TreeFault>
     ensures read { IfSome (R.remaining reader) (λ all.
-        IfOk result (λ bytes. bytes.items ≡ take 16777217 all)) }
+        IfOk result (λ bytes. bytes.items ≡ take most all)) }
     ensures refused { IfErr result (IsUnreadable number) }
 {
     let mut bytes = Vec::new(alloc);
-    match reader.take(MOST_READ).read_to_end(&mut bytes) {
+    match reader.take(most).read_to_end(&mut bytes) {
         Ok(_) => {
             bytes.shrink_to_fit();
             Ok(bytes)

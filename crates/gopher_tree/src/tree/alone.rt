@@ -1,4 +1,4 @@
-//! Faults that a file has by itself, whatever comes before it.
+//! Faults of one file, independent of the files before it.
 
 ghost use Rattle.std.specs.Prelude.{◌≡◌, [], map};
 ghost use Rattle.gopher_tree.specs.Fault.{file_fault, first_fault, menu_fault};
@@ -8,10 +8,10 @@ use crate::fault::TreeFault;
 use crate::menu_file::bad_line;
 use crate::tree::path::{is_menu_path, path_fault};
 
-// How many bytes a file has at most.
+// The most bytes of a file.
 pub(crate) const LARGEST_FILE: usize = 16_777_216;
 
-// The fault of a menu file, where the file is one.
+// The fault of a file as a menu file, if it is one.
 pub(crate) fn menu_fault(number: usize, path: &[u8], bytes: &[u8]) -> Option<TreeFault>
     ensures { result ≡ menu_fault number (path.now, bytes.now) }
 {
@@ -24,7 +24,7 @@ pub(crate) fn menu_fault(number: usize, path: &[u8], bytes: &[u8]) -> Option<Tre
     }
 }
 
-// The fault of a file that comes first.
+// The fault of the first file.
 #[tactic(auto, using(crate::proofs::FirstLemmas::first_too_big, crate::proofs::FirstLemmas::first_menu, crate::proofs::FirstLemmas::first_path))]
 fn fault_alone(path: &[u8], bytes: &[u8]) -> Option<TreeFault>
     ensures { result ≡ file_fault [] (path.now, bytes.now) }
@@ -38,7 +38,7 @@ fn fault_alone(path: &[u8], bytes: &[u8]) -> Option<TreeFault>
     menu_fault(0, path, bytes)
 }
 
-// The fault of the first file.
+// The fault of the first file of a list.
 pub(crate) fn first_fault(files: &[(Vec<u8>, Vec<u8>)]) -> Option<TreeFault>
     ensures { result ≡ first_fault (map file_data files.now) }
 {

@@ -1,4 +1,4 @@
-//! The line of a name in a folder.
+//! The menu line of a name in a folder.
 
 ghost use Rattle.std.specs.Prelude.{◌≡◌, ◌++◌, OnOk};
 ghost use Rattle.gopher_item.specs.MenuLine.{menu_line_bytes};
@@ -7,7 +7,7 @@ ghost use Rattle.gopher_tree.specs.Reply.{child_line};
 use gopher_item::{Home, push_front, push_server};
 use std::alloc::AllocError;
 
-// Appends the line of a name in a folder; `front` stands before the name in its selector.
+// Appends the line of a name in a folder; `front` comes before the name in its selector.
 pub(crate) fn push_child_line(
     kind: u8,
     name: &[u8],

@@ -14,7 +14,7 @@ use std::alloc::{AllocError, Global};
 use std::collections::BTreeMap;
 use std::marker::Model;
 
-// The names in a folder, each once and in the order of their bytes, with their types.
+// The distinct names in a folder in byte order, with their types.
 #[derive(Debug, Drop)]
 pub(crate) struct Children {
     held: BTreeMap<ByteString, u8>,
@@ -37,7 +37,7 @@ impl Children {
         }
     }
 
-    // Adds a name, or gives it this type.
+    // Adds a name, or replaces its type.
     pub(crate) fn insert(&mut self, name: ByteString, kind: u8) -> Result<(), NoMemory>
         ensures { OnOk result (self.new ≡ insert_entry (slice_cmp nat_cmp) self.old name kind) }
     {
@@ -45,7 +45,7 @@ impl Children {
         Ok(())
     }
 
-    // Appends a menu line for each name; `front` stands before the names in their selectors.
+    // Appends a menu line for each name; `front` comes before the names in their selectors.
     pub(crate) fn push_lines(
         &self,
         front: &[u8],

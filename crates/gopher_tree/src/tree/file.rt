@@ -1,4 +1,4 @@
-//! A file as a tree keeps it.
+//! A file of a tree.
 
 ghost use Rattle.std.specs.Prelude.{◌≡◌};
 ghost use Rattle.gopher_tree.specs.Kind.{kind_of};
@@ -6,7 +6,7 @@ ghost use Rattle.gopher_tree.specs.Kind.{kind_of};
 use crate::tree::kind::kind_of;
 use std::marker::Model;
 
-// A file: its path and its bytes, and its type beside them.
+// A file: its path, its bytes, and its type, which is computed once.
 #[derive(Debug, Drop)]
 pub(crate) struct File {
     path: Vec<u8>,
@@ -33,7 +33,7 @@ impl File {
         File { path, kind, bytes }
     }
 
-    // The path, without a slash in front.
+    // The path, without a leading slash.
     pub(crate) fn path(&self) -> &[u8]
         ensures { result.now ≡ self.now.0 }
     {

@@ -1,4 +1,4 @@
-//! The index of a tree: what stands at each path.
+//! The index of a tree: the file or folder at each path.
 
 ghost use Rattle.std.specs.Prelude.{◌≡◌, ℕ, ◌+◌, ◌<◌, List, [], length, take, drop, ◌&&◌, None, Some, is_some, map, IfOk, OnOk, nat_eq, if◌then◌else◌};
 ghost use Rattle.std.specs.Cmp.Lexicographic.{pointwise};
@@ -14,7 +14,7 @@ use gopher_item::{ByteString, NoMemory, split_once};
 use std::alloc::Global;
 use std::collections::BTreeMap;
 
-// What stands at a path: the file of this number in the list, or a folder.
+// The entry at a path: the number of a file in the list, or a folder.
 #[derive(Debug, Drop)]
 pub(crate) enum Entry {
     File(usize),
@@ -23,7 +23,8 @@ pub(crate) enum Entry {
 
 pub(crate) type Index = BTreeMap<Vec<u8>, Entry>;
 
-// What a folder has of a file, of whose path this is the rest below the folder: a name and its type.
+// The child of a folder that leads to a file, and its type; `rest` is the file's path below the
+// folder.
 fn child_of(kind: u8, rest: &[u8]) -> Option<(&[u8], u8)>
     ensures { child_data result ≡ child_of kind (names_of rest.now) }
 {
@@ -34,14 +35,13 @@ fn child_of(kind: u8, rest: &[u8]) -> Option<(&[u8], u8)>
     }
 }
 
-// Whether a file stands there.
 pub(crate) fn is_file_entry(entry: Option<&Entry>) -> bool
     ensures { result ≡ is_file_entry (option_copied entry.entry) }
 {
     matches!(entry, Some(Entry::File(_)))
 }
 
-// The paths at which something stands, in the order of their bytes.
+// The paths of all entries in byte order.
 pub(crate) fn paths_in(alloc: Global, index: &Index) -> Result<Vec<&[u8]>, NoMemory>
     ensures { IfOk result (λ paths. IndexPaths index.now (map (λ path. path.now) paths.items)) }
 {
@@ -52,7 +52,7 @@ pub(crate) fn paths_in(alloc: Global, index: &Index) -> Result<Vec<&[u8]>, NoMem
     Ok(paths)
 }
 
-// Takes the folder at the path out, where there is one.
+// Removes and returns the folder at the path, if there is one.
 fn take_folder(index: &mut Index, folder: &[u8]) -> Option<Children>
     ensures children { result ≡ folder_at (held_at index.old folder.now) }
     ensures others { (path : List ℕ) → held_at index.new path
@@ -64,7 +64,6 @@ fn take_folder(index: &mut Index, folder: &[u8]) -> Option<Children>
     }
 }
 
-// Puts the entry at the path.
 fn put(alloc: Global, index: &mut Index, path: &[u8], entry: Entry) -> Result<(), NoMemory>
     ensures { OnOk result ((q : List ℕ) → held_at index.new q
         ≡ (if pointwise nat_eq q path.now then Some entry else held_at index.old q)) }
@@ -73,7 +72,7 @@ fn put(alloc: Global, index: &mut Index, path: &[u8], entry: Entry) -> Result<()
     Ok(())
 }
 
-// The names with one more, where there is one.
+// The names with one more, if there is one.
 fn with_child(
     alloc: Global,
     mut children: Children,
@@ -88,7 +87,7 @@ fn with_child(
     Ok(children)
 }
 
-// The folder's names with one more, where there is one; none of a folder that isn't there.
+// The names of the folder, if there is one, with one more, if there is one.
 fn names_with(
     alloc: Global,
     held: Option<Children>,
@@ -102,8 +101,8 @@ fn names_with(
     }
 }
 
-// Adds a child, where there is one, to the folder, which is made where it isn't there, and tells
-// whether it was there.
+// Adds a child, if there is one, to the folder, which is made if it doesn't exist. Returns whether
+// the folder existed.
 fn add_child(
     alloc: Global,
     index: &mut Index,
@@ -124,7 +123,7 @@ fn add_child(
     Ok(known)
 }
 
-// The folder that a path leads through before a slash, and what stands behind the slash.
+// The folder that a path leads through before a slash, and the rest of the path after the slash.
 fn around(path: &[u8], slash: usize) -> (&[u8], &[u8])
     requires { slash < length path.now }
     ensures folder { result.0.now ≡ take slash path.now }
@@ -133,8 +132,8 @@ fn around(path: &[u8], slash: usize) -> (&[u8], &[u8])
     (&path[..slash], &path[slash + 1..])
 }
 
-// Adds the file's path to the folder before this place, where a slash is there, and tells whether that
-// was a folder before.
+// If the path has a slash at this position, adds the file to the folder before it. Returns whether
+// the folder existed.
 fn add_before(
     alloc: Global,
     index: &mut Index,
@@ -154,8 +153,8 @@ fn add_before(
     add_child(alloc, index, folder, child_of(kind, rest))
 }
 
-// Adds the file's path to the folders that it leads through, the last one first. Above one that was
-// there nothing is new.
+// Adds the file to the folders that its path leads through, the last one first. It stops at the
+// first folder that existed: the folders above have what they need.
 fn add_to_folders(alloc: Global, index: &mut Index, path: &[u8], kind: u8) -> Result<(), NoMemory>
     requires some { 0 < length path.now }
     requires settled { IsSettled index.old kind path.now }
@@ -173,7 +172,7 @@ fn add_to_folders(alloc: Global, index: &mut Index, path: &[u8], kind: u8) -> Re
     Ok(())
 }
 
-// Adds a file by its number in the list, and its path to the folders that it leads through.
+// Adds a file by its number in the list, and to the folders that its path leads through.
 pub(crate) fn add_file(
     alloc: Global,
     index: &mut Index,

@@ -1,4 +1,5 @@
-//! The types of files (RFC 1436, section 3.8).
+//! The types of files: RFC 1436, section 3.8, lists types; how a file gets its type is this
+//! profile's.
 
 ghost use Rattle.std.specs.Prelude.{◌≡◌, ◌==◌};
 ghost use Rattle.std.specs.List.{list_any};
@@ -6,7 +7,7 @@ ghost use Rattle.gopher_tree.specs.Kind.{has_ending, is_image, kind_of};
 
 use memchr::memchr;
 
-// Whether the name ends so, in letters of any case.
+// Whether the name ends with `ending`, in any case.
 fn has_ending(ending: &[u8], name: &[u8]) -> bool
     ensures { result ≡ has_ending ending.now name.now }
 {
@@ -26,7 +27,7 @@ fn has_nul(bytes: &[u8]) -> bool
     memchr(0, bytes).is_some()
 }
 
-// The type of a file by its name and its bytes: `g`, `I`, `9` or `0`.
+// The type of a file by its name and bytes: `g`, `I`, `9` or `0`.
 pub(crate) fn kind_of(name: &[u8], bytes: &[u8]) -> u8
     ensures { result ≡ kind_of name.now bytes.now }
 {

@@ -9,14 +9,14 @@ use crate::fault::TreeFault;
 use gopher_item::{NoMemory, has_special, split_once};
 use std::alloc::Global;
 
-// The longest path, in bytes: a selector has a slash more, and at most 255 bytes.
+// The longest path, in bytes: its selector has one slash more, and at most 255 bytes.
 pub(crate) const LONGEST_PATH: usize = 254;
 
 const MENU: &[u8] = b".menu";
 
 const SEARCH: &[u8] = b"search";
 
-// `.menu`.
+// Whether the name is `.menu`.
 pub(crate) fn is_menu_name(name: &[u8]) -> bool
     ensures { result ≡ is_menu_name name.now }
 {
@@ -52,7 +52,7 @@ fn last_name(path: &[u8]) -> &[u8]
     rest
 }
 
-// Whether a name of the path is bad; `.menu` may be the last one.
+// Whether a name of the path is invalid; `.menu` is valid as the last one.
 fn has_bad_name(path: &[u8]) -> bool
     ensures { result ≡ has_bad_name (names_of path.now) }
 {
@@ -66,7 +66,7 @@ fn has_bad_name(path: &[u8]) -> bool
     !is_menu_name(rest) && is_bad_name(rest)
 }
 
-// The first fault of a path by itself; `number` is its place in the list.
+// The first fault of a path alone; `number` is the index of its file in the list.
 pub(crate) fn path_fault(number: usize, path: &[u8]) -> Option<TreeFault>
     ensures { result ≡ path_fault number path.now }
 {
@@ -81,7 +81,6 @@ pub(crate) fn path_fault(number: usize, path: &[u8]) -> Option<TreeFault>
     }
 }
 
-// Whether the path is that of a menu file.
 pub(crate) fn is_menu_path(path: &[u8]) -> bool
     ensures { result ≡ is_menu_path path.now }
 {
@@ -103,7 +102,6 @@ pub(crate) fn path_in(alloc: Global, folder: &[u8], name: &[u8]) -> Result<Vec<u
     Ok(path)
 }
 
-// The path of a folder's menu file.
 pub(crate) fn menu_path(alloc: Global, folder: &[u8]) -> Result<Vec<u8>, NoMemory>
     ensures { IfOk result (λ path. path.items ≡ menu_path folder.now) }
 {

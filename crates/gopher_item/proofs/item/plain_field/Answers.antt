@@ -5,7 +5,7 @@ use Rattle.memchr.specs.Find.{Nowhere, Passes, is_byte, is_byte3}
 use Rattle.gopher_item.proofs.Splits.{after_cut, cut_whole, list_any_before, list_any_nowhere, slice_split_at_first, slice_split_nowhere}
 use Rattle.gopher_item.proofs.item.plain_field.Goals as goal
 
--- the test of a CR or a NUL, and that of them and a TAB
+-- the test of a CR or a NUL, and the test of a TAB, a CR or a NUL
 abbrev is_other : ℕ → Bool
 is_other b = eqb b 13 || eqb b 0
 

@@ -7,7 +7,7 @@ use Rattle.std.proofs.lemmas.Grind.{common_steps}
 use Rattle.gopher_item.specs.MenuLine.{IsMenuLine}
 use Rattle.gopher_item.proofs.writing.push_lines.Goals as goal
 
--- what begins with more begins with less
+-- bytes that begin with `front` and more begin with `front`
 begins_with_less : (xs front more : List ℕ) → StartsWith xs (front ++ more) → StartsWith xs front
 begins_with_less xs front more h =
     ap (take (length front)) (starts_with_rest xs (front ++ more) h ∙ append_assoc front more _) ∙ take_at front _ (length front) refl

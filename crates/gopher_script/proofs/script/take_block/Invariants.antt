@@ -3,7 +3,7 @@ use Rattle.gopher_item.specs.Lines.{lines_of}
 use Rattle.gopher_script.specs.Script.{block_of, reply_of, statements_of}
 use Rattle.gopher_script.proofs.script.take_block.Given as goal
 
--- what was taken, and what the block still has, is the whole block
+-- the lines read and the rest of the block are the whole block
 abbrev pub invariant-loop-text : goal.invariant-loop-text
 invariant-loop-text l =
     (l.reply.items ++ reply_of (block_of (lines_of l.rest)) ≡ reply_of (block_of (lines_of l.bytes)))

@@ -2,7 +2,7 @@ use Rattle.std.proofs.Common.{◌+◌, ◌-◌, ◌<◌, ◌≤◌, length, take
 use Rattle.std.specs.Io.KnownBytes.{Appends}
 use Rattle.gopher_text.proofs.sending.send.Given as goal
 
--- what is counted as sent went out, and each failure so far was an interruption
+-- the counted bytes were sent, and each failure so far was an interruption
 abbrev pub invariant-loop-sent : goal.invariant-loop-sent
 invariant-loop-sent g l =
     (l.sent ≤ length l.bytes) × (l.interruptions < 4096)

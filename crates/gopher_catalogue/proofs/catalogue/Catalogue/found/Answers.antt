@@ -12,7 +12,7 @@ use Rattle.gopher_frontier.proofs.KnownLemmas.{length-after_mentions}
 use Rattle.gopher_catalogue.proofs.IndexedCalls.{learned_of, limit_fits, places_fit, places_within, out_fits, done_fits, dropped_fits, some_out, fault_not_out, fault_wrong, fault_none, still_stands, added_shown, after_found}
 use Rattle.gopher_catalogue.proofs.catalogue.Catalogue.found.Goals as goal
 
--- ---- refused
+-- ---- failing
 
 pub returns-in_default-clause-fault : goal.returns-in_default-clause-fault
 returns-in_default-clause-fault c =
@@ -58,7 +58,7 @@ learn-requires c =
       few_out = out_fits c.self.inside.archive c.self.inside.frontier c.self.invariant;
     }
 
--- what the frontier learned of the page's links
+-- the effect of the page's links on the frontier
 learned : (c : goal.After-found-arg-1) → Learned (opening_in c.self.inside.archive.events).limit (filter (allows (opening_in c.self.inside.archive.events).scope) c.args.page.links) c.self.inside.frontier c.learn.new.self c.in-Ok.added.dropped
 learned c = learned_of _ _ _ _ _ _ _ _ _ (c.places.ensures ∙ ap (λ o. o.limit) (c.deref-2.ensures ∙ c.opening-opening.ensures)) (c.scope.ensures ∙ ap (λ o. o.scope) (c.deref.ensures ∙ c.opening-opening.ensures)) c.links.ensures.links c.in-Ok.ensures.ok.learned
 

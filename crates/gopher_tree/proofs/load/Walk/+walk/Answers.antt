@@ -10,7 +10,7 @@ through_folder-loop-name-init g t c = (search rules, lists_none c.args.self.tree
 
 pub through_folder-returns-in_err-names : goal.through_folder-returns-in_err-names
 through_folder-returns-in_err-names g t c =
-    walks_none _ c.args.self.tree c.args.at.now.items c.from_residual.result c.in_err-names.field-0.0 (search rules) (stops_unreadable c.args.self.tree c.args.at.now.items c.number_of_files.result c.in_err-names.field-0.0 c.number_of_files.ensures (search rules))
+    walks_none _ c.args.self.tree c.args.at.now.items c.from_residual.result c.in_err-names.field-0.0 (search rules) (stops_unreadable c.args.self.tree c.args.at.now.items c.number_of_files-number.result c.in_err-names.field-0.0 c.number_of_files-number.ensures (search rules))
 
 pub through_folder-returns-in_err-walk : goal.through_folder-returns-in_err-walk
 through_folder-returns-in_err-walk g t c = walks_on _ c.args.self.tree c.loop-name.walk.tree c.through_name.new.at.items _ c.loop-name.invariant.1 (search rules)

@@ -7,5 +7,5 @@ pub returns-in_err-bytes : goal.returns-in_err-bytes
 returns-in_err-bytes g c =
     walks_none {T = Walk} (λ walk. walk.tree) c.args.self.tree c.args.path.items c.from_residual.result c.in_err-bytes.field-0.0 (search rules) (stops_unreadable c.args.self.tree c.args.path.items c.number_of_files.result c.in_err-bytes.field-0.0 c.number_of_files.ensures (search rules))
 
-pub returns : goal.returns
-returns g c = walks_file {T = Walk} (λ walk. walk.tree) c.args.self.tree c.args.self.nodes c.args.path.items c.in_ok-bytes.bytes.items c.with_file.result c.with_file.ensures.listed c.args.self.counted c.with_file.ensures.refused
+pub returns-in-Some : goal.returns-in-Some
+returns-in-Some g c = walks_file {T = Walk} (λ walk. walk.tree) c.args.self.tree c.args.self.nodes c.args.path.items c.in-Some.bytes.items c.with_file.result c.with_file.ensures.listed c.args.self.counted c.with_file.ensures.refused

@@ -1,0 +1,104 @@
+//! Connections by their keys, in the order of their last use.
+
+ghost use Rattle.std.specs.Prelude.{◌≡◌, ◌==◌, [], Some, length, nat_eq, IfOk, IfErr, OnErr};
+ghost use Rattle.std.specs.Option.{is_some, option_map, option_copied_mut};
+ghost use Rattle.std.specs.Map.{lookup, remove_entry};
+ghost use Rattle.lru.specs.LruCache.{last_entry, promoted};
+
+use lru::LruCache;
+use std::alloc::{AllocError, Global};
+
+/// Connections that wait, each at a key of its own, in the order of their last use. Keys are numbers
+/// from 0 that aren't given twice.
+///
+/// Contracts see the pairs of keys and connections as `held.entries`, the most recently used first.
+#[derive(Drop)]
+pub struct Connections<T: Drop> {
+    held: LruCache<usize, T>,
+    next: usize,
+}
+
+impl<T: Drop> Connections<T> {
+    /// No connections.
+    ///
+    /// # Errors
+    ///
+    /// Out of memory (90).
+    pub fn new(alloc: Global) -> Result<Connections<T>, AllocError>
+        ensures { IfOk result (λ none. none.held.entries ≡ []) }
+    {
+        Ok(Connections {
+            held: LruCache::unbounded(alloc)?,
+            next: 0,
+        })
+    }
+
+    /// How many there are. Takes no memory.
+    pub fn len(&self) -> usize
+        ensures { result ≡ length self.now.held.entries }
+    {
+        self.held.len()
+    }
+
+    /// Whether there are none. Takes no memory.
+    pub fn is_empty(&self) -> bool
+        ensures { result ≡ (length self.now.held.entries == 0) }
+    {
+        self.held.is_empty()
+    }
+
+    /// Puts a connection at a new key, which it gives; the connection is the most recently used.
+    ///
+    /// # Errors
+    ///
+    /// The connection, if memory is refused. The others are as they were.
+    pub fn put(&mut self, connection: T) -> Result<usize, T>
+        ensures named { IfOk result (λ key.
+            lookup (nat_eq key) self.new.held.entries ≡ Some connection) }
+        ensures returned { IfErr result (λ refused. refused ≡ connection) }
+        ensures kept { OnErr result (self.new.held.entries ≡ self.old.held.entries) }
+    {
+        let key = self.next;
+        match self.held.put(key, connection) {
+            Ok(_replaced) => {
+                self.next = key.saturating_add(1);
+                Ok(key)
+            }
+            Err(refused) => Err(refused.value.1),
+        }
+    }
+
+    /// The key of the connection that was used least recently. Takes no memory, and constant time.
+    pub fn idle_longest(&self) -> Option<usize>
+        ensures { result ≡ option_map (λ pair. pair.0) (last_entry self.now.held.entries) }
+    {
+        match self.held.peek_lru() {
+            Some((key, _connection)) => Some(*key),
+            None => None,
+        }
+    }
+
+    /// Notes that the connection at a key was used, and returns whether there is one. Takes no memory,
+    /// and constant time.
+    pub fn touch(&mut self, key: usize) -> bool
+        ensures found { result ≡ is_some (lookup (nat_eq key) self.old.held.entries) }
+        ensures first { self.new.held.entries ≡ promoted (nat_eq key) self.old.held.entries }
+    {
+        self.held.promote(&key)
+    }
+
+    /// The connection at a key. Takes no memory.
+    pub fn get_mut(&mut self, key: usize) -> Option<&mut T>
+        ensures { option_copied_mut result ≡ lookup (nat_eq key) self.old.held.entries }
+    {
+        self.held.peek_mut(&key)
+    }
+
+    /// Takes out the connection at a key. Takes no memory.
+    pub fn remove(&mut self, key: usize) -> Option<T>
+        ensures taken { result ≡ lookup (nat_eq key) self.old.held.entries }
+        ensures others { self.new.held.entries ≡ remove_entry (nat_eq key) self.old.held.entries }
+    {
+        self.held.pop(&key)
+    }
+}

@@ -1,0 +1,65 @@
+//! When connections end that linger.
+
+ghost use Rattle.std.specs.Prelude.{◌≡◌, ◌∷◌, ◌++◌, [], MatchOption, OnOk, OnErr};
+ghost use Rattle.gopher_connections.specs.Deadlines.{NoneIsDue, TakesDue, first_deadline};
+
+use std::alloc::{AllocError, Global};
+use std::collections::VecDeque;
+
+/// The deadlines of connections, in the order in which they were set. All connections are given the same
+/// time, so that the first deadline is the earliest.
+///
+/// Times are milliseconds by one clock.
+#[derive(Drop)]
+pub struct Deadlines {
+    queue: VecDeque<(usize, u64)>,
+}
+
+impl Deadlines {
+    /// No deadlines. Takes no memory.
+    pub fn new(alloc: Global) -> Deadlines
+        ensures { result.queue.items ≡ [] }
+    {
+        Deadlines {
+            queue: VecDeque::new(alloc),
+        }
+    }
+
+    /// Sets the deadline of the connection at a key.
+    ///
+    /// # Errors
+    ///
+    /// Out of memory (90).
+    pub fn set(&mut self, key: usize, deadline: u64) -> Result<(), AllocError>
+        ensures set { OnOk result (self.new.queue.items
+            ≡ self.old.queue.items ++ (key, deadline) ∷ []) }
+        ensures refused { OnErr result (self.new.queue.items ≡ self.old.queue.items) }
+    {
+        self.queue.push_back((key, deadline))?;
+        Ok(())
+    }
+
+    /// The first deadline. Takes no memory.
+    pub fn first(&self) -> Option<u64>
+        ensures { result ≡ first_deadline self.now.queue.items }
+    {
+        match self.queue.front() {
+            Some((_key, deadline)) => Some(*deadline),
+            None => None,
+        }
+    }
+
+    /// Takes out the key of the first deadline, if it isn't after the time `now`. Takes no memory.
+    pub fn take_due(&mut self, now: u64) -> Option<usize>
+        ensures due { MatchOption result
+            (NoneIsDue now self.old.queue.items × (self.new.queue.items ≡ self.old.queue.items))
+            (TakesDue now self.old.queue.items self.new.queue.items) }
+    {
+        let (key, deadline) = self.queue.front().copied()?;
+        if deadline > now {
+            return None;
+        }
+        let _taken = self.queue.pop_front();
+        Some(key)
+    }
+}

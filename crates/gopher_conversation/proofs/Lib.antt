@@ -1,0 +1,3 @@
+pub mod FirstLines
+pub mod Talking
+pub mod StepLemmas

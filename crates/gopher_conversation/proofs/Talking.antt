@@ -1,0 +1,46 @@
+-- A conversation as it hears and says more.
+use Rattle.std.proofs.Common.{◌≡◌, ℕ, ◌+◌, ◌-◌, ◌≤◌, true, false, List, [], ◌++◌, length, take, drop, refl, sym, ap, ◌∙◌, subst, arith, length-drop}
+use Rattle.std.specs.Io.BufRead.{first_line}
+use Rattle.gopher_replies.specs.Kept.{reply_bytes}
+use Rattle.gopher_conversation.specs.Talk.{Talk, Gathers, Asks, IsTooLong, LacksMemory, Responds, heard, is_known, known_line, reply_of_talk, said, unsent_of}
+use Rattle.gopher_conversation.specs.TalkOf.{reply_in, talk_in}
+use Rattle.gopher_conversation.specs.declared.conversation.Phase.{Phase}
+use Rattle.gopher_conversation.specs.declared.conversation.Phase.TheVariants as phase
+use Rattle.gopher_conversation.proofs.FirstLines.{heard_known}
+
+-- a piece of which so many bytes were gathered, after which the line is known
+pub heard_is : (gathered piece items : List ℕ) (count sent : ℕ) (before after : Phase) (old new : Talk)
+    → talk_in gathered before sent ≡ old → before ≡ phase.Gathering → items ≡ gathered ++ take count piece
+    → is_known false items ≡ true → ((n : ℕ) → talk_in items after n ≡ known_line (first_line items)) → new ≡ talk_in items after sent
+    → new ≡ heard false old piece
+heard_is gathered piece items count sent before after old new view gathering grown known settled is =
+    let was : old ≡ Gathers gathered = sym view ∙ ap (λ p. talk_in gathered p sent) gathering in
+    let test : is_known false (gathered ++ take count piece) ≡ true = ap (is_known false) (sym grown) ∙ known in
+    is ∙ settled sent ∙ ap (λ l. known_line (first_line l)) grown ∙ sym (heard_known gathered piece count test)
+    ∙ ap (λ t. heard false t piece) (sym was)
+
+-- a conversation that asks a line holds that line
+pub asked_is : (gathered line : List ℕ) (before : Phase) (sent : ℕ) → talk_in gathered before sent ≡ Asks line → first_line gathered ≡ line
+asked_is gathered line phase.Gathering sent view = absurd cc
+asked_is gathered line phase.Asked sent view = cc
+asked_is gathered line phase.TooLong sent view = absurd cc
+asked_is gathered line phase.LacksMemory sent view = absurd cc
+asked_is gathered line (phase.Answering reply) sent view = absurd cc
+
+-- so many bytes more of its reply were sent
+pub said_is : (gathered : List ℕ) (before : Phase) (sent count size left : ℕ) (old : Talk) → sent ≤ length (reply_in before) → talk_in gathered before sent ≡ old
+    → size ≡ length (reply_of_talk old) → left ≡ length (unsent_of old) → count ≤ left
+    → talk_in gathered before (size - (left - count)) ≡ said old count
+said_is gathered before sent count size left old within view whole rest fits =
+    subst (λ (t : Talk). size ≡ length (reply_of_talk t) → left ≡ length (unsent_of t) → talk_in gathered before (size - (left - count)) ≡ said t count)
+    view (by before within) whole rest
+  where
+    by : (p : Phase) → sent ≤ length (reply_in p) → size ≡ length (reply_of_talk (talk_in gathered p sent)) → left ≡ length (unsent_of (talk_in gathered p sent))
+        → talk_in gathered p (size - (left - count)) ≡ said (talk_in gathered p sent) count
+    by phase.Gathering fewer is remains = refl
+    by phase.Asked fewer is remains = refl
+    by phase.TooLong fewer is remains = refl
+    by phase.LacksMemory fewer is remains = refl
+    by (phase.Answering reply) fewer is remains =
+        let same : size - (left - count) ≡ sent + count = omega (arith, length-drop sent (reply_bytes reply)) in
+        ap (Responds (first_line gathered) (reply_bytes reply)) same

@@ -1,0 +1,10 @@
+use Rattle.std.proofs.Common.{ap, ◌∙◌}
+use Rattle.gopher_replies.specs.Kept.{reply_bytes}
+use Rattle.gopher_conversation.specs.Talk.{Responds}
+use Rattle.gopher_conversation.proofs.Talking.{asked_is}
+use Rattle.gopher_conversation.proofs.conversation.Conversation.respond.Goals as goal
+
+pub returns : goal.returns
+returns c = λ line asks.
+    let inside = c.self.inside in
+    ap (λ l. Responds l (reply_bytes c.args.reply) 0) (asked_is inside.gathered.items line inside.phase inside.sent (c.self.view_is ∙ asks))

@@ -1,0 +1,138 @@
+-- A conversation over streams, one step after another.
+use Rattle.std.specs.Prelude.{◌≡◌, ℕ, ◌<◌, ◌≤◌, ◌⊎◌, Bool, true, List, [], length, take, Option, IfSome}
+use Rattle.std.specs.Io.BufRead.{first_line}
+use Rattle.std.specs.Io.KnownBytes.{Appends, Consumes, IsAtEnd, Keeps}
+use Rattle.gopher_text.specs.Watched.{CountsFailure}
+use Rattle.gopher_conversation.specs.Leads.{Leads}
+use Rattle.gopher_conversation.specs.Serve.{StreamData}
+use Rattle.gopher_conversation.specs.Talk.{Talk, Gathers, Asks, IsTooLong, LacksMemory, Responds, Hears, heard, said, talk_of, unsent_of}
+use Rattle.gopher_conversation.specs.declared.fault.ServeFault.{ServeFault}
+use Rattle.gopher_conversation.specs.declared.fault.ServeFault.TheVariants.{LineTooLong, ReadFailed, WriteFailed, NoMemory}
+use Rattle.gopher_conversation.specs.declared.advancing.Progress.{Progress}
+use Rattle.gopher_conversation.specs.declared.advancing.Progress.TheVariants.{Done, Paused, Waits, Failed}
+
+-- ---- one step
+
+-- a call failed, and nothing was done
+pub record IsStill (old new : Talk) (before after : StreamData) : Type 0 where
+  pub talk : new ≡ old
+  pub bytes : Keeps before.bytes after.bytes
+  pub count : CountsFailure before.failures after.failures
+
+-- a piece was read and heard
+pub record HearsPiece (old new : Talk) (had left : StreamData) : Type 0 where
+  pub piece : List ℕ
+  pub some : 0 < length piece
+  pub read : Consumes had.bytes left.bytes piece
+  pub hears : Hears old piece new
+  pub count : left.failures ≡ had.failures
+
+-- the input is at its end
+pub record HearsEnd (old new : Talk) (had left : StreamData) : Type 0 where
+  pub read : Consumes had.bytes left.bytes []
+  pub ended : IsAtEnd left.bytes
+  pub hears : new ≡ heard true old []
+  pub count : left.failures ≡ had.failures
+
+-- one read, by the progress that it makes
+abbrev pub Listens : Talk → Talk → StreamData → StreamData → Progress → Type 0
+Listens old new had left Done = ⊥
+Listens old new had left Paused = HearsPiece old new had left ⊎ (HearsEnd old new had left ⊎ IsStill old new had left)
+Listens old new had left Waits = IsStill old new had left
+Listens old new had left (Failed fault) = (fault ≡ ReadFailed) × IsStill old new had left
+
+-- a reply was given to the line
+pub record IsReplied {A : Type 0} (gives : A → A → List ℕ → List ℕ → Type 0) (before after : A) (line : List ℕ) (new : Talk) : Type 0 where
+  pub reply : List ℕ
+  pub given : gives before after line reply
+  pub is : new ≡ Responds line reply 0
+
+-- one question, by the progress that it makes
+abbrev pub Replies : {A : Type 0} → (A → A → List ℕ → List ℕ → Type 0) → A → A → List ℕ → Talk → Progress → Type 0
+Replies gives before after line new Done = ⊥
+Replies gives before after line new Paused = IsReplied gives before after line new
+Replies gives before after line new Waits = ⊥
+Replies gives before after line new (Failed fault) = (fault ≡ NoMemory) × (new ≡ Asks line)
+
+-- so much more of the reply was written, and nothing else
+pub record SaysSome (old new : Talk) (before after : StreamData) : Type 0 where
+  pub count : ℕ
+  pub some : 0 < count
+  pub fits : count ≤ length (unsent_of old)
+  pub written : Appends before.bytes after.bytes (take count (unsent_of old))
+  pub is : new ≡ said old count
+  pub counted : after.failures ≡ before.failures
+
+-- nothing was left to be written
+pub record IsSaid (old new : Talk) (before after : StreamData) : Type 0 where
+  pub talk : new ≡ old
+  pub none : unsent_of old ≡ []
+  pub same : after ≡ before
+
+-- one write, by the progress that it makes
+abbrev pub Says : Talk → Talk → StreamData → StreamData → Progress → Type 0
+Says old new before after Done = IsSaid old new before after ⊎ (SaysSome old new before after × (unsent_of new ≡ []))
+Says old new before after Paused = SaysSome old new before after ⊎ IsStill old new before after
+Says old new before after Waits = IsStill old new before after
+Says old new before after (Failed fault) = (fault ≡ WriteFailed) × IsStill old new before after
+
+-- one step, by how the conversation stood: the answers before and after, the reader before and after, the writer before
+-- and after, and the progress
+abbrev pub Steps : {A : Type 0} → (A → A → List ℕ → List ℕ → Type 0) → Talk → Talk → A → A → StreamData → StreamData → StreamData → StreamData → Progress → Type 0
+Steps gives (Gathers bytes) new a b had left before after progress = Listens (Gathers bytes) new had left progress × (b ≡ a) × (after ≡ before)
+Steps gives (Asks line) new a b had left before after progress = Replies gives a b line new progress × (left ≡ had) × (after ≡ before)
+Steps gives IsTooLong new a b had left before after progress = (progress ≡ Failed LineTooLong) × (new ≡ IsTooLong) × (b ≡ a) × (left ≡ had) × (after ≡ before)
+Steps gives LacksMemory new a b had left before after progress = (progress ≡ Failed NoMemory) × (new ≡ LacksMemory) × (b ≡ a) × (left ≡ had) × (after ≡ before)
+Steps gives (Responds line reply sent) new a b had left before after progress = Says (Responds line reply sent) new before after progress × (b ≡ a) × (left ≡ had)
+
+-- the progress of a call that failed
+abbrev pub IsProgressAfter : ServeFault → Progress → Type 0
+IsProgressAfter fault Done = ⊥
+IsProgressAfter fault (Failed why) = why ≡ fault
+IsProgressAfter fault progress = Unit {0}
+
+-- ---- any number of steps
+
+-- the reply was given to the line between a first state of what answers and a later one
+pub record IsGiven {A : Type 0} (leads_to : A → A → Type 0) (gives : A → A → List ℕ → List ℕ → Type 0) (start now : A) (line reply : List ℕ) : Type 0 where
+  pub before : A
+  pub after : A
+  pub begins : leads_to start before
+  pub given : gives before after line reply
+  pub ends : leads_to after now
+
+-- a reply was given to the first line of what came in, and so many bytes of it went out
+pub record StandsAnswered (given : List ℕ → List ℕ → Type 0) (ended : Bool) (taken sent line reply : List ℕ) (count : ℕ) : Type 0 where
+  pub asked_is : line ≡ first_line taken
+  pub line_is : talk_of ended taken ≡ Asks (first_line taken)
+  pub given_is : given (first_line taken) reply
+  pub sent_is : sent ≡ take count reply
+
+-- how a conversation stands, by all bytes that came in and all that went out
+abbrev pub Stands : (List ℕ → List ℕ → Type 0) → Bool → List ℕ → List ℕ → Talk → Type 0
+Stands given ended taken sent (Gathers bytes) = (talk_of ended taken ≡ Gathers bytes) × (taken ≡ bytes) × (sent ≡ [])
+Stands given ended taken sent (Asks line) = (talk_of ended taken ≡ Asks line) × (line ≡ first_line taken) × (sent ≡ [])
+Stands given ended taken sent IsTooLong = (talk_of ended taken ≡ IsTooLong) × (sent ≡ [])
+Stands given ended taken sent LacksMemory = sent ≡ []
+Stands given ended taken sent (Responds line reply count) = StandsAnswered given ended taken sent line reply count
+
+-- the same, by what the reader had at first and has left, and what the writer held at first and holds
+pub record Talks (given : List ℕ → List ℕ → Type 0) (had left old new : Option (List ℕ)) (talk : Talk) : Type 0 where
+  pub taken : List ℕ
+  pub sent : List ℕ
+  pub ended : Bool
+  pub consumed : Consumes had left taken
+  pub appended : Appends old new sent
+  pub all_taken : ended ≡ true → IfSome had (λ all. all ≡ taken)
+  pub stands : Stands given ended taken sent talk
+
+-- however a conversation came to where it stood, and whatever was answered to others since, it stands so after these
+-- steps: by the answers, the reader and the writer before and after
+pub record Advances {A : Type 0} (leads_to : A → A → Type 0) (gives : A → A → List ℕ → List ℕ → Type 0)
+    (talk next : Talk) (before after : A) (left later new newer : Option (List ℕ)) : Type 0 where
+  pub goes : (start seen : A) (had old : Option (List ℕ)) → leads_to start seen → leads_to seen before
+      → Talks (IsGiven leads_to gives start seen) had left old new talk → Talks (IsGiven leads_to gives start after) had later old newer next
+
+-- the same, where the answers may take any number of steps
+abbrev pub GoesOn : {A : Type 0} → (A → A → Type 0) → (A → A → List ℕ → List ℕ → Type 0) → Talk → Talk → A → A → Option (List ℕ) → Option (List ℕ) → Option (List ℕ) → Option (List ℕ) → Type 0
+GoesOn leads_to gives talk next before after left later new newer = Advances (Leads leads_to) gives talk next before after left later new newer

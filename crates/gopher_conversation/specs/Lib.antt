@@ -1,0 +1,7 @@
+pub mod Fault
+pub mod Answers
+pub mod Leads
+pub mod Serve
+pub mod Talk
+pub mod TalkOf
+pub mod Advance

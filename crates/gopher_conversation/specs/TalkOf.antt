@@ -1,0 +1,24 @@
+-- How a conversation stands, by what it holds.
+use Rattle.std.specs.Prelude.{◌≡◌, ℕ, List, []}
+use Rattle.std.specs.Io.BufRead.{first_line}
+use Rattle.gopher_replies.specs.Kept.{reply_bytes}
+use Rattle.gopher_conversation.specs.Talk.{Talk, known_line}
+use Rattle.gopher_conversation.specs.Talk.{Gathers, Asks, IsTooLong, LacksMemory, Responds}
+use Rattle.gopher_conversation.specs.declared.conversation.Phase.{Phase}
+use Rattle.gopher_conversation.specs.declared.conversation.Phase.TheVariants as phase
+
+abbrev pub talk_in : List ℕ → Phase → ℕ → Talk
+talk_in gathered phase.Gathering sent = Gathers gathered
+talk_in gathered phase.Asked sent = Asks (first_line gathered)
+talk_in gathered phase.TooLong sent = IsTooLong
+talk_in gathered phase.LacksMemory sent = LacksMemory
+talk_in gathered (phase.Answering reply) sent = Responds (first_line gathered) (reply_bytes reply) sent
+
+-- the reply that a conversation holds
+abbrev pub reply_in : Phase → List ℕ
+reply_in (phase.Answering reply) = reply_bytes reply
+reply_in phase = []
+
+-- how far a conversation has come whose first line is known
+abbrev pub IsPhaseAt : List ℕ → Phase → Type 0
+IsPhaseAt gathered phase = (sent : ℕ) → talk_in gathered phase sent ≡ known_line (first_line gathered)

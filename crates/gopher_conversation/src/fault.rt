@@ -1,0 +1,79 @@
+//! Why a conversation ended before its reply had gone out.
+
+ghost use Rattle.std.specs.Prelude.{◌≡◌};
+ghost use Rattle.gopher_conversation.specs.Fault.{serve_fault_code, unread};
+
+use gopher_item::NoMemory;
+use gopher_text::{LineFault, SendFault};
+use thiserror::Error;
+
+/// Why a conversation ended before its reply had gone out.
+#[derive(Clone, Copy, Debug, PartialEq, Eq, Error)]
+pub enum ServeFault {
+    /// 7: the line has more than 1,024 bytes before its end.
+    #[error("the line is too long")]
+    LineTooLong,
+    /// 10: a read failed otherwise than by an interruption.
+    #[error("a read failed")]
+    ReadFailed,
+    /// 11: too many reads or writes, interrupted ones too.
+    #[error("too many reads")]
+    TooManyTurns,
+    /// 13: a write failed otherwise than by an interruption, or took nothing, or too many were
+    /// interrupted.
+    #[error("a write failed")]
+    WriteFailed,
+    /// 90: memory was refused.
+    #[error("no memory")]
+    NoMemory,
+}
+
+impl ServeFault {
+    /// The number of the fault: 7, 10, 11, 13 or 90.
+    pub fn code(self) -> u8
+        ensures { result ≡ serve_fault_code self }
+    {
+        match self {
+            ServeFault::LineTooLong => 7,
+            ServeFault::ReadFailed => 10,
+            ServeFault::TooManyTurns => 11,
+            ServeFault::WriteFailed => 13,
+            ServeFault::NoMemory => 90,
+        }
+    }
+}
+
+impl From<LineFault> for ServeFault {
+    ghost use Rattle.gopher_conversation.specs.Fault.{unread};
+
+    ghost from_gives = { λ why fault. fault ≡ unread why };
+
+    fn from(why: LineFault) -> ServeFault {
+        match why {
+            LineFault::LineTooLong => ServeFault::LineTooLong,
+            LineFault::ReadFailed => ServeFault::ReadFailed,
+            LineFault::TooManyTurns => ServeFault::TooManyTurns,
+            LineFault::NoMemory => ServeFault::NoMemory,
+        }
+    }
+}
+
+impl From<NoMemory> for ServeFault {
+    ghost use Rattle.gopher_conversation.specs.declared.fault.ServeFault.TheVariants.{NoMemory};
+
+    ghost from_gives = { λ _ fault. fault ≡ NoMemory };
+
+    fn from(_refused: NoMemory) -> ServeFault {
+        ServeFault::NoMemory
+    }
+}
+
+impl From<SendFault> for ServeFault {
+    ghost use Rattle.gopher_conversation.specs.declared.fault.ServeFault.TheVariants.{WriteFailed};
+
+    ghost from_gives = { λ _ fault. fault ≡ WriteFailed };
+
+    fn from(_why: SendFault) -> ServeFault {
+        ServeFault::WriteFailed
+    }
+}

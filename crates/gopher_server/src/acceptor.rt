@@ -1,0 +1,142 @@
+//! How a server thread accepts connections.
+
+use crate::listeners::{unwatch, watch};
+use crate::shared::ServerShared;
+use mio::Poll;
+use mio::net::{TcpListener, TcpStream};
+use std::io;
+use std::net::SocketAddr;
+use std::sync::Arc;
+
+// For how many milliseconds a thread accepts nothing if descriptors or memory are short.
+const PAUSE: u64 = 100;
+
+// How a thread stands toward the listeners.
+#[derive(Clone, Copy, PartialEq, Eq)]
+enum Accepting {
+    // It accepts what waits.
+    Watches,
+    // It holds so many connections that it leaves further ones to other threads.
+    Leaves,
+    // Descriptors or memory are short: it accepts nothing before this time, in milliseconds.
+    Pauses(u64),
+    // It accepts nothing more.
+    Ended,
+}
+
+/// What accepts the connections of a server thread. Times are milliseconds by the thread's clock.
+#[derive(Drop)]
+pub(crate) struct Acceptor {
+    listeners: Option<Arc<Vec<TcpListener>>>,
+    accepting: Accepting,
+    /// What it shares with those of other threads.
+    pub(crate) shared: Arc<ServerShared>,
+}
+
+impl Acceptor {
+    /// One that accepts at these listeners, whose connections are reported already.
+    pub(crate) fn new(listeners: Arc<Vec<TcpListener>>, shared: Arc<ServerShared>) -> Acceptor {
+        shared.places.add_thread();
+        Acceptor {
+            listeners: Some(listeners),
+            accepting: Accepting::Watches,
+            shared,
+        }
+    }
+
+    /// Whether it accepts nothing more.
+    pub(crate) fn is_ended(&self) -> bool {
+        self.listeners.is_none()
+    }
+
+    /// When it goes on, if it pauses.
+    pub(crate) fn resumes_at(&self) -> Option<u64> {
+        match self.accepting {
+            Accepting::Pauses(until) => Some(until),
+            _ => None,
+        }
+    }
+
+    // Has the listeners' connections reported no more.
+    fn unwatch(&self, poll: &Poll) {
+        if let Some(listeners) = &self.listeners {
+            unwatch(poll, listeners);
+        }
+    }
+
+    /// Accepts nothing more. The last one that does closes the listeners.
+    pub(crate) fn stop(&mut self, poll: &Poll) {
+        if self.is_ended() {
+            return;
+        }
+        self.unwatch(poll);
+        let _closed = self.listeners.take();
+        self.accepting = Accepting::Ended;
+        self.shared.lose_thread();
+    }
+
+    /// Takes one of the quota, or accepts nothing more.
+    pub(crate) fn take_quota(&mut self, poll: &Poll) {
+        if !self.shared.quota.take() {
+            self.stop(poll);
+        }
+    }
+
+    /// The next connection that waits at a listener; none if nothing is accepted now.
+    pub(crate) fn next_client(&self, index: usize) -> Option<io::Result<(TcpStream, SocketAddr)>> {
+        if self.accepting != Accepting::Watches {
+            return None;
+        }
+        let listener = self.listeners.as_ref()?.get(index)?;
+        Some(listener.accept())
+    }
+
+    /// Accepts nothing for a time.
+    pub(crate) fn pause(&mut self, poll: &Poll, now: u64) {
+        self.unwatch(poll);
+        self.accepting = Accepting::Pauses(now.saturating_add(PAUSE));
+    }
+
+    // Accepts again, if the system allows it, and pauses if not.
+    fn resume(&mut self, poll: &Poll, now: u64) {
+        let Some(listeners) = &self.listeners else {
+            return;
+        };
+        self.accepting = if watch(poll, listeners) {
+            Accepting::Watches
+        } else {
+            Accepting::Pauses(now.saturating_add(PAUSE))
+        };
+    }
+
+    // Leaves further connections to the other threads.
+    fn leave(&mut self, poll: &Poll) {
+        self.unwatch(poll);
+        self.accepting = Accepting::Leaves;
+        self.shared.wake_all();
+    }
+
+    /// Leaves connections to the other threads if this one holds many more than its share, and accepts
+    /// them again if it doesn't, or the pause is over.
+    pub(crate) fn keep_share(&mut self, poll: &Poll, held: u64, now: u64) {
+        let leaves = self.shared.places.leaves_to_others(held);
+        match self.accepting {
+            Accepting::Watches => {
+                if leaves {
+                    self.leave(poll);
+                }
+            }
+            Accepting::Leaves => {
+                if !leaves {
+                    self.resume(poll, now);
+                }
+            }
+            Accepting::Pauses(until) => {
+                if until <= now {
+                    self.resume(poll, now);
+                }
+            }
+            Accepting::Ended => {}
+        }
+    }
+}

@@ -1,0 +1,122 @@
+//! What server threads need of the system, made before they start.
+
+use crate::listeners::{WAKER, limit_send_buffer, watch};
+use crate::shared::ServerShared;
+use gopher_connections::{AcceptQuota, Places, max_places};
+use gopher_item::NoMemory;
+use gopher_log_writer::{LogQueue, ThreadLog};
+use mio::net::TcpListener;
+use mio::{Events, Poll, Token, Waker};
+use std::alloc::Global;
+use std::io;
+use std::net::Net;
+use std::sync::Arc;
+
+// How many events are taken in at once.
+const MAX_EVENTS: usize = 256;
+
+/// What a server thread needs of the system.
+#[derive(Drop)]
+pub struct ThreadSetup {
+    pub(crate) poll: Poll,
+    pub(crate) events: Events,
+    pub(crate) listeners: Arc<Vec<TcpListener>>,
+    pub(crate) shared: Arc<ServerShared>,
+    pub(crate) log: ThreadLog,
+}
+
+// How many files the process may hold open.
+fn max_files() -> u64 {
+    let mut limit = libc::types::rlimit {
+        rlim_cur: 0,
+        rlim_max: 0,
+    };
+    if libc::getrlimit(libc::RLIMIT_NOFILE, &mut limit) == 0 {
+        limit.rlim_cur
+    } else {
+        0
+    }
+}
+
+// What a thread waits by, and what wakes it.
+fn poll_and_waker<R: Net>(rt: &R) -> io::Result<(Poll, Waker)> {
+    let poll = Poll::new(rt)?;
+    let waker = Waker::new(poll.registry(), Token(WAKER))?;
+    Ok((poll, waker))
+}
+
+// What as many threads wait by, and what wakes them; fewer if the system refuses some.
+fn polls_and_wakers<R: Net>(
+    rt: &R,
+    alloc: Global,
+    threads: usize,
+) -> Result<(Vec<Poll>, Vec<Waker>), NoMemory> {
+    let mut polls = Vec::with_capacity(alloc, threads)?;
+    let mut wakers = Vec::with_capacity(alloc, threads)?;
+    for _thread in 0..threads {
+        if let Ok((poll, waker)) = poll_and_waker(rt) {
+            polls.push(poll)?;
+            wakers.push(waker)?;
+        }
+    }
+    Ok((polls, wakers))
+}
+
+// What a thread needs that waits by this poll.
+fn setup_with(
+    alloc: Global,
+    poll: Poll,
+    listeners: &Arc<Vec<TcpListener>>,
+    shared: &Arc<ServerShared>,
+    log: &Option<Arc<LogQueue>>,
+) -> Result<ThreadSetup, NoMemory> {
+    let queue = match log {
+        Some(queue) => Some(Arc::try_clone(queue)?),
+        None => None,
+    };
+    Ok(ThreadSetup {
+        poll,
+        events: Events::with_capacity(alloc, MAX_EVENTS)?,
+        listeners: Arc::try_clone(listeners)?,
+        shared: Arc::try_clone(shared)?,
+        log: ThreadLog::new(alloc, queue),
+    })
+}
+
+/// Sets up as many server threads, which accept `requests` connections together, or connections without
+/// an end, at all of the listeners, and hand the lines of their log to `log`. They are fewer if the system
+/// refuses some what they need. No thread is started.
+///
+/// # Errors
+///
+/// Out of memory (90).
+pub fn set_up<R: Net>(
+    rt: &R,
+    alloc: Global,
+    listeners: Vec<TcpListener>,
+    requests: Option<u64>,
+    threads: usize,
+    log: &Option<Arc<LogQueue>>,
+) -> Result<Vec<ThreadSetup>, NoMemory> {
+    for listener in listeners.iter() {
+        limit_send_buffer(listener);
+    }
+    let (polls, wakers) = polls_and_wakers(rt, alloc, threads)?;
+    let listeners = Arc::new(alloc, listeners)?;
+    let shared = Arc::new(
+        alloc,
+        ServerShared {
+            quota: AcceptQuota::new(requests),
+            places: Places::new(max_places(max_files())),
+            wakers,
+        },
+    )?;
+    let mut setups = Vec::with_capacity(alloc, threads)?;
+    for poll in polls {
+        let setup = setup_with(alloc, poll, &listeners, &shared, log)?;
+        if watch(&setup.poll, &listeners) {
+            setups.push(setup)?;
+        }
+    }
+    Ok(setups)
+}

@@ -1,0 +1,11 @@
+# The packages of a version: dist/ has a tarball, a package for Debian and their sums.
+
+# Packs the proved program; refuses any other, and a tree with changes that aren't committed.
+.PHONY: dist
+dist: build
+	packaging/dist.py
+
+# Looks for mistakes in the package for Debian, and installs it, serves its first site, removes it and purges it, in a root of its own.
+.PHONY: test-dist
+test-dist:
+	tests/package.py

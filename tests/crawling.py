@@ -1,0 +1,105 @@
+#!/usr/bin/env python3
+"""Has the built program crawl a host of this process with more pages than a script has room for, and searches them.
+
+    tests/crawling.py [--pages N] [PROGRAM]
+
+The host has a menu of menus, of which each leads to 128 texts. N is 10,000 unless said. The last line is
+'crawling: N passed, M failed'.
+"""
+import argparse
+import pathlib
+import socketserver
+import sys
+import tempfile
+import threading
+import time
+
+from server import HOST, PROGRAM, Server, Tally, ask
+
+TEXTS_OF_A_MENU = 128
+MOST_SECONDS = 300.0
+MOST_HITS = 50
+
+
+def replies_of(pages, port):
+    """The replies of the host, by their selectors."""
+    def menu(lines):
+        return b"".join(b"%s\t/%s\t%s\t%d\r\n" % (kind, name, HOST.encode(), port) for kind, name in lines) + b".\r\n"
+
+    names = [b"%d" % number for number in range(pages)]
+    parts = [names[start:start + TEXTS_OF_A_MENU] for start in range(0, pages, TEXTS_OF_A_MENU)]
+    replies = {b"/%s" % name: b"moon p%s\r\n.\r\n" % name for name in names}
+    replies |= {b"/m%d" % at: menu((b"0", name) for name in part) for at, part in enumerate(parts)}
+    replies[b""] = menu((b"1", b"m%d" % at) for at in range(len(parts)))
+    return replies
+
+
+class Replying(socketserver.StreamRequestHandler):
+    """Sends the reply to a line."""
+
+    def handle(self):
+        line = self.rfile.readline(1_026).rstrip(b"\r\n")
+        self.wfile.write(self.server.replies.get(line, b""))
+
+
+class Pages(socketserver.ThreadingTCPServer):
+    """The host."""
+
+    allow_reuse_address = daemon_threads = True
+    request_queue_size = 512
+
+
+def seeded(host, port, pages):
+    """Settings of a crawl of that host."""
+    where = f'host = "{host}"\nport = {port}\n'
+    return f"places = {min(2 * pages, 65_536)}\nworkers = 16\n[[seeds]]\n{where}[[allow]]\n{where}"
+
+
+def searched(server, text):
+    """The selectors that a search finds."""
+    reply = ask(server.port, b"/search\t" + text + b"\r\n")
+    return [line.split(b"\t")[1] for line in reply.split(b"\r\n")[:-2]]
+
+
+def is_crawled(server, texts):
+    """Whether searches come to find each of these texts, within the time."""
+    until = time.monotonic() + MOST_SECONDS
+    left = list(texts)
+    while left and time.monotonic() < until:
+        if searched(server, b"p%d" % left[-1]) == [b"/%d" % left[-1]]:
+            left.pop()
+        else:
+            time.sleep(0.1)
+    return not left
+
+
+def check_crawl(tally, program, pages):
+    """Crawls that host, and searches rare and common words of its texts."""
+    with tempfile.TemporaryDirectory() as place, Pages((HOST, 0), Replying) as host:
+        host.replies = replies_of(pages, host.server_address[1])
+        threading.Thread(target=host.serve_forever, daemon=True).start()
+        folder = pathlib.Path(place)
+        (folder / "root").mkdir()
+        more = seeded(HOST, host.server_address[1], pages)
+        with Server(program, folder, folder / "root", more=more, seconds=2 * MOST_SECONDS) as server:
+            server.started()
+            tally.expect("each thousandth text is found, and the last", is_crawled(server, [*range(0, pages, 1_000), pages - 1]), True)
+            names = sorted(b"/%d" % number for number in range(pages))
+            tally.expect("a word of all texts", searched(server, b"moon"), names[:MOST_HITS])
+            without = [name for name in names if name != b"/0"][:MOST_HITS]
+            tally.expect("a beginning of all words but one", searched(server, b"p* not p0"), without)
+        host.shutdown()
+
+
+def main():
+    words = argparse.ArgumentParser()
+    words.add_argument("--pages", type=int, default=10_000)
+    words.add_argument("program", nargs="?", default=PROGRAM)
+    given = words.parse_args()
+    tally = Tally("crawling")
+    check_crawl(tally, given.program, given.pages)
+    return tally.status()
+
+
+if __name__ == "__main__":
+    sys.exit(main())

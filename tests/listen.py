@@ -1,0 +1,148 @@
+#!/usr/bin/env python3
+"""Has the built program listen at addresses that its command line names, and check those of its host.
+
+    tests/listen.py [PROGRAM]
+
+The last line is 'listen: N passed, M failed'. It takes some seconds.
+"""
+import argparse
+import pathlib
+import re
+import socket
+import subprocess
+import sys
+import tempfile
+
+from server import HOST, PROGRAM, WAIT, Server, Tally, ask, free_port
+
+OTHER, REPLY = "127.0.0.2", b"hello\r\n.\r\n"
+NO_ADDRESSES = (
+    "", "localhost", "127.0.0", "127.0.0.1:", "127.0.0.1:0", "127.0.0.1:65536", "127.0.0.1:70x", "[127.0.0.1]", "::1]", "[::1",
+    "[::1]:", "1:2",
+)
+
+
+def has_ipv6():
+    try:
+        with socket.socket(socket.AF_INET6) as probe:
+            probe.bind(("::1", 0))
+        return True
+    except OSError:
+        return False
+
+
+def listens(port, host):
+    try:
+        socket.create_connection((host, port), timeout=WAIT).close()
+        return True
+    except OSError:
+        return False
+
+
+def check_two(tally, program, folder, root):
+    """Two addresses are served, and --requests counts the connections of both."""
+    words = ["--requests", "4", "--listen", HOST, "--listen", OTHER]
+    with Server(program, folder, root, words=words, more="threads = 2\n") as server:
+        tally.expect("two addresses: are told as one host", server.started(), f"listening {HOST} {server.port}\n".encode())
+        for host in (HOST, OTHER, OTHER, HOST):
+            tally.expect(f"two addresses: a text from {host}", ask(server.port, b"/a.txt\r\n", host), REPLY)
+        output, error, status = server.end()
+        tally.expect("two addresses: four connections of both end it", (output[:6], error, status), (b"known ", b"", 0))
+    with Server(program, folder, root, words=["--requests", "1"]) as server:
+        server.started()
+        tally.expect("without --listen another address isn't served", listens(server.port, OTHER), False)
+        tally.expect("without --listen the host is", ask(server.port, b"/a.txt\r\n"), REPLY)
+
+
+def check_ports(tally, program, folder, root):
+    """An address may have a port of its own; menus name the settings' port."""
+    port = free_port()
+    with Server(program, folder, root, words=["--requests", "1", "--listen", f"{OTHER}:{port}"]) as server:
+        told = f"listening {HOST} {server.port}\n".encode()
+        tally.expect("a port of its own: the settings' address is told", server.started(), told)
+        menu = ask(port, b"\r\n", OTHER)
+        tally.expect("a port of its own: menus name the settings' port", f"\t{HOST}\t{server.port}\r\n".encode() in menu, True)
+    if not has_ipv6():
+        print("listen: skipped: this machine has no IPv6")
+        return
+    for word in ("::1", "[::1]", f"[::1]:{port}"):
+        with Server(program, folder, root, words=["--requests", "1", "--listen", word]) as server:
+            server.started()
+            served = port if word.endswith(str(port)) else server.port
+            tally.expect(f"{word} is served", ask(served, b"/a.txt\r\n", "::1"), REPLY)
+    with Server(program, folder, root, words=["--requests", "2", "--listen", "[::]"]) as server:
+        server.started()
+        for host in ("::1", HOST):
+            tally.expect(f"[::] is served at {host}", ask(server.port, b"/a.txt\r\n", host), REPLY)
+
+
+def check_refusals(tally, program, folder, root):
+    """Words that are no addresses are bad arguments; addresses that can't be bound are named."""
+    for word in NO_ADDRESSES:
+        with Server(program, folder, root, words=["--listen", word]) as server:
+            output, error, status = server.end()
+            is_told = b"error: " in error and b"--listen <ADDRESS>" in error
+            tally.expect(f"--listen {word!r}: bad arguments", (output, is_told, status), (b"", True, 2))
+    with Server(program, folder, root, words=["--listen", "192.0.2.1"]) as server:
+        output, error, status = server.end()
+        told, last = error.split(b"\n")[0], error.split(b"\n")[-2]
+        tally.expect("an address of another machine", (output, b"192.0.2.1" in told, last, status), (b"", True, b"hole: 81", 1))
+
+
+def check_usage(tally, program):
+    for words in (["serve"], ["serve", "a", "b"], ["check"]):
+        ran = subprocess.run([str(program), *words], capture_output=True, timeout=WAIT)
+        usage = f"\nUsage: hole {words[0]} ".encode()
+        tally.expect(f"{words}: how it is used", (ran.stdout, usage in ran.stderr, ran.returncode), (b"", True, 2))
+    shown = subprocess.run([str(program), "serve", "--help"], capture_output=True, timeout=WAIT).stdout
+    parts = (b"\nUsage: hole serve [OPTIONS] <SETTINGS>\n", b"--listen <ADDRESS>")
+    tally.expect("serve --help", [part in shown for part in parts], [True, True])
+
+
+def check_checks(tally, program, folder, root):
+    """`hole check` resolves the host; with --listen it tells what the system says of each address."""
+    port = free_port()
+    settings = folder / "check.toml"
+
+    def run(host, *words):
+        settings.write_text(f'host = "{host}"\nport = {port}\nroot = "{root}"\n')
+        ran = subprocess.run([str(program), "check", str(settings), *words], capture_output=True, timeout=6 * WAIT)
+        return ran.stdout[ran.stdout.rindex(b"bytes: 6\n") + 9 :].decode(), ran.stderr, ran.returncode
+
+    tally.expect("a host that is an address", run(HOST), (f"resolves to: {HOST}:{port}\nsound\n", b"", 0))
+    both = f"resolves to: {HOST}:{port}\ncan listen at: {HOST}:{port}\nsound\n"
+    tally.expect("an address that can be bound", run(HOST, "--listen"), (both, b"", 0))
+    with socket.socket() as taken:
+        taken.bind((HOST, port))
+        taken.listen()
+        lines, error, status = run(HOST, "--listen")
+        wanted = rf"resolves to: {HOST}:{port}\ncan't listen at: {HOST}:{port}: Address already in use.*\n"
+        found = (re.fullmatch(wanted, lines) is not None, error, status)
+        tally.expect("an address that is taken", found, (True, b"hole: 81\n", 1))
+        tally.expect("an address that is taken, without --listen", run(HOST)[1:], (b"", 0))
+    lines, error, status = run("192.0.2.1", "--listen")
+    tally.expect("an address of another machine", ("Cannot assign" in lines, error, status), (True, b"hole: 81\n", 1))
+    lines, error, status = run("no.such.host.invalid")
+    tally.expect("a name without addresses", (lines.startswith("resolves to nothing: "), error, status), (True, b"", 0))
+    lines, error, status = run("no.such.host.invalid", "--listen")
+    tally.expect("the same, to be bound", (lines.startswith("resolves to nothing: "), error, status), (True, b"hole: 81\n", 1))
+
+
+def main():
+    words = argparse.ArgumentParser()
+    words.add_argument("program", nargs="?", default=PROGRAM)
+    program = pathlib.Path(words.parse_args().program).resolve()
+    tally = Tally("listen")
+    with tempfile.TemporaryDirectory() as place:
+        folder = pathlib.Path(place)
+        root = folder / "root"
+        root.mkdir()
+        (root / "a.txt").write_text("hello\n")
+        for check in (check_two, check_ports, check_refusals, check_checks):
+            check(tally, program, folder, root)
+    check_usage(tally, program)
+    return tally.status()
+
+
+if __name__ == "__main__":
+    sys.exit(main())

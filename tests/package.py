@@ -1,0 +1,279 @@
+#!/usr/bin/env python3
+"""Packs the built program by packaging/dist.py, and tries the packages in a root of their own.
+
+    tests/package.py [PROGRAM]
+
+The package for Debian is installed, serves its first site by the installed settings, is removed, and is purged. lintian and
+systemd-analyze look at it, where they are installed. A program without a stamp of its proved build, and a tree with changes,
+are packed by the options that dist.py has for them. What can't be tried here is said in a line 'package: skipped: ..'; all of
+it needs root, dpkg and chroot. The last line is 'package: N passed, M failed'. It takes half a minute.
+"""
+import argparse
+import gzip
+import hashlib
+import os
+import pathlib
+import re
+import shutil
+import subprocess
+import sys
+import tempfile
+import time
+
+from server import PROGRAM, ROOT, WAIT, Tally, ask
+
+DIST = ROOT / "packaging" / "dist.py"
+SITE = ROOT / "packaging" / "site"
+NOBODY = "65534:65534"
+PORT = 70
+DOCUMENTS = "usr/share/doc/hole"
+# Words in documents that look like names of files of the repository or of the package.
+NAMED = re.compile(r"\b(?:docs|tests|tools|bench|crates|packaging|examples|man)/[\w./-]*\w|\b[\w-]+\.md\b")
+
+
+def run(*words, **how):
+    return subprocess.run([str(word) for word in words], capture_output=True, text=True, timeout=6 * WAIT, **how)
+
+
+def said(text):
+    """What a program wrote to standard error, without what one that was built with checks says of a root without /proc."""
+    return re.sub(r"(?m)^==\d+==WARNING: .*\n", "", text)
+
+
+def skip(why):
+    print(f"package: skipped: {why}")
+
+
+def is_here(name):
+    if shutil.which(name):
+        return True
+    skip(f"what {name} would say, which isn't installed")
+    return False
+
+
+def dist(*words, script=DIST):
+    return run(sys.executable, script, *words)
+
+
+def options(program):
+    """What has dist.py pack this program of this tree all the same."""
+    stamp = program.with_name(program.name + ".stamp")
+    is_proved = stamp.is_file() and stamp.read_text().strip().endswith(hashlib.sha256(program.read_bytes()).hexdigest())
+    is_changed = run("git", "-C", ROOT, "status", "--porcelain").stdout != ""
+    return [*([] if is_proved else ["--unproved"]), *(["--dirty"] if is_changed else [])]
+
+
+def files_below(root):
+    return sorted(str(path.relative_to(root)) for path in root.rglob("*") if not path.is_dir() or path.is_symlink())
+
+
+def check_refusals(tally, program, folder):
+    """A program that no stamp calls proved isn't packed."""
+    copy = pathlib.Path(shutil.copy(program, folder / "hole"))
+    for name, stamp in (("no stamp", None), ("a stamp of other bytes", "0" * 128)):
+        if stamp:
+            copy.with_name("hole.stamp").write_text(stamp)
+        ran = dist("--program", copy, "--out", folder / "refused", "--dirty")
+        tally.expect(f"{name}: is refused", (ran.returncode, "wasn't proved" in ran.stderr), (1, True))
+    tally.expect("a refused program leaves no package", (folder / "refused").exists(), False)
+
+
+def check_same_bytes(tally, program, folder, out, words):
+    """The same commit gives the same bytes in another folder at another time."""
+    time.sleep(1.1)
+    if "--dirty" in words:
+        skip("the bytes of another checkout: this tree has changes")
+        script = DIST
+    else:
+        clone = folder / "another" / "checkout"
+        run("git", "clone", "--quiet", ROOT, clone)
+        script = clone / "packaging" / "dist.py"
+    ran = dist("--program", program, "--out", folder / "again", *words, script=script)
+    tally.expect("packed again", (ran.returncode, ran.stderr), (0, ""))
+    tally.expect("the sums are the same", (folder / "again/SHA256SUMS").read_text(), (out / "SHA256SUMS").read_text())
+
+
+def check_tarball(tally, out, folder):
+    place = folder / "unpacked"
+    place.mkdir()
+    run("tar", "--extract", "--file", next(out.glob("*.tar.gz")), "--strip-components", "1", "--directory", place)
+    tally.expect("the tarball's program", run(place / "bin/hole", "--version").stdout.split()[:1], ["hole"])
+    ran = run(place / "bin/hole", "replay", input="start\t1\n")
+    tally.expect("the tarball's program replays", (ran.returncode, ran.stderr), (0, ""))
+    ran = run("sha256sum", "--check", "SHA256SUMS", cwd=out)
+    tally.expect("the sums are those of the packages", ran.returncode, 0)
+
+
+class Machine:
+    """A root of its own, with the C library, the names of hosts and nothing else."""
+
+    def __init__(self, folder, program):
+        self.root = folder / "machine"
+        for name in ("var/lib/dpkg/info", "var/lib/dpkg/updates", "var/lib/dpkg/triggers", "etc", "proc"):
+            (self.root / name).mkdir(parents=True)
+        (self.root / "var/lib/dpkg/status").touch()
+        (self.root / "etc/hosts").write_text("127.0.0.1 localhost\n")
+        for library in re.findall(r"(/\S+)", run("ldd", program).stdout):
+            place = self.root / library.lstrip("/")
+            place.parent.mkdir(parents=True, exist_ok=True)
+            shutil.copy(library, place)
+        self.empty = self.files()
+
+    def files(self):
+        """All files but dpkg's own."""
+        return [file for file in files_below(self.root) if not file.startswith("var/")]
+
+    def dpkg(self, *words):
+        env = {"PATH": "/usr/sbin:/usr/bin:/sbin:/bin", "LC_ALL": "C", "DEBIAN_FRONTEND": "noninteractive"}
+        how = ("--force-script-chrootless", "--force-depends", "--force-confdef", "--force-confold", "--log=/dev/null")
+        return run("dpkg", f"--root={self.root}", *how, *words, env=env, umask=0o077)
+
+    def hole(self, *words, user=NOBODY):
+        return ["chroot", f"--userspec={user}", str(self.root), "/usr/bin/hole", *words]
+
+    def text(self, file):
+        return (self.root / file).read_text()
+
+
+def check_installed(tally, machine, package):
+    ran = machine.dpkg("--install", package)
+    tally.expect("it installs", (ran.returncode, "error" in ran.stderr.lower()), (0, False))
+    tally.expect("the first site is there", files_below(machine.root / "srv/gopher"), files_below(SITE))
+    modes = {path.stat().st_mode & 0o777 for path in (machine.root / "srv/gopher").rglob("*") if path.is_file()}
+    tally.expect("everybody may read it", modes, {0o644})
+    shown = run(*machine.hole("--version")).stdout.split()
+    for page in machine.root.glob("usr/share/man/*/*.gz"):
+        text = gzip.decompress(page.read_bytes()).decode()
+        tally.expect(f"{page.name} has the version", f'"{" ".join(shown)}' in text, True)
+        if shutil.which("man"):
+            tally.expect(f"{page.name} is laid out", run("man", "--warnings", "-l", "-Tutf8", page).stderr, "")
+    build = machine.text(f"{DOCUMENTS}/BUILD")
+    commit = run("git", "-C", ROOT, "rev-parse", "HEAD").stdout.strip()
+    tally.expect("BUILD names the commit", f"\ncommit {commit}" in build, True)
+
+
+def check_documents(tally, machine):
+    """No installed document names a file that isn't installed."""
+    place = machine.root / DOCUMENTS
+    for file in [*place.glob("*.md"), *place.glob("examples/*.*")]:
+        if file.suffix not in (".txt", ".script"):
+            gone = [name for name in NAMED.findall(file.read_text()) if not (place / name).exists()]
+            tally.expect(f"{file.name} names what is installed", gone, [])
+
+
+def check_unit(tally, machine, folder):
+    """The unit and the examples of units are sound, with the program where it is installed here."""
+    if not is_here("systemd-analyze"):
+        return
+    units = [machine.root / "lib/systemd/system/hole.service", *(machine.root / DOCUMENTS / "examples").glob("hole*.service")]
+    units += [machine.root / DOCUMENTS / "examples" / name for name in ("hole.path", "hole.socket")]
+    for unit in units:
+        place = folder / "units" / unit.name
+        place.parent.mkdir(exist_ok=True)
+        place.write_text(unit.read_text().replace("/usr/bin/hole", f"{machine.root}/usr/bin/hole"))
+    for unit in units:
+        ran = run("systemd-analyze", "verify", "--man=no", folder / "units" / unit.name)
+        told = [line for line in ran.stderr.splitlines() if "hole" in line]
+        tally.expect(f"{unit.name} is sound", (ran.returncode, told), (0, []))
+
+
+def found(line, wanted, server):
+    """Whether a search finds something before long."""
+    until = time.monotonic() + WAIT
+    while time.monotonic() < until and server.poll() is None:
+        if wanted in ask(PORT, line, "localhost"):
+            return True
+        time.sleep(0.1)
+    return False
+
+
+def check_serves(tally, machine):
+    """The installed settings are sound for any user, and the first site is served by them, and found."""
+    ran = run(*machine.hole("check", "/etc/hole/hole.toml"))
+    tally.expect("the first site is sound", (ran.returncode, said(ran.stderr), "\nsound\n" in ran.stdout), (0, "", True))
+    if run(*machine.hole("check", "/etc/hole/hole.toml", "--listen", user="0:0")).returncode:
+        skip(f"what the first site serves: port {PORT} of localhost can't be bound here")
+        return
+    how = {"stdout": subprocess.PIPE, "stderr": subprocess.PIPE}
+    with subprocess.Popen(machine.hole("serve", "/etc/hole/hole.toml", user="0:0"), **how) as server:
+        try:
+            tally.expect("it listens", server.stdout.readline(), f"listening localhost {PORT}\n".encode())
+            tally.expect("its menu", ask(PORT, b"\r\n", "localhost").split(b"\t")[0], b"iWelcome.")
+            text = (SITE / "notes/tomatoes.txt").read_bytes().replace(b"\n", b"\r\n") + b".\r\n"
+            tally.expect("a text", ask(PORT, b"/notes/tomatoes.txt\r\n", "localhost"), text)
+            tally.expect("a search", found(b"/search\tevening\r\n", b"\t/notes/tomatoes.txt\t", server), True)
+        finally:
+            server.terminate()
+            tally.expect("it says nothing on standard error", said(server.communicate(timeout=WAIT)[1].decode()), "")
+
+
+def check_removed(tally, machine, package):
+    """Removal leaves the settings and the site, and purging leaves nothing."""
+    tally.expect("it is removed", machine.dpkg("--remove", "hole").returncode, 0)
+    left = [file for file in machine.files() if file not in machine.empty and not file.startswith("etc/systemd/")]
+    kept = ["etc/hole/hole.toml", *(f"srv/gopher/{file}" for file in files_below(SITE))]
+    tally.expect("removal leaves the settings and the site", left, kept)
+    tally.expect("it is purged", machine.dpkg("--purge", "hole").returncode, 0)
+    tally.expect("purging leaves nothing", [file for file in machine.files() if file not in machine.empty], [])
+    folders = [name for name in ("etc/hole", "srv/gopher", "usr/share/hole") if (machine.root / name).exists()]
+    tally.expect("purging leaves no folder either", folders, [])
+
+
+def check_owner(tally, machine, package):
+    """What the owner wrote stays, and what the owner removed stays away."""
+    machine.dpkg("--install", package)
+    (machine.root / "srv/gopher/.menu").write_text("My own.\n")
+    (machine.root / "srv/gopher/own.txt").write_text("My own.\n")
+    (machine.root / "srv/gopher/first-steps.txt").unlink()
+    with open(machine.root / "etc/hole/hole.toml", "a") as settings:
+        settings.write("# my own\n")
+    tally.expect("it installs again", machine.dpkg("--install", package).returncode, 0)
+    tally.expect("the settings stay", machine.text("etc/hole/hole.toml").endswith("# my own\n"), True)
+    tally.expect("the site stays", files_below(machine.root / "srv/gopher"), [".menu", "notes/tomatoes.txt", "own.txt"])
+    machine.dpkg("--purge", "hole")
+    tally.expect("a purge leaves the owner's files", files_below(machine.root / "srv/gopher"), [".menu", "own.txt"])
+
+
+def check_lintian(tally, package):
+    if is_here("lintian"):
+        ran = run("lintian", "--allow-root", "--fail-on", "error,warning", package)
+        tally.expect("lintian finds no error and no warning", (ran.returncode, ran.stdout), (0, ""))
+
+
+def check_package(tally, program, folder, package):
+    if os.geteuid() or not shutil.which("dpkg") or not shutil.which("chroot"):
+        skip("the installation: it needs root, dpkg and chroot")
+        return
+    machine = Machine(folder, program)
+    check_installed(tally, machine, package)
+    check_documents(tally, machine)
+    check_serves(tally, machine)
+    check_unit(tally, machine, folder)
+    check_removed(tally, machine, package)
+    check_owner(tally, machine, package)
+
+
+def main():
+    words = argparse.ArgumentParser()
+    words.add_argument("program", nargs="?", type=pathlib.Path, default=PROGRAM)
+    program = words.parse_args().program.resolve()
+    tally = Tally("package")
+    with tempfile.TemporaryDirectory() as place:
+        folder = pathlib.Path(place)
+        folder.chmod(0o755)
+        out, how = folder / "dist", options(program)
+        check_refusals(tally, program, folder)
+        ran = dist("--program", program, "--out", out, *how)
+        tally.expect("it is packed", (ran.returncode, ran.stderr), (0, ""))
+        if ran.returncode == 0:
+            print(ran.stdout, end="")
+            check_same_bytes(tally, program, folder, out, how)
+            check_tarball(tally, out, folder)
+            for package in out.glob("*.deb"):
+                check_package(tally, program, folder, package)
+                check_lintian(tally, package)
+    return tally.status()
+
+
+if __name__ == "__main__":
+    sys.exit(main())

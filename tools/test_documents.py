@@ -1,0 +1,40 @@
+#!/usr/bin/env python3
+"""Tests the documents: each command of make and each crate that they name exists, and the pictures are current.
+
+tools/check_links.py looks after links, pictures and paths.
+"""
+import pathlib
+import re
+import sys
+import unittest
+
+sys.path.insert(0, str(pathlib.Path(__file__).resolve().parent))
+import draw_crates
+import draw_ratios
+
+ROOT = pathlib.Path(__file__).resolve().parent.parent
+PAGES = [*sorted(ROOT.glob("*.md")), *sorted(ROOT.glob("docs/*.md"))]
+
+
+class Documents(unittest.TestCase):
+    def test_named_make_commands_exist(self):
+        recipes = [ROOT / "Makefile", *ROOT.glob("*/*.mk")]
+        targets = [name for path in recipes for name in re.findall(r"(?m)^([a-z-]+):", path.read_text())]
+        for page in PAGES:
+            for name in re.findall(r"`make ([a-z-]+)", page.read_text()):
+                self.assertIn(name, targets, page.name)
+
+    def test_named_crates_exist(self):
+        for page in PAGES:
+            for name in re.findall(r"\b((?:gopher|test|bench|example)_[a-z_]+)\b", page.read_text()):
+                known = (ROOT / "crates" / name).is_dir() or [*ROOT.glob(f"t*/{name}*")]
+                self.assertTrue(known, f"{page.name}: {name}")
+
+    def test_the_pictures_are_current(self):
+        for name, draw in draw_crates.PICTURES.items():
+            self.assertEqual((ROOT / name).read_text(), draw(), f"run tools/draw_crates.py for {name}")
+        self.assertEqual(draw_ratios.PICTURE.read_text(), draw_ratios.picture(draw_ratios.ratios()), "run tools/draw_ratios.py")
+
+
+if __name__ == "__main__":
+    unittest.main()

@@ -1,0 +1,185 @@
+#!/usr/bin/env python3
+"""Tests tools/gate.py and what it stands on: how it counts, that a failure hides nothing, and its table; in a second."""
+import contextlib
+import io
+import os
+import pathlib
+import re
+import sys
+import tempfile
+import time
+import unittest
+
+sys.path.insert(0, str(pathlib.Path(__file__).resolve().parent))
+import gate
+import shares
+import unproved
+
+CI = """rt: low proved
+== high: its tests
+test one ... ok
+rt: high: its tests are proved
+rt: high proved
+rt: above NOT PROVED
+rt: low: trying its must-fail edits (3)
+rt: must-fail low/a.edit: refused, as it must be: note: src/lib.rt:7:5: it is not proved
+rt: must-fail low/b.edit: NOT REFUSED: the crate is still proved with this edit
+rt: must-fail low/c.edit: BAD EDIT: an 'old:' text is in src/lib.rt 0 times, and not once
+test tests::adds ... ok
+test tests::takes ... FAILED
+rt: high: its tests FAILED
+rt: hole ran, and wrote what its file stdout has
+rt: FAILED: above low/b.edit low/c.edit high (tests)
+4 passed, 4 failed
+"""
+
+
+def part(name, row, script, **more):
+    return gate.Part(name, row, ("sh", "-c", script), **more)
+
+
+def run_all(*chosen, program=None, jobs=1):
+    """The rows of these parts, and what was printed meanwhile."""
+    with contextlib.redirect_stdout(io.StringIO()) as said:
+        rows = gate.run_all(chosen, program, jobs)
+    return rows, said.getvalue()
+
+
+class Counts(unittest.TestCase):
+    def test_the_last_line_with_counts_decides(self):
+        said = "serving: 33 passed, 0 failed\nprogram: 27 passed, 2 failed\n"
+        self.assertEqual(gate.counted(said, 1), (27, 2))
+        self.assertEqual(gate.counted("refusals: 812 runs, 0 failed\n", 0), (812, 0))
+        self.assertEqual(gate.counted("614 passed, 6 failed\n", 1), (614, 6))
+
+    def test_unittest_is_read(self):
+        self.assertEqual(gate.counted("Ran 9 tests in 3.120s\n\nOK\n", 0), (9, 0))
+        self.assertEqual(gate.counted("Ran 9 tests in 3.120s\n\nFAILED (failures=1, errors=2)\n", 1), (6, 3))
+
+    def test_a_part_without_counts_is_one(self):
+        self.assertEqual(gate.counted("", 0), (1, 0))
+        self.assertEqual(gate.counted("Killed\n", 137), (0, 1))
+
+    def test_a_bad_status_is_a_failure_whatever_was_counted(self):
+        self.assertEqual(gate.counted("log: 75 passed, 0 failed\n", -9), (75, 1))
+
+    def test_rt_ci_fills_three_rows(self):
+        rows = gate.counted_by_ci(CI, 1, {"must-fail edits": 2.5})
+        counts = {name: (row.passed, row.failed) for name, row in rows.items()}
+        self.assertEqual(counts, {"proofs": (3, 1), "must-fail edits": (1, 2), "tests of crates": (3, 1)})
+        self.assertEqual(rows["must-fail edits"].processors, 2.5)
+
+    def test_what_rt_ci_fails_by_otherwise_is_counted(self):
+        rows = gate.counted_by_ci("rt: crates.txt lists no crate\n0 passed, 1 failed\n", 2, {})
+        self.assertEqual(rows["proofs"].failed, 1)
+
+
+class Run(unittest.TestCase):
+    def test_a_failure_hides_nothing(self):
+        rows, said = run_all(
+            part("first", "proofs", "echo one: 2 passed, 1 failed; exit 1"),
+            gate.Part("second", "wrong bodies", ("tools/no_such_script",)),
+            part("third", "tests of the program", "echo third; echo 5 passed, 0 failed"),
+        )
+        self.assertIn("third\n5 passed", said)
+        lines = gate.table(rows)
+        self.assertEqual(lines[-1], "7 passed, 2 failed")
+        self.assertEqual(lines[-2], "FAILED: first, second")
+
+    def test_parts_side_by_side_are_all_counted(self):
+        chosen = [part(str(at), "tests of the program", f"echo {at} passed, 0 failed") for at in range(8)]
+        rows, said = run_all(*chosen, jobs=3)
+        self.assertEqual(rows["tests of the program"].passed, 28)
+        self.assertEqual(len(re.findall(r"(?m)^== \d: sh -c .*\n\d passed, 0 failed$", said)), 8)
+
+    def test_the_program_is_asked_for_by_its_path(self):
+        one = gate.Part("one", "tests of the program", ("echo", gate.PROGRAM), unproved=("--slow",))
+        self.assertIn("\n/room/hole --slow\n", run_all(one, program=lambda: ("/room/hole", False))[1])
+        self.assertIn("\n/proved\n", run_all(one, program=lambda: ("/proved", True))[1])
+
+    def test_minutes_are_those_of_the_parts_processes(self):
+        busy = "import time\nwhile time.process_time() < 0.3: pass"
+        rows, _ = run_all(gate.Part("busy", "proofs", (sys.executable, "-c", busy)), part("idle", "wrong bodies", "sleep 0.3"))
+        self.assertGreater(rows["proofs"].processors * 60, 0.25)
+        self.assertLess(rows["wrong bodies"].processors * 60, 0.2)
+        self.assertGreater(rows["wrong bodies"].clock * 60, 0.25)
+
+    def test_the_table_has_all_rows_and_their_sum(self):
+        rows = {row: gate.Result() for row in gate.ROWS}
+        rows["proofs"] = gate.Result(20, 0, 60.04, 100.25)
+        rows["must-fail edits"] = gate.Result(33, 1, None, 9.0, ["ci"])
+        lines = gate.table(rows)
+        self.assertEqual(lines[1].split(), ["proofs", "20", "0", "60.0", "100.2"])
+        self.assertEqual(lines[2].split(), ["must-fail", "edits", "33", "1", "9.0"])
+        self.assertEqual(lines[-3].split(), ["all,", "in", "minutes", "53", "1", "60.0", "109.2"])
+        self.assertEqual(lines[-2:], ["FAILED: ci", "53 passed, 1 failed"])
+
+
+class Parts(unittest.TestCase):
+    def test_each_part_is_there_and_has_a_row(self):
+        names = [it.name for it in gate.parts()]
+        self.assertEqual(len(names), len({*names}))
+        for it in gate.parts():
+            self.assertIn(it.row, gate.ROWS)
+            self.assertTrue(it.words[0] == "rt" or os.access(gate.ROOT / it.words[0], os.X_OK), it.words[0])
+
+    def test_a_script_that_is_added_to_tests_is_a_part(self):
+        with tempfile.TemporaryDirectory() as room:
+            kept, gate.ROOT = gate.ROOT, pathlib.Path(room)
+            try:
+                for name, rights in (("later.py", 0o755), ("model.py", 0o644), ("clients.py", 0o755), ("log.py", 0o755)):
+                    (gate.ROOT / "tests").mkdir(exist_ok=True)
+                    (gate.ROOT / "tests" / name).touch()
+                    (gate.ROOT / "tests" / name).chmod(rights)
+                names = [it.name for it in gate.parts()]
+                self.assertEqual(names.count("log"), 1)
+                self.assertEqual([name for name in names if name in ("later", "model", "clients")], ["later"])
+                self.assertFalse([it for it in gate.parts() if it.name == "later"][0].is_quick)
+            finally:
+                gate.ROOT = kept
+
+    def test_libraries_are_those_of_rt_ci_only_if_it_ran(self):
+        words = lambda names: [it.words for it in gate.chosen_of(names, False) if it.name == "wrong_bodies"][0]
+        self.assertEqual(words([]), ("tools/wrong_bodies.py", "--after-ci"))
+        self.assertEqual(words(["wrong_bodies"]), ("tools/wrong_bodies.py",))
+
+    def test_no_proof_is_quick(self):
+        quick = {it.name for it in gate.parts() if it.is_quick}
+        self.assertFalse(quick & {"ci", "wrong_bodies", "refusals"})
+        self.assertTrue(quick >= {"layout", "links", "test_gate", "replays", "requests", "attack"})
+
+
+class Shares(unittest.TestCase):
+    def test_tests_are_told_from_proofs(self):
+        busy = "import sys, time\nwhile time.process_time() < 0.4: pass\ntime.sleep(0.4)"
+        starts = f"import subprocess, sys; subprocess.run([sys.executable, '-c', {busy!r}, '--test'])"
+        shares.SECONDS = 0.1
+        process = gate.subprocess.Popen([sys.executable, "-c", starts])
+        with shares.of(process.pid, True) as found:
+            process.wait()
+        self.assertEqual([*found], ["tests of crates"])
+        self.assertGreater(found["tests of crates"] * 60, 0.2)
+
+
+class Program(unittest.TestCase):
+    def test_a_proved_program_is_taken_unless_a_source_is_younger(self):
+        with tempfile.TemporaryDirectory() as room:
+            kept = unproved.ROOT, unproved.PROVED
+            unproved.ROOT = root = pathlib.Path(room)
+            unproved.PROVED = proved = root / "crates" / "hole" / "out" / "hole"
+            try:
+                for file in (root / "crates.txt", root / "crates" / "gopher_low" / "src" / "lib.rt", proved):
+                    file.parent.mkdir(parents=True, exist_ok=True)
+                    file.write_text("")
+                self.assertFalse(unproved.is_up_to_date())
+                proved.chmod(0o755)
+                self.assertTrue(unproved.is_up_to_date())
+                later = time.time() + 10
+                os.utime(root / "crates" / "gopher_low" / "src" / "lib.rt", (later, later))
+                self.assertFalse(unproved.is_up_to_date())
+            finally:
+                unproved.ROOT, unproved.PROVED = kept
+
+
+if __name__ == "__main__":
+    unittest.main()
