@@ -40,7 +40,7 @@ def picture(rows):
     height = TOP + ROW * len(rows) + 14
     scale = (WIDTH - LEFT - RIGHT) / max(1.4, *(ratio for _, ratio, _ in rows))
     one = LEFT + scale
-    title = "Speed of Hole relative to plain C, in one run: longer is faster"
+    title = "Speed relative to plain C: longer is faster"
     parts = [
         f'<svg xmlns="http://www.w3.org/2000/svg" viewBox="0 0 {WIDTH} {height}" role="img" aria-label="{title}">',
         f"<title>{title}</title>",

@@ -101,7 +101,7 @@ def main():
         place = pathlib.Path(folder) / "hole.toml"
         place.write_text(with_whole_root(text, root if given else ROOT / root))
         start, where = command(program, str(place))
-        print("Starting:", " ".join(start[:2]), ".. (without a proved program this takes a minute)", flush=True)
+        print("Starting:", " ".join(start[:2]), ".. (without a proved program this takes 2 minutes)", flush=True)
         return serve(start, where, host, port, hints(host, port, given))
 
 

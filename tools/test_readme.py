@@ -43,7 +43,7 @@ class Readme(unittest.TestCase):
                     self.assertIn(line.removeprefix("-").strip(), source, named)
 
     def test_the_wrong_body_is_one_that_the_gate_tries(self):
-        name = re.search(r"wrong body `(\w+)`", README)[1]
+        name = re.search(r"wrong body \[?`(\w+)`", README)[1]
         edits = [*ROOT.glob(f"crates/*/wrong-bodies/{name}.edit"), *ROOT.glob(f"crates/*/must-fail/{name}*")]
         self.assertEqual(len(edits), 1)
         edit = edits[0].read_text() if edits[0].is_file() else "\n".join(one.read_text() for one in edits[0].iterdir())
