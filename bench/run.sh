@@ -27,6 +27,12 @@ bench/pages.py "$folder/pages"
 crates/bench_measure/out/bench_measure search "$folder/pages"
 bench/pages.py "$folder/crawled" 16384
 crates/bench_measure/out/bench_measure crawl "$folder/crawled"
+echo "the same pages made and added by 4 programs at once, without a crew:"
+for _ in 1 2 3 4; do
+    crates/bench_measure/out/bench_measure search "$folder/crawled" > "$folder/alone" &
+done
+wait
+head -n 1 "$folder/alone"
 cc -O2 -o "$folder/postings" bench/postings.c
 echo "the plain C program:"
 "$folder/postings" "$folder/pages"

@@ -1,16 +1,19 @@
 #!/usr/bin/env python3
 """Attacks the built program over loopback, as clients do that mean no good, while ordinary clients ask it too.
 
-    tests/attack.py [--seconds N] [--memory KIB] [PROGRAM]
+    tests/attack.py [--seconds N] [--memory KIB] [--heavy] [PROGRAM]
 
 A crowd of clients that say nothing, send a byte a second, read nothing of 8 MiB, or reset in mid-reply stays for N seconds
 (7 without N). Then come lines at and over the limit, lines that ask for what lies outside of the folder or is hidden, lines
-without an end, clients that send on, more silent clients than there are places, descriptors that are short, and clients
-that ask for 8 MiB and read nothing. Every ordinary client has to be
+without an end, clients that send on, more silent clients than there are places, descriptors that are short, clients
+that ask for 8 MiB and read nothing, and clients that ask the heaviest searches. Every ordinary client has to be
 answered whole within SOON seconds, the program's memory has to stay below KIB (24,576 without it; a build with an address
 sanitizer, as `rt try` makes, takes some 64,000), and the program has to end well. The last line is
-'attack: N passed, M failed'. It takes about N + 30 seconds, and at most some minutes where the program fails, since a server
+'attack: N passed, M failed'. It takes about N + 50 seconds, and at most some minutes where the program fails, since a server
 that goes on for too long is killed.
+
+Beside heavy searches of 4,096 texts, ordinary replies take less than 50 ms in the median and 500 ms at the 99th percentile.
+With --heavy there are 65,000 texts and a minute of searches, the bounds are 5 and 50 ms, and nothing else is tried.
 """
 import argparse
 import contextlib
@@ -25,10 +28,11 @@ import threading
 import time
 from concurrent.futures import ThreadPoolExecutor
 
+from heavy import Flood, Heavy, heavy_texts
 from server import HOST, PROGRAM, WAIT, Server, Tally, connect, read_all
 from site_model import Site
 
-SILENT, SLOW, DEAF, ORDINARY = 1_000, 200, 50, 4
+SILENT, SLOW, DEAF, ORDINARY, HEAVY = 1_000, 200, 50, 4, 64
 RESETS_A_SECOND = 15
 SOON = 5.0
 MOST_MEMORY = 24_576  # KiB, of a server whose files have 9 MiB
@@ -409,6 +413,54 @@ def attack_by_deaf(tally, folder, root, files, given):
         print(f"attack: {held} bytes of the system for {SILENT} deaf clients; p99 {sorted(times)[197]:.3f} s", flush=True)
 
 
+def crawls(server, wanted):
+    """Whether the progress of a server's crawl comes to this line before the server is killed."""
+    return any(line == wanted for line in server.process.stderr)
+
+
+def times_beside(tally, port, line, wanted, seconds):
+    """The seconds that each of the replies to a line took, the shortest first."""
+    times, until = [], time.monotonic() + seconds
+    while time.monotonic() < until:
+        began = time.monotonic()
+        tally.expect("an ordinary client beside heavy searches", ask_whole(port, line), wanted)
+        times.append(time.monotonic() - began)
+        time.sleep(0.005)
+    return sorted(times)
+
+
+def attack_by_searches(tally, folder, root, files, given):
+    """Clients that ask the heaviest searches get the right hits, and ordinary clients are answered beside them."""
+    texts, seconds, median, late = (65_000, 60, 0.005, 0.05) if given.heavy else (4_096, 6, 0.05, 0.5)
+    with Heavy(texts) as heavy, contextlib.ExitStack() as ends:
+        server = ends.enter_context(Server(given.program, folder, root, more=heavy.settings(), words=("--progress",), seconds=1_200))
+        server.started()
+        crawled = f"known {heavy.known} waiting 0 out 0 done {heavy.known} dropped 0\n".encode()
+        tally.expect("the texts are crawled", crawls(server, crawled), True)
+        wanted = [(b"/search\t%s\r\n" % text.encode(), heavy.reply(text)) for text in heavy_texts()]
+        for line, reply in wanted:
+            tally.expect(f"the reply to {line[:40]!r}", ask_whole(server.port, line), reply)
+        site = Site(HOST.encode(), server.port, files)
+        flood = Flood(server.port, wanted[:1] + wanted[-1:], HEAVY, seconds + 2)
+        time.sleep(1.5)
+        times = times_beside(tally, server.port, b"/a.txt\r\n", site.reply(b"/a.txt\r\n"), seconds)
+        right, wrong = flood.end(seconds + 300)
+        tally.expect(f"heavy searches that were answered wrongly, of {right + wrong}", wrong, 0)
+        tally.expect("some were answered", right > 0, True)
+        half, most = times[len(times) // 2], times[len(times) * 99 // 100]
+        print(f"attack: beside {right} heavy searches p50 {half:.4f} s, p99 {most:.4f} s of {len(times)} replies", flush=True)
+        tally.expect(f"the median of {half:.4f} s is below {median} s", half < median, True)
+        tally.expect(f"the 99th percentile of {most:.4f} s is below {late} s", most < late, True)
+        server.process.terminate()
+        tally.expect("a server that is ended by SIGTERM", server.end()[1:], (b"", -15))
+
+
+ATTACKS = (
+    attack_by_crowd, attack_by_lines, attack_by_senders, attack_by_waiting, attack_by_use, attack_by_refused_accepts,
+    attack_by_deaf, attack_by_searches,
+)
+
+
 def raise_limit():
     """Lets this process and its servers hold as many files as the system allows."""
     _, most = resource.getrlimit(resource.RLIMIT_NOFILE)
@@ -420,6 +472,7 @@ def main():
     words = argparse.ArgumentParser()
     words.add_argument("--seconds", type=int, default=7)
     words.add_argument("--memory", type=int, default=MOST_MEMORY)
+    words.add_argument("--heavy", action="store_true")
     words.add_argument("program", nargs="?", default=PROGRAM)
     given = words.parse_args()
     if not 4 <= given.seconds <= 900:
@@ -429,8 +482,7 @@ def main():
     with tempfile.TemporaryDirectory() as place:
         folder = pathlib.Path(place)
         root, files = lay_out(folder)
-        attacks = (attack_by_crowd, attack_by_lines, attack_by_senders, attack_by_waiting, attack_by_use, attack_by_refused_accepts, attack_by_deaf)
-        for attack in attacks:
+        for attack in (attack_by_searches,) if given.heavy else ATTACKS:
             try:
                 attack(tally, folder, root, files, given)
             except OSError as error:

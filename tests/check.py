@@ -52,6 +52,26 @@ OUTSIDE = (
 )
 UNREADABLE = ("the settings cannot be read, have over 1048576 bytes, or are not UTF-8", "correct the path, its rights or the text")
 
+# A sound site's settings, with what is told of them.
+WORKED = """host = "localhost"
+port = 7070
+root = "ROOT"
+[[seeds]]
+host = "localhost"
+port = 7070
+[[allow]]
+host = "LOCALHOST"
+port = 7070
+[[deny]]
+host = "localhost"
+port = 7070
+prefix = "/private"
+"""
+WORKED_TOLD = [
+    "address: localhost 7070", "root: ROOT", "files: 0", "menu files: 0", "bytes: 0", "seed: 1 localhost 7070 ",
+    "may visit: localhost 7070 ", "may not visit: localhost 7070 /private", "sound",
+]
+
 RULES = """
 [[seeds]]
 host = "Localhost"
@@ -344,6 +364,9 @@ def check_sound(tally, program):
         empty = f"settings: {site.settings}\naddress: LocalHost 70\nroot: {site.root}\nfiles: 0\nmenu files: 0\nbytes: 0\nsound\n"
         say('host = "LocalHost"\nroot = "ROOT"\n')(site)
         tally.expect("an empty site", site.check(), (empty.encode(), b"", 0))
+        say(WORKED)(site)
+        worked = f"settings: {site.settings}\n" + "".join(line.replace("ROOT", str(site.root)) + "\n" for line in WORKED_TOLD)
+        tally.expect("worked settings", site.check(), (worked.encode(), b"", 0))
         say('host = "LocalHost"\nport = 7070\nroot = "ROOT"\n' + RULES)(site)
         for path, content in {b".menu": b"Welcome\n", b"a/.menu": b"", b"a/b.txt": b"12345", b"a/.hidden": b"no"}.items():
             site.add(path, content)

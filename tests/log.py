@@ -16,6 +16,7 @@ import datetime
 import os
 import pathlib
 import re
+import signal
 import socket
 import statistics
 import struct
@@ -139,8 +140,11 @@ def check_refused_watch(tally, room):
     words = ["--log", str(path), "--requests", "1"]
     with Server(room.program, room.folder, room.root, more="threads = 1\n", words=words, before=before) as server:
         server.started()
+        # the line is there before the server accepts, so that it is asked at once
+        server.process.send_signal(signal.SIGSTOP)
         with connect(server.port) as client:
             client.sendall(b"/large.png\r\n")
+            server.process.send_signal(signal.SIGCONT)
             time.sleep(0.5)
             with contextlib.suppress(OSError):
                 while client.recv(65_536):
@@ -148,7 +152,7 @@ def check_refused_watch(tally, room):
         tally.expect("a server that can't watch ends well", server.end(), (SIZES, b"", 0))
     found = logged(path)
     tally.expect("the line of a connection that isn't watched", [request[2] for request in found], [b"/large.png"])
-    tally.expect("its bytes", 0 < found[0][4] < len(LARGE), True)
+    tally.expect("its bytes", [0 < request.sent < len(LARGE) for request in found], [True])
 
 
 def check_closed(tally, room):
@@ -158,14 +162,16 @@ def check_closed(tally, room):
     words = ["--log", str(path)]
     with Server(room.program, room.folder, room.root, more="threads = 1\n", words=words, before=before) as server:
         server.started()
-        with connect(server.port) as deaf, connect(server.port) as second:
+        with connect(server.port) as deaf:
             deaf.sendall(b"/large.png\r\n")
-            time.sleep(0.3)
-            with connect(server.port) as third:
-                time.sleep(0.3)
-                time.sleep(1.0)
-                tally.expect("lines while the others wait", [request[2] for request in logged(path)], [b"/large.png"])
-                tally.expect("clients that wait", [is_open(deaf), is_open(second), is_open(third)], [False, True, True])
+            # the others come once the server has written all that the system takes, so that this one is idle longest
+            time.sleep(1.0)
+            with connect(server.port) as second:
+                time.sleep(0.5)
+                with connect(server.port) as third:
+                    time.sleep(1.3)
+                    tally.expect("lines while the others wait", [request[2] for request in logged(path)], [b"/large.png"])
+                    tally.expect("clients that wait", [is_open(deaf), is_open(second), is_open(third)], [False, True, True])
         server.process.terminate()
         server.end()
 

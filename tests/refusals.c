@@ -1,6 +1,9 @@
 /* Loaded before a program: refuses allocations, and writes the number of all that it counted to the file that COUNTED
    names, if there is one. Counted are the allocations of at least LEAST bytes, without it all of them. Of these it refuses
-   the one whose number, from 1, is in REFUSED, or each one where REFUSED is `all`. */
+   the one whose number, from 1, is in REFUSED, or each one where REFUSED is `all`.
+
+   LEFT names a file with a number of 8 bytes. While it is over 0, each allocation counts it down by 1, and the one that
+   brings it to 0 is refused. So a test chooses one while the program runs. */
 #define _GNU_SOURCE
 #include <dlfcn.h>
 #include <fcntl.h>
@@ -8,12 +11,22 @@
 #include <stdio.h>
 #include <stdlib.h>
 #include <string.h>
+#include <sys/mman.h>
 #include <sys/syscall.h>
 #include <unistd.h>
 
 static atomic_long count;
+static atomic_long *left;
+
+__attribute__((constructor)) static void share(void) {
+  const char *name = getenv("LEFT");
+  int file = name ? open(name, O_RDWR) : -1;
+  void *shared = file < 0 ? MAP_FAILED : mmap(NULL, sizeof *left, PROT_READ | PROT_WRITE, MAP_SHARED, file, 0);
+  if (shared != MAP_FAILED) left = shared;
+}
 
 static int is_refused(size_t size) {
+  if (left && atomic_load(left) > 0 && atomic_fetch_sub(left, 1) == 1) return 1;
   const char *refused = getenv("REFUSED"), *least = getenv("LEAST");
   if (least && size < strtoul(least, NULL, 10)) return 0;
   long number = atomic_fetch_add(&count, 1) + 1;

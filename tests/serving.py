@@ -93,6 +93,39 @@ def check_lines(folder, root):
         expect("the end", server.end()[1:], (b"", 0))
 
 
+# Folders by their files, each with lines and their replies; WHERE stands for the host and port, between TABs, and CR LF.
+ROOT_MENU = b"7Search\t/searchWHERE0a.txt\t/a.txtWHERE.\r\n"
+WELCOME = b"iWelcome\tWHERE0Read\t/a.txtWHERE1Far\t\tfar.example\t70\r\n.\r\n"
+WORKED = [
+    ({"a.txt": b"hello\n"}, [
+        (b"\r\n", ROOT_MENU), (b"/\t+\r\n", ROOT_MENU), (b"/a.txt\t+\r\n", b"hello\r\n.\r\n"),
+        (b"/a.txt\r\nextra", b"hello\r\n.\r\n"), (b"/b\r\n", b"3Not found\tWHERE.\r\n"),
+        (b"/search\t -- \r\n", b"3No words\tWHERE.\r\n"), (b"x" * 256 + b"\r\n", b"3Bad request\tWHERE.\r\n"),
+        (b"a" * 1_026, b""),
+    ]),
+    ({"dots": b".\nhi", "empty.txt": b""}, [(b"/dots\r\n", b"..\r\nhi\r\n.\r\n"), (b"/empty.txt\r\n", b".\r\n")]),
+    ({"a.txt": b"hello\n", "docs/b.gif": b"GIF89a\n.\n", "docs/.menu": b"Welcome\n0Read\t/a.txt\n1Far\t\tfar.example\t70\n"}, [
+        (b"/\r\n", b"7Search\t/searchWHERE0a.txt\t/a.txtWHERE1docs\t/docsWHERE.\r\n"), (b"/docs\r\n", WELCOME),
+        (b"/docs/b.gif\r\n", b"GIF89a\n.\n"), (b"/docs/.menu\r\n", b"3Not found\tWHERE.\r\n"),
+    ]),
+]
+
+
+def check_worked(folder, _root):
+    """Folders that were worked out by hand, on localhost."""
+    for number, (files, asked) in enumerate(WORKED):
+        root = folder / f"worked-{number}"
+        for path, content in files.items():
+            (root / path).parent.mkdir(parents=True, exist_ok=True)
+            (root / path).write_bytes(content)
+        with Server(folder, root, host="localhost", words=("--requests", str(len(asked)))) as server:
+            where = f"\tlocalhost\t{server.port}\r\n".encode()
+            expect(f"the line of worked folder {number}", server.started(), f"listening localhost {server.port}\n".encode())
+            for line, reply in asked:
+                expect(f"worked folder {number}: {line[:40]!r}", ask(server.port, line, "localhost"), reply.replace(b"WHERE", where))
+            expect(f"the end of worked folder {number}", server.end()[1:], (b"", 0))
+
+
 def check_large(folder, root, clients=20):
     """Large replies are whole for clients that read slowly and send on."""
     whole = (root / "big.png").read_bytes()
@@ -294,7 +327,7 @@ def main():
     with tempfile.TemporaryDirectory() as name:
         folder = pathlib.Path(name)
         root = site(folder)
-        checks = (check_replies, check_lines, check_large, check_silent, check_crawl, check_hits, check_example, check_addresses, check_activation)
+        checks = (check_replies, check_worked, check_lines, check_large, check_silent, check_crawl, check_hits, check_example, check_addresses, check_activation)
         checks += (check_refused_threads, check_faults)
         for check in checks:
             check(folder, root)

@@ -18,7 +18,8 @@ ODD_MENU = (
     b"|0No port\t/n\th.example\t0\n|7Search\t/s\th.example\t70\n|odd line\t/o\n|0One\t/one\th.example\t70\n|.\n"
     b"|1Late\t/late\th.example\t70\n"
 )
-REPLY_OF_SPACES = b"|iWelcome\tfake\t(NULL)\t0\n|hSite\tURL:http://x/\th\t70\n|1Dir\t/d\t h.example \t 70 \t+\n|broken\n|\n|0T\t/t\th.example\t70\n"
+# Items that name no place, a host and a port between spaces, an odd line, an empty line, and an item behind them.
+REPLY_OF_SPACES = b"|iWelcome\tfake\t(NULL)\t0\n|hSite\tURL:http://x/\th\t70\n|1Dir\t/d\t h \t 70 \t+\n|broken\n|\n|0T\t/t\th\t70\n"
 
 
 def pages(*replies):
@@ -114,8 +115,33 @@ LINKS = (
 )
 
 SPACES = (
-    HEAD + b"seed\t1\th.example\t70\t\nstart\t100\nclaim\nfound\t0\t1\th.example\t70\t\n" + REPLY_OF_SPACES + b"claim\nclaim\nclaim\n",
-    b"ok\ntake\t0\t1\th.example\t70\t\nadded 2 0\ntake\t1\t1\th.example\t70\t/d\ntake\t2\t0\th.example\t70\t/t\nidle\n",
+    b"allow\th\t70\t\nseed\t1\th\t70\t\nstart\t10\nclaim\nfound\t0\t1\th\t70\t\n" + REPLY_OF_SPACES
+    + b"claim\nclaim\nclaim\n",
+    b"ok\ntake\t0\t1\th\t70\t\nadded 2 0\ntake\t1\t1\th\t70\t/d\ntake\t2\t0\th\t70\t/t\nidle\n",
+)
+
+# A line that begins like an item and has no fields is odd: its first byte is no type, but a part of its word.
+ODD_LINE = (
+    b"allow\th\t70\t\nseed\t1\th\t70\t/moon\nstart\t10\nclaim\nfound\t0\t1\th\t70\t/moon\n|1Mo\nsearch\t1mo\nsearch\tmo\n",
+    b"ok\ntake\t0\t1\th\t70\t/moon\nadded 0 0\nhits 1\nhit\t1\t1\th\t70\t/moon\t1Mo\nhits 0\n",
+)
+
+# The host of a place is spelled in lower case; the first fault of its parts is the one that is told.
+HOST_CASE = (
+    b"seed\t7\th\t0\t" + b"a" * 256 + b"\nseed\t0\ta b\t70\t\nseed\t0\th\t0\t\nallow\tgopher.example\t70\t\n"
+    b"seed\t1\tGopher.Example\t70\t/x\nstart\t10\nclaim\n",
+    b"refused 1\nrefused 3\nrefused 4\nok\ntake\t0\t1\tgopher.example\t70\t/x\n",
+)
+
+# All words of a page with their counts: the seven that the prefixes of all letters find are those of the four words.
+ALL_COUNTS = (
+    pages((b"/sun.txt", TEXT))
+    + b"".join(b"occurs\t%s\n" % word for word in (b"and", b"moon", b"sun", b"the"))
+    + searches(b" or ".join(b"%c*" % letter for letter in b"abcdefghijklmnopqrstuvwxyz0123456789"), b"moon or moon", b"sun not mars", b" -- "),
+    taken(b"/sun.txt")
+    + b"".join(b"places 1\nat\t%d\t0\th.example\t70\t/sun.txt\n" % count for count in (1, 3, 1, 2))
+    + b"".join(hits((score, b"/sun.txt", b"The sun and the moon.")) for score in (7, 6, 1))
+    + b"refused 40\n",
 )
 
 # The first fault of the parts of a place, and of a rule.
@@ -147,7 +173,7 @@ ORDER = (
     + b"places 5\nat\t1\t1\ta\t70\t/z\nat\t1\t0\th\t70\t/a\nat\t1\t1\th\t70\t/a\nat\t1\t0\th\t70\t/b\nat\t1\t0\th\t7070\t\n",
 )
 
-WORKED = [*TITLES, *SCORES, COUNTS, WORDS, LINKS, SPACES, REFUSALS, ORDER]
+WORKED = [*TITLES, *SCORES, COUNTS, WORDS, LINKS, SPACES, ODD_LINE, HOST_CASE, ALL_COUNTS, REFUSALS, ORDER]
 
 FIRST_CRAWL = (
     b"allow\tlocalhost\t70\t\nseed\t1\tlocalhost\t70\t\nstart\t10\nclaim\nfound\t0\t1\tlocalhost\t70\t\n"

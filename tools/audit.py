@@ -26,7 +26,7 @@ USE = re.compile(r"use (Rattle|mathlib)\.([\w.]+?)(?:\.\{([^}]*)\}| as (\w+))")
 # a promise: its name, and its contracts as (crate, function, clauses); no clauses means all of them. Of several crates the
 # first that has the function counts.
 PROMISES = {
-    "search": [("gopher_crew", "Pass::search", "legal hits")],
+    "search": [("gopher_crew", "Pass::begin", "legal hits"), ("gopher_index", "Search::step", "hits found")],
     "tries": [
         ("gopher_catalogue", "laws::no_more_claims_than_tries", ""),
         ("gopher_catalogue", "laws::no_claim_after_a_find", ""),
@@ -36,9 +36,13 @@ PROMISES = {
         ("gopher_crew", "Kept::claim", ""),
         ("gopher_crew", "Kept::found", ""),
         ("gopher_crew", "Kept::fail", ""),
-        ("gopher_crew", "Pass::search", ""),
+        ("gopher_crew", "Pass::begin", ""),
     ],
-    "requests": [("gopher_conversation", "advance", ""), ("gopher_serve", "Site: Answers", ""), ("gopher_serve", "answer_kept", "")],
+    "requests": [
+        ("gopher_conversation", "converse", ""),
+        ("gopher_serve", "Site: Answers", ""),
+        ("gopher_serve", "answer_kept", ""),
+    ],
     "closure": [
         ("gopher_catalogue", "closure::finished_crawl_gives_final_answers", ""),
         ("gopher_catalogue", "closure::finished_crawls_answer_alike", ""),
@@ -141,7 +145,7 @@ def model_of(text, name):
 
 
 def rust_items(path):
-    """The types and traits of a source file, as contracts see them."""
+    """The types, traits and constants of a source file, as contracts see them."""
     text = path.read_text()
     crate = path.relative_to(ROOT / "crates").parts[0]
     file = str(path.relative_to(ROOT / "crates"))
@@ -159,6 +163,8 @@ def rust_items(path):
         item = Item(crate, file, name, body, {**imported, **scope})
         item.fields = set(re.findall(r"(?m)^    (?:pub )?(\w+)(?::|,$|\()", body)) | set(re.findall(r"λ ([\w' ]+)\.", body))
         yield item
+    for found in re.finditer(r"(?m)^(?:pub(?:\(crate\))? )?const (\w+): [^=;\n]+ = [^;\n]+;$", text):
+        yield Item(crate, file, found[1], found[0], {word: (home, word) for word, home in rust_uses(text).items()})
 
 
 class Tree:
@@ -189,6 +195,8 @@ class Tree:
     def spec_of(self, module, name):
         """A definition by its module, which may only hand it on."""
         if ".specs.declared." in module:
+            if module.endswith(".TheConstants"):
+                return self.type_of(module.split(".")[1], name)
             return self.type_of(module.split(".")[1], [part for part in module.split(".") if part != "TheVariants"][-1])
         if name in self.specs.get(module, {}):
             return self.specs[module][name]

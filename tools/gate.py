@@ -32,7 +32,7 @@ SCRIPTS = "scripts and documents"
 ROWS = ("proofs", "must-fail edits", "wrong bodies", "tests of crates", "tests of the program", SCRIPTS)
 # tests that want what a machine may lack
 BY_HAND = {"tests/clients.py"}
-COUNTS = re.compile(r"(?m)^(?:.*: )?(\d+) (?:passed|runs), (\d+) failed$")
+COUNTS = re.compile(r"(?m)^(?:.*: )?(\d+) passed, (\d+) failed$")
 OF_UNITTEST = re.compile(r"(?m)^Ran (\d+) tests? in [\d.]+s$")
 FAILED_OF_UNITTEST = re.compile(r"(?m)^FAILED \((.*)\)$")
 # what `rt ci` prints of each row: what passed, and what failed
@@ -95,7 +95,6 @@ def parts():
         program_part("check.py"),
         program_part("log.py", unproved=("--ratio", "0")),
         program_part("attack.py", unproved=("--memory", "100000")),
-        Part("refusals", "tests of crates", ("tests/refusals.sh",)),
     ]
     taken = {part.words[0] for part in named} | BY_HAND
     others = [it.name for it in sorted((ROOT / "tests").iterdir()) if it.is_file() and os.access(it, os.X_OK)]

@@ -2,7 +2,7 @@
 """Counts what README.md says of the size of the code and of its proofs.
 
     tools/numbers_of_code.py            prints the counts
-    tools/numbers_of_code.py --write    puts them into README.md: the table between its marks, and the numbers in its text
+    tools/numbers_of_code.py --write    puts them into README.md: the table between its marks, the numbers in its text, and the version
 
 The product is the program and the libraries below it: crates of tests, timings and examples don't count. A line counts
 unless it is empty or a comment. Lines are rounded to hundreds, definitions to tens.
@@ -90,8 +90,14 @@ def in_text():
     }
 
 
+def version():
+    """The version of the program, from its sources."""
+    return re.search(r'const VERSION: &str = "([\d.]+)";', "\n".join(texts("src/**/*.rt")))[1]
+
+
 def written(page):
-    """The README with the counts as they are."""
+    """The README with the counts and the version as they are."""
+    page = re.sub(r"This is version [\d.]*\d", f"This is version {version()}", page)
     page = MARKS.sub(lambda found: f"{found[1]}{table(counted())}\n{found[2]}", page)
     for pattern, numbers in in_text().items():
         found = re.search(pattern, page)

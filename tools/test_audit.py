@@ -46,6 +46,10 @@ class Audit(unittest.TestCase):
         self.assertIn("pub data IsReachable", text("closure"))
         self.assertIn("abbrev pub words_of ", text("closure").replace("unfoldable", "abbrev"))
 
+    def test_a_limit_is_printed_with_its_value(self):
+        self.assertIn("const MAX_LINE: usize = 1_024;", text("requests"))
+        self.assertIn("const MAX_TITLE: usize = 69;", text("closure"))
+
     def test_no_proof_and_no_body_is_printed(self):
         for name in audit.PROMISES:
             self.assertNotIn("/proofs/", text(name))

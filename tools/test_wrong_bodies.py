@@ -2,10 +2,10 @@
 """Tests tools/wrong_bodies.py on a small repository: what it must report as not refused, and which edits it must not accept."""
 import os
 import pathlib
+import re
 import subprocess
 import sys
 import tempfile
-import types
 import unittest
 
 TOOLS = pathlib.Path(__file__).resolve().parent
@@ -51,6 +51,9 @@ pub fn third(number: u32) -> u32
 """
 
 
+TABLE = re.compile(r"(?:\w*  +){2,}.*\d$|(?: +edits +checks +seconds)$")
+
+
 def edit(function, old, new):
     return f"function: {function}\nfile: src/lib.rt\nold: {old}\nnew: {new}\n"
 
@@ -58,6 +61,7 @@ def edit(function, old, new):
 ONE_TOO_MANY = edit("next", "    number + 1", "    number + 2")
 HARMLESS_CALLER = edit("after_next", "next(next(number))", "next(next(number + 0))")
 HARMLESS = edit("next", "    number + 1", "    1 + number")
+ONE_TOO_FEW_AGAIN = edit("next", "    number + 1", "    number")
 TEXT_IS_GONE = edit("next", "number + 7", "number + 2")
 OF_A_CONTRACT = edit("next", "result ≡ number + 1", "result ≡ number + 2")
 OF_ANOTHER_FUNCTION = edit("after_next", "    number + 1", "    number + 2")
@@ -84,11 +88,17 @@ class WrongBodies(unittest.TestCase):
             (root / "HANDLES").write_text("Handles allowed: none.\n")
             environment = {**os.environ, "ROOT": room}
             ran = subprocess.run([TOOLS / "wrong_bodies.py"], env=environment, capture_output=True, text=True)
-            return ran.stdout, ran.returncode
+            said = ran.stdout.splitlines(keepends=True)
+            self.tables = [line.split() for line in said if TABLE.match(line)]
+            return "".join(line for line in said if not TABLE.match(line)), ran.returncode
 
     def test_a_caller_of_a_refused_function_is_not_refused(self):
         said = "small/b: NOT REFUSED\n1 passed, 1 failed\n"
         self.assertEqual(self.tried(a=ONE_TOO_MANY, b=HARMLESS_CALLER), (said, 1))
+
+    def test_second_edits_of_a_function_are_tried_with_the_first(self):
+        said = "small/c: NOT REFUSED\n2 passed, 1 failed\n"
+        self.assertEqual(self.tried(a=ONE_TOO_MANY, b=ONE_TOO_FEW_AGAIN, c=HARMLESS), (said, 1))
 
     def test_a_harmless_edit_alone_is_not_refused(self):
         self.assertEqual(self.tried(a=HARMLESS), ("small/a: NOT REFUSED\n0 passed, 1 failed\n", 1))
@@ -99,6 +109,7 @@ class WrongBodies(unittest.TestCase):
 
     def test_edits_of_a_crate_and_of_one_above_it(self):
         self.assertEqual(self.tried(a=ONE_TOO_MANY, above={"b": ONE_TOO_FEW}), ("2 passed, 0 failed\n", 0))
+        self.assertEqual([row[:3] for row in self.tables[1:]], [["above", "1", "1"], ["small", "1", "1"], ["all", "2", "2"]])
 
     def test_edits_that_show_nothing_fail(self):
         said, status = self.tried(a=TEXT_IS_GONE, b=OF_A_CONTRACT, c=OF_ANOTHER_FUNCTION, d="new: text\n")
@@ -135,12 +146,11 @@ class WrongBodies(unittest.TestCase):
         self.assertEqual(wrong_bodies.lacking("small", said, {}), {"a::f": "`returns`: the two types differ"})
 
     def test_a_note_of_an_open_goal_in_the_edited_function_is_a_lack(self):
-        edit = types.SimpleNamespace(function="a::f")
         gone = "./proofs/a/f/Answers.antt:7:9: error: `returns`: `c.gone` is not in scope\nfn small::a::f: not proved\n"
         said = "note: src/a.rt:12:5: it is not proved that what the function ensures holds when it returns (`returns`)\n" + gone
         open_goal = "it is not proved that what the function ensures holds when it returns (`returns`)"
-        self.assertEqual(wrong_bodies.lacking("small", said, {("src/a.rt", 12): edit}), {"a::f": open_goal})
-        self.assertEqual(wrong_bodies.lacking("small", said, {("src/a.rt", 13): edit}), {})
+        self.assertEqual(wrong_bodies.lacking("small", said, {("src/a.rt", 12): "a::f"}), {"a::f": open_goal})
+        self.assertEqual(wrong_bodies.lacking("small", said, {("src/a.rt", 13): "a::f"}), {})
 
     def test_a_function_that_only_passes_a_refused_impl_lacks_nothing(self):
         passes = "it calls `small::PlainNext::next`, which is not proved; it passes the block `small::PlainNext`, which is not proved"
@@ -151,19 +161,34 @@ class WrongBodies(unittest.TestCase):
 
     def test_a_copy_has_the_places_of_its_edits_and_the_proofs_of_what_is_left(self):
         with tempfile.TemporaryDirectory() as room:
-            wrong_bodies.ROOT = root = pathlib.Path(room) / "root"
-            crate, copy = root / "crates" / "small", pathlib.Path(room) / "copy" / "small"
-            write_crate(crate, SOURCE, {"one": ONE_TOO_MANY})
+            kept, wrong_bodies.ROOT = wrong_bodies.ROOT, pathlib.Path(room) / "root"
+            self.addCleanup(setattr, wrong_bodies, "ROOT", kept)
+            crate, copy = wrong_bodies.ROOT / "crates" / "small", pathlib.Path(room) / "copy" / "small"
+            write_crate(crate, SOURCE, {"one": ONE_TOO_MANY, "two": ONE_TOO_FEW_AGAIN})
             (copy / "src").mkdir(parents=True)
             for name in ("next/Answers", "after_next/Answers", "Lemmas"):
                 (crate / "proofs" / name).parent.mkdir(parents=True, exist_ok=True)
-                (crate / "proofs" / f"{name}.antt").write_text("")
-            one = wrong_bodies.Edit(crate / "wrong-bodies" / "one.edit")
-            stands = wrong_bodies.write([one], copy, is_alone=False)
-            self.assertEqual(sorted(stands), [("src/lib.rt", line) for line in range(7, 13)])
-            self.assertEqual((copy / "src" / "lib.rt").read_text().count("unreachable!()"), 1)
-            left = sorted(str(file.relative_to(copy)) for file in (copy / "proofs").rglob("*.antt"))
-            self.assertEqual(left, ["proofs/Lemmas.antt", "proofs/next/Answers.antt"])
+                (crate / "proofs" / f"{name}.antt").write_text("use Rattle.small.proofs.next.Goals as goal\n")
+            edits = [wrong_bodies.Edit(crate / "wrong-bodies" / f"{name}.edit") for name in ("one", "two")]
+            found, stands = wrong_bodies.write(edits, copy, is_alone=False)
+            self.assertEqual(found, {"next": edits[0], "next_of_two": edits[1]})
+            lines = {function: [line for (_, line), it in stands.items() if it == function] for function in found}
+            self.assertEqual(lines, {"next": [*range(7, 13)], "next_of_two": [*range(14, 20)]})
+            text = (copy / "src" / "lib.rt").read_text()
+            self.assertEqual(text.count("unreachable!()"), 1)
+            self.assertIn("pub fn next_of_two(number: u32) -> u32\n    requires { number < 1000 }\n", text)
+            left = {str(file.relative_to(copy)): file.read_text() for file in (copy / "proofs").rglob("*.antt")}
+            self.assertEqual([*sorted(left)], [f"proofs/{name}.antt" for name in ("Lemmas", "next/Answers", "next_of_two/Answers")])
+            self.assertEqual(left["proofs/next_of_two/Answers.antt"], "use Rattle.small.proofs.next_of_two.Goals as goal\n")
+
+    def test_methods_of_traits_and_functions_of_a_cycle_have_no_twin(self):
+        method = "    fn of(&self) -> u32 {\n        1\n    }\n"
+        may = lambda before, text: wrong_bodies.may_have_twin("small", "of", [before, text], 1)
+        self.assertTrue(may("impl Small {\n", method))
+        self.assertTrue(may("", "fn of() -> u32 {\n    1\n}\n"))
+        self.assertFalse(may("impl Of for Small {\n", method))
+        self.assertFalse(may("pub trait Of {\n", method))
+        self.assertFalse(may("impl Small {\n", method.replace("        1", "        self.of(1)").replace("self.", "")))
 
 
 if __name__ == "__main__":

@@ -10,13 +10,16 @@ An edit is a file crates/CRATE/wrong-bodies/NAME.edit: a line 'function: PATH', 
 check names it below its crate; a line 'file: src/NAME.rt'; then pairs of lines 'old: TEXT' and 'new: TEXT'. An old text
 stands exactly once in the file, as the pairs before it left that, and only bodies of functions may change.
 
-Edits of different functions are tried in one check of a copy of the crate, since the prover goes on after a refusal and
-says of each function what it lacks. Every other function is blank there, with a body whose proof fails at once: callers
-are judged by its contract, and what it calls isn't proved again. An edit counts as refused only if its own function
+All edits of a crate are tried in one check of a copy of the crate, since the prover goes on after a refusal and says of each
+function what it lacks. Of a second edit of a function, a twin of the function is written beside it, with its contract, its
+proof files and a name of its own; methods of traits have no twins, and their further edits are tried in further checks. Every
+other function is blank there, with a body whose proof fails at once: callers are judged by its contract, and what it calls
+isn't proved again. An edit counts as refused only if its own function
 lacks the proof of a goal: not if the function only calls a refused one or passes an impl that has one, and not if a proof
 file only names what the edit took away. What isn't refused in company is tried alone, with no blank body: 'NOT REFUSED' is
 then said of a function that is proved, and 'NOT PROVED, BY NAMES ALONE' of one whose proof file no longer fits, which shows
-nothing either way. The last line is 'N passed, M failed'; the status is 1 if any failed.
+nothing either way. A table tells for each crate its edits, the checks that they took and the seconds of the processors. The
+last line is 'N passed, M failed'; the status is 1 if any failed.
 """
 import os
 import pathlib
@@ -27,11 +30,13 @@ import sys
 import tempfile
 from concurrent.futures import ThreadPoolExecutor
 
+from functions import blank, is_in_cycle, names_in, pieces, twin_of, without_tactic
+
 ROOT = pathlib.Path(os.environ.get("ROOT") or pathlib.Path(__file__).resolve().parent.parent)
 MEMORY_OF_A_CHECK = 3 << 20  # KiB
-HEAD = r"(?:pub(?:\(\w+\))? )?(?:const )?fn (?=\w)"
-FUNCTION = re.compile(rf"(?ms)^( *){HEAD}.*?^\1\}}\n")
+SECONDS = {}  # of the processors, that each check of a crate took
 CLAUSE = re.compile(r"(?m)^ *(?:ensures|requires|ghost)\b.*$")
+OWN_PROOFS = ("Answers", "Invariants", "Proof")
 NAMES_ALONE = re.compile(r"is not in scope|has no field|has no `|is no name|was not admitted|were not checked|: module `|\(nearest: ")
 
 
@@ -41,33 +46,6 @@ NO_GOAL = re.compile(r"^it calls |^it passes the block |the borrow checker's par
 
 class BadEdit(Exception):
     """Why an edit shows nothing."""
-
-
-def pieces(text):
-    """A source file cut into what stands between functions (at even indexes) and functions (at odd ones)."""
-    cuts = [0, *(cut for found in FUNCTION.finditer(text) for cut in found.span()), len(text)]
-    return [text[start:end] for start, end in zip(cuts, cuts[1:])]
-
-
-def is_in_cycle(function, before):
-    """Whether a function calls itself, or is declared to be in a cycle of calls by what stands before it."""
-    name = re.search(r"\bfn (\w+)", function)[1]
-    return "#[cycle" in before or re.search(rf"(?<!fn )(?<![\w:.]){name}\(", function) is not None
-
-
-def blank(function):
-    """A function with a body that no contract allows, for which no proof is sought. A piece may begin with methods of a trait
-    that have no body."""
-    indent = re.match(" *", function)[0]
-    last = [*re.finditer(rf"(?m)^{indent}{HEAD}", function)][-1].start()
-    opened = re.compile(rf"(?m)^{indent}\{{$").search(function, last) or re.compile(r"(?m) \{$").search(function, last)
-    head = f"{function[:last]}{indent}#[tactic(none)]\n{function[last:opened.end()]}"
-    return f"{head}\n{indent}    unreachable!()\n{indent}}}\n"
-
-
-def without_tactic(before):
-    """What stands before a function, without the tactic that it asks for."""
-    return re.sub(r"(?m)^ *#\[tactic\([^\]]*\)\]\n(?=(?: *(?:#\[|//).*\n)*\Z)", "", before)
 
 
 class Edit:
@@ -112,23 +90,42 @@ class Edit:
             if CLAUSE.findall(before[at]) != CLAUSE.findall(new):
                 raise BadEdit("it changes a contract")
         changed = "".join(before[at] for at in self.changes)
-        if not re.search(rf"\bfn {self.function.split('::')[-1]}\b", changed):
+        name = self.function.split("::")[-1]
+        if not re.search(rf"\bfn {name}\b", changed):
             raise BadEdit(f"it changes nothing in {self.function}")
+        can_have = len(self.changes) == 1 and may_have_twin(self.crate, self.function, before, *self.changes)
+        self.twin = re.sub(r"\W", "_", f"{name}_of_{self.name}") if can_have else None
 
 
 def groups_of(edits):
-    """Parts the edits of a crate into groups with at most one edit in any function."""
+    """Parts the edits of a crate into groups with at most one edit in any function that can't have a twin."""
     groups = []
     for edit in edits:
         stands = {(edit.file, at) for at in edit.changes}
         for taken, group in groups:
-            if not taken & stands:
+            if not taken & stands or edit.twin:
                 taken |= stands
                 group.append(edit)
                 break
         else:
             groups.append((stands, [edit]))
     return [group for _, group in groups]
+
+
+def proofs_of(function):
+    return pathlib.Path("proofs", *function.split("::"))
+
+
+def may_have_twin(crate, function, text, at):
+    """Whether a function may stand twice: it is no method of a trait, in no cycle, and no closure or lemma of it has proof files."""
+    around = re.findall(r"(?m)^(?!//)(\S.*)$", "".join(text[:at])) if text[at].startswith(" ") else []
+    is_of_trait = around and not re.match(r"impl\b(?!.* for )", around[-1])
+    if is_in_cycle(text[at], text[at - 1]) or len(names_in(text[at])) > 1 or is_of_trait:
+        return False
+    name = function.rpartition("::")[2]
+    folder, within = ROOT / "crates" / crate / proofs_of(function), ROOT / "crates" / crate / "proofs"
+    others = [*within.rglob(f"fn/**/{name}/*"), *(it for it in folder.rglob("*") if it.stem not in OWN_PROOFS)]
+    return not others
 
 
 def libraries_below():
@@ -145,8 +142,14 @@ def run(words, folder):
 
 
 def check(folder, functions):
-    """What a check of these functions says, and whether it judged them."""
-    said = run(["rt", "check", "--jobs", "1", *(word for function in functions for word in ("--only", function))], folder).stdout
+    """What a check of these functions says, and whether it judged them. Its seconds of the processors are noted."""
+    words = ["rt", "check", "--jobs", "1", *(word for function in functions for word in ("--only", function))]
+    with tempfile.TemporaryFile("w+", errors="replace") as told:
+        process = subprocess.Popen(words, cwd=folder, stdin=subprocess.DEVNULL, stdout=told, stderr=subprocess.STDOUT)
+        _, process.returncode, used = os.wait4(process.pid, 0)
+        told.seek(0)
+        said = told.read()
+    SECONDS.setdefault(folder.name, []).append(used.ru_utime + used.ru_stime)
     return said, re.search(r"(?m)^only=", said) is not None
 
 
@@ -161,32 +164,60 @@ def copy_of(crate, built, room):
     return room / "crates" / crate
 
 
-def names_in(piece):
-    return re.findall(rf"(?m)^ *{HEAD}(\w+)", piece)
+def parts_of(text, changed, is_alone, found, left):
+    """The pieces of a source file as they are tried, each with the function that is checked in it, if there is one."""
+    parts = []
+    for at, piece in enumerate(text):
+        is_left = at % 2 and (is_alone or is_in_cycle(piece, text[at - 1]))
+        left.update(names_in(piece) if is_left or at in changed else ())
+        for edit, new in changed.get(at, [])[:1]:
+            parts.append((new, edit.function))
+            found[edit.function] = edit
+        for edit, new in changed.get(at, [])[1:]:
+            function = f"{edit.function.rpartition('::')[0]}::{edit.twin}".removeprefix("::")
+            before, twin = twin_of(text[at - 1], new, edit.twin)
+            parts += [(before, None), (twin, function)]
+            found[function] = edit
+        if at not in changed and at % 2 and not is_left:
+            parts[-1:] = [(without_tactic(piece), None) for piece, _ in parts[-1:]]
+            parts.append((blank(piece), None))
+        elif at not in changed:
+            parts.append((piece, None))
+    return parts
 
 
 def write(edits, folder, is_alone):
     """Writes the sources of the copy with these edits. A function of a cycle is never blank, since its cycle names it.
 
-    Gives where the functions that are edited stand: for each edit and line of its file, counted from 1."""
-    crate, left, stands = ROOT / "crates" / folder.name, set(), {}
+    Gives the edit of each function that is checked, by its path, and where these functions stand: the path for each line of a
+    file, counted from 1."""
+    crate, left, found, stands = ROOT / "crates" / folder.name, set(), {}, {}
     for path in (crate / "src").rglob("*.rt"):
-        file, text = path.relative_to(crate), pieces(path.read_text())
-        by_piece = {at: (edit, new) for edit in edits if edit.file == str(file) for at, new in edit.changes.items()}
-        for at in range(1, len(text), 2):
-            is_left = is_alone or is_in_cycle(text[at], text[at - 1])
-            if at in by_piece or is_left:
-                left.update(names_in(text[at]))
-            if at in by_piece:
-                text[at] = by_piece[at][1]
-            elif not is_left:
-                text[at - 1 : at + 1] = without_tactic(text[at - 1]), blank(text[at])
-        for at, (edit, _) in by_piece.items():
-            first = sum(piece.count("\n") for piece in text[:at]) + 1
-            stands.update({(str(file), line): edit for line in range(first, first + text[at].count("\n"))})
-        (folder / file).write_text("".join(text))
+        file, changed, line = path.relative_to(crate), {}, 1
+        for edit in edits:
+            for at, new in edit.changes.items() if edit.file == str(file) else ():
+                changed.setdefault(at, []).append((edit, new))
+        parts = parts_of(pieces(path.read_text()), changed, is_alone, found, left)
+        for part, function in parts:
+            lines = part.count("\n")
+            stands.update({(str(file), at): function for at in range(line, line + lines) if function})
+            line += lines
+        (folder / file).write_text("".join(part for part, _ in parts))
     write_proofs(crate, folder, left)
-    return stands
+    for function, edit in found.items():
+        write_twins_proofs(folder, edit.function, function)
+    return found, stands
+
+
+def write_twins_proofs(folder, function, twin):
+    """Writes the proof files of a twin, which are those of the function under its name."""
+    own = folder / proofs_of(function)
+    if function != twin and own.is_dir():
+        dotted = lambda path: f".proofs.{path.replace('::', '.')}."
+        (folder / proofs_of(twin)).mkdir()
+        for file in own.glob("*.antt"):
+            text = file.read_text().replace(dotted(function), dotted(twin))
+            (folder / proofs_of(twin) / file.name).write_text(text)
 
 
 def write_proofs(crate, folder, left):
@@ -194,14 +225,14 @@ def write_proofs(crate, folder, left):
     shutil.rmtree(folder / "proofs", ignore_errors=True)
     if (crate / "proofs").is_dir():
         shutil.copytree(crate / "proofs", folder / "proofs")
-        for name in ("Answers", "Invariants", "Proof"):
+        for name in OWN_PROOFS:
             for file in (folder / "proofs").rglob(f"{name}.antt"):
                 if not left & set(file.relative_to(folder / "proofs").parts):
                     file.unlink()
 
 
 def lacking(crate, said, stands):
-    """What each function, or each edit by its place, lacks by itself, from what a check said; names that are gone are no goal."""
+    """What each function lacks by itself, from what a check said; names that are gone are no goal."""
     lacks, errors_of = {}, {}
     for function, reason in re.findall(rf"(?m)^fn {crate}::(\S+): no proof: (.*)$", said):
         own = [part for part in reason.split("; ") if not NO_GOAL.search(part)]
@@ -211,9 +242,9 @@ def lacking(crate, said, stands):
         errors_of[function] = re.findall(rf"(?m)^\./proofs/{folder}/\w+\.antt:\d+:\d+: error: (.*)$", said)
         lacks[function] = "; ".join(error[:200] for error in errors_of[function] if not NAMES_ALONE.search(error))
     for file, line, note in re.findall(r"(?m)^note: (src/\S+?):(\d+):\d+: (it is not proved that .*)$", said):
-        edit = stands.get((file, int(line)))
-        if edit and not lacks.get(edit.function) and edit.function in errors_of:
-            lacks[edit.function] = note[:200]
+        function = stands.get((file, int(line)))
+        if not lacks.get(function) and function in errors_of:
+            lacks[function] = note[:200]
     return {function: lack for function, lack in lacks.items() if lack}
 
 
@@ -223,14 +254,14 @@ def is_proved(crate, function, said):
 
 def try_group(edits, folder, is_alone):
     """What the check of the copy with these edits says: for each edit what its function lacks, or why it isn't refused."""
-    stands = write(edits, folder, is_alone)
-    said, is_judged = check(folder, [edit.function for edit in edits])
+    found, stands = write(edits, folder, is_alone)
+    said, is_judged = check(folder, found)
     if not is_judged:
         return {edit: (False, "NOTHING JUDGED, the check said:\n" + said[-2000:]) for edit in edits}
     lacks = lacking(folder.name, said, stands)
-    is_whole = lambda edit: is_proved(folder.name, edit.function, said)
-    why = lambda edit: "NOT REFUSED" if is_whole(edit) else "NOT PROVED, BY NAMES ALONE"
-    return {edit: (edit.function in lacks, lacks.get(edit.function) or why(edit)) for edit in edits}
+    is_whole = lambda function: is_proved(folder.name, function, said)
+    why = lambda function: "NOT REFUSED" if is_whole(function) else "NOT PROVED, BY NAMES ALONE"
+    return {edit: (function in lacks, lacks.get(function) or why(function)) for function, edit in found.items()}
 
 
 def try_crate(edits, built):
@@ -307,6 +338,14 @@ def try_all(edits, below, is_built):
     return tried
 
 
+def table(edits):
+    """For each crate its edits, the checks that they took, and the seconds of the processors."""
+    count = lambda crate: sum(edit.crate == crate for edit in edits)
+    rows = [(crate, count(crate), len(seconds), round(sum(seconds))) for crate, seconds in sorted(SECONDS.items())]
+    rows.append(("all", len(edits), sum(row[2] for row in rows), sum(row[3] for row in rows)))
+    return ["{:<22}{:>8}{:>8}{:>10}".format(*row) for row in [("", "edits", "checks", "seconds"), *rows]]
+
+
 def main(words):
     if unknown := [word for word in words if word.startswith("-") and word not in ("--reasons", "--after-ci")]:
         print(__doc__)
@@ -320,7 +359,7 @@ def main(words):
     failed += [f"{edit}: {why}" for edit, (is_refused, why) in tried.items() if not is_refused]
     for line in [*(refused if "--reasons" in words else []), *failed]:
         print(line)
-    print(f"{len(refused)} passed, {len(failed)} failed")
+    print(*table(edits), f"{len(refused)} passed, {len(failed)} failed", sep="\n")
     return 1 if failed or not refused else 0
 
 

@@ -1,121 +1,86 @@
-//! A crew that crawls a host in memory: pages a second beside the same pages made without a catalogue,
-//! the best of several rounds of both in turn, and its memory for each page.
+//! A crew that crawls a host in memory: pages a second, the best of several rounds, and its memory for each page.
 
 ghost use Rattle.std.specs.Prelude.{◌≡◌, []};
 
-use crate::desks::{Pairs, opened_desk};
-use crate::failed::Failed;
-use crate::files;
-use crate::links::Host;
-use crate::making::made_alone;
-use crate::printing::{Figure, print};
-use crate::timing::{Best, ROUNDS, now};
-use gopher_crew::{Blank, Crew, Desk, crawl};
-use gopher_item::Place;
+use crate::host::Host;
+use crate::opening::{opened, place, texts};
+use crate::timing::{ROUNDS, now, per_second, resident, since};
+use gopher_catalogue::Catalogue;
+use gopher_crew::{Blank, Crew, Desk, Share, crawl};
+use std::alloc::Global;
 use std::marker::Brand;
 use std::rt::Runtime;
 use std::sync::Wait;
 use std::thread::Threads;
+use test_tables::Fetcher;
 
-const WORKERS: [(u32, &str); 3] = [(4, "4 workers"), (2, "2 workers"), (1, "1 worker")];
-
-// What a crawl left: its memory, and how many places are done.
-#[derive(Clone, Copy)]
-struct Left {
-    held: u64,
-    done: u32,
+// A crawl that begins at the menu of menus.
+fn catalogue(alloc: Global) -> Option<Catalogue> {
+    let mut seeds = Vec::new(alloc);
+    seeds.push(place(alloc, b'1', "/0")?).ok()?;
+    opened(alloc, seeds)
 }
 
-// Times the workers' crawl.
-fn time<C: Crew + Send + Sync, R: Runtime + AllocGlobal + Threads + Wait + Sync>(
-    rt: &R,
-    desk: &Desk<C, &R>,
-    pairs: Pairs<'_, C>,
-    best: &mut Best,
-) -> Result<(), Failed> {
-    let start = now(rt)?;
-    let _ends = crawl(rt, rt.alloc(), desk, pairs);
-    best.end(rt, start)
+// A fetcher for each share.
+fn pairs<C: Crew>(
+    alloc: Global,
+    host: &Host,
+    shares: Vec<Share<C>>,
+) -> Option<Vec<(Fetcher<&Host>, Share<C>)>> {
+    let mut pairs = Vec::new(alloc);
+    for share in shares {
+        pairs.push((Fetcher::new(host), share)).ok()?;
+    }
+    Some(pairs)
 }
 
-// Crawls the host with so many workers.
+// Crawls the host with so many workers: the nanoseconds, the bytes that it holds, and how many places are done.
 fn crawled<C: Crew + Send + Sync, R: Runtime + AllocGlobal + Threads + Wait + Sync>(
     rt: &R,
     blank: Blank,
     host: &Host,
     workers: u32,
-    best: &mut Best,
-) -> Result<Left, Failed>
+) -> Option<(u64, u64, u32)>
     requires name { blank.name ≡ C.name }
     requires parts { blank.parts ≡ C.parts }
     requires history { blank.history ≡ C.history }
     requires begun { blank.begun ≡ [] }
 {
-    let (desk, _passes, pairs) = opened_desk::<C, R>(rt, blank, host, workers)?;
-    let before = files::resident(rt)?;
-    time(rt, &desk, pairs, best)?;
-    let held = files::resident(rt)?.saturating_sub(before);
-    let done = desk.status(rt).done;
-    Ok(Left { held, done })
+    let catalogue = catalogue(rt.alloc())?;
+    let opened = Desk::<C, &R>::open(rt, rt.alloc(), catalogue, 1, workers, blank);
+    let (desk, _passes, shares) = opened.ok()?;
+    let pairs = pairs(rt.alloc(), host, shares)?;
+    let before = resident(rt)?;
+    let start = now(rt)?;
+    let _ends = crawl(rt, rt.alloc(), &desk, pairs);
+    let span = since(rt, start)?;
+    let held = resident(rt)?.saturating_sub(before);
+    Some((span, held, desk.status(rt).done))
 }
 
-// Prints what crawls left and took, beside their pages made without a catalogue.
-fn print_crawled<R: Print + AllocGlobal>(
-    rt: &R,
-    name: &str,
-    left: Left,
-    (crawls, alone): (Best, Best),
-    pages: usize,
-) -> Result<(), Failed> {
-    let done = u64::from(left.done);
-    let each = left.held.checked_div(done).unwrap_or(0);
-    let speed = crawls.per_second(pages);
-    let alone = alone.per_second(pages);
-    let percent = speed.saturating_mul(100).checked_div(alone).unwrap_or(0);
-    let figures = [
-        Figure::Whole(done, "places done"),
-        Figure::Whole(each, "bytes a page"),
-        Figure::Whole(speed, "pages/s"),
-        Figure::Whole(percent, "% of those without a catalogue"),
-        Figure::Whole(alone, "pages/s"),
-    ];
-    print(rt, name, &figures)
-}
-
-// Crawls the host with so many workers, and makes its pages without a catalogue by as many threads.
-fn compare<R: Runtime + AllocGlobal + Threads + Wait + Sync>(
+// Prints the best of several crawls by so many workers, and what the first holds: later ones use again what it gave back.
+fn measure_by<R: Runtime + AllocGlobal + Threads + Wait + Sync>(
     rt: &R,
     host: &Host,
-    places: &[Place],
-    workers: (u32, &str),
-) -> Result<(), Failed> {
-    let (workers, name) = workers;
-    let (mut crawls, mut alone) = (Best::new(), Best::new());
-    let left = crawled::<Brand, R>(rt, Blank::new(), host, workers, &mut crawls)?;
-    made_alone(rt, host, places, workers, &mut alone)?;
+    workers: u32,
+) -> Option<()> {
+    let (mut best, held, done) = crawled::<Brand, R>(rt, Blank::new(), host, workers)?;
     for _round in 1..ROUNDS {
-        crawled::<Brand, R>(rt, Blank::new(), host, workers, &mut crawls)?;
-        made_alone(rt, host, places, workers, &mut alone)?;
+        let (span, _held, _done) = crawled::<Brand, R>(rt, Blank::new(), host, workers)?;
+        best = best.min(span);
     }
-    print_crawled(rt, name, left, (crawls, alone), places.len())
+    let speed = per_second(done as usize, best);
+    let each = held.checked_div(u64::from(done)).unwrap_or(0);
+    println!(rt; "{workers} workers: {done} places done, {each} bytes a page, {speed} pages/s").ok()
 }
 
-fn read_host<R: Runtime + AllocGlobal>(rt: &R, path: &str) -> Result<Host, Failed> {
-    let bytes = files::bytes(rt, path)?;
-    let texts = files::pages(rt.alloc(), &bytes)?;
-    Ok(Host::new(rt.alloc(), &texts)?)
-}
-
-/// Prints how fast 4, 2 and 1 workers crawl the file's texts, and what they hold in memory. The first
-/// crawl's memory counts: later ones use again what it gave back.
+/// Prints how fast 4, 2 and 1 workers crawl the texts, and what they hold in memory.
 pub fn measure<R: Runtime + AllocGlobal + Threads + Wait + Sync>(
     rt: &R,
-    path: &str,
-) -> Result<(), Failed> {
-    let host = read_host(rt, path)?;
-    let places = host.places(rt.alloc())?;
-    for workers in WORKERS {
-        compare(rt, &host, &places, workers)?;
-    }
-    Ok(())
+    bytes: &[u8],
+) -> Option<()> {
+    let host = Host::new(rt.alloc(), &texts(rt.alloc(), bytes)?)?;
+    measure_by(rt, &host, 4)?;
+    measure_by(rt, &host, 2)?;
+    measure_by(rt, &host, 1)
 }

@@ -1,64 +1,53 @@
 //! Times the crates on a file: `bench_measure menu|text|search|crawl FILE`.
 //!
-//! A line gives the best of several rounds: for menus and texts in megabytes a second, beside a plain copy
-//! of the same bytes in the same run, for the others in microseconds. The building of a catalogue alone
-//! has one round.
+//! A line gives the best of several rounds: for menus and texts in megabytes a second, for searches in microseconds, for
+//! crawls in pages a second. The building of a catalogue alone has one round.
 #![tactic(auto)]
 
 mod crawls;
-mod desks;
-mod failed;
-mod files;
 mod formats;
-mod links;
-mod making;
+mod host;
 mod opening;
-mod printing;
 mod searches;
 mod timing;
 
-use failed::Failed;
-use formats::Format;
-use printing::print;
-use std::alloc::Global;
-use std::env;
+use std::{env, fs};
 
-// The words after the program's name.
-fn words(rt: &HostRuntime) -> Result<Vec<String>, Failed> {
-    let Ok(all) = env::args(rt) else {
-        return Err(Failed::Words);
-    };
-    let mut words = Vec::new(rt.alloc());
-    for word in all.skip(1) {
-        words.push(word)?;
-    }
-    Ok(words)
-}
+/// A measurement that gave up, because memory, the file, the clock or the output failed.
+#[derive(Clone, Copy, Debug)]
+pub struct Failed;
 
-// A measurement with no thread but its own. None where the word names none.
-fn measure(rt: &HostRuntime, what: &str, path: &str) -> Option<Result<(), Failed>> {
+// A measurement with no thread but its own; none if the word names none.
+fn measure(rt: &HostRuntime, what: &str, bytes: &[u8]) -> Option<()> {
     match what {
-        "menu" => Some(formats::measure(rt, Format::Menu, path)),
-        "text" => Some(formats::measure(rt, Format::Text, path)),
-        "search" => Some(searches::measure(rt, path)),
+        "menu" => formats::measure_menus(rt, bytes),
+        "text" => formats::measure_texts(rt, bytes),
+        "search" => searches::measure(rt, bytes),
         _ => None,
     }
 }
 
-fn print_usage(rt: &HostRuntime) -> Result<(), Failed> {
-    print(rt, "usage: bench_measure menu|text|search|crawl FILE", &[])
+// The words after the program's name, if these are two.
+fn words(rt: &HostRuntime) -> Option<(String, String)> {
+    let mut words = env::args(rt).ok()?.skip(1);
+    let two = (words.next()?, words.next()?);
+    match words.next() {
+        None => Some(two),
+        Some(_third) => None,
+    }
 }
 
 fn main(rt: HostRuntime) -> Result<(), Failed> {
-    let words = words(&rt)?;
-    let [what, path] = words.as_slice() else {
-        return print_usage(&rt);
+    let Some((what, path)) = words(&rt) else {
+        let usage = println!(rt; "usage: bench_measure menu|text|search|crawl FILE");
+        return usage.ok().ok_or(Failed);
     };
-    if what.as_str() == "crawl" {
-        return crawls::measure(&rt, path.as_str());
-    }
-    match measure(&rt, what.as_str(), path.as_str()) {
-        Some(end) => end,
-        None => print_usage(&rt),
-    }
+    let Ok(bytes) = fs::read(&rt, path.as_str()) else {
+        return Err(Failed);
+    };
+    let end = match what.as_str() {
+        "crawl" => crawls::measure(&rt, &bytes),
+        other => measure(&rt, other, &bytes),
+    };
+    end.ok_or(Failed)
 }

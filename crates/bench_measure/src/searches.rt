@@ -1,10 +1,7 @@
 //! A catalogue of many pages: how long it takes to build, what it holds, and how fast it answers.
 
-use crate::failed::Failed;
-use crate::files;
-use crate::opening::{opened, place};
-use crate::printing::{Figure, print};
-use crate::timing::{Best, Total, now};
+use crate::opening::{opened, place, texts};
+use crate::timing::{now, resident, since};
 use gopher_catalogue::{Catalogue, Claim, Hit, Turn};
 use gopher_item::Place;
 use gopher_page::{Page, Query};
@@ -21,189 +18,135 @@ const QUERIES: [&str; 6] = [
 
 const SEARCHES: u32 = 20;
 
-// The place of a page, by its number.
-fn page_place(alloc: Global, number: usize) -> Result<Place, Failed> {
-    let selector = format!(in alloc; "/page/{number}")?;
-    place(alloc, b'0', selector.as_str())
-}
-
-fn seeds(alloc: Global, count: usize) -> Result<Vec<Place>, Failed> {
+fn seeds(alloc: Global, count: usize) -> Option<Vec<Place>> {
     let mut seeds = Vec::new(alloc);
     for number in 0..count {
-        seeds.push(page_place(alloc, number)?)?;
+        let selector = format!(in alloc; "/page/{number}").ok()?;
+        seeds.push(place(alloc, b'0', selector.as_str())?).ok()?;
     }
-    Ok(seeds)
+    Some(seeds)
 }
 
-// What the pages took to make, and to claim and add.
+// The nanoseconds that pages took to make, and to claim and add.
 #[derive(Clone, Copy)]
-struct Build {
-    made: Total,
-    added: Total,
+struct Spent {
+    made: u64,
+    added: u64,
 }
 
-impl Build {
-    fn new() -> Build {
-        Build {
-            made: Total::new(),
-            added: Total::new(),
-        }
-    }
-
-    // Claims a place; none where nothing waits.
-    fn claim(
-        &mut self,
-        rt: &HostRuntime,
-        catalogue: &mut Catalogue,
-    ) -> Result<Option<Claim>, Failed> {
-        let start = now(rt)?;
-        let turn = catalogue.claim()?;
-        self.added.end(rt, start)?;
-        match turn {
-            Turn::Take(claim) => Ok(Some(claim)),
-            _ => Ok(None),
-        }
-    }
-
-    // Makes the page of a place.
-    fn make(
-        &mut self,
-        rt: &HostRuntime,
-        catalogue: &Catalogue,
-        place: &Place,
-        text: &[u8],
-    ) -> Result<Page, Failed> {
-        if text.len() > 1_048_576 {
-            return Err(Failed::Refused);
-        }
-        let start = now(rt)?;
-        let page = Page::of(rt.alloc(), catalogue.opening().scope(), place, text)?;
-        self.made.end(rt, start)?;
-        Ok(page)
-    }
-
-    fn add(
-        &mut self,
-        rt: &HostRuntime,
-        catalogue: &mut Catalogue,
-        number: u32,
-        page: Page,
-    ) -> Result<(), Failed> {
-        let start = now(rt)?;
-        let Ok(_added) = catalogue.found(number, page) else {
-            return Err(Failed::Refused);
-        };
-        catalogue.settle();
-        self.added.end(rt, start)
-    }
-
-    // Makes the page of the next place and adds it, unless nothing waits.
-    fn step(
-        &mut self,
-        rt: &HostRuntime,
-        catalogue: &mut Catalogue,
-        text: &[u8],
-    ) -> Result<(), Failed> {
-        let Some(claim) = self.claim(rt, catalogue)? else {
-            return Ok(());
-        };
-        let page = self.make(rt, catalogue, &claim.place, text)?;
-        self.add(rt, catalogue, claim.number, page)
-    }
-
-    fn print(self, rt: &HostRuntime, pages: usize) -> Result<(), Failed> {
-        print(rt, "catalogue", &[Figure::Whole(pages as u64, "pages")])?;
-        print(rt, "making", &[self.made.of_each(pages)])?;
-        print(rt, "claiming and adding", &[self.added.of_each(pages)])
+fn claim(rt: &HostRuntime, catalogue: &mut Catalogue, spent: &mut Spent) -> Option<Claim> {
+    let start = now(rt)?;
+    let turn = catalogue.claim().ok()?;
+    spent.added = spent.added.saturating_add(since(rt, start)?);
+    match turn {
+        Turn::Take(claim) => Some(claim),
+        _ => None,
     }
 }
 
-// The catalogue of a crawl that found the texts. Prints what it took.
-fn filled(rt: &HostRuntime, texts: &[&[u8]], catalogue: Catalogue) -> Result<Catalogue, Failed> {
-    let mut catalogue = catalogue;
-    let mut build = Build::new();
+fn make(
+    rt: &HostRuntime,
+    catalogue: &Catalogue,
+    claim: &Claim,
+    text: &[u8],
+    spent: &mut Spent,
+) -> Option<Page> {
+    if text.len() > 1_048_576 {
+        return None;
+    }
+    let start = now(rt)?;
+    let page = Page::of(rt.alloc(), catalogue.opening().scope(), &claim.place, text).ok()?;
+    spent.made = spent.made.saturating_add(since(rt, start)?);
+    Some(page)
+}
+
+fn add(
+    rt: &HostRuntime,
+    catalogue: &mut Catalogue,
+    number: u32,
+    page: Page,
+    spent: &mut Spent,
+) -> Option<()> {
+    let start = now(rt)?;
+    let _added = catalogue.found(number, page).ok()?;
+    catalogue.settle();
+    spent.added = spent.added.saturating_add(since(rt, start)?);
+    Some(())
+}
+
+// The catalogue of a crawl that found the texts, and what it took.
+fn fill(rt: &HostRuntime, catalogue: &mut Catalogue, texts: &[&[u8]]) -> Option<Spent> {
+    let mut spent = Spent { made: 0, added: 0 };
     for text in texts {
-        build.step(rt, &mut catalogue, text)?;
+        let claim = claim(rt, catalogue, &mut spent)?;
+        let page = make(rt, catalogue, &claim, text, &mut spent)?;
+        add(rt, catalogue, claim.number, page, &mut spent)?;
     }
-    build.print(rt, texts.len())?;
-    Ok(catalogue)
+    Some(spent)
 }
 
-// The same, and prints its memory for each page.
-fn built(rt: &HostRuntime, texts: &[&[u8]]) -> Result<Catalogue, Failed> {
-    let catalogue = opened(rt.alloc(), seeds(rt.alloc(), texts.len())?, texts.len())?;
-    let before = files::resident(rt)?;
-    let catalogue = filled(rt, texts, catalogue)?;
-    let held = files::resident(rt)?.saturating_sub(before);
-    let each = held.checked_div(texts.len() as u64).unwrap_or(0);
-    let bytes = Figure::Whole(each, "bytes a page, with its postings");
-    print(rt, "memory", &[bytes])?;
-    Ok(catalogue)
+// A whole of several pages, as that of each.
+fn each(whole: u64, pages: usize) -> u64 {
+    whole.checked_div(pages as u64).unwrap_or(0)
 }
 
-// How many hits a search had, and the sum of their scores.
-#[derive(Clone, Copy)]
-struct Found {
-    hits: u64,
-    scores: u64,
+fn built(rt: &HostRuntime, texts: &[&[u8]]) -> Option<Catalogue> {
+    let mut catalogue = opened(rt.alloc(), seeds(rt.alloc(), texts.len())?)?;
+    let before = resident(rt)?;
+    let spent = fill(rt, &mut catalogue, texts)?;
+    let held = each(resident(rt)?.saturating_sub(before), texts.len());
+    let made = each(spent.made, texts.len());
+    let added = each(spent.added, texts.len());
+    let end = println!(rt;
+        "{} pages: {made} ns a page to make, {added} to claim and add, {held} bytes a page with its postings",
+        texts.len()
+    );
+    end.ok()?;
+    Some(catalogue)
 }
 
-fn sum_up(hits: &[Hit]) -> Found {
+// How many hits there are, and the sum of their scores.
+fn sum_up(hits: &[Hit]) -> (usize, u64) {
     let mut scores = 0_u64;
     for hit in hits {
         scores = scores.saturating_add(hit.score);
     }
-    Found {
-        hits: hits.len() as u64,
-        scores,
-    }
+    (hits.len(), scores)
 }
 
-fn query(alloc: Global, text: &[u8]) -> Result<Query, Failed> {
-    if text.len() > 1_024 {
-        return Err(Failed::Refused);
-    }
-    match Query::read(alloc, text) {
-        Ok(query) => Ok(query),
-        Err(_) => Err(Failed::Refused),
-    }
-}
-
-fn search(
-    rt: &HostRuntime,
-    catalogue: &Catalogue,
-    query: &Query,
-    best: &mut Best,
-) -> Result<Found, Failed> {
+// The nanoseconds of a search, and what it found.
+fn search(rt: &HostRuntime, catalogue: &Catalogue, query: &Query) -> Option<(u64, (usize, u64))> {
     let start = now(rt)?;
-    let hits = catalogue.search(query)?;
-    best.end(rt, start)?;
-    Ok(sum_up(&hits))
+    let hits = catalogue.search(query).ok()?;
+    Some((since(rt, start)?, sum_up(&hits)))
 }
 
-fn ask(rt: &HostRuntime, catalogue: &Catalogue, text: &str) -> Result<(), Failed> {
-    let query = query(rt.alloc(), text.as_bytes())?;
-    let mut best = Best::new();
-    let mut found = search(rt, catalogue, &query, &mut best)?;
-    for _search in 1..SEARCHES {
-        found = search(rt, catalogue, &query, &mut best)?;
+fn query(alloc: Global, text: &[u8]) -> Option<Query> {
+    if text.len() > 1_024 {
+        return None;
     }
-    let figures = [
-        Figure::Whole(best.microseconds(), "us"),
-        Figure::Whole(found.hits, "hits"),
-        Figure::Whole(found.scores, "the sum of their scores"),
-    ];
-    print(rt, text, &figures)
+    Query::read(alloc, text).ok()
 }
 
-/// Prints how long the file's pages take to make and to add to a catalogue, its memory for each page,
-/// and how long searches take.
-pub fn measure(rt: &HostRuntime, path: &str) -> Result<(), Failed> {
-    let bytes = files::bytes(rt, path)?;
-    let texts = files::pages(rt.alloc(), &bytes)?;
+fn ask(rt: &HostRuntime, catalogue: &Catalogue, text: &str) -> Option<()> {
+    let query = query(rt.alloc(), text.as_bytes())?;
+    let (mut best, (hits, scores)) = search(rt, catalogue, &query)?;
+    for _search in 1..SEARCHES {
+        best = best.min(search(rt, catalogue, &query)?.0);
+    }
+    println!(rt;
+        "{text}: {} us, {hits} hits, {scores} the sum of their scores",
+        best / 1_000
+    )
+    .ok()
+}
+
+/// Prints how long the pages take to make and to add to a catalogue, its memory for each page, and how long searches take.
+pub fn measure(rt: &HostRuntime, bytes: &[u8]) -> Option<()> {
+    let texts = texts(rt.alloc(), bytes)?;
     let catalogue = built(rt, &texts)?;
     for text in QUERIES {
         ask(rt, &catalogue, text)?;
     }
-    Ok(())
+    Some(())
 }

@@ -1,107 +1,42 @@
-//! What a span took, the best of several, and what several took together.
+//! Spans of time, and the memory of this process.
 
-ghost use Rattle.std.specs.Prelude.{◌<◌};
+ghost use Rattle.std.specs.Prelude.{◌<◌, IfSome};
 
-use crate::failed::Failed;
-use crate::printing::Figure;
-use std::rt::Clock;
-use std::time::{Duration, Instant};
+use std::fs;
+use std::rt::{Clock, Runtime};
+use std::time::Instant;
 
 /// How many rounds each measurement has.
 pub const ROUNDS: u32 = 5;
 
 /// The moment.
-pub fn now<R: Clock>(rt: &R) -> Result<Instant, Failed> {
-    match Instant::now(rt) {
-        Ok(now) => Ok(now),
-        Err(_) => Err(Failed::Clock),
-    }
+pub fn now<R: Clock>(rt: &R) -> Option<Instant> {
+    Instant::now(rt).ok()
 }
 
-fn since<R: Clock>(rt: &R, start: Instant) -> Result<Duration, Failed> {
-    match start.elapsed(rt) {
-        Ok(span) => Ok(span),
-        Err(_) => Err(Failed::Clock),
-    }
+/// The nanoseconds since a moment, at least 1.
+pub fn since<R: Clock>(rt: &R, start: Instant) -> Option<u64>
+    ensures { IfSome result (λ nanoseconds. 0 < nanoseconds) }
+{
+    let span = start.elapsed(rt).ok()?;
+    Some(u64::try_from(span.as_nanos()).unwrap_or(u64::MAX).max(1))
 }
 
-fn whole(count: usize) -> u64 {
-    u64::try_from(count).unwrap_or(u64::MAX)
+/// How many a second, of a span of so many nanoseconds with `count` of them.
+pub fn per_second(count: usize, nanoseconds: u64) -> u64 {
+    let billions = (count as u64).saturating_mul(1_000_000_000);
+    billions.checked_div(nanoseconds).unwrap_or(0)
 }
 
-/// The shortest of the spans so far.
-#[derive(Clone, Copy, Debug)]
-pub struct Best {
-    shortest: Duration,
+// The number of KiB in a line `VmRSS: 1234 kB`.
+fn kibibytes(line: &str) -> Option<u64> {
+    let rest = line.strip_prefix("VmRSS:")?;
+    rest.trim().trim_end_matches(" kB").parse().ok()
 }
 
-impl Best {
-    pub fn new() -> Best {
-        Best {
-            shortest: Duration::MAX,
-        }
-    }
-
-    /// Counts a span that began at `start` and ends now.
-    pub fn end<R: Clock>(&mut self, rt: &R, start: Instant) -> Result<(), Failed> {
-        self.shortest = self.shortest.min(since(rt, start)?);
-        Ok(())
-    }
-
-    /// Microseconds.
-    pub fn microseconds(&self) -> u64 {
-        self.nanoseconds() / 1_000
-    }
-
-    /// How many a second, of a span with `count` of them.
-    pub fn per_second(&self, count: usize) -> u64 {
-        whole(count).saturating_mul(1_000_000_000) / self.nanoseconds()
-    }
-
-    /// Megabytes a second, of a span over `bytes` bytes.
-    pub fn speed(&self, bytes: usize) -> Figure {
-        let megabytes = whole(bytes).saturating_mul(1_000) / self.nanoseconds();
-        Figure::Whole(megabytes, "MB/s")
-    }
-
-    /// How many times as long it took as another.
-    pub fn beside(&self, copy: Best) -> Figure {
-        let tenths = self.nanoseconds().saturating_mul(10) / copy.nanoseconds();
-        Figure::Tenths(tenths, "times a copy")
-    }
-
-    // The shortest span, at least 1.
-    fn nanoseconds(&self) -> u64
-        ensures { 0 < result }
-    {
-        u64::try_from(self.shortest.as_nanos())
-            .unwrap_or(u64::MAX)
-            .max(1)
-    }
-}
-
-/// What the spans so far took together.
-#[derive(Clone, Copy, Debug)]
-pub struct Total {
-    sum: Duration,
-}
-
-impl Total {
-    pub fn new() -> Total {
-        Total {
-            sum: Duration::ZERO,
-        }
-    }
-
-    /// Counts a span that began at `start` and ends now.
-    pub fn end<R: Clock>(&mut self, rt: &R, start: Instant) -> Result<(), Failed> {
-        self.sum = self.sum.saturating_add(since(rt, start)?);
-        Ok(())
-    }
-
-    /// Microseconds of each of `count` pages.
-    pub fn of_each(&self, count: usize) -> Figure {
-        let tenths = u64::try_from(self.sum.as_nanos() / 100).unwrap_or(u64::MAX);
-        Figure::Tenths(tenths.checked_div(whole(count)).unwrap_or(0), "us a page")
-    }
+/// The bytes of memory that the process holds.
+pub fn resident<R: Runtime + AllocGlobal>(rt: &R) -> Option<u64> {
+    let status = fs::read_to_string(rt, "/proc/self/status").ok()?;
+    let held = status.lines().find_map(kibibytes)?;
+    Some(held.saturating_mul(1_024))
 }

@@ -8,7 +8,8 @@ use Rattle.std.specs.Cmp.{IsTotalOrder}
 use Rattle.std.proofs.lemmas.Bool.{false≢true}
 use Rattle.std.proofs.lemmas.Cmp.{nat_cmp_total, back_total, on_total, then_total}
 use Rattle.std.proofs.lemmas.List.Elements.{All-nil, All-cons, All-append, All-contains, Contains-append_left, Contains-append_right, All-contains_itself}
-use Rattle.gopher_item.specs.Place.{PlaceData, place_cmp, place_cmp_total, same_place_ties}
+use Rattle.gopher_item.specs.Laws.{place_cmp_total, same_place_ties}
+use Rattle.gopher_item.specs.Place.{PlaceData, place_cmp}
 use Rattle.gopher_item.proofs.PlaceLemmas.{same_place-true}
 use Rattle.gopher_page.specs.Page.{PageData}
 use Rattle.gopher_page.specs.Query.{TermData, matches}

@@ -12,7 +12,8 @@ use Rattle.std.proofs.lemmas.Cmp.{on_total}
 use Rattle.std.proofs.lemmas.List.Elements.{All-nil, All-cons, All-append, All-contains, Contains-append_left, Contains-append_right, All-contains_itself}
 use Rattle.std.proofs.lemmas.List.Sorted.{Contains-permutation, IsPermutation-sym}
 use Rattle.std.proofs.lemmas.Map.Keys.{IsDistinct-IsPermutation}
-use Rattle.gopher_item.specs.Place.{PlaceData, same_place, place_cmp, place_cmp_total, same_place_ties, same_place_equiv}
+use Rattle.gopher_item.specs.Laws.{place_cmp_total, same_place_ties, same_place_equiv}
+use Rattle.gopher_item.specs.Place.{PlaceData, same_place, place_cmp}
 use Rattle.gopher_page.specs.Page.{PageData}
 use Rattle.gopher_page.specs.Counts.{count_meant}
 use Rattle.gopher_index.specs.Answer.{occurrence_of, occurrences_among, occurrences_of, occurrence_cmp, AreOccurrences}

@@ -135,12 +135,11 @@ impl Archive {
     }
 
     /// Puts a merged run in its place in the index, as `Index::install` does.
-    pub fn install(&mut self, due: Due) -> Option<Due>
+    pub fn install(&mut self, due: Due)
         requires { StandsIn due (pages_indexed self.old.events) }
-        ensures same { self.new ≡ self.old }
-        ensures back { IfSome result (λ back. back ≡ due) }
+        ensures { self.new ≡ self.old }
     {
-        self.index.install(due)
+        self.index.install(due);
     }
 
     /// Merges all runs that are ready, as `Index::settle` does.

@@ -248,14 +248,12 @@ impl Catalogue {
 
     /// Puts a merged run in its place in the index. A run that wasn't merged becomes ready again.
     ///
-    /// Neither the record nor the result of any search changes. A merged run is returned if pages
-    /// before it aren't in a segment yet: install it after those.
-    pub fn install(&mut self, due: Due) -> Option<Due>
+    /// Neither the record nor the result of any search changes. Runs may be installed in any order.
+    pub fn install(&mut self, due: Due)
         requires { StandsIn due (pages_found self.old) }
-        ensures same { self.new ≡ self.old }
-        ensures back { IfSome result (λ back. back ≡ due) }
+        ensures { self.new ≡ self.old }
     {
-        self.archive.install(due)
+        self.archive.install(due);
     }
 
     /// Merges all pages that are ready. Single-threaded callers call it after `found`.

@@ -7,7 +7,7 @@ use Rattle.gopher_scope.specs.declared.fault.SettingsFault.TheVariants as settin
 use Rattle.gopher_tree.specs.Load.{LoadsTo}
 use Rattle.gopher_tree.specs.declared.fault.TreeFault.{TreeFault}
 use Rattle.gopher_check.specs.declared.obstacle.Obstacle.{Obstacle}
-use Rattle.gopher_check.specs.Report.{fault_report, path_below, menu_line_of, TellsSite, TellsText}
+use Rattle.gopher_check.specs.Report.{fault_report, path_below, menu_line_of, HasKey, HasLine, TellsSite, TellsText, TellsTwice}
 use Rattle.gopher_check.specs.declared.fault.SiteFault.{SiteFault}
 use Rattle.gopher_check.specs.declared.fault.SiteFault.TheVariants as fault
 
@@ -28,11 +28,11 @@ tells_folder path settings words below why how loads is = (below, loads, is)
 
 -- the report on settings with a fault
 pub tells_refused : (path text words : List ℕ) (why : SettingsFault) (line : Option ℕ) (unknown : List ℕ)
-    → (why ≢ settings_fault.NoMemory → settings_of (parse_document text) ≡ Err why) → words ≡ fault_report (fault.Settings why) path line unknown
-    → TellsText path text words (Some (fault.Settings why))
-tells_refused path text words why line unknown refused is = (refused, (line, unknown, is))
+    → (why ≢ settings_fault.NoMemory → settings_of (parse_document text) ≡ Err why) → HasLine text why line → HasKey text why unknown
+    → words ≡ fault_report (fault.Settings why) path line unknown → TellsText path text words (Some (fault.Settings why))
+tells_refused path text words why line unknown refused has_line has_key is = (refused, (line, unknown, has_line, has_key, is))
 
--- what is told of settings that give a key twice
-pub tells_twice : (path text words : List ℕ) (line : Option ℕ) (key : List ℕ) → settings_of (parse_document text) ≡ Err settings_fault.NotToml
-    → words ≡ fault_report fault.KeyTwice path line key → TellsText path text words (Some fault.KeyTwice)
-tells_twice path text words line key refused is = (refused, (line, key, is))
+-- the report on settings that give a key twice
+pub tells_twice : (path text words : List ℕ) → settings_of (parse_document text) ≡ Err settings_fault.NotToml → TellsTwice path text words
+    → TellsText path text words (Some fault.KeyTwice)
+tells_twice path text words refused tells = (refused, tells)

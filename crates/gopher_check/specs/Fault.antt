@@ -1,5 +1,7 @@
 -- The faults of a site: the number, the cause and the remedy of each.
 use Rattle.std.specs.Prelude.{ℕ, List, codes}
+use Rattle.std.specs.declared.io.ErrorKind.{ErrorKind}
+use Rattle.std.specs.declared.io.ErrorKind.TheVariants as kind
 use Rattle.gopher_scope.specs.Settings.{settings_fault_code}
 use Rattle.gopher_scope.specs.declared.fault.SettingsFault.{SettingsFault}
 use Rattle.gopher_scope.specs.declared.fault.SettingsFault.TheVariants as settings_fault
@@ -19,6 +21,15 @@ site_fault_code fault.SettingsUnreadable = 80
 site_fault_code fault.KeyTwice = settings_fault_code settings_fault.NotToml
 
 -- the reason why a file or folder can't be read
+-- the obstacle of an error of the system
+abbrev pub obstacle_of : ErrorKind → Obstacle
+obstacle_of kind.InvalidFilename = obstacle.NotUtf8
+obstacle_of kind.PermissionDenied = obstacle.Denied
+obstacle_of kind.NotFound = obstacle.Missing
+obstacle_of kind.NotADirectory = obstacle.NotFolder
+obstacle_of kind.FilesystemLoop = obstacle.Loop
+obstacle_of _ = obstacle.Other
+
 abbrev pub obstacle_cause : Obstacle → List ℕ
 obstacle_cause obstacle.NotUtf8 = codes "a name in this folder is not UTF-8"
 obstacle_cause obstacle.Denied = codes "the right to read this is missing"

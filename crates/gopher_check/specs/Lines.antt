@@ -2,7 +2,7 @@
 use Rattle.std.specs.Prelude.{ℕ, ◌==◌, List, [], ◌∷◌, ◌++◌, if◌then◌else◌}
 use Rattle.std.specs.List.{flat_map}
 use Rattle.std.specs.Fmt.{decimal}
-use Rattle.gopher_item.specs.Bytes.{is_control}
+use Rattle.gopher_item.specs.Special.{is_control}
 
 -- the shown form of a byte: a TAB, LF, CR and backslash as `\t`, `\n`, `\r` and `\\`, any other
 -- control byte as `\?`

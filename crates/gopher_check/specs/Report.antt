@@ -1,5 +1,5 @@
 -- The reports of a check: of a fault, and of a site without one.
-use Rattle.std.specs.Prelude.{◌≡◌, ◌≢◌, ℕ, not, List, [], ◌∷◌, ◌++◌, codes, length, count_by, position, Option, None, Some, Ok, Err}
+use Rattle.std.specs.Prelude.{◌≡◌, ◌≢◌, ℕ, not, List, [], ◌∷◌, ◌++◌, codes, length, count_by, position, Option, None, Some, IfSome, Ok, Err}
 use Rattle.std.specs.List.{flat_map}
 use Rattle.toml.specs.Parse.{parse_document}
 use Rattle.gopher_item.specs.Place.{PlaceData, HomeData}
@@ -17,6 +17,8 @@ use Rattle.gopher_tree.specs.declared.fault.TreeFault.{TreeFault}
 use Rattle.gopher_tree.specs.declared.fault.TreeFault.TheVariants as tree_fault
 use Rattle.gopher_check.specs.Fault.{site_fault_code, cause, remedy}
 use Rattle.gopher_check.specs.Lines.{words_line, number_line, server_words, address_rest}
+use Rattle.gopher_check.specs.Text.{IsLineOf, IsKeyOf}
+use Rattle.gopher_check.specs.Unknown.{unknown_name}
 use Rattle.gopher_check.specs.declared.fault.SiteFault.{SiteFault}
 use Rattle.gopher_check.specs.declared.fault.SiteFault.TheVariants as fault
 
@@ -97,12 +99,30 @@ TellsSite path settings words (Some (fault.SeedOutOfScope seed)) =
     (seed_outside settings.scope settings.seeds ≡ Some seed) × (words ≡ fault_report (fault.SeedOutOfScope seed) path None [])
 TellsSite path settings words (Some other) = ⊥
 
+-- the line at which settings aren't TOML, if the parser names one; other faults of settings have no line
+abbrev pub HasLine : List ℕ → SettingsFault → Option ℕ → Type 0
+HasLine text settings_fault.NotToml line = IfSome line (IsLineOf text)
+HasLine text why line = line ≡ None
+
+-- the unknown key, if that is the fault
+abbrev pub HasKey : List ℕ → SettingsFault → List ℕ → Type 0
+HasKey text settings_fault.UnknownKey unknown = unknown ≡ unknown_name (parse_document text)
+HasKey text why unknown = unknown ≡ []
+
+-- the report on settings with a fault
+abbrev pub TellsRefused : List ℕ → List ℕ → List ℕ → SettingsFault → Type 0
+TellsRefused path text words why =
+    (line : Option ℕ) × (unknown : List ℕ) × HasLine text why line × HasKey text why unknown
+    × (words ≡ fault_report (fault.Settings why) path line unknown)
+
+-- the report on settings that give a key twice
+abbrev pub TellsTwice : List ℕ → List ℕ → List ℕ → Type 0
+TellsTwice path text words =
+    (line : Option ℕ) × (key : List ℕ) × IfSome line (IsLineOf text) × IsKeyOf text key × (words ≡ fault_report fault.KeyTwice path line key)
+
 -- the report on a text of settings: their fault, or the report on the site that they describe
 abbrev pub TellsText : List ℕ → List ℕ → List ℕ → Option SiteFault → Type 0
 TellsText path text words (Some (fault.Settings why)) =
-    (why ≢ settings_fault.NoMemory → settings_of (parse_document text) ≡ Err why)
-    × ((line : Option ℕ) × (unknown : List ℕ) × (words ≡ fault_report (fault.Settings why) path line unknown))
-TellsText path text words (Some fault.KeyTwice) =
-    (settings_of (parse_document text) ≡ Err settings_fault.NotToml)
-    × ((line : Option ℕ) × (key : List ℕ) × (words ≡ fault_report fault.KeyTwice path line key))
+    (why ≢ settings_fault.NoMemory → settings_of (parse_document text) ≡ Err why) × TellsRefused path text words why
+TellsText path text words (Some fault.KeyTwice) = (settings_of (parse_document text) ≡ Err settings_fault.NotToml) × TellsTwice path text words
 TellsText path text words found = (settings : SettingsData) × (settings_of (parse_document text) ≡ Ok settings) × TellsSite path settings words found

@@ -1,12 +1,13 @@
 //! Checking a site: its settings, its folder, and the seeds of its crawl.
 
-ghost use Rattle.std.specs.Prelude.{◌≡◌, ◌≢◌, ℕ, List, [], Option, None, Some, Err, IfOk, IfSome};
+ghost use Rattle.std.specs.Prelude.{◌≡◌, ◌≢◌, ◌≤◌, [], length, None, Some, Err, IfOk, IfSome};
 ghost use Rattle.toml.specs.Parse.{parse_document};
 ghost use Rattle.gopher_scope.specs.Settings.{settings_data, settings_of};
 ghost use Rattle.gopher_scope.specs.declared.fault.SettingsFault.TheVariants as settings_fault;
 ghost use Rattle.gopher_tree.specs.Fault.{files_fault};
 ghost use Rattle.gopher_check.specs.declared.fault.SiteFault.TheVariants.{SettingsUnreadable, KeyTwice};
-ghost use Rattle.gopher_check.specs.Report.{fault_report, menu_line_of, path_below, seed_outside, TellsSite, TellsText};
+ghost use Rattle.gopher_check.specs.Report.{fault_report, menu_line_of, path_below, seed_outside, HasKey, HasLine, TellsSite, TellsText, TellsTwice};
+ghost use Rattle.gopher_check.specs.Text.{line_at, key_of, IsKeyOf, IsLineOf};
 
 use crate::fault::SiteFault;
 use crate::fault_words::fault_report;
@@ -72,15 +73,23 @@ fn path_below(alloc: Global, root: &str, path: &[u8]) -> Result<Vec<u8>, NoMemor
     Ok(below)
 }
 
+// The number of the line, from 1, that has the byte at an offset.
+fn line_at(text: &[u8], offset: usize) -> usize
+    requires { offset ≤ length text.now }
+    ensures { result ≡ line_at text.now offset }
+{
+    text[..offset].iter().filter(|byte| **byte == b'\n').count() + 1
+}
+
 // The line, from 1, at which a text isn't TOML, if it isn't.
-fn broken_line(alloc: Global, text: &str) -> Option<usize> {
+fn broken_line(alloc: Global, text: &str) -> Option<usize>
+    ensures { IfSome result (IsLineOf text.now) }
+{
     let Err(fault) = toml::table_from_str(alloc, text) else {
         return None;
     };
-    let bytes = text.as_bytes();
-    let start = fault.span()?.start.min(bytes.len());
-    let feeds = bytes[..start].iter().filter(|byte| **byte == b'\n').count();
-    Some(feeds.saturating_add(1))
+    let start = fault.span()?.start;
+    Some(line_at(text.as_bytes(), start))
 }
 
 // The report on settings and the tree of their folder.
@@ -132,7 +141,9 @@ fn settings_report<R: Files>(
 }
 
 // The line at which the settings aren't TOML, if that is the fault.
-fn settings_line(alloc: Global, text: &str, fault: SettingsFault) -> Option<usize> {
+fn settings_line(alloc: Global, text: &str, fault: SettingsFault) -> Option<usize>
+    ensures { HasLine text.now fault result }
+{
     match fault {
         SettingsFault::NotToml => broken_line(alloc, text),
         _ => None,
@@ -140,7 +151,9 @@ fn settings_line(alloc: Global, text: &str, fault: SettingsFault) -> Option<usiz
 }
 
 // The key of a piece of TOML, which may be a key with its value, or the line that begins a table.
-fn key_of(piece: &[u8]) -> &[u8] {
+fn key_of(piece: &[u8]) -> &[u8]
+    ensures { result.now ≡ key_of piece.now }
+{
     match split_once(b'=', piece) {
         Some((key, _value)) => trim_spaces(key),
         None => trim_spaces(piece),
@@ -148,7 +161,9 @@ fn key_of(piece: &[u8]) -> &[u8] {
 }
 
 // The key that a text gives twice, if that is why it isn't TOML.
-fn key_twice(alloc: Global, text: &str) -> Result<Option<Vec<u8>>, NoMemory> {
+fn key_twice(alloc: Global, text: &str) -> Result<Option<Vec<u8>>, NoMemory>
+    ensures { IfOk result (λ found. IfSome found (λ key. IsKeyOf text.now key.items)) }
+{
     let Err(fault) = toml::table_from_str(alloc, text) else {
         return Ok(None);
     };
@@ -158,15 +173,14 @@ fn key_twice(alloc: Global, text: &str) -> Result<Option<Vec<u8>>, NoMemory> {
     let Some(span) = fault.span() else {
         return Ok(None);
     };
-    let piece = text.as_bytes().get(span).unwrap_or(b"");
+    let piece = &text.as_bytes()[span.start..span.end];
     Ok(Some(Vec::from_slice(alloc, key_of(piece))?))
 }
 
 // The report of settings that aren't TOML, if that is because they give a key twice.
 fn twice_report(alloc: Global, path: &str, text: &str) -> Result<Option<Report>, NoMemory>
     ensures { IfOk result (λ found. IfSome found (λ report.
-        (report.fault ≡ Some KeyTwice) × ((line : Option ℕ) × (key : List ℕ)
-        × (report.words.items ≡ fault_report KeyTwice path.now line key)))) }
+        (report.fault ≡ Some KeyTwice) × TellsTwice path.now text.now report.words.items)) }
 {
     let Some(key) = key_twice(alloc, text)? else {
         return Ok(None);
@@ -181,7 +195,9 @@ fn twice_report(alloc: Global, path: &str, text: &str) -> Result<Option<Report>,
 }
 
 // The unknown key of the settings, if that is the fault.
-fn settings_key(alloc: Global, text: &str, fault: SettingsFault) -> Result<Vec<u8>, NoMemory> {
+fn settings_key(alloc: Global, text: &str, fault: SettingsFault) -> Result<Vec<u8>, NoMemory>
+    ensures { IfOk result (λ key. HasKey text.now fault key.items) }
+{
     match fault {
         SettingsFault::UnknownKey => unknown_key(alloc, text),
         _ => Ok(Vec::new(alloc)),

@@ -1,7 +1,7 @@
 //! Why a file or folder can't be read.
 
 ghost use Rattle.std.specs.Prelude.{◌≡◌};
-ghost use Rattle.gopher_check.specs.Fault.{obstacle_cause, obstacle_remedy};
+ghost use Rattle.gopher_check.specs.Fault.{obstacle_cause, obstacle_of, obstacle_remedy};
 
 use std::alloc::Global;
 use std::fs::{self, Files};
@@ -57,7 +57,9 @@ impl Obstacle {
 }
 
 // The obstacle of an error of the system.
-fn obstacle_of(kind: ErrorKind) -> Obstacle {
+fn obstacle_of(kind: ErrorKind) -> Obstacle
+    ensures { result ≡ obstacle_of kind }
+{
     match kind {
         ErrorKind::InvalidFilename => Obstacle::NotUtf8,
         ErrorKind::PermissionDenied => Obstacle::Denied,

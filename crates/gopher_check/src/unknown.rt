@@ -1,8 +1,11 @@
 //! Finding the unknown key of settings.
 
-ghost use Rattle.std.specs.Prelude.{◌≡◌, true, false, IfSome};
+ghost use Rattle.std.specs.Prelude.{◌≡◌, find, IfOk};
+ghost use Rattle.std.specs.Option.{option_map};
+ghost use Rattle.toml.specs.Parse.{parse_document};
 ghost use Rattle.toml.specs.View.{table_view};
-ghost use Rattle.gopher_scope.specs.Settings.{is_key_name, key_has_unknown};
+ghost use Rattle.gopher_scope.specs.Settings.{key_has_unknown};
+ghost use Rattle.gopher_check.specs.Unknown.{own_key, array_key, unknown_name};
 
 use gopher_item::NoMemory;
 use gopher_scope::{Key, is_key_name, key_has_unknown};
@@ -14,7 +17,7 @@ const ARRAYS: [Key; 3] = [Key::Seeds, Key::Allow, Key::Deny];
 
 // The first key of the table that isn't a key of the settings.
 fn own_key(table: &Table) -> Option<&str>
-    ensures { IfSome result (λ name. is_key_name name.now ≡ false) }
+    ensures { option_map (λ name. name.now) result ≡ own_key (table_view table.now) }
 {
     for name in table.keys() {
         if !is_key_name(name.as_str()) {
@@ -24,9 +27,9 @@ fn own_key(table: &Table) -> Option<&str>
     None
 }
 
-// The first of these keys whose array has a table with an unknown key.
-fn array_key(table: &Table, keys: &[Key]) -> Option<Key>
-    ensures { IfSome result (λ key. key_has_unknown (table_view table.now) key ≡ true) }
+// The first of these keys with an array that has a table with an unknown key.
+fn first_with_unknown(table: &Table, keys: &[Key]) -> Option<Key>
+    ensures { result ≡ find (key_has_unknown (table_view table.now)) keys.now }
 {
     for key in keys {
         if key_has_unknown(table, *key) {
@@ -36,16 +39,25 @@ fn array_key(table: &Table, keys: &[Key]) -> Option<Key>
     None
 }
 
-/// Returns the first unknown key of the settings in byte order. If only tables in arrays have one,
-/// it returns the key of the first such array. It returns an empty key if there is none.
-pub(crate) fn unknown_key(alloc: Global, text: &str) -> Result<Vec<u8>, NoMemory> {
+// The first key of the settings with an array that has a table with an unknown key.
+fn array_key(table: &Table) -> Option<Key>
+    ensures { result ≡ array_key (table_view table.now) }
+{
+    first_with_unknown(table, &ARRAYS)
+}
+
+/// Returns the first unknown key of the settings, in the order of the table, which is that of the
+/// bytes. If only tables in arrays have one, it returns the key of the first such array.
+pub(crate) fn unknown_key(alloc: Global, text: &str) -> Result<Vec<u8>, NoMemory>
+    ensures { IfOk result (λ key. key.items ≡ unknown_name (parse_document text.now)) }
+{
     let Ok(table) = toml::table_from_str(alloc, text) else {
-        return Ok(Vec::new(alloc));
+        return Err(NoMemory);
     };
     if let Some(name) = own_key(&table) {
         return Ok(Vec::from_slice(alloc, name.as_bytes())?);
     }
-    match array_key(&table, &ARRAYS) {
+    match array_key(&table) {
         Some(key) => Ok(Vec::from_slice(alloc, key.name().as_bytes())?),
         None => Ok(Vec::new(alloc)),
     }

@@ -8,8 +8,8 @@ ghost use Rattle.lru.specs.LruCache.{last_entry, promoted};
 use lru::LruCache;
 use std::alloc::{AllocError, Global};
 
-/// Connections that wait, each at a key of its own, in the order of their last use. Keys are numbers
-/// from 0 that aren't given twice.
+/// Connections that wait, each at a key of its own, in the order of their last use. Keys are
+/// numbers from 0 that aren't given twice.
 ///
 /// Contracts see the pairs of keys and connections as `held.entries`, the most recently used first.
 #[derive(Drop)]
@@ -78,8 +78,8 @@ impl<T: Drop> Connections<T> {
         }
     }
 
-    /// Notes that the connection at a key was used, and returns whether there is one. Takes no memory,
-    /// and constant time.
+    /// Notes that the connection at a key was used, and returns whether there is one. Takes no
+    /// memory, and constant time.
     pub fn touch(&mut self, key: usize) -> bool
         ensures found { result ≡ is_some (lookup (nat_eq key) self.old.held.entries) }
         ensures first { self.new.held.entries ≡ promoted (nat_eq key) self.old.held.entries }

@@ -6,8 +6,8 @@ ghost use Rattle.gopher_connections.specs.Deadlines.{NoneIsDue, TakesDue, first_
 use std::alloc::{AllocError, Global};
 use std::collections::VecDeque;
 
-/// The deadlines of connections, in the order in which they were set. All connections are given the same
-/// time, so that the first deadline is the earliest.
+/// The deadlines of connections, in the order in which they were set. All connections are given the
+/// same time, so that the first deadline is the earliest.
 ///
 /// Times are milliseconds by one clock.
 #[derive(Drop)]

@@ -11,12 +11,12 @@ const OTHER_FILES: u64 = 64;
 // How many connections a server holds at most.
 const MAX_CONNECTIONS: u64 = 16_384;
 
-// By how many connections a thread may hold more than its fair share before it leaves further ones to
-// the others.
+// By how many connections a thread may hold more than its fair share before it leaves further ones
+// to the others.
 const MAX_ABOVE_SHARE: u64 = 16;
 
-/// How many connections a server holds at most whose process may open so many files: 1 to 16,384, and 64
-/// files are left for the rest of the program.
+/// How many connections a server holds at most whose process may open so many files: 1 to 16,384,
+/// and 64 files are left for the rest of the program.
 pub fn max_places(files: u64) -> u64
     ensures { result ≡ most files }
 {
@@ -33,8 +33,8 @@ fn fair_share(all: u64, threads: u64) -> u64
     (all / threads.max(1)).max(1)
 }
 
-/// The places of all server threads together, and how many are taken. A thread that has none of its own
-/// takes one even if all are taken, so that there may be one connection more for each thread.
+/// The places of all server threads together, and how many are taken. A thread that has none of its
+/// own takes one even if all are taken, so that there may be one connection more for each thread.
 #[derive(Drop)]
 pub struct Places {
     most: u64,
@@ -69,8 +69,8 @@ impl Places {
         self.taken.load(Ordering::SeqCst) > self.most
     }
 
-    /// Gives a place back if more are taken than there are, and returns whether it did. Of the threads
-    /// that call it at once, as many give one back as there are too many.
+    /// Gives a place back if more are taken than there are, and returns whether it did. Of the
+    /// threads that call it at once, as many give one back as there are too many.
     pub fn give_back_excess(&self) -> bool {
         let most = self.most;
         let fewer = self.taken.fetch_update(
@@ -86,8 +86,8 @@ impl Places {
         held > fair_share(self.most, self.threads.load(Ordering::SeqCst))
     }
 
-    /// Whether a thread that holds so many connections leaves further ones to the others: it holds over 16
-    /// more than its share of those that there are.
+    /// Whether a thread that holds so many connections leaves further ones to the others: it holds
+    /// over 16 more than its share of those that there are.
     pub fn leaves_to_others(&self, held: u64) -> bool {
         let taken = self.taken.load(Ordering::SeqCst);
         let share = fair_share(taken, self.threads.load(Ordering::SeqCst));

@@ -5,8 +5,8 @@ ghost use Rattle.gopher_connections.specs.Places.{may_accept};
 
 use std::sync::atomic::{AtomicU64, Ordering};
 
-/// How many connections the threads of a server accept together. Each takes one of the quota before it
-/// accepts a connection.
+/// How many connections the threads of a server accept together. Each takes one of the quota before
+/// it accepts a connection.
 #[derive(Drop)]
 pub struct AcceptQuota {
     most: Option<u64>,

@@ -1,3 +1,4 @@
 pub mod FirstLines
 pub mod Talking
 pub mod StepLemmas
+pub mod StopLemmas

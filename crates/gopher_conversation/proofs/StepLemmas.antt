@@ -9,9 +9,9 @@ use Rattle.gopher_text.specs.Line.{has_feed}
 use Rattle.gopher_conversation.specs.Serve.{StreamData}
 use Rattle.gopher_conversation.specs.Talk.{Talk, Gathers, Asks, IsTooLong, LacksMemory, Responds, is_known, known_line, talk_of, said, stage_of, unsent_of}
 use Rattle.gopher_conversation.specs.declared.conversation.Stage.TheVariants as stage
-use Rattle.gopher_conversation.specs.Advance.{IsStill, HearsPiece, HearsEnd, Listens, IsReplied, Replies, SaysSome, IsSaid, Says, Steps, IsGiven, StandsAnswered, Stands, Talks, Advances}
+use Rattle.gopher_conversation.specs.Advance.{IsStill, HearsPiece, HearsEnd, Listens, IsReplied, Replies, SaysSome, IsSaid, IsSilent, Says, Steps, IsGiven, StandsAnswered, Stands, Talks, Advances}
 use Rattle.gopher_conversation.specs.declared.advancing.Progress.{Progress}
-use Rattle.gopher_conversation.specs.declared.advancing.Progress.TheVariants.{Done, Paused, Waits, Failed}
+use Rattle.gopher_conversation.specs.declared.advancing.Progress.TheVariants.{Done, Paused, Works, Waits, Failed}
 
 -- ---- what came in decides how it stands, before anything goes out
 
@@ -98,6 +98,7 @@ listened given first w0 w1 bytes next had left Done never so_far = absurd never
 listened given first w0 w1 bytes next had left Paused (inl piece) so_far = heard_piece given first w0 w1 bytes next had left piece so_far
 listened given first w0 w1 bytes next had left Paused (inr (inl end)) so_far = heard_end given first w0 w1 bytes next had left end so_far
 listened given first w0 w1 bytes next had left Paused (inr (inr still)) so_far = heard_still given first w0 w1 (Gathers bytes) next had left still so_far
+listened given first w0 w1 bytes next had left Works never so_far = absurd never
 listened given first w0 w1 bytes next had left Waits still so_far = heard_still given first w0 w1 (Gathers bytes) next had left still so_far
 listened given first w0 w1 bytes next had left (Failed fault) (why, still) so_far = heard_still given first w0 w1 (Gathers bytes) next had left still so_far
 
@@ -141,14 +142,22 @@ said_all given first left w0 talk next before after said so_far =
     subst (λ (t : Talk). Talks given first left w0 after.bytes t) (sym said.talk)
     (subst (λ (s : StreamData). Talks given first left w0 s.bytes talk) (sym said.same) so_far)
 
+said_none : (given : List ℕ → List ℕ → Type 0) (first left w0 : Option (List ℕ)) (talk next : Talk) (before after : StreamData)
+    → IsSilent talk next before after → Talks given first left w0 before.bytes talk → Talks given first left w0 after.bytes next
+said_none given first left w0 talk next before after silent so_far =
+    subst (λ (t : Talk). Talks given first left w0 after.bytes t) (sym silent.talk)
+    (subst (λ (s : StreamData). Talks given first left w0 s.bytes talk) (sym silent.same) so_far)
+
 pub spoken : (given : List ℕ → List ℕ → Type 0) (first left w0 : Option (List ℕ)) (line reply : List ℕ) (count : ℕ) (next : Talk) (before after : StreamData) (turn : Progress)
     → Says (Responds line reply count) next before after turn → Talks given first left w0 before.bytes (Responds line reply count) → Talks given first left w0 after.bytes next
 spoken given first left w0 line reply count next before after Done (inl all) so_far = said_all given first left w0 (Responds line reply count) next before after all so_far
 spoken given first left w0 line reply count next before after Done (inr (some, none)) so_far = said_some given first left w0 line reply count next before after some so_far
 spoken given first left w0 line reply count next before after Paused (inl some) so_far = said_some given first left w0 line reply count next before after some so_far
 spoken given first left w0 line reply count next before after Paused (inr still) so_far = said_still given first left w0 (Responds line reply count) next before after still so_far
+spoken given first left w0 line reply count next before after Works silent so_far = said_none given first left w0 (Responds line reply count) next before after silent so_far
 spoken given first left w0 line reply count next before after Waits still so_far = said_still given first left w0 (Responds line reply count) next before after still so_far
-spoken given first left w0 line reply count next before after (Failed fault) (why, still) so_far = said_still given first left w0 (Responds line reply count) next before after still so_far
+spoken given first left w0 line reply count next before after (Failed fault) (inl (why, still)) so_far = said_still given first left w0 (Responds line reply count) next before after still so_far
+spoken given first left w0 line reply count next before after (Failed fault) (inr (why, silent)) so_far = said_none given first left w0 (Responds line reply count) next before after silent so_far
 
 -- ---- answers
 
@@ -204,6 +213,7 @@ pub answered : {A : Type 0} (leads_to : A → A → Type 0) (gives : A → A →
     → Talks (IsGiven leads_to gives start b) first left w0 w1 next
 answered leads_to gives start a b first left w0 w1 line next Done leads stays never so_far = absurd never
 answered leads_to gives start a b first left w0 w1 line next Paused leads stays is so_far = replied leads_to gives start a b first left w0 w1 line next leads stays is so_far
+answered leads_to gives start a b first left w0 w1 line next Works leads stays is so_far = replied leads_to gives start a b first left w0 w1 line next leads stays is so_far
 answered leads_to gives start a b first left w0 w1 line next Waits leads stays never so_far = absurd never
 answered leads_to gives start a b first left w0 w1 line next (Failed fault) leads stays (why, same) so_far =
     subst (λ (t : Talk). Talks (IsGiven leads_to gives start b) first left w0 w1 t) (sym same) (stands_else (IsGiven leads_to gives start a) (IsGiven leads_to gives start b) first left w0 w1 (Asks line) (Asks line) so_far so_far.stands)
@@ -277,3 +287,18 @@ module _ {A : Type 0} (leads_to : A → A → Type 0) (gives : A → A → List 
   says_on IsTooLong next a reader before after turn is says = absurd cc
   says_on LacksMemory next a reader before after turn is says = absurd cc
   says_on (Responds line reply count) next a reader before after turn is says = steps_on leads_to gives (Responds line reply count) next a a reader reader before after turn stays joins (says, refl, refl)
+
+  -- no step
+  pub advances_stays : (talk : Talk) (a : A) (r w : Option (List ℕ)) → Advances leads_to gives talk talk a a r r w w
+  advances_stays talk a r w = record {
+    goes = λ start seen had old leads since so_far. talks_later _ _ had r old w talk (λ line reply given. given_later leads_to gives start seen a line reply joins since given) so_far;
+  }
+
+  -- steps, one after another
+  pub advances_joins : (talk next last : Talk) (a b c : A) (r0 r1 r2 w0 w1 w2 : Option (List ℕ)) → leads_to a b
+      → Advances leads_to gives talk next a b r0 r1 w0 w1 → Advances leads_to gives next last b c r1 r2 w1 w2
+      → Advances leads_to gives talk last a c r0 r2 w0 w2
+  advances_joins talk next last a b c r0 r1 r2 w0 w1 w2 lead one more = record {
+    goes = λ start seen had old leads since so_far.
+        more.goes start b had old (joins start a b (joins start seen a leads since) lead) (stays b) (one.goes start seen had old leads since so_far);
+  }

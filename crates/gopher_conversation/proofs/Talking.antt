@@ -1,9 +1,8 @@
 -- A conversation as it hears and says more.
-use Rattle.std.proofs.Common.{◌≡◌, ℕ, ◌+◌, ◌-◌, ◌≤◌, true, false, List, [], ◌++◌, length, take, drop, refl, sym, ap, ◌∙◌, subst, arith, length-drop}
+use Rattle.std.proofs.Common.{◌≡◌, ℕ, ◌+◌, true, false, List, ◌++◌, take, refl, sym, ap, ◌∙◌, subst}
 use Rattle.std.specs.Io.BufRead.{first_line}
-use Rattle.gopher_replies.specs.Kept.{reply_bytes}
-use Rattle.gopher_conversation.specs.Talk.{Talk, Gathers, Asks, IsTooLong, LacksMemory, Responds, heard, is_known, known_line, reply_of_talk, said, unsent_of}
-use Rattle.gopher_conversation.specs.TalkOf.{reply_in, talk_in}
+use Rattle.gopher_conversation.specs.Talk.{Talk, Gathers, Asks, IsTooLong, LacksMemory, Responds, heard, is_known, known_line, said}
+use Rattle.gopher_conversation.specs.TalkOf.{talk_in}
 use Rattle.gopher_conversation.specs.declared.conversation.Phase.{Phase}
 use Rattle.gopher_conversation.specs.declared.conversation.Phase.TheVariants as phase
 use Rattle.gopher_conversation.proofs.FirstLines.{heard_known}
@@ -25,22 +24,16 @@ asked_is gathered line phase.Gathering sent view = absurd cc
 asked_is gathered line phase.Asked sent view = cc
 asked_is gathered line phase.TooLong sent view = absurd cc
 asked_is gathered line phase.LacksMemory sent view = absurd cc
-asked_is gathered line (phase.Answering reply) sent view = absurd cc
+asked_is gathered line (phase.Answering answer) sent view = absurd cc
 
--- so many bytes more of its reply were sent
-pub said_is : (gathered : List ℕ) (before : Phase) (sent count size left : ℕ) (old : Talk) → sent ≤ length (reply_in before) → talk_in gathered before sent ≡ old
-    → size ≡ length (reply_of_talk old) → left ≡ length (unsent_of old) → count ≤ left
-    → talk_in gathered before (size - (left - count)) ≡ said old count
-said_is gathered before sent count size left old within view whole rest fits =
-    subst (λ (t : Talk). size ≡ length (reply_of_talk t) → left ≡ length (unsent_of t) → talk_in gathered before (size - (left - count)) ≡ said t count)
-    view (by before within) whole rest
+-- `count` more bytes of its reply were sent
+pub said_is : (gathered : List ℕ) (before : Phase) (sent count : ℕ) (old : Talk) → talk_in gathered before sent ≡ old
+    → talk_in gathered before (sent + count) ≡ said old count
+said_is gathered before sent count old view = subst (λ (t : Talk). talk_in gathered before (sent + count) ≡ said t count) view (by before)
   where
-    by : (p : Phase) → sent ≤ length (reply_in p) → size ≡ length (reply_of_talk (talk_in gathered p sent)) → left ≡ length (unsent_of (talk_in gathered p sent))
-        → talk_in gathered p (size - (left - count)) ≡ said (talk_in gathered p sent) count
-    by phase.Gathering fewer is remains = refl
-    by phase.Asked fewer is remains = refl
-    by phase.TooLong fewer is remains = refl
-    by phase.LacksMemory fewer is remains = refl
-    by (phase.Answering reply) fewer is remains =
-        let same : size - (left - count) ≡ sent + count = omega (arith, length-drop sent (reply_bytes reply)) in
-        ap (Responds (first_line gathered) (reply_bytes reply)) same
+    by : (p : Phase) → talk_in gathered p (sent + count) ≡ said (talk_in gathered p sent) count
+    by phase.Gathering = refl
+    by phase.Asked = refl
+    by phase.TooLong = refl
+    by phase.LacksMemory = refl
+    by (phase.Answering answer) = refl

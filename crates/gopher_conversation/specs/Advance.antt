@@ -2,14 +2,15 @@
 use Rattle.std.specs.Prelude.{◌≡◌, ℕ, ◌<◌, ◌≤◌, ◌⊎◌, Bool, true, List, [], length, take, Option, IfSome}
 use Rattle.std.specs.Io.BufRead.{first_line}
 use Rattle.std.specs.Io.KnownBytes.{Appends, Consumes, IsAtEnd, Keeps}
-use Rattle.gopher_text.specs.Watched.{CountsFailure}
+use Rattle.gopher_text.specs.Watched.{CountsFailure, HasFailed}
 use Rattle.gopher_conversation.specs.Leads.{Leads}
 use Rattle.gopher_conversation.specs.Serve.{StreamData}
-use Rattle.gopher_conversation.specs.Talk.{Talk, Gathers, Asks, IsTooLong, LacksMemory, Responds, Hears, heard, said, talk_of, unsent_of}
+use Rattle.gopher_conversation.specs.Talk.{Talk, Gathers, Asks, IsTooLong, LacksMemory, Responds, Hears, heard, said, stage_of, talk_of, unsent_of}
+use Rattle.gopher_conversation.specs.declared.conversation.Stage.TheVariants as stage
 use Rattle.gopher_conversation.specs.declared.fault.ServeFault.{ServeFault}
-use Rattle.gopher_conversation.specs.declared.fault.ServeFault.TheVariants.{LineTooLong, ReadFailed, WriteFailed, NoMemory}
+use Rattle.gopher_conversation.specs.declared.fault.ServeFault.TheVariants.{LineTooLong, ReadFailed, TooManyTurns, WriteFailed, NoMemory}
 use Rattle.gopher_conversation.specs.declared.advancing.Progress.{Progress}
-use Rattle.gopher_conversation.specs.declared.advancing.Progress.TheVariants.{Done, Paused, Waits, Failed}
+use Rattle.gopher_conversation.specs.declared.advancing.Progress.TheVariants.{Done, Paused, Works, Waits, Failed}
 
 -- ---- one step
 
@@ -38,6 +39,7 @@ pub record HearsEnd (old new : Talk) (had left : StreamData) : Type 0 where
 abbrev pub Listens : Talk → Talk → StreamData → StreamData → Progress → Type 0
 Listens old new had left Done = ⊥
 Listens old new had left Paused = HearsPiece old new had left ⊎ (HearsEnd old new had left ⊎ IsStill old new had left)
+Listens old new had left Works = ⊥
 Listens old new had left Waits = IsStill old new had left
 Listens old new had left (Failed fault) = (fault ≡ ReadFailed) × IsStill old new had left
 
@@ -51,6 +53,7 @@ pub record IsReplied {A : Type 0} (gives : A → A → List ℕ → List ℕ →
 abbrev pub Replies : {A : Type 0} → (A → A → List ℕ → List ℕ → Type 0) → A → A → List ℕ → Talk → Progress → Type 0
 Replies gives before after line new Done = ⊥
 Replies gives before after line new Paused = IsReplied gives before after line new
+Replies gives before after line new Works = IsReplied gives before after line new
 Replies gives before after line new Waits = ⊥
 Replies gives before after line new (Failed fault) = (fault ≡ NoMemory) × (new ≡ Asks line)
 
@@ -69,12 +72,22 @@ pub record IsSaid (old new : Talk) (before after : StreamData) : Type 0 where
   pub none : unsent_of old ≡ []
   pub same : after ≡ before
 
--- one write, by the progress that it makes
+-- a step of the search for the reply: nothing was written
+pub record IsSilent (old new : Talk) (before after : StreamData) : Type 0 where
+  pub talk : new ≡ old
+  pub same : after ≡ before
+
+-- why a reply is given up: a write failed, or a step of the search ran out of memory
+abbrev pub FailsToSay : Talk → Talk → StreamData → StreamData → ServeFault → Type 0
+FailsToSay old new before after fault = ((fault ≡ WriteFailed) × IsStill old new before after) ⊎ ((fault ≡ NoMemory) × IsSilent old new before after)
+
+-- one write, or one step of the search for the reply, by the progress that it makes
 abbrev pub Says : Talk → Talk → StreamData → StreamData → Progress → Type 0
 Says old new before after Done = IsSaid old new before after ⊎ (SaysSome old new before after × (unsent_of new ≡ []))
 Says old new before after Paused = SaysSome old new before after ⊎ IsStill old new before after
+Says old new before after Works = IsSilent old new before after
 Says old new before after Waits = IsStill old new before after
-Says old new before after (Failed fault) = (fault ≡ WriteFailed) × IsStill old new before after
+Says old new before after (Failed fault) = FailsToSay old new before after fault
 
 -- one step, by how the conversation stood: the answers before and after, the reader before and after, the writer before
 -- and after, and the progress
@@ -88,8 +101,22 @@ Steps gives (Responds line reply sent) new a b had left before after progress = 
 -- the progress of a call that failed
 abbrev pub IsProgressAfter : ServeFault → Progress → Type 0
 IsProgressAfter fault Done = ⊥
+IsProgressAfter fault Works = ⊥
 IsProgressAfter fault (Failed why) = why ≡ fault
 IsProgressAfter fault progress = Unit {0}
+
+-- how a conversation stands when it stops, by its progress: the conversation, how many calls of the reader had failed
+-- before and after, and how many of the writer
+abbrev pub Stops : Talk → ℕ → ℕ → ℕ → ℕ → Progress → Type 0
+Stops talk had left before after Done = (stage_of talk ≡ stage.Responds) × (unsent_of talk ≡ [])
+Stops talk had left before after Paused = Unit {0}
+Stops talk had left before after Works = stage_of talk ≡ stage.Responds
+Stops talk had left before after Waits = HasFailed had left ⊎ HasFailed before after
+Stops talk had left before after (Failed LineTooLong) = talk ≡ IsTooLong
+Stops talk had left before after (Failed ReadFailed) = HasFailed had left
+Stops talk had left before after (Failed TooManyTurns) = ⊥
+Stops talk had left before after (Failed WriteFailed) = HasFailed before after
+Stops talk had left before after (Failed NoMemory) = Unit {0}
 
 -- ---- any number of steps
 

@@ -1,8 +1,8 @@
--- What is said of a reply is said of its bytes.
+-- A property of the bytes of an answer.
 use Rattle.std.specs.Prelude.{ℕ, List}
-use Rattle.gopher_replies.specs.Kept.{reply_bytes}
-use Rattle.gopher_replies.specs.declared.replies.Reply.{Reply}
+use Rattle.gopher_replies.specs.Answer.{answer_bytes}
+use Rattle.gopher_replies.specs.declared.answer.Answer.{Answer}
 
--- this holds of the bytes of a reply
-abbrev pub HasBytes : (List ℕ → Type 0) → Reply → Type 0
-HasBytes P reply = P (reply_bytes reply)
+-- the bytes of an answer have the property
+abbrev pub HasBytes : (List ℕ → Type 0) → Answer → Type 0
+HasBytes P answer = P (answer_bytes answer)

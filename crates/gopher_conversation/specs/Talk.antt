@@ -54,10 +54,6 @@ abbrev pub sent_of : Talk → ℕ
 sent_of (Responds line reply sent) = sent
 sent_of talk = 0
 
-abbrev pub reply_of_talk : Talk → List ℕ
-reply_of_talk (Responds line reply sent) = reply
-reply_of_talk talk = []
-
 abbrev pub unsent_of : Talk → List ℕ
 unsent_of (Responds line reply sent) = drop sent reply
 unsent_of talk = []

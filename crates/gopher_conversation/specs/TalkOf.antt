@@ -1,7 +1,7 @@
 -- How a conversation stands, by what it holds.
 use Rattle.std.specs.Prelude.{◌≡◌, ℕ, List, []}
 use Rattle.std.specs.Io.BufRead.{first_line}
-use Rattle.gopher_replies.specs.Kept.{reply_bytes}
+use Rattle.gopher_replies.specs.Answer.{answer_bytes}
 use Rattle.gopher_conversation.specs.Talk.{Talk, known_line}
 use Rattle.gopher_conversation.specs.Talk.{Gathers, Asks, IsTooLong, LacksMemory, Responds}
 use Rattle.gopher_conversation.specs.declared.conversation.Phase.{Phase}
@@ -12,11 +12,11 @@ talk_in gathered phase.Gathering sent = Gathers gathered
 talk_in gathered phase.Asked sent = Asks (first_line gathered)
 talk_in gathered phase.TooLong sent = IsTooLong
 talk_in gathered phase.LacksMemory sent = LacksMemory
-talk_in gathered (phase.Answering reply) sent = Responds (first_line gathered) (reply_bytes reply) sent
+talk_in gathered (phase.Answering answer) sent = Responds (first_line gathered) (answer_bytes answer) sent
 
--- the reply that a conversation holds
+-- the reply that a conversation holds, also if its search isn't at its end
 abbrev pub reply_in : Phase → List ℕ
-reply_in (phase.Answering reply) = reply_bytes reply
+reply_in (phase.Answering answer) = answer_bytes answer
 reply_in phase = []
 
 -- how far a conversation has come whose first line is known

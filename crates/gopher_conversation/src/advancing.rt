@@ -1,10 +1,12 @@
-//! A conversation that goes on, one call of a stream at a time.
+//! The steps of a conversation, each with at most one call of a stream.
 
-ghost use Rattle.std.specs.Prelude.{◌≡◌, ◌<◌, ℕ, List, length};
+ghost use Rattle.std.specs.Prelude.{◌≡◌, ◌<◌, ◌⊎◌, ℕ, List, length};
 ghost use Rattle.gopher_conversation.specs.Advance.{GoesOn, IsProgressAfter, Listens, Replies, Says, Steps};
 ghost use Rattle.gopher_conversation.specs.Leads.{Leads};
 ghost use Rattle.gopher_conversation.specs.Serve.{stream_of};
 ghost use Rattle.gopher_conversation.specs.Talk.{Asks};
+ghost use Rattle.gopher_conversation.specs.declared.advancing.Progress.TheVariants.{Failed, Works};
+ghost use Rattle.gopher_conversation.specs.declared.fault.ServeFault.TheVariants.{NoMemory};
 
 use crate::answers::Answers;
 use crate::conversation::{Conversation, Stage};
@@ -13,36 +15,39 @@ use gopher_text::Watched;
 use std::alloc::Global;
 use std::io::{ErrorKind, Read, Write};
 
-/// How a conversation stands after a step.
+/// The state of a conversation after a step.
 #[derive(Clone, Copy, Debug, PartialEq, Eq)]
 pub enum Progress {
     /// The whole reply was written.
     Done,
     /// It can go on at once.
     Paused,
-    /// A call of a stream would have waited: it can go on when the stream is ready.
+    /// A search makes its reply. It can go on at once, but others should be served first.
+    Works,
+    /// A call of a stream would have blocked. It can go on when the stream is ready.
     Waits,
-    /// It is given up, for this reason.
+    /// It failed.
     Failed(ServeFault),
 }
 
-/// Takes the next step of a conversation, which is one of these, each with at most one call of a stream:
+/// Takes the next step of a conversation. It makes at most one call of a stream:
 ///
-/// - While the line isn't at its end: one read of `reader` into `buffer`, which isn't empty.
-/// - Once the line is at its end: its reply is asked for.
-/// - Once there is a reply: one write of what is still to be sent.
+/// - Until the line is at its end, it reads once from `reader` into `buffer`, which isn't empty.
+/// - Then it asks for the reply. If a search makes the reply, the progress is `Works`.
+/// - It takes one step of that search. The progress is `Works`.
+/// - Once the reply is there, it writes once.
 ///
-/// Streams that never block answer `ErrorKind::WouldBlock` in place of waiting; the progress is
-/// then `Waits`, and an interrupted call is `Paused`.
+/// If a call of a stream fails with `ErrorKind::WouldBlock`, the progress is `Waits`. If it is
+/// interrupted, the progress is `Paused`.
 ///
 /// # Errors
 ///
 /// `Progress::Failed` with
 ///
-/// - `LineTooLong` (7). Nothing was asked, and nothing is ever written.
-/// - `ReadFailed` (10) where a read failed otherwise.
-/// - `WriteFailed` (13) where a write failed otherwise, or took nothing.
-/// - `NoMemory` (90).
+/// - `LineTooLong` (7): nothing was asked, and nothing is ever written
+/// - `ReadFailed` (10): a read failed otherwise
+/// - `WriteFailed` (13): a write failed otherwise, or took nothing
+/// - `NoMemory` (90): out of memory
 #[tactic(auto, using(crate::specs::Leads::leads_one, crate::specs::Leads::leads_stays))]
 pub fn advance<'a, A: Answers<'a>, R: Read, W: Write>(
     alloc: Global,
@@ -66,7 +71,7 @@ pub fn advance<'a, A: Answers<'a>, R: Read, W: Write>(
         Stage::Asks => ask(alloc, conversation, answers),
         Stage::IsTooLong => Progress::Failed(ServeFault::LineTooLong),
         Stage::LacksMemory => Progress::Failed(ServeFault::NoMemory),
-        Stage::Responds => say(conversation, writer),
+        Stage::Responds => say(alloc, conversation, writer),
     }
 }
 
@@ -93,7 +98,7 @@ fn listen<R: Read>(
     }
 }
 
-// Has the line answered.
+// Asks for the reply to the line.
 fn ask<'a, A: Answers<'a>>(
     alloc: Global,
     conversation: &mut Conversation<'a>,
@@ -104,37 +109,59 @@ fn ask<'a, A: Answers<'a>>(
     ensures leads { A.leads_to answers.old answers.new }
 {
     match answers.answer(alloc, conversation.line()) {
-        Ok(reply) => {
-            conversation.respond(reply);
-            Progress::Paused
+        Ok(answer) => {
+            let is_ready = answer.as_slice().is_some();
+            conversation.respond(answer);
+            if is_ready {
+                Progress::Paused
+            } else {
+                Progress::Works
+            }
         }
         Err(_refused) => Progress::Failed(ServeFault::NoMemory),
     }
 }
 
-// Writes once.
-fn say<W: Write>(conversation: &mut Conversation<'_>, writer: &mut Watched<W>) -> Progress
+// Takes one step of the search for the reply.
+fn search(alloc: Global, conversation: &mut Conversation<'_>) -> Progress
+    ensures same { conversation.new ≡ conversation.old }
+    ensures ends { (result ≡ Works) ⊎ (result ≡ Failed NoMemory) }
+{
+    match conversation.search(alloc) {
+        Ok(()) => Progress::Works,
+        Err(_refused) => Progress::Failed(ServeFault::NoMemory),
+    }
+}
+
+// Writes once, if the reply is there.
+fn say<W: Write>(
+    alloc: Global,
+    conversation: &mut Conversation<'_>,
+    writer: &mut Watched<W>,
+) -> Progress
     ensures { Says conversation.old conversation.new
         (stream_of W.contents writer.old) (stream_of W.contents writer.new) result }
 {
-    if conversation.unsent().is_empty() {
+    let Some(unsent) = conversation.unsent() else {
+        return search(alloc, conversation);
+    };
+    if unsent.is_empty() {
         return Progress::Done;
     }
-    match writer.write(conversation.unsent()) {
+    match writer.write(unsent) {
         Ok(0) => Progress::Failed(ServeFault::WriteFailed),
         Ok(count) => {
             conversation.say(count);
-            if conversation.unsent().is_empty() {
-                Progress::Done
-            } else {
-                Progress::Paused
+            match conversation.unsent() {
+                Some([]) => Progress::Done,
+                _ => Progress::Paused,
             }
         }
         Err(error) => progress_after(error.kind(), ServeFault::WriteFailed),
     }
 }
 
-// How a conversation stands after a call that failed.
+// The progress after a call that failed.
 fn progress_after(kind: ErrorKind, fault: ServeFault) -> Progress
     ensures { IsProgressAfter fault result }
 {

@@ -1,14 +1,14 @@
-//! What answers the request lines of a server.
+//! The trait of what answers request lines.
 
 use gopher_item::NoMemory;
-use gopher_replies::Reply;
+use gopher_replies::Answer;
 use std::alloc::Global;
 
 /// Answers request lines, one after another.
 ///
-/// What it gives to a line may depend on its state, and may change it: `gives` is said of the state
-/// before, the state after, the line and the bytes of the reply; `leads_to` of the state before and the
-/// state after alone, also where memory is refused.
+/// The reply to a line may depend on the state, and may change it. `gives` relates the state
+/// before, the state after, the line and the bytes of the reply. `leads_to` relates the state
+/// before and the state after, also if the call fails.
 pub trait Answers<'a> {
     ghost use Rattle.std.specs.Prelude.{ℕ, List, IfOk};
     ghost use Rattle.gopher_conversation.specs.Answers.{HasBytes};
@@ -17,8 +17,12 @@ pub trait Answers<'a> {
 
     ghost leads_to: { Self → Self → Type 0 };
 
-    /// The reply to a line, given without its end. Refused only where memory is (90).
-    fn answer(&mut self, alloc: Global, line: &[u8]) -> Result<Reply<'a>, NoMemory>
+    /// Returns the reply to a line, or the search that makes it. `line` is without its end.
+    ///
+    /// # Errors
+    ///
+    /// Out of memory (90).
+    fn answer(&mut self, alloc: Global, line: &[u8]) -> Result<Answer<'a>, NoMemory>
         ensures gives { IfOk result (HasBytes (gives self.old self.new line.now)) }
         ensures leads { leads_to self.old self.new };
 }

@@ -1,55 +1,55 @@
-//! A conversation with one client, that knows no stream.
+//! A conversation with one client, without streams.
 
-ghost use Rattle.std.specs.Prelude.{◌≡◌, ◌≤◌, [], length, false, true};
+ghost use Rattle.std.specs.Prelude.{◌≡◌, ◌<◌, ◌≤◌, ◌+◌, ◌^◌, [], length, false, true, IfSome};
 ghost use Rattle.std.specs.Option.{option_map};
 ghost use Rattle.std.specs.Io.BufRead.{first_line, strip_last};
 ghost use Rattle.gopher_text.specs.Line.{has_feed};
-ghost use Rattle.gopher_replies.specs.Kept.{reply_bytes};
-ghost use Rattle.gopher_conversation.specs.Talk.{Hears, IsAnswered, IsLine, asked_of, heard, is_known, reply_of_talk, said, sent_of, stage_of, unsent_of};
+ghost use Rattle.gopher_replies.specs.Answer.{answer_bytes};
+ghost use Rattle.gopher_conversation.specs.Talk.{Hears, IsAnswered, IsLine, asked_of, heard, is_known, said, sent_of, stage_of, unsent_of};
 ghost use Rattle.gopher_conversation.specs.Talk.{Gathers};
 ghost use Rattle.gopher_conversation.specs.TalkOf.{IsPhaseAt, reply_in};
 
-use gopher_replies::Reply;
+use gopher_item::NoMemory;
+use gopher_replies::Answer;
 use memchr::memchr;
 use std::alloc::Global;
 use std::marker::Model;
 
-// How many bytes a line may have before its end.
+// The most bytes of a line before its end.
 const MOST_IN_LINE: usize = 1_024;
 
-// How many bytes a line may have with its end, CR LF.
+// The most bytes of a line with its end, CR LF.
 const MOST_WITH_END: usize = 1_026;
 
-// How far a conversation has come.
+// The state of a conversation.
 #[derive(Drop)]
 enum Phase<'a> {
     Gathering,
     Asked,
     TooLong,
     LacksMemory,
-    Answering(Reply<'a>),
+    Answering(Answer<'a>),
 }
 
-/// What a conversation is to do next.
+/// The next task of a conversation.
 #[derive(Clone, Copy)]
 pub(crate) enum Stage {
-    /// Hear more: the line isn't at its end.
+    /// Read more, because the line isn't at its end.
     Listens,
-    /// Have its line answered.
+    /// Ask for the reply to its line.
     Asks,
     /// Nothing: the line is too long.
     IsTooLong,
-    /// Nothing: memory was refused for the line.
+    /// Nothing: out of memory for the line.
     LacksMemory,
-    /// Say what is unsent of its reply.
+    /// Send the rest of its reply, or take a step of the search that makes it.
     Responds,
 }
 
-/// A conversation with one client: it takes in bytes in pieces of any size, knows when its line is at
-/// its end or too long, holds the reply, and gives what of it is still to be sent.
+/// A conversation with one client. It takes bytes in pieces of any size, finds the end of the line,
+/// holds the reply or the search that makes it, and counts the bytes that were sent.
 ///
-/// Whatever the pieces, and however many bytes of the reply are taken at a time, what goes out is a
-/// beginning of the reply to the first line of the bytes that came in.
+/// Whatever the sizes of the pieces, what goes out is a prefix of the reply to the first line.
 #[derive(Drop)]
 pub struct Conversation<'a> {
     gathered: Vec<u8>,
@@ -103,7 +103,7 @@ fn without_return(bytes: &[u8]) -> &[u8]
     }
 }
 
-// How far a conversation has come whose line is at its end, or too long.
+// The state of a conversation whose line is at its end, or too long.
 fn phase_of<'a>(gathered: &[u8]) -> Phase<'a>
     ensures talk { IsPhaseAt gathered.now result }
     ensures silent { reply_in result ≡ [] }
@@ -116,7 +116,7 @@ fn phase_of<'a>(gathered: &[u8]) -> Phase<'a>
 }
 
 impl<'a> Conversation<'a> {
-    /// A conversation that has heard nothing yet. Takes no memory.
+    /// Makes a conversation that has read nothing yet.
     pub fn new(alloc: Global) -> Conversation<'a>
         ensures { result ≡ Gathers [] }
     {
@@ -127,18 +127,8 @@ impl<'a> Conversation<'a> {
         }
     }
 
-    /// How many bytes its reply has; 0 where there is none yet. Takes no memory.
-    pub fn reply_len(&self) -> usize
-        ensures { result ≡ length (reply_of_talk self.now) }
-    {
-        match &self.phase {
-            Phase::Answering(reply) => reply.as_slice().len(),
-            _ => 0,
-        }
-    }
-
-    /// The line that it was asked, without its end; none where no line was at its end yet, or the line was
-    /// too long. Takes no memory.
+    /// Returns the line that the client sent, without its end. `None` until it is at its end, and
+    /// if it is too long.
     pub fn asked_line(&self) -> Option<&[u8]>
         ensures { option_map (λ line. line.now) result ≡ asked_of self.now }
     {
@@ -148,7 +138,7 @@ impl<'a> Conversation<'a> {
         }
     }
 
-    /// How many bytes of its reply were sent; 0 where there is none yet. Takes no memory.
+    /// Returns the number of bytes of its reply that were sent, 0 if there is no reply yet.
     pub fn sent_len(&self) -> usize
         ensures { result ≡ sent_of self.now }
     {
@@ -158,7 +148,7 @@ impl<'a> Conversation<'a> {
         }
     }
 
-    // What it is to do next.
+    // Its next task.
     pub(crate) fn stage(&self) -> Stage
         ensures { result ≡ stage_of self.now }
     {
@@ -171,7 +161,7 @@ impl<'a> Conversation<'a> {
         }
     }
 
-    // Takes in what came next, if the line isn't at its end yet.
+    // Adds a piece, if the line isn't at its end yet.
     pub(crate) fn hear(&mut self, piece: &[u8])
         ensures { Hears self.old piece.now self.new }
     {
@@ -189,7 +179,7 @@ impl<'a> Conversation<'a> {
         }
     }
 
-    // Takes it that nothing more comes in.
+    // Records that the input is at its end.
     pub(crate) fn hear_end(&mut self)
         ensures { self.new ≡ heard true self.old [] }
     {
@@ -206,33 +196,44 @@ impl<'a> Conversation<'a> {
         first_line(&self.gathered)
     }
 
-    // Takes the reply to its line.
-    pub(crate) fn respond(&mut self, reply: Reply<'a>)
-        ensures { IsAnswered self.old self.new (reply_bytes reply.entry) }
+    // Takes the answer to its line.
+    pub(crate) fn respond(&mut self, answer: Answer<'a>)
+        ensures { IsAnswered self.old self.new (answer_bytes answer.entry) }
     {
-        self.phase = Phase::Answering(reply);
+        self.phase = Phase::Answering(answer);
         self.sent = 0;
     }
 
-    // What of its reply is still to be sent.
-    pub(crate) fn unsent(&self) -> &[u8]
-        ensures { result.now ≡ unsent_of self.now }
+    // Takes the next step of the search that makes its reply, if there is one.
+    pub(crate) fn search(&mut self, alloc: Global) -> Result<(), NoMemory>
+        ensures { self.new ≡ self.old }
+    {
+        if let Phase::Answering(answer) = &mut self.phase {
+            answer.step(alloc)?;
+        }
+        Ok(())
+    }
+
+    // The rest of its reply; `None` until the search that makes it is at its end.
+    pub(crate) fn unsent(&self) -> Option<&[u8]>
+        ensures bytes { IfSome result (λ bytes. bytes.now ≡ unsent_of self.now) }
+        ensures few { IfSome result (λ bytes. sent_of self.now + length bytes.now < 2 ^ 64) }
     {
         match &self.phase {
-            Phase::Answering(reply) => {
-                let bytes = reply.as_slice();
-                &bytes[self.sent.min(bytes.len())..]
+            Phase::Answering(answer) => {
+                let bytes = answer.as_slice()?;
+                Some(&bytes[self.sent.min(bytes.len())..])
             }
-            _ => &[],
+            _ => Some(&[]),
         }
     }
 
-    // Takes it that so many more bytes were sent.
+    // Records that `count` more bytes were sent.
     pub(crate) fn say(&mut self, count: usize)
-        requires { count ≤ length (unsent_of self.old) }
+        requires fits { count ≤ length (unsent_of self.old) }
+        requires few { sent_of self.old + count < 2 ^ 64 }
         ensures { self.new ≡ said self.old count }
     {
-        let length = self.reply_len();
-        self.sent = length - (self.unsent().len() - count);
+        self.sent += count;
     }
 }

@@ -1,4 +1,4 @@
-//! Why a conversation ended before its reply had gone out.
+//! The faults of conversations.
 
 ghost use Rattle.std.specs.Prelude.{◌≡◌};
 ghost use Rattle.gopher_conversation.specs.Fault.{serve_fault_code, unread};
@@ -7,29 +7,29 @@ use gopher_item::NoMemory;
 use gopher_text::{LineFault, SendFault};
 use thiserror::Error;
 
-/// Why a conversation ended before its reply had gone out.
+/// Why a conversation failed.
 #[derive(Clone, Copy, Debug, PartialEq, Eq, Error)]
 pub enum ServeFault {
     /// 7: the line has more than 1,024 bytes before its end.
     #[error("the line is too long")]
     LineTooLong,
-    /// 10: a read failed otherwise than by an interruption.
+    /// 10: a read failed, and wasn't just interrupted.
     #[error("a read failed")]
     ReadFailed,
-    /// 11: too many reads or writes, interrupted ones too.
+    /// 11: too many reads or writes, including interrupted ones.
     #[error("too many reads")]
     TooManyTurns,
-    /// 13: a write failed otherwise than by an interruption, or took nothing, or too many were
+    /// 13: a write failed and wasn't just interrupted, or took nothing, or too many were
     /// interrupted.
     #[error("a write failed")]
     WriteFailed,
-    /// 90: memory was refused.
+    /// 90: out of memory.
     #[error("no memory")]
     NoMemory,
 }
 
 impl ServeFault {
-    /// The number of the fault: 7, 10, 11, 13 or 90.
+    /// Returns the number of the fault: 7, 10, 11, 13 or 90.
     pub fn code(self) -> u8
         ensures { result ≡ serve_fault_code self }
     {

@@ -1,4 +1,4 @@
-//! One conversation, over streams that wait.
+//! One conversation, over streams that block.
 
 ghost use Rattle.gopher_conversation.specs.Leads.{Leads};
 ghost use Rattle.gopher_conversation.specs.Serve.{IsUnheard, Serves, stream_of};
@@ -10,14 +10,15 @@ use gopher_text::{Watched, read_line_from, send};
 use std::alloc::Global;
 use std::io::{Read, Write};
 
-/// Reads a request line from `reader`, not a byte after its end, and sends the reply to it.
+/// Reads a request line from `reader`, not a byte after its end, and sends the reply to it. If a
+/// search makes the reply, all of its steps are taken first.
 ///
 /// # Errors
 ///
-/// - `LineTooLong` (7), `ReadFailed` (10), `TooManyTurns` (11), as `gopher_text::read_line_from` has
-///   them. Nothing was asked, and nothing written.
-/// - `WriteFailed` (13), as `gopher_text::send` has it. A beginning of the reply was written.
-/// - `NoMemory` (90). Nothing was written.
+/// - `LineTooLong` (7), `ReadFailed` (10), `TooManyTurns` (11): those of
+///   `gopher_text::read_line_from`. Nothing was asked, and nothing written.
+/// - `WriteFailed` (13): that of `gopher_text::send`. A prefix of the reply was written.
+/// - `NoMemory` (90): nothing was written.
 #[tactic(auto, using(crate::specs::Leads::leads_one, crate::specs::Leads::leads_stays))]
 pub fn serve_with<'a, A: Answers<'a>, R: Read, W: Write>(
     alloc: Global,
@@ -32,7 +33,7 @@ pub fn serve_with<'a, A: Answers<'a>, R: Read, W: Write>(
     ensures leads { Leads A.leads_to answers.old answers.new }
 {
     let line = read_line_from(alloc, reader)?;
-    let reply = answers.answer(alloc, &line)?;
+    let reply = answers.answer(alloc, &line)?.finish(alloc)?;
     send(writer, reply.as_slice())?;
     Ok(())
 }

@@ -5,3 +5,5 @@ pub mod Records
 pub mod Keeping
 pub mod Errands
 pub mod Versions
+pub mod Pairing
+pub mod Shelving

@@ -8,8 +8,9 @@ use Rattle.gopher_page.specs.Query.{TermData}
 use Rattle.gopher_index.specs.Answer.{answer_of}
 use Rattle.gopher_index.specs.declared.hit.Hit.{Hit}
 
--- what a pass has seen, and what it was told of: the longest of the records that it answered and of the notes that it
--- heard, which is shorter than what it has seen after a search that was refused
+-- the record that a pass took last from what is published, and the one that begins its next answer's
+-- record: the longest of the notes that it heard and of the records that it searched. After a search that
+-- failed, what it was told of may be shorter than what it has seen
 pub record PassData : Type 0 where
   pub seen : List EventData
   pub told : List EventData
@@ -18,6 +19,15 @@ pub record PassData : Type 0 where
 pub record ShareData : Type 0 where
   pub events : ℕ
   pub parts : ℕ
+
+-- the record that is published, and the one that is published next, if an update waits for memory
+pub record ShelfData : Type 0 where
+  pub published : List EventData
+  pub next : List EventData
+
+-- a record that is published, while no other waits
+abbrev pub all_published : List EventData → ShelfData
+all_published record_ = record { published = record_; next = record_ }
 
 -- what was entered into the history, and the record that is published
 pub record JournalData : Type 0 where
@@ -29,15 +39,10 @@ abbrev pub IsWhole : Bool → List EventData → List EventData → Type 0
 IsWhole true front record_ = front ≡ record_
 IsWhole false front record_ = length front < length record_
 
--- what was published stays so, and lacks events that were entered
-pub record LagsBehind (old new : JournalData) : Type 0 where
-  pub same : new.published ≡ old.published
-  pub lags : length new.published < length old.entered
-
 -- whether all that was entered is published
-abbrev pub IsShown : Bool → JournalData → JournalData → Type 0
-IsShown true old new = new.published ≡ old.entered
-IsShown false old new = LagsBehind old new
+abbrev pub IsShown : Bool → List EventData → JournalData → Type 0
+IsShown true entered new = new.published ≡ entered
+IsShown false entered new = length new.published < length entered
 
 -- the record of a desk, and the record that is published
 pub record KeptData : Type 0 where

@@ -1,5 +1,5 @@
 -- The published version of a crew's catalogue, and its rule.
-use Rattle.std.specs.Prelude.{ℕ, ◌≡◌, List, [], ◌∷◌, ◌++◌}
+use Rattle.std.specs.Prelude.{ℕ, ◌≡◌, ◌⊎◌, Bool, true, false, List, [], ◌∷◌, ◌++◌}
 use Rattle.std.specs.Arc.{arc_value}
 use Rattle.std.specs.List.{fold}
 use mathlib.Core.List.{IsPrefix}
@@ -10,6 +10,7 @@ use Rattle.gopher_catalogue.specs.declared.event.EventData.{EventData}
 use Rattle.gopher_catalogue.specs.Legal.{IsLegal}
 use Rattle.gopher_catalogue.specs.Pages.{pages_found}
 use Rattle.gopher_page.specs.Page.{PageData}
+use Rattle.gopher_crew.specs.Crew.{ShelfData}
 use Rattle.gopher_crew.specs.History.{BeginningData}
 use Rattle.gopher_crew.specs.declared.update.Change.{Change}
 use Rattle.gopher_crew.specs.declared.update.Change.TheVariants.{Nothing, Page, All}
@@ -66,8 +67,33 @@ IsSeenVersion history seen version = IsVersion history version × (version.front
 abbrev pub GoesOn : Book → VersionData → VersionData → Type 0
 GoesOn history before after = IsVersion history after × IsPrefix before.front.events after.front.events
 
--- what was entered is a beginning of this history, and so is the published record, which begins it
-pub record IsJournal (history head : Book) (front : BeginningData) (published : List EventData) : Type 0 where
+-- the records of the published version and of the next one
+abbrev pub shelf_data : VersionData → VersionData → ShelfData
+shelf_data shown next = record { published = shown.front.events; next = next.front.events }
+
+-- the published version is one of this history, and the next one goes on from it
+pub record IsShelf (history : Book) (shown next : VersionData) : Type 0 where
+  pub is_version : IsVersion history shown
+  pub goes_on : GoesOn history shown next
+
+-- whether the updates that waited were applied and published
+abbrev pub CatchesUp : Bool → VersionData → List Update → VersionData → List Update → Type 0
+CatchesUp true shown updates shown' updates' = (shown' ≡ last_of shown updates) × (updates' ≡ [])
+CatchesUp false shown updates shown' updates' = (shown' ≡ shown) × (updates' ≡ updates)
+
+-- whether a version was published, with none that waited before; if not, it waits at most
+abbrev pub Follows : Bool → VersionData → VersionData → VersionData → List Update → Type 0
+Follows true version shown shown' updates' = (shown' ≡ version) × (updates' ≡ [])
+Follows false version shown shown' updates' = (shown' ≡ shown) × ((updates' ≡ []) ⊎ (last_of shown' updates' ≡ version))
+
+-- whether a record was published; if not, what is published now was so before, or waited
+abbrev pub Publishes : Bool → List EventData → ShelfData → ShelfData → Type 0
+Publishes true record_ old new = new.published ≡ record_
+Publishes false record_ old new = (new.published ≡ old.published) ⊎ (new.published ≡ old.next)
+
+-- what was entered is a beginning of this history, and begins with the published record and the next one
+pub record IsJournal (history head : Book) (front : BeginningData) (shelf : ShelfData) : Type 0 where
   pub head_is : head ≡ history
   pub front_is : front.history ≡ history
-  pub published_begins : IsPrefix published front.events
+  pub published_begins : IsPrefix shelf.published front.events
+  pub next_begins : IsPrefix shelf.next front.events

@@ -1,5 +1,5 @@
 -- What a worker does.
-use Rattle.std.specs.Prelude.{ℕ, ◌≡◌, ◌+◌, ◌*◌, ◌≤◌, ◌⊎◌, min, List, Result, Ok, Err}
+use Rattle.std.specs.Prelude.{ℕ, ◌≡◌, ◌+◌, ◌*◌, ◌≤◌, ◌⊎◌, false, min, List, Result, Ok, Err}
 use Rattle.gopher_item.specs.Place.{PlaceData}
 use Rattle.gopher_scope.specs.Scope.{ScopeData}
 use Rattle.gopher_page.specs.Page.{PageData, page_of}
@@ -11,7 +11,7 @@ use Rattle.gopher_crew.specs.declared.working.Outcome.{Outcome}
 use Rattle.gopher_crew.specs.declared.working.Outcome.TheVariants.{Found, Failed, Refused}
 use Rattle.gopher_crew.specs.declared.working.Stop.{Stop}
 use Rattle.gopher_crew.specs.declared.working.Stop.TheVariants.{Finished, NoMemory as NoMemoryStop}
-use Rattle.gopher_crew.specs.Kept.{AnswersTurn}
+use Rattle.gopher_crew.specs.Kept.{AnswersTurn, IsOutOn}
 
 -- the count of a fetcher's calls after one more
 abbrev pub one_more_call : ℕ → ℕ
@@ -32,6 +32,11 @@ failed_rise Refused = 0
 abbrev pub outcome_rise : Outcome → ℕ
 outcome_rise outcome = found_rise outcome + failed_rise outcome
 
+-- a place that was claimed was found or failed, or it isn't out on a legal record
+abbrev pub EndsClaim : Outcome → ℕ → Type 0
+EndsClaim Refused number = IsOutOn number false
+EndsClaim outcome number = Unit {0}
+
 -- a share rose by at most two for each call of the fetcher, unless the count of its calls is at its last
 -- value
 abbrev pub IsPaid : ShareData → ShareData → ℕ → ℕ → Type 0
@@ -47,6 +52,13 @@ pub record Earns (before calls after calls' outcomes : ℕ) : Type 0 where
 abbrev pub IsStop : Stop → Type 0
 IsStop Finished = AnswersTurn FinishedTurn
 IsStop NoMemoryStop = Unit {0}
+
+-- what a worker did between two states of its share and two counts of its fetcher's calls
+pub record Works (before : ShareData) (calls : ℕ) (after : ShareData) (calls' outcomes : ℕ) (stop : Stop) : Type 0 where
+  pub is_stop : IsStop stop
+  pub at_least : before.events + 2 * outcomes ≤ after.events
+  pub is_paid : IsPaid before after calls calls'
+  pub same_parts : after.parts ≡ before.parts
 
 -- the bytes that were fetched of a place become its page, unless memory is refused
 abbrev pub SettlesBytes : ScopeData → PlaceData → List ℕ → Result PageData Why → Type 0

@@ -10,10 +10,11 @@ use gopher_catalogue::Catalogue;
 use std::marker::Model;
 use std::sync::ledger;
 
-/// What a desk is opened with: a ledger that counts nothing yet, and a history into which nothing was
-/// entered, or else a beginning of the record of the catalogue with which it came back.
+/// What a desk is opened with: a ledger that counts nothing yet, and a history.
 ///
-/// The caller of a desk names its crew by `Brand`, and picks for it the names of its blank.
+/// Nothing was entered into the history of a new blank. That of a blank that `DeskRefused` returned has
+/// a prefix of the catalogue's record. The caller of a desk names its crew by `Brand`, and picks the
+/// names of its blank for it.
 #[derive(Drop)]
 pub struct Blank {
     pub(crate) count: ledger::Blank,
@@ -33,7 +34,7 @@ impl Model for Blank {
 }
 
 impl Blank {
-    /// A blank of a ledger of 16 parts and of a new history. Takes no memory.
+    /// A blank with a ledger of 16 parts and a new history.
     pub fn new() -> Blank
         ensures parts { result.parts ≡ 16 }
         ensures begun { result.begun ≡ [] }
@@ -46,7 +47,7 @@ impl Blank {
         }
     }
 
-    /// Enters the rest of a catalogue's record into the history, and tells whether all of it is entered.
+    /// Enters the rest of a catalogue's record into the history. Returns whether all of it is entered.
     pub(crate) fn enter(&mut self, catalogue: &Catalogue) -> bool
         requires { IsPrefix self.old.begun catalogue.now }
         ensures back { ComesBack catalogue.now self.old self.new }
@@ -55,7 +56,7 @@ impl Blank {
         enter_all(&mut self.front, &self.head, catalogue)
     }
 
-    /// The events that were entered, as a beginning of the history.
+    /// Returns the events that were entered, as a prefix of the history.
     pub(crate) fn front(&self) -> &Beginning
         ensures history { result.now.history ≡ self.now.history }
         ensures events { result.now.events ≡ self.now.begun }

@@ -1,21 +1,22 @@
 //! A crawl by several workers.
 
-ghost use Rattle.std.specs.Prelude.{◌≡◌, ◌+◌, ◌≤◌, vec_len, vec_capacity, IfOk, IfErr};
+ghost use Rattle.std.specs.Prelude.{◌≡◌, ◌+◌, ◌≤◌, [], length, vec_len, vec_capacity, IfOk, IfErr};
+ghost use Rattle.std.specs.List.{sum_by, AllZip};
+ghost use Rattle.gopher_crew.specs.Work.{Works};
 
 use crate::crew::Crew;
 use crate::desk::Desk;
 use crate::fetch::Fetch;
 use crate::share::Share;
-use crate::working::{Stop, WorkEnd, work};
-use core::mem::replace_with;
+use crate::working::{WorkEnd, run};
 use std::alloc::Global;
 use std::sync::Wait;
 use std::thread::{Threads, for_each_mut};
 
-/// A crawl that wasn't started, since memory was refused (90), with what was handed in.
+/// A crawl that wasn't started because memory ran out (90), with the arguments it was given.
 #[derive(Drop)]
 pub struct CrawlRefused<F: Drop, C: Crew> {
-    /// The fetchers and shares that were handed in.
+    /// The fetchers and shares.
     pub pairs: Vec<(F, Share<C>)>,
 }
 
@@ -28,76 +29,52 @@ impl<F: Drop, C: Crew> CrawlRefused<F, C> {
     }
 }
 
-// A worker's place: what it has to work with, or how it ended.
-#[derive(Drop)]
-enum Seat<F: Drop, C: Crew> {
-    Waits(F, Share<C>),
-    Ended(WorkEnd<F, C>),
-}
-
-// Works, unless that was done.
-fn sit<C: Crew, R: Wait + Drop, W: Wait, F: Fetch<W> + Drop>(
-    rt: &W,
-    alloc: Global,
-    desk: &Desk<C, R>,
-    seat: &mut Seat<F, C>,
-) {
-    replace_with(seat, (rt, alloc, desk), run_seat)
-}
-
-fn run_seat<C: Crew, R: Wait + Drop, W: Wait, F: Fetch<W> + Drop>(
-    seat: Seat<F, C>,
-    with: (&W, Global, &Desk<C, R>),
-) -> (Seat<F, C>, ()) {
-    match seat {
-        Seat::Waits(fetcher, share) => {
-            let end = work(with.0, with.1, with.2, fetcher, share);
-            (Seat::Ended(end), ())
-        }
-        Seat::Ended(end) => (Seat::Ended(end), ()),
-    }
-}
-
-// How the worker of a seat ended; one that didn't work found and failed nothing.
-fn end_of<F: Drop, C: Crew>(seat: Seat<F, C>) -> WorkEnd<F, C> {
-    match seat {
-        Seat::Ended(end) => end,
-        Seat::Waits(fetcher, share) => WorkEnd {
-            fetcher,
-            share,
-            found: 0,
-            failed: 0,
-            stop: Stop::NoMemory,
-        },
-    }
-}
-
-// Seats for the pairs, the last of which comes first.
-fn seats_of<F: Drop, C: Crew>(pairs: Vec<(F, Share<C>)>, seats: &mut Vec<Seat<F, C>>)
-    requires room { vec_len seats.old + vec_len pairs ≤ vec_capacity seats.old }
-    ensures { vec_len seats.new ≡ vec_len seats.old + vec_len pairs }
+// A worker for each pair, in their order, that did nothing yet.
+fn workers_of<F: Drop, C: Crew>(pairs: Vec<(F, Share<C>)>, workers: &mut Vec<WorkEnd<F, C>>)
+    requires empty { workers.old.items ≡ [] }
+    requires none { vec_len workers.old ≡ 0 }
+    requires room { vec_len pairs ≤ vec_capacity workers.old }
+    ensures len { vec_len workers.new ≡ vec_len pairs }
+    ensures idle { AllZip (λ pair worker. (worker.fetcher ≡ pair.0) × (worker.share ≡ pair.1))
+        pairs.items workers.new.items }
 {
     let mut pairs = pairs;
+    pairs.reverse();
     while let Some((fetcher, share)) = pairs.pop() {
-        seats.push_reserved(Seat::Waits(fetcher, share));
+        workers.push_reserved(WorkEnd::idle(fetcher, share));
     }
 }
 
-// The ends of the seats, the last of which comes first.
-fn ends_of<F: Drop, C: Crew>(seats: Vec<Seat<F, C>>, ends: &mut Vec<WorkEnd<F, C>>)
-    requires room { vec_len ends.old + vec_len seats ≤ vec_capacity ends.old }
-    ensures { vec_len ends.new ≡ vec_len ends.old + vec_len seats }
+// Lets each worker work, in a thread of its own if that can be started.
+fn run_all<
+    C: Crew + Send + Sync,
+    R: Wait + Drop + Send,
+    W: Threads + Wait + Sync,
+    F: Fetch<W> + Drop + Send,
+>(rt: &W, alloc: Global, desk: &Desk<C, R>, workers: &mut [WorkEnd<F, C>])
+    ensures len { length workers.new ≡ length workers.old }
+    ensures each { AllZip (λ old new. Works old.share (F.called old.fetcher) new.share
+        (F.called new.fetcher) (new.found + new.failed) new.stop) workers.old workers.new }
 {
-    let mut seats = seats;
-    while let Some(seat) = seats.pop() {
-        ends.push_reserved(end_of(seat));
-    }
+    let threads = workers.len().max(1);
+    for_each_mut(
+        rt,
+        workers,
+        threads,
+        &|_index: usize, worker: &mut WorkEnd<F, C>|
+            ensures { Works worker.old.share (F.called worker.old.fetcher) worker.new.share
+                (F.called worker.new.fetcher) (worker.new.found + worker.new.failed)
+                worker.new.stop }
+        { run(rt, alloc, desk, worker) },
+    );
 }
 
-/// Works at a desk by one thread for each pair of a fetcher and a share, until each worker stopped. The
-/// ends are in the order of the pairs. A pair whose thread can't be started is worked by the caller's.
+/// Works at a desk with one thread for each pair of a fetcher and a share, until each worker has
+/// stopped. Returns how the workers ended, in the order of the pairs. If a thread can't be started,
+/// the caller's thread works for its pair.
 ///
-/// Refused only where memory is (90), before any thread is started; the pairs come back.
+/// # Errors
+/// 90, before any thread starts: the error has the pairs.
 pub fn crawl<
     C: Crew + Send + Sync,
     R: Wait + Drop + Send,
@@ -110,22 +87,17 @@ pub fn crawl<
     pairs: Vec<(F, Share<C>)>,
 ) -> Result<Vec<WorkEnd<F, C>>, CrawlRefused<F, C>>
     ensures ends { IfOk result (λ ends. vec_len ends ≡ vec_len pairs) }
+    ensures each { IfOk result (λ ends. AllZip (λ pair end. Works pair.1 (F.called pair.0)
+        end.share (F.called end.fetcher) (end.found + end.failed) end.stop)
+        pairs.items ends.items) }
+    ensures parts { IfOk result (λ ends. sum_by (λ end. end.share.parts) ends.items
+        ≡ sum_by (λ pair. pair.1.parts) pairs.items) }
     ensures back { IfErr result (λ refused. refused.pairs ≡ pairs) }
 {
-    let Ok(mut ends) = Vec::with_capacity(alloc, pairs.len()) else {
+    let Ok(mut workers) = Vec::with_capacity(alloc, pairs.len()) else {
         return Err(CrawlRefused { pairs });
     };
-    let Ok(mut seats) = Vec::with_capacity(alloc, pairs.len()) else {
-        return Err(CrawlRefused { pairs });
-    };
-    seats_of(pairs, &mut seats);
-    let threads = seats.len().max(1);
-    for_each_mut(
-        rt,
-        seats.as_mut_slice(),
-        threads,
-        &|_index, seat| sit(rt, alloc, desk, seat),
-    );
-    ends_of(seats, &mut ends);
-    Ok(ends)
+    workers_of(pairs, &mut workers);
+    run_all(rt, alloc, desk, workers.as_mut_slice());
+    Ok(workers)
 }

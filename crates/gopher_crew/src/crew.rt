@@ -3,8 +3,9 @@
 use std::marker::Brand;
 use std::sync::ledger::Ledger;
 
-/// Which crew it is: the names of its ledger and of its history. A caller names it by `Brand`, and
-/// picks the names of the blank that the desk is opened with.
+/// A crew: the names of its ledger and of its history, for proofs alone.
+///
+/// A caller takes `Brand` as the crew, and picks the names of the blank that the desk is opened with.
 pub trait Crew: Ledger {
     ghost use Rattle.logbook.specs.Pages.{Book};
 

@@ -5,6 +5,7 @@ ghost use Rattle.std.specs.Prelude.{◌≡◌, ◌≢◌, ◌+◌, ◌≤◌, []
 ghost use mathlib.Core.List.{IsPrefix};
 ghost use Rattle.gopher_catalogue.specs.Legal.{IsLegal};
 ghost use Rattle.gopher_catalogue.specs.Turn.{turn_data};
+ghost use Rattle.gopher_crew.specs.Crew.{all_published};
 ghost use Rattle.gopher_crew.specs.Desk.{are_counts, shares_at, events_of, AllHaveSeen, AreJoined, ComesBack, IsDeskFault, HasAll};
 ghost use Rattle.gopher_crew.specs.Kept.{RisesAt, NotesTurn, NotesFind, NotesFailure, AnswersTurn, AnswersFind, RefusesFind, IsOutOn, LetsClaim, BeginsWith, IsNotIdle, IsStatus};
 
@@ -24,38 +25,37 @@ use gopher_page::Page;
 use std::alloc::Global;
 use std::sync::{Arc, Condvar, Mutex, MutexGuard, Wait};
 
-/// A catalogue that a crew of workers crawls together, while passes search what is published of it.
+/// One catalogue that several workers crawl together while passes search its snapshots.
 #[derive(Drop)]
 pub struct Desk<C: Crew, R: Wait + Drop> {
     kept: Mutex<Kept<C, R>>,
     outcomes: Condvar,
 }
 
-/// A desk that wasn't opened, with what was handed in.
+/// The error of `Desk::open`, with the arguments that it was given.
 #[derive(Drop)]
 pub struct DeskRefused {
-    /// Why.
+    /// Why the desk wasn't opened.
     pub fault: DeskFault,
-    /// The catalogue that was handed in.
+    /// The catalogue.
     pub catalogue: Catalogue,
-    /// The blank that was handed in. A part of the catalogue's record may have been entered into its
-    /// history.
+    /// The blank. Part of the catalogue's record may have been entered into its history.
     pub blank: Blank,
 }
 
-/// A desk that wasn't closed, since the shares don't count all its events (62), with what was handed in.
+/// The error of `Desk::close` (62): the shares don't count all events of the record after the first.
 #[derive(Drop)]
 pub struct CloseRefused<C: Crew, R: Wait + Drop> {
-    /// The desk.
+    /// The desk, still open.
     pub desk: Desk<C, R>,
-    /// The shares, joined into one.
+    /// The shares, merged into one.
     pub shares: Vec<Share<C>>,
-    /// How many events the record has after the first.
+    /// The number of events in the record after the first.
     pub events: u64,
 }
 
 impl<C: Crew, R: Wait + Drop> CloseRefused<C, R> {
-    /// The number of this fault, 62.
+    /// Returns the number of this fault, 62.
     pub fn code(&self) -> u8
         ensures { result ≡ 62 }
     {
@@ -81,7 +81,7 @@ fn refused(fault: DeskFault, catalogue: Catalogue, blank: Blank) -> DeskRefused
     }
 }
 
-// The desk over a catalogue of which all was entered and is shown, and its shares.
+// Makes the desk over a catalogue whose whole record was entered and is published, and its shares.
 fn start<C: Crew, R: Wait + Drop>(
     alloc: Global,
     catalogue: Catalogue,
@@ -94,7 +94,7 @@ fn start<C: Crew, R: Wait + Drop>(
     requires parts { blank.parts ≡ C.parts }
     requires history { blank.history ≡ C.history }
     requires begun { blank.begun ≡ catalogue }
-    requires shown { shelf ≡ catalogue }
+    requires shown { shelf ≡ all_published catalogue }
     requires counts { (1 ≤ shares) × (shares ≤ 16) }
     requires empty { list.old.items ≡ [] }
     requires room { shares ≤ vec_capacity list.old }
@@ -108,21 +108,26 @@ fn start<C: Crew, R: Wait + Drop>(
     cut(whole, events, shares, list);
     let journal = Journal::new(alloc, head, front, shelf);
     Desk {
-        kept: Mutex::new(Kept::new(alloc, catalogue, book, journal)),
+        kept: Mutex::new(Kept::new(catalogue, book, journal)),
         outcomes: Condvar::new(),
     }
 }
 
 impl<C: Crew, R: Wait + Drop> Desk<C, R> {
-    /// Opens a desk over a catalogue, with so many passes, each of which has seen the whole record, and
-    /// so many shares, of which the first counts the events that the record has already. `rt` is what
-    /// publications wait by.
+    /// Opens a desk over a catalogue.
     ///
-    /// The blank is a new one, or came back with this catalogue; the crew has its names.
+    /// Returns the desk, `passes` passes that have all seen the whole record, and `shares` shares, the
+    /// first of which counts the events that are already in the record. Publications wait by `rt`.
     ///
-    /// Refused, in this order: `BadCount` (60) where the number of passes or of shares is not 1 to 16;
-    /// `NoEntry` (61) where a pass can't enter what is published; `NoMemory` (90). The catalogue and the
-    /// blank come back.
+    /// `blank` is a new one, or one that an earlier error returned with this catalogue. The crew `C`
+    /// has its names.
+    ///
+    /// # Errors
+    /// - `BadCount` (60): the number of passes or of shares isn't 1 to 16. This is tested first.
+    /// - `NoEntry` (61): a pass can't enter what is published.
+    /// - `NoMemory` (90).
+    ///
+    /// The error has the catalogue and the blank.
     pub fn open(
         rt: R,
         alloc: Global,
@@ -164,10 +169,13 @@ impl<C: Crew, R: Wait + Drop> Desk<C, R> {
 }
 
 impl<C: Crew, R: Wait + Drop> Desk<C, R> {
-    /// Claims the first place that waits. The share rises by one if it takes a place. The turn is what a
-    /// claim answers on a legal record, and the note, if there is one, is of the record after it.
+    /// Claims the first waiting place. The share rises by one if there is one.
     ///
-    /// Refused only where memory is (90), and a place waits.
+    /// The turn is what a claim returns on a legal record. The note, if there is one, is of the record
+    /// after it.
+    ///
+    /// # Errors
+    /// 90, only if a place waits.
     pub fn claim<W: Wait>(
         &self,
         rt: &W,
@@ -183,11 +191,15 @@ impl<C: Crew, R: Wait + Drop> Desk<C, R> {
         self.kept.lock(rt).claim(share)
     }
 
-    /// Takes in the page of a place that is out. The share rises by one. The note, where there is one,
-    /// is of a legal record that ends with the page.
+    /// Adds the page of a place that is out. The share rises by one.
     ///
-    /// Refused, in this order: `NotOut` (52), `WrongPlace` (53), `NoMemory` (90): the fault is the one
-    /// that the page has on a legal record. The page comes back.
+    /// The note, if there is one, is of a legal record that ends with the page.
+    ///
+    /// # Errors
+    /// The first of these that the page has on a legal record. The error has the page.
+    /// - `NotOut` (52): the number isn't out.
+    /// - `WrongPlace` (53): the page is of another place.
+    /// - `NoMemory` (90).
     pub fn found<W: Wait>(
         &self,
         rt: &W,
@@ -208,10 +220,12 @@ impl<C: Crew, R: Wait + Drop> Desk<C, R> {
         Ok(reply)
     }
 
-    /// Notes that a place that is out could not be fetched. The share rises by one. The note, where there
-    /// is one, is of a legal record that ends with the failure.
+    /// Records that a place that is out couldn't be fetched. The share rises by one.
     ///
-    /// Refused (52) exactly if the number is not out, on a legal record.
+    /// The note, if there is one, is of a legal record that ends with the failure.
+    ///
+    /// # Errors
+    /// 52: the number isn't out on a legal record.
     pub fn fail<W: Wait>(
         &self,
         rt: &W,
@@ -231,15 +245,15 @@ impl<C: Crew, R: Wait + Drop> Desk<C, R> {
         Ok(note)
     }
 
-    /// What the crawl began with. Refused only where memory is (90).
+    /// Returns the opening of the crawl, shared.
     pub(crate) fn opening<W: Wait>(&self, rt: &W) -> Result<Arc<Opening>, NoMemory>
         ensures { IfOk result (λ opening. BeginsWith (arc_value opening)) }
     {
         self.kept.lock(rt).opening()
     }
 
-    // Takes the lock. Before that it runs one errand, if there is one, while it holds no lock: one for
-    // each claim is enough, since fewer pages are merged than claimed, and ends where memory is refused.
+    // Takes the lock. Before that it runs one errand, if there is one, while it holds no lock. One for
+    // each claim is enough, because fewer runs of pages are merged than places are claimed.
     fn settled<W: Wait>(&self, rt: &W, alloc: Global) -> MutexGuard<'_, Kept<C, R>> {
         let mut kept = self.kept.lock(rt);
         let Some(mut errand) = kept.errand() else {
@@ -252,9 +266,12 @@ impl<C: Crew, R: Wait + Drop> Desk<C, R> {
         kept
     }
 
-    /// Merges pages that are due to be merged, once, and claims the first place that waits; while none
-    /// waits and some are out, it waits for their outcomes. At the crawl's end it publishes what was
+    /// Merges one run of pages if one is due, then claims the first waiting place. While none waits but
+    /// some are out, it waits for their outcomes. When the crawl is finished, it publishes what was
     /// merged since the last page.
+    ///
+    /// # Errors
+    /// 90, only if a place waits.
     pub(crate) fn next<W: Wait>(
         &self,
         rt: &W,
@@ -265,6 +282,7 @@ impl<C: Crew, R: Wait + Drop> Desk<C, R> {
         ensures not_idle { IfOk result (λ turn. IsNotIdle (turn_data turn)) }
         ensures share { IfOk result (λ turn. RisesAt (turn_data turn) share.old share.new) }
         ensures parts { share.new.parts ≡ share.old.parts }
+        ensures waits { OnErr result LetsClaim }
         ensures err { OnErr result (share.new ≡ share.old) }
     {
         for _round in rt.forever() {
@@ -284,7 +302,7 @@ impl<C: Crew, R: Wait + Drop> Desk<C, R> {
         unreachable!()
     }
 
-    /// The sizes of the frontier, which are those of a legal record. Takes no memory.
+    /// Returns the number of places in each state. They are those of a legal record.
     pub fn status<W: Wait>(&self, rt: &W) -> Status
         ensures { IsStatus result }
     {
@@ -315,11 +333,11 @@ impl<C: Crew, R: Wait + Drop> Desk<C, R> {
         Ok(kept)
     }
 
-    /// Ends the desk, and gives its catalogue. With all shares that `open` gave it isn't refused. Takes
-    /// no memory.
+    /// Closes the desk and returns its catalogue. With all shares that `open` returned, it never fails.
     ///
-    /// Refused (62) if the shares don't count all events of the record after the first; then the desk
-    /// comes back, and the shares joined into one.
+    /// # Errors
+    /// 62: the shares don't count all events of the record after the first. The error has the desk,
+    /// and the shares merged into one.
     pub fn close(self, shares: Vec<Share<C>>) -> Result<Catalogue, CloseRefused<C, R>>
         ensures counted { IfOk result (λ catalogue. length catalogue ≡ events_of shares.items + 1) }
         ensures legal { IfOk result (λ catalogue. IsLegal catalogue) }
@@ -330,8 +348,8 @@ impl<C: Crew, R: Wait + Drop> Desk<C, R> {
         Ok(self.gathered(shares)?.end())
     }
 
-    /// As `close`, with a note of the catalogue's record: a pass that hears it was told of a record that
-    /// begins with the catalogue's. There is none if memory is refused to the last publication.
+    /// Closes the desk as `close` does, and returns a note of the catalogue's record with it. There is
+    /// none if the last publication runs out of memory.
     pub fn close_with_note(
         self,
         shares: Vec<Share<C>>,

@@ -10,8 +10,8 @@ use gopher_catalogue::Due;
 use std::alloc::Global;
 use std::marker::{Model, PhantomData};
 
-/// Pages that a worker is to merge, and the record that had found them, a beginning of the crew's
-/// history. Contracts see the pages.
+/// Pages that a worker is to merge, and the record that had found them, a prefix of the crew's history.
+/// Contracts see the pages.
 #[derive(Drop)]
 pub struct Errand<C: Crew> {
     due: Due,
@@ -44,14 +44,14 @@ impl<C: Crew> Errand<C> {
         }
     }
 
-    /// Merges the pages, and tells whether it did: it didn't if memory was refused.
+    /// Merges the pages. Returns whether it did: it didn't if memory ran out.
     pub fn run(&mut self, alloc: Global) -> bool
         ensures { self.new ≡ self.old }
     {
         self.due.merge(alloc).is_ok()
     }
 
-    /// The pages, where the record that had found them is a beginning of a longer one.
+    /// Returns the pages, if the record that had found them is a prefix of this one.
     pub fn due_in(self, front: &Beginning) -> Option<Due>
         requires { front.now.history ≡ C.history }
         ensures { IfSome result (λ due. StandsIn due (pages_found front.now.events)) }

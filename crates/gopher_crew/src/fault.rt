@@ -1,23 +1,23 @@
-//! Why a call of a desk or of a pass was refused.
+//! Why a call of a desk or of a pass failed.
 
 ghost use Rattle.std.specs.Prelude.{◌≡◌};
 ghost use Rattle.gopher_crew.specs.Fault.{search_fault_code, desk_fault_code};
 
 use thiserror::Error;
 
-/// Why a search was refused.
+/// Why a search failed.
 #[derive(Clone, Copy, Debug, PartialEq, Eq, Error)]
 pub enum SearchFault {
     /// 61: the published version can't be entered.
     #[error("the published version can't be entered")]
     NoEntry,
-    /// 90: memory was refused.
+    /// 90: out of memory.
     #[error("no memory")]
     NoMemory,
 }
 
 impl SearchFault {
-    /// The number of the fault: 61 or 90.
+    /// Returns the number of the fault: 61 or 90.
     pub fn code(self) -> u8
         ensures { result ≡ search_fault_code self }
     {
@@ -31,19 +31,19 @@ impl SearchFault {
 /// Why a desk wasn't opened.
 #[derive(Clone, Copy, Debug, PartialEq, Eq, Error)]
 pub enum DeskFault {
-    /// 60: the number of passes or of shares is not 1 to 16.
+    /// 60: the number of passes or of shares isn't 1 to 16.
     #[error("the number of passes or of shares is not 1 to 16")]
     BadCount,
-    /// 61: no place for a reader of the versions was given.
+    /// 61: a pass can't enter what is published.
     #[error("the published version can't be entered")]
     NoEntry,
-    /// 90: memory was refused.
+    /// 90: out of memory.
     #[error("no memory")]
     NoMemory,
 }
 
 impl DeskFault {
-    /// The number of the fault: 60, 61 or 90.
+    /// Returns the number of the fault: 60, 61 or 90.
     pub fn code(self) -> u8
         ensures { result ≡ desk_fault_code self }
     {

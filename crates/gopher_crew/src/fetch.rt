@@ -8,15 +8,15 @@ use gopher_item::Place;
 use std::alloc::Global;
 
 /// Fetches the replies of places. `R` is the runtime that it needs: a fetch over a network waits for its
-/// peer, one in memory for nobody.
+/// peer, and one from memory needs nothing.
 pub trait Fetch<R> {
     ghost called: { Self → ℕ };
 
-    /// How many fetches were made, failed or not, up to the last value of a `u64`. Takes no memory.
+    /// Returns the number of fetches, failed or not. It stays at the last value of a `u64`.
     fn calls(&self) -> u64
         ensures { result ≡ called self.now };
 
-    /// The reply of a place, of at most `limit` bytes, which is at most 1,048,576; or why there is none.
+    /// Fetches the reply of a place, at most `limit` bytes. Returns the reason if there is none.
     fn fetch(&mut self, rt: &R, alloc: Global, place: &Place, limit: usize) -> Result<Vec<u8>, Why>
         requires { limit ≤ 1048576 }
         ensures within { IfOk result (λ bytes. vec_len bytes ≤ limit) }

@@ -1,4 +1,4 @@
-//! Joining the shares of a desk.
+//! Merging the shares of a desk.
 
 ghost use Rattle.std.specs.Prelude.{◌≡◌, ◌+◌, ◌<◌, ◌^◌};
 ghost use Rattle.gopher_crew.specs.Desk.{events_of, parts_of, HasAll};
@@ -7,7 +7,7 @@ use crate::crew::Crew;
 use crate::share::Share;
 use std::sync::ledger::Book;
 
-/// Joins shares of this book into one, and tells how many events they count: all of the book, where they
+/// Merges shares of this book into one. Returns how many events they count: all of the book, if they
 /// have all its parts.
 pub fn join<C: Crew>(book: &mut Book<C>, shares: &mut Vec<Share<C>>) -> u64
     requires { book.old.total < 2 ^ 63 }
@@ -29,7 +29,7 @@ pub fn join<C: Crew>(book: &mut Book<C>, shares: &mut Vec<Share<C>>) -> u64
     sum
 }
 
-// Takes a share of this book into another.
+// Merges a share of this book into another.
 fn take_in<C: Crew>(book: &mut Book<C>, all: &mut Share<C>, share: Share<C>)
     requires { book.old.total < 2 ^ 63 }
     ensures total { book.new.total ≡ book.old.total }

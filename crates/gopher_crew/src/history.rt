@@ -1,4 +1,4 @@
-//! The one history of a crew, which exists in proofs alone: what the program keeps of it is its length.
+//! The one history of a crew, which exists in proofs alone. The program keeps its length.
 
 ghost use Rattle.std.specs.Prelude.{◌≡◌, ◌+◌, ◌<◌, ◌^◌, ◌⊎◌, false, [], ◌∷◌, ◌++◌, length, IsTrue, MatchBool};
 ghost use mathlib.Core.List.{IsPrefix};
@@ -58,7 +58,7 @@ impl Plain<Event, EventData, u64> for Add {
     ghost state = { λ event. None };
 }
 
-/// The word of a history, by which events are added to it.
+/// The word of a history, through which events are added to it.
 #[derive(Drop)]
 pub struct Head {
     word: Word<EventData, u64, Law>,
@@ -76,7 +76,7 @@ impl Model for Head {
     ghost invariant = { λ h. h.word ≡ head_of h.word.book };
 }
 
-/// A beginning of a history: as much of it as was seen.
+/// A prefix of a history: as much of it as was seen.
 #[derive(Drop)]
 pub struct Beginning {
     len: u32,
@@ -105,14 +105,14 @@ pub fn begin() -> (Head, Beginning)
 }
 
 impl Beginning {
-    /// How many events it has.
+    /// Returns the number of its events.
     pub fn len(&self) -> u32
         ensures { result ≡ length self.now.events }
     {
         self.len
     }
 
-    /// The same once more.
+    /// Returns a copy.
     pub fn again(&self) -> Beginning
         ensures { result ≡ self.now }
     {
@@ -122,7 +122,7 @@ impl Beginning {
         }
     }
 
-    /// Whether it is no longer than another of the same history, which then begins with it.
+    /// Returns whether it is a prefix of another of the same history: whether it is no longer.
     pub fn begins(&self, other: &Beginning) -> bool
         requires { other.now.history ≡ self.now.history }
         ensures begins { IsTrue result → IsPrefix self.now.events other.now.events }
@@ -137,7 +137,7 @@ impl Beginning {
     }
 
     #[tactic(auto, using(crate::proofs::Beginnings::prefix_whole))]
-    /// Whether it is as long as another of the same history, and so the same.
+    /// Returns whether it is as long as another of the same history, and so the same.
     pub fn is_same(&self, other: &Beginning) -> bool
         requires { other.now.history ≡ self.now.history }
         ensures { IsTrue result → self.now.events ≡ other.now.events }
@@ -148,7 +148,7 @@ impl Beginning {
         self.begins(other)
     }
 
-    /// The longer of two beginnings of the same history; it begins with the other.
+    /// Returns the longer of two prefixes of the same history. The other is a prefix of it.
     pub fn longer(&self, other: &Beginning) -> Beginning
         requires { other.now.history ≡ self.now.history }
         ensures one { (result ≡ self.now) ⊎ (result ≡ other.now) }
@@ -162,7 +162,8 @@ impl Beginning {
         }
     }
 
-    /// Adds an event at the end of the history, unless the history has gone on past this beginning.
+    /// Adds an event at the end of the history, unless the history is longer than this prefix. Returns
+    /// whether it did.
     pub fn add(&mut self, head: &Head, event: &Event) -> bool
         requires history { head.now ≡ self.old.history }
         requires room { length self.old.events + 1 < 2 ^ 32 }

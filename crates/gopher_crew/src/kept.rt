@@ -1,4 +1,4 @@
-//! What stands behind a desk's lock.
+//! What a desk keeps behind its lock.
 
 ghost use Rattle.std.specs.Prelude.{◌≡◌, ◌+◌, ◌<◌, ◌^◌, true, false, None, [], ◌∷◌, ◌++◌, length, IfOk, IfErr, IfSome, OnOk, OnErr};
 ghost use Rattle.std.specs.Arc.{arc_value};
@@ -20,26 +20,23 @@ use crate::share::Share;
 use gopher_catalogue::{Added, Catalogue, FailRefused, FoundRefused, Opening, Status, Turn, Why};
 use gopher_item::NoMemory;
 use gopher_page::Page;
-use std::alloc::Global;
 use std::marker::Model;
 use std::sync::ledger::Book;
 use std::sync::{Arc, Wait};
 
-// How many more pages are found before merging is tried again after a merge was refused memory.
+// The number of pages to be found before merging is tried again, after a merge ran out of memory.
 const REST: usize = 64;
 
 /// The catalogue of a crawl, the count of its events after the first, and what is published of it.
-/// Contracts see its record and the one that is published, a beginning of it.
+/// Contracts see its record and the published one, which is a prefix of it.
 #[derive(Drop)]
 pub struct Kept<C: Crew, R: Wait + Drop> {
     catalogue: Catalogue,
     book: Book<C>,
     journal: Journal<C, R>,
-    // What was merged before the pages in front of it.
-    early: Vec<Errand<C>>,
     // Whether pages were merged since the index was last published for that.
     is_merged: bool,
-    // From how many pages found on some are given out to be merged.
+    // Pages are merged once this number of pages is found.
     rests_until: usize,
     // Whether pages were given out to be merged at the end of the crawl.
     is_ended: bool,
@@ -58,7 +55,7 @@ impl<C: Crew, R: Wait + Drop> Model for Kept<C, R> {
     ghost invariant = { λ k. IsKept k.catalogue k.journal k.book.total };
 }
 
-// Where a turn took a place, its event counts for the share and in the book.
+// Counts the event of a turn that took a place, for the share and in the book.
 fn count<C: Crew>(turn: &Turn, share: &mut Share<C>, book: &mut Book<C>)
     requires { book.old.total < 2 ^ 63 }
     ensures events { share.new.events ≡ share.old.events + rise_of (turn_data turn.now) }
@@ -72,13 +69,8 @@ fn count<C: Crew>(turn: &Turn, share: &mut Share<C>, book: &mut Book<C>)
 }
 
 impl<C: Crew, R: Wait + Drop> Kept<C, R> {
-    /// What a desk keeps of a catalogue of which all was entered and is published.
-    pub(crate) fn new(
-        alloc: Global,
-        catalogue: Catalogue,
-        book: Book<C>,
-        journal: Journal<C, R>,
-    ) -> Kept<C, R>
+    /// What a desk keeps of a catalogue whose whole record was entered and is published.
+    pub(crate) fn new(catalogue: Catalogue, book: Book<C>, journal: Journal<C, R>) -> Kept<C, R>
         requires entered { journal.entered ≡ catalogue }
         requires published { journal.published ≡ catalogue }
         requires legal { IsLegal catalogue }
@@ -90,17 +82,17 @@ impl<C: Crew, R: Wait + Drop> Kept<C, R> {
             catalogue,
             book,
             journal,
-            early: Vec::new(alloc),
             is_merged: false,
             rests_until: 0,
             is_ended: false,
         }
     }
 
-    /// Claims the first place that waits, as `Catalogue::claim` does, then publishes all that isn't
-    /// published yet. The note is there where the whole record is published as the call ends.
+    /// Claims the first waiting place, as `Catalogue::claim` does, then publishes all that isn't
+    /// published yet. Returns a note exactly if the whole record is published as the call ends.
     ///
-    /// Refused only where memory is (90), and a place waits; then nothing changes.
+    /// # Errors
+    /// 90, only if a place waits. Nothing changes then.
     #[tactic(auto, using(crate::proofs::Keeping::turn_keeps, crate::proofs::Keeping::turn_counts))]
     pub fn claim(&mut self, share: &mut Share<C>) -> Result<(Turn, Option<Note<C>>), NoMemory>
         ensures turn { IfOk result (λ reply. turn_data reply.0 ≡ turn_of self.old.events) }
@@ -123,11 +115,14 @@ impl<C: Crew, R: Wait + Drop> Kept<C, R> {
         Ok((turn, note))
     }
 
-    /// Takes in the page of a place that is out, as `Catalogue::found` does, then publishes all that
-    /// isn't published yet. The note is there where the whole record is published as the call ends.
+    /// Adds the page of a place that is out, as `Catalogue::found` does, then publishes all that isn't
+    /// published yet. Returns a note exactly if the whole record is published as the call ends.
     ///
-    /// Refused as `Catalogue::found` is: `NotOut` (52), `WrongPlace` (53), `NoMemory` (90). Then nothing
-    /// changes, and the page comes back.
+    /// # Errors
+    /// Those of `Catalogue::found`, with the page. Nothing changes then.
+    /// - `NotOut` (52): the number isn't out.
+    /// - `WrongPlace` (53): the page is of another place.
+    /// - `NoMemory` (90).
     pub fn found(
         &mut self,
         share: &mut Share<C>,
@@ -156,10 +151,12 @@ impl<C: Crew, R: Wait + Drop> Kept<C, R> {
         Ok((added, note))
     }
 
-    /// Notes that a place that is out could not be fetched, as `Catalogue::fail` does, then publishes all
-    /// that isn't published yet. The note is there where the whole record is published as the call ends.
+    /// Records that a place that is out couldn't be fetched, as `Catalogue::fail` does, then publishes
+    /// all that isn't published yet. Returns a note exactly if the whole record is published as the
+    /// call ends.
     ///
-    /// Refused (52) exactly where the number is not out; then nothing changes.
+    /// # Errors
+    /// 52: the number isn't out. Nothing changes then.
     pub fn fail(
         &mut self,
         share: &mut Share<C>,
@@ -185,8 +182,8 @@ impl<C: Crew, R: Wait + Drop> Kept<C, R> {
         Ok(self.journal.follow(&self.catalogue))
     }
 
-    // Whether pages may be merged now. While no place waits, a worker that merged would only keep the
-    // crawl from its end: few pages are still to come. At its end one run of pages is merged.
+    // Whether pages may be merged now. While no place waits, merging would only delay the end of the
+    // crawl, because few pages are still to come. When the crawl is finished, one run is merged.
     fn may_merge(&mut self) -> bool
         ensures { self.new ≡ self.old }
     {
@@ -200,8 +197,8 @@ impl<C: Crew, R: Wait + Drop> Kept<C, R> {
         self.rests_until <= self.catalogue.index().len()
     }
 
-    /// Pages that are due to be merged. None if none are, if places are out but none waits, after a merge
-    /// was refused memory until 64 more pages are found, or if memory is refused.
+    /// Takes pages that are due to be merged. There are none while places are out but none waits, when
+    /// out of memory, and for 64 more pages after a merge ran out of memory.
     pub(crate) fn errand(&mut self) -> Option<Errand<C>>
         ensures { self.new ≡ self.old }
     {
@@ -215,57 +212,26 @@ impl<C: Crew, R: Wait + Drop> Kept<C, R> {
         Some(Errand::new(due, front))
     }
 
-    // Puts what an errand merged in its place in the index. If it is too early for that, the errand waits
-    // behind the others that are.
-    fn put(&mut self, errand: Errand<C>, front: &Beginning)
-        requires history { front.now.history ≡ C.history }
-        requires events { front.now.events ≡ self.old.events }
-        ensures { self.new ≡ self.old }
-    {
-        let Some(due) = errand.due_in(front) else {
-            return;
-        };
-        let Some(due) = self.catalogue.install(due) else {
-            return;
-        };
-        let _pushed = self.early.push(Errand::new(due, front.again()));
-    }
-
-    // Tries each of the errands that came early once.
-    fn put_early(&mut self, front: &Beginning)
-        requires history { front.now.history ≡ C.history }
-        requires events { front.now.events ≡ self.old.events }
-        ensures { self.new ≡ self.old }
-    {
-        for _errand in 0..self.early.len() {
-            if self.early.is_empty() {
-                return;
-            }
-            let errand = self.early.remove(0);
-            self.put(errand, front);
-        }
-    }
-
-    /// Puts what an errand merged in its place in the index, and what others did that came too early for
-    /// theirs; pages that weren't merged are due again once 64 more are found. It is published with the
-    /// next page, or by `renew`.
+    /// Puts what an errand merged in its place in the index. If it wasn't merged, its pages are due again
+    /// once 64 more are found. It is published with the next page, or by `renew`.
     pub(crate) fn install(&mut self, errand: Errand<C>, was_merged: bool)
         ensures { self.new ≡ self.old }
     {
-        let Some(front) = self.journal.entered(&self.catalogue) else {
-            return;
-        };
         if was_merged {
             self.is_merged = true;
         } else {
             self.rests_until = self.catalogue.index().len().saturating_add(REST);
         }
-        self.put(errand, &front);
-        self.put_early(&front);
+        let Some(front) = self.journal.entered(&self.catalogue) else {
+            return;
+        };
+        if let Some(due) = errand.due_in(&front) {
+            self.catalogue.install(due);
+        }
     }
 
-    /// Publishes the pages as they stand in the index now, if some were merged since the desk was opened,
-    /// so that searches after the crawl find them merged.
+    /// Publishes the pages as the index has them now, if some were merged since the desk was opened.
+    /// Searches after the crawl then find them merged.
     pub(crate) fn renew(&mut self)
         ensures events { self.new.events ≡ self.old.events }
         ensures grows { IsPrefix self.old.published self.new.published }
@@ -275,15 +241,15 @@ impl<C: Crew, R: Wait + Drop> Kept<C, R> {
         }
     }
 
-    /// How many events the record has after the first. Takes no memory.
+    /// Returns the number of events in the record after the first.
     pub(crate) fn events(&self) -> u64
         ensures { length self.now.events ≡ result + 1 }
     {
         self.catalogue.record().len() as u64 - 1
     }
 
-    /// Joins shares into one, and tells how many events they count: all after the first of the record,
-    /// where they have all parts of the ledger.
+    /// Merges shares into one. Returns how many events they count: all of the record after the first,
+    /// if they have all parts of the ledger.
     pub(crate) fn gather(&mut self, shares: &mut Vec<Share<C>>) -> u64
         ensures same { self.new ≡ self.old }
         ensures sum { result ≡ events_of shares.old.items }
@@ -294,7 +260,7 @@ impl<C: Crew, R: Wait + Drop> Kept<C, R> {
         join(&mut self.book, shares)
     }
 
-    /// What the crawl began with: the opening of its record, shared. Refused only where memory is (90).
+    /// Returns the opening of the record, shared.
     pub fn opening(&self) -> Result<Arc<Opening>, NoMemory>
         ensures first { IfOk result (λ opening. IsOpeningOf self.now (arc_value opening)) }
         ensures begins { IfOk result (λ opening. BeginsWith (arc_value opening)) }
@@ -303,7 +269,7 @@ impl<C: Crew, R: Wait + Drop> Kept<C, R> {
         Ok(self.catalogue.opening().clone()?)
     }
 
-    /// The sizes of the frontier. Takes no memory.
+    /// Returns the number of places in each state.
     pub fn status(&self) -> Status
         ensures status { result ≡ status_of self.now.events }
         ensures legal { IsLegal self.now.events }
@@ -311,7 +277,7 @@ impl<C: Crew, R: Wait + Drop> Kept<C, R> {
         self.catalogue.status()
     }
 
-    /// The catalogue, with just this record. What is published comes to its end. Takes no memory.
+    /// Returns the catalogue, and drops what is published.
     pub fn end(self) -> Catalogue
         ensures record { result ≡ self.events }
         ensures legal { IsLegal self.events }
@@ -320,7 +286,6 @@ impl<C: Crew, R: Wait + Drop> Kept<C, R> {
             catalogue,
             book: _book,
             journal: _journal,
-            early: _early,
             is_merged: _is_merged,
             rests_until: _rests_until,
             is_ended: _is_ended,
@@ -328,7 +293,7 @@ impl<C: Crew, R: Wait + Drop> Kept<C, R> {
         catalogue
     }
 
-    /// As `end`, with a note of the whole record, unless it can't be published since memory is refused.
+    /// Returns the catalogue, with a note of the whole record unless publishing it runs out of memory.
     pub(crate) fn end_with_note(self) -> (Catalogue, Option<Note<C>>)
         ensures record { result.0 ≡ self.events }
         ensures noted { IfSome result.1 (λ note. note ≡ result.0) }

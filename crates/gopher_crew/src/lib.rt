@@ -1,8 +1,8 @@
 //! A desk at which workers crawl one catalogue together, and passes that search its snapshots.
 //!
-//! The crates above rely on two contracts: each call at a desk is a step of one sequential
-//! catalogue, and a search answers from one legal record that begins with everything the same pass
-//! saw before.
+//! The crates above rely on three contracts. Each call at a desk is a step of one sequential
+//! catalogue. A search answers from one legal record that begins with everything the same pass saw
+//! before. The workers of a crawl keep the parts of their shares, so that the desk can be closed.
 //!
 //! # The way of a found page
 //!
@@ -17,6 +17,9 @@
 //! history and gives the shelf an `Update`. The shelf (`left_right`) keeps two copies: readers use
 //! one while the writer changes the other, and each update is applied to both. An update changes no
 //! pages, adds one page, or replaces all pages by those of an index if segments were merged since.
+//!
+//! If a publication runs out of memory, its update waits, and the next publication publishes it first.
+//! So at most one update waits, however often memory runs out.
 //!
 //! A search shares the published `Version` and leaves at once, so no long search holds up a
 //! publication.

@@ -1,4 +1,4 @@
-//! Notes: what a call of a desk tells of the published record.
+//! Notes: what a call of a desk returns of the published record.
 
 ghost use Rattle.std.specs.Prelude.{◌≡◌, length};
 ghost use Rattle.gopher_catalogue.specs.Legal.{IsLegal};
@@ -7,7 +7,7 @@ use crate::crew::Crew;
 use crate::history::Beginning;
 use std::marker::{Model, PhantomData};
 
-/// Tells that a record was published. Contracts see it as that record.
+/// A record that was published, for `Pass::hear`. Contracts see that record.
 #[derive(Drop)]
 pub struct Note<C: Crew> {
     front: Beginning,
@@ -39,7 +39,7 @@ impl<C: Crew> Note<C> {
         }
     }
 
-    /// The record, as a beginning of the crew's history.
+    /// Returns the record as a prefix of the crew's history.
     pub(crate) fn front(&self) -> &Beginning
         ensures history { result.now.history ≡ C.history }
         ensures events { result.now.events ≡ self.now }
@@ -47,7 +47,7 @@ impl<C: Crew> Note<C> {
         &self.front
     }
 
-    /// The length of the record. Takes no memory.
+    /// Returns the length of the record.
     pub fn at(&self) -> u32
         ensures at { result ≡ length self.now }
         ensures legal { IsLegal self.now }

@@ -4,6 +4,7 @@ ghost use Rattle.std.specs.Prelude.{◌≡◌, ◌+◌, ◌<◌, ◌≤◌, ◌^
 ghost use Rattle.gopher_crew.specs.declared.fault.DeskFault.TheVariants.{BadCount};
 ghost use Rattle.gopher_catalogue.specs.Legal.{IsLegal};
 ghost use Rattle.gopher_catalogue.specs.Pages.{pages_found};
+ghost use Rattle.gopher_crew.specs.Crew.{all_published};
 ghost use Rattle.gopher_crew.specs.Desk.{has_seen, opening_shares, AllHaveSeen};
 
 use crate::crew::Crew;
@@ -18,10 +19,10 @@ use std::alloc::Global;
 use std::sync::Wait;
 use std::sync::ledger::Share as Part;
 
-/// So many parts has the ledger of a desk.
+/// The number of parts of a desk's ledger.
 pub const PARTS: u64 = 16;
 
-// Where the versions are shown, the first of which has these pages and this record.
+// A shelf for `passes` readers. Its first version has these pages and this record.
 fn shelf_of<C: Crew, R: Wait + Drop>(
     alloc: Global,
     rt: R,
@@ -33,7 +34,7 @@ fn shelf_of<C: Crew, R: Wait + Drop>(
     requires pages { index.now ≡ pages_found front.now.events }
     requires legal { IsLegal front.now.events }
     requires some { 0 < passes }
-    ensures shown { IfOk result (λ shelf. shelf ≡ front.now.events) }
+    ensures shown { IfOk result (λ shelf. shelf ≡ all_published front.now.events) }
     ensures other { IfErr result (λ fault. fault ≢ BadCount) }
 {
     let Ok(first) = Version::of(alloc, index, front) else {
@@ -48,7 +49,7 @@ fn shelf_of<C: Crew, R: Wait + Drop>(
     Ok(shelf)
 }
 
-// A pass that has seen the record that the shelf shows.
+// A pass that has seen the record that the shelf publishes.
 fn pass_of<C: Crew, R: Wait + Drop>(
     alloc: Global,
     shelf: &Shelf<C, R>,
@@ -60,7 +61,7 @@ fn pass_of<C: Crew, R: Wait + Drop>(
     Pass::open(alloc, shelf.reader()?, front)
 }
 
-// So many passes that have seen the record that the shelf shows.
+// `passes` passes that have seen the record that the shelf publishes.
 fn passes_of<C: Crew, R: Wait + Drop>(
     alloc: Global,
     shelf: &Shelf<C, R>,
@@ -83,8 +84,7 @@ fn passes_of<C: Crew, R: Wait + Drop>(
     Ok(list)
 }
 
-/// Where the versions are shown, the first of which has these pages and this record, and so many passes
-/// that have seen it.
+/// A shelf whose first version has these pages and this record, and `passes` passes that have seen it.
 pub fn show<C: Crew, R: Wait + Drop>(
     alloc: Global,
     rt: R,
@@ -96,7 +96,7 @@ pub fn show<C: Crew, R: Wait + Drop>(
     requires pages { index.now ≡ pages_found front.now.events }
     requires legal { IsLegal front.now.events }
     requires some { 0 < passes }
-    ensures shown { IfOk result (λ shown. shown.0 ≡ front.now.events) }
+    ensures shown { IfOk result (λ shown. shown.0 ≡ all_published front.now.events) }
     ensures passes { IfOk result (λ shown. AllHaveSeen front.now.events passes shown.1.items) }
     ensures other { IfErr result (λ fault. fault ≢ BadCount) }
 {
@@ -105,8 +105,8 @@ pub fn show<C: Crew, R: Wait + Drop>(
     Ok((shelf, list))
 }
 
-/// Cuts a ledger of 16 parts into so many shares, of which the first counts all events so far. There is
-/// room for them in the list.
+/// Cuts a ledger of 16 parts into `shares` shares, the first of which counts all events so far. The list
+/// has room for them.
 pub fn cut<C: Crew>(whole: Part<C>, events: u64, shares: u32, list: &mut Vec<Share<C>>)
     requires parts { whole.parts ≡ 16 }
     requires events { whole.amount ≡ events }

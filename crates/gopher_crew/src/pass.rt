@@ -4,6 +4,8 @@ ghost use Rattle.std.specs.Prelude.{◌≡◌, ◌⊎◌, false, length, IfOk, I
 ghost use mathlib.Core.List.{IsPrefix};
 ghost use Rattle.left_right.specs.Sides.{view};
 ghost use Rattle.gopher_catalogue.specs.Legal.{IsLegal};
+ghost use Rattle.gopher_catalogue.specs.Pages.{pages_found};
+ghost use Rattle.gopher_index.specs.Begun.{begun_hits};
 ghost use Rattle.gopher_crew.specs.Desk.{has_seen};
 ghost use Rattle.gopher_crew.specs.Crew.{hits_of};
 ghost use Rattle.gopher_crew.specs.Version.{IsSeen, IsSeenVersion};
@@ -15,7 +17,7 @@ use crate::note::Note;
 use crate::shelf::VersionReader;
 use crate::version::{Sees, Version};
 use core::mem::replace_with;
-use gopher_index::Hit;
+use gopher_index::{Begun, Hit};
 use gopher_page::Query;
 use std::alloc::Global;
 use std::marker::Model;
@@ -123,6 +125,50 @@ impl<C: Crew> Pass<C> {
         self.told.begins(&other.told)
     }
 
+    // Takes the published version, unless its record doesn't begin with what this pass was told of.
+    fn take(&mut self) -> Result<Version, SearchFault>
+        ensures legal { OnOk result (IsLegal self.new.seen) }
+        ensures pages { IfOk result (λ version. version.pages ≡ pages_found self.new.seen) }
+        ensures front { IfOk result (λ version. version.front.events ≡ self.new.seen) }
+        ensures after_told { OnOk result (IsPrefix self.old.told self.new.seen) }
+        ensures none_told { OnOk result (self.new.told ≡ self.new.seen) }
+        ensures after_seen { IsPrefix self.old.seen self.new.seen }
+        ensures told { IsPrefix self.old.told self.new.told }
+    {
+        let version = replace_with(&mut self.reader, (), take_version)?;
+        if !self.told.begins(version.front()) {
+            return Err(SearchFault::NoEntry);
+        }
+        self.told = version.front().again();
+        Ok(version)
+    }
+
+    /// Begins a search of the pages of the published record, with the promises of `search`.
+    ///
+    /// The search shares these pages: its hits are those of this record, whatever is published
+    /// meanwhile.
+    ///
+    /// # Errors
+    ///
+    /// - `NoEntry` (61): the published version can't be entered
+    /// - `NoMemory` (90)
+    ///
+    /// After an error the pass may have seen more.
+    pub fn begin(&mut self, query: &Query) -> Result<Begun, SearchFault>
+        ensures legal { OnOk result (IsLegal self.new.seen) }
+        ensures hits { IfOk result (λ begun. begun_hits begun ≡ hits_of self.new.seen query.now) }
+        ensures after_told { OnOk result (IsPrefix self.old.told self.new.seen) }
+        ensures none_told { OnOk result (self.new.told ≡ self.new.seen) }
+        ensures after_seen { IsPrefix self.old.seen self.new.seen }
+        ensures told { IsPrefix self.old.told self.new.told }
+    {
+        let version = self.take()?;
+        let Ok(begun) = version.begin(self.alloc, query) else {
+            return Err(SearchFault::NoMemory);
+        };
+        Ok(begun)
+    }
+
     /// Searches the pages of the published record. It waits for nobody, and holds up no publication for
     /// longer than it takes to share the version.
     ///
@@ -140,11 +186,7 @@ impl<C: Crew> Pass<C> {
         ensures after_seen { IsPrefix self.old.seen self.new.seen }
         ensures told { IsPrefix self.old.told self.new.told }
     {
-        let version = replace_with(&mut self.reader, (), take_version)?;
-        if !self.told.begins(version.front()) {
-            return Err(SearchFault::NoEntry);
-        }
-        self.told = version.front().again();
+        let version = self.take()?;
         let Ok(hits) = version.search(self.alloc, query) else {
             return Err(SearchFault::NoMemory);
         };

@@ -9,8 +9,8 @@ use gopher_page::Page;
 use gopher_scope::Scope;
 use std::alloc::Global;
 
-/// The page of what was fetched of a place, of at most 1,048,576 bytes; or why there is none: the reason
-/// of the fetch, or `NoMemory` where memory was refused.
+/// Makes the page of a fetched reply, which has at most 1,048,576 bytes. If there is none, returns the
+/// reason of the fetch, or `NoMemory`.
 pub fn settle(
     alloc: Global,
     scope: &Scope,

@@ -6,7 +6,7 @@ use crate::crew::Crew;
 use std::marker::Model;
 use std::sync::ledger::{Book, Share as Part};
 
-/// A share of a desk's ledger: the count of the events that its holder made at the desk.
+/// A share of a desk's ledger. It counts the events that its holder made at the desk.
 #[derive(Drop)]
 pub struct Share<C: Crew> {
     count: u64,
@@ -25,7 +25,7 @@ impl<C: Crew> Model for Share<C> {
 }
 
 impl<C: Crew> Share<C> {
-    /// A share with these parts, which counts as many events as they do.
+    /// A share with these parts, which counts their events.
     pub(crate) fn of(count: u64, part: Part<C>) -> Share<C>
         requires count { count ≡ part.amount }
         requires some { 0 < part.parts }
@@ -35,7 +35,7 @@ impl<C: Crew> Share<C> {
         Share { count, part }
     }
 
-    /// How many events it counts. Takes no memory.
+    /// Returns the number of events that it counts.
     pub fn events(&self) -> u64
         ensures { result ≡ self.now.events }
     {
@@ -54,7 +54,7 @@ impl<C: Crew> Share<C> {
         self.count += 1;
     }
 
-    /// Takes in what another share counts, and its parts.
+    /// Adds the events and the parts of another share.
     pub(crate) fn merge(&mut self, other: Share<C>)
         requires { self.old.events + other.events < 2 ^ 64 }
         ensures events { self.new.events ≡ self.old.events + other.events }
@@ -65,7 +65,7 @@ impl<C: Crew> Share<C> {
         self.count += count;
     }
 
-    /// Shows that what it counts is within the book's total, and is the total where it has every part.
+    /// Shows that it counts no more than the book's total, and exactly that if it has every part.
     pub(crate) fn audit(&mut self, book: &mut Book<C>)
         ensures same { self.new ≡ self.old }
         ensures total { book.new.total ≡ book.old.total }

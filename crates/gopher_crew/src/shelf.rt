@@ -1,11 +1,12 @@
 //! Where a desk publishes the versions of its catalogue.
 
-ghost use Rattle.std.specs.Prelude.{◌≡◌, ◌<◌, ◌^◌, [], ◌∷◌, ◌++◌, drop, length, IfOk, IfSome, MatchBool};
+ghost use Rattle.std.specs.Prelude.{◌≡◌, ◌<◌, ◌^◌, [], ◌∷◌, drop, length, IfOk, IfSome};
 ghost use mathlib.Core.List.{IsPrefix};
 ghost use Rattle.left_right.specs.Sides.{view};
 ghost use Rattle.gopher_catalogue.specs.Legal.{IsLegal};
 ghost use Rattle.gopher_catalogue.specs.Pages.{pages_found};
-ghost use Rattle.gopher_crew.specs.Version.{version_data, last_of, IsVersion, GoesOn};
+ghost use Rattle.gopher_crew.specs.Crew.{all_published};
+ghost use Rattle.gopher_crew.specs.Version.{version_data, after_update, last_of, IsVersion, GoesOn, CatchesUp, Follows, Publishes};
 
 use crate::crew::Crew;
 use crate::history::Beginning;
@@ -21,29 +22,32 @@ use std::alloc::Global;
 use std::marker::Model;
 use std::sync::Wait;
 
-/// What publishes versions.
+/// The writer that publishes versions.
 pub type VersionWriter<C> = Writer<Version, Update, [EventData; 0], Shows<C>>;
 
-/// What sees the versions that are published.
+/// A reader of the published versions.
 pub type VersionReader<C> = Reader<Version, [EventData; 0], Shows<C>>;
 
 /// The writer of the versions, with the runtime by which it waits for readers. Contracts see the record
-/// of the version that is published.
+/// of the published version and that of the next one. The two differ if an update waits because memory
+/// ran out. At most one update waits.
 pub struct Shelf<C: Crew, R: Wait + Drop> {
     writer: VersionWriter<C>,
     rt: R,
 }
 
 impl<C: Crew, R: Wait + Drop> Model for Shelf<C, R> {
-    ghost use Rattle.std.specs.Prelude.{List};
-    ghost use Rattle.gopher_catalogue.specs.declared.event.EventData.{EventData};
-    ghost use Rattle.gopher_crew.specs.Version.{IsVersion};
+    ghost use Rattle.std.specs.Prelude.{drop};
+    ghost use Rattle.gopher_crew.specs.Crew.{ShelfData};
+    ghost use Rattle.gopher_crew.specs.Version.{shelf_data, last_of, IsShelf};
 
-    ghost Value = { List EventData };
+    ghost Value = { ShelfData };
 
-    ghost view = { λ s. s.writer.desk.shown.value.front.events };
+    ghost view = { λ s. shelf_data s.writer.desk.shown.value
+        (last_of s.writer.desk.shown.value (drop s.writer.behind s.writer.log.items)) };
 
-    ghost invariant = { λ s. IsVersion C.history s.writer.desk.shown.value };
+    ghost invariant = { λ s. IsShelf C.history s.writer.desk.shown.value
+        (last_of s.writer.desk.shown.value (drop s.writer.behind s.writer.log.items)) };
 }
 
 impl<C: Crew, R: Wait + Drop> Drop for Shelf<C, R> {
@@ -53,21 +57,33 @@ impl<C: Crew, R: Wait + Drop> Drop for Shelf<C, R> {
     }
 }
 
-// Applies all updates that wait, and publishes the version that they make.
+// Applies all updates that wait, and publishes the version that they make. Returns whether it did.
 fn publish_last<C: Crew, R: Wait>(writer: VersionWriter<C>, rt: &R) -> (VersionWriter<C>, bool)
     requires { GoesOn C.history writer.desk.shown.value
         (last_of writer.desk.shown.value (drop writer.behind writer.log.items)) }
-    ensures { MatchBool result.1 (result.0.desk.shown.value
-        ≡ last_of writer.desk.shown.value (drop writer.behind writer.log.items))
-        (result.0.desk.shown.value ≡ writer.desk.shown.value) }
+    ensures { CatchesUp result.1 writer.desk.shown.value (drop writer.behind writer.log.items)
+        result.0.desk.shown.value (drop result.0.behind result.0.log.items) }
 {
     let (writer, published) = writer.publish_as::<Sees<C>, R>(rt);
     (writer, published.is_ok())
 }
 
-// The update of what is published to the version of a record, which has these pages. It replaces all
-// pages if that is asked for, and if others wait, since memory was refused to their publication: so it
-// fits behind them.
+// Publishes the update that waits, if one does, and returns whether none waits then.
+fn catch_up<C: Crew, R: Wait>(writer: &mut VersionWriter<C>, rt: &R) -> bool
+    requires { GoesOn C.history writer.old.desk.shown.value
+        (last_of writer.old.desk.shown.value (drop writer.old.behind writer.old.log.items)) }
+    ensures { CatchesUp result
+        writer.old.desk.shown.value (drop writer.old.behind writer.old.log.items)
+        writer.new.desk.shown.value (drop writer.new.behind writer.new.log.items) }
+{
+    if !writer.has_pending_operations() {
+        return true;
+    }
+    replace_with(writer, rt, publish_last)
+}
+
+// The update from what is published to the version of a record, which has these pages. If it `renews`,
+// it replaces all pages.
 fn update_to<C: Crew>(
     writer: &VersionWriter<C>,
     alloc: Global,
@@ -78,11 +94,10 @@ fn update_to<C: Crew>(
     requires version { IsVersion C.history writer.now.desk.shown.value }
     requires pages { index.now ≡ pages_found front.now.events }
     requires begins { IsPrefix writer.now.desk.shown.value.front.events front.now.events }
-    ensures { IfOk result (λ update. last_of writer.now.desk.shown.value
-        (drop writer.now.behind writer.now.log.items ++ update ∷ [])
+    ensures { IfOk result (λ update. after_update writer.now.desk.shown.value update
         ≡ version_data index.now front.now) }
 {
-    let change = if renews || writer.has_pending_operations() {
+    let change = if renews {
         Change::all(alloc, index)?
     } else {
         Change::between(alloc, writer.published().index(), index)?
@@ -94,9 +109,35 @@ fn update_to<C: Crew>(
     })
 }
 
+// Publishes the version of a record, which has these pages, while no update waits. Returns whether it
+// did.
+fn publish_next<C: Crew, R: Wait>(
+    writer: &mut VersionWriter<C>,
+    rt: &R,
+    alloc: Global,
+    index: &Index,
+    front: &Beginning,
+    renews: bool,
+) -> bool
+    requires none { drop writer.old.behind writer.old.log.items ≡ [] }
+    requires version { IsVersion C.history writer.old.desk.shown.value }
+    requires goes_on { GoesOn C.history writer.old.desk.shown.value
+        (version_data index.now front.now) }
+    ensures { Follows result (version_data index.now front.now) writer.old.desk.shown.value
+        writer.new.desk.shown.value (drop writer.new.behind writer.new.log.items) }
+{
+    let Ok(update) = update_to(writer, alloc, index, front, renews) else {
+        return false;
+    };
+    if writer.append(update).is_err() {
+        return false;
+    }
+    replace_with(writer, rt, publish_last)
+}
+
 impl<C: Crew, R: Wait + Drop> Shelf<C, R> {
-    /// A shelf that shows this version, of which it takes two copies, to so many readers. Refused only
-    /// where memory is (90).
+    #[tactic(auto, using(crate::proofs::Shelving::fresh_shelf, crate::proofs::Shelving::fresh_data))]
+    /// A shelf that publishes this version, of which it takes two copies, for `readers` readers.
     pub fn new(
         alloc: Global,
         rt: R,
@@ -108,44 +149,44 @@ impl<C: Crew, R: Wait + Drop> Shelf<C, R> {
         requires alike { first ≡ second }
         requires some { 0 < readers }
         requires few { readers < 2 ^ 32 }
-        ensures { IfOk result (λ shelf. shelf ≡ first.front.events) }
+        ensures { IfOk result (λ shelf. shelf ≡ all_published first.front.events) }
     {
         let writer = Writer::new(alloc, first, second, readers)?;
         Ok(Shelf { writer, rt })
     }
 
-    /// How many events the record has that is published.
+    /// Returns the number of events in the published record.
     pub fn len(&self) -> u32
-        ensures len { result ≡ length self.now }
-        ensures legal { IsLegal self.now }
+        ensures len { result ≡ length self.now.published }
+        ensures legal { IsLegal self.now.published }
     {
         self.writer.published().front().len()
     }
 
-    /// A reader that has seen nothing yet. None where no place for a reader was found.
+    /// Returns a reader that has seen nothing yet, or `None` if all readers are given out.
     pub fn reader(&self) -> Option<VersionReader<C>>
         ensures { IfSome result (λ reader. view reader.place ≡ []) }
     {
         self.writer.factory().reader().ok()
     }
 
-    /// Publishes the version of a record, which has these pages and begins with the record that is
-    /// published, and tells whether it did: it didn't where memory was refused. If it `renews`, pages
-    /// that are published already come anew from this index, in which they may be merged by now.
+    /// Publishes the version of a record, which has these pages and begins with the records that were
+    /// published or wait. Returns whether it did: it didn't if memory ran out. If an update waits, it is
+    /// published first. If it `renews`, pages that are published are replaced by those of this index, in
+    /// which they may be merged by now.
     pub fn publish(&mut self, alloc: Global, index: &Index, front: &Beginning, renews: bool) -> bool
         requires history { front.now.history ≡ C.history }
         requires pages { index.now ≡ pages_found front.now.events }
         requires legal { IsLegal front.now.events }
-        requires begins { IsPrefix self.old front.now.events }
-        ensures { MatchBool result (self.new ≡ front.now.events) (self.new ≡ self.old) }
+        requires begins { IsPrefix self.old.next front.now.events }
+        ensures published { Publishes result front.now.events self.old self.new }
+        ensures grows { IsPrefix self.old.published self.new.published }
+        ensures within { IsPrefix self.new.published front.now.events }
+        ensures next { IsPrefix self.new.next front.now.events }
     {
-        let Ok(update) = update_to(&self.writer, alloc, index, front, renews) else {
-            return false;
-        };
-        if self.writer.append(update).is_err() {
+        if !catch_up(&mut self.writer, &self.rt) {
             return false;
         }
-        let rt = &self.rt;
-        replace_with(&mut self.writer, rt, publish_last)
+        publish_next(&mut self.writer, &self.rt, alloc, index, front, renews)
     }
 }

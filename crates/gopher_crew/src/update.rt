@@ -13,7 +13,7 @@ use gopher_page::Page;
 use std::alloc::Global;
 use std::sync::Arc;
 
-// How many pages an index has at most.
+// The most pages of an index.
 const MOST_PAGES: usize = 65_536;
 
 /// What changes of a version's pages.
@@ -27,8 +27,8 @@ pub enum Change {
     All(Arc<Index>),
 }
 
-/// What makes the next version of one: what changes of the pages, and the next version's record, a
-/// beginning of the crew's history.
+/// What makes the next version: what changes of the pages, and the next version's record, a prefix of
+/// the crew's history.
 #[derive(Drop)]
 pub struct Update {
     /// Where a copy of an index is made.
@@ -37,7 +37,7 @@ pub struct Update {
     pub(crate) front: Beginning,
 }
 
-// Adds a page to an index. Where the index is shared, a copy of it takes its place.
+// Adds a page to an index. If a search shares the index, a copy takes its place.
 fn add(alloc: Global, index: &mut Arc<Index>, page: Arc<Page>) -> Result<(), NoMemory>
     ensures { MatchResult result
         (λ _. arc_value index.new ≡ arc_value index.old ++ arc_value page ∷ [])
@@ -56,7 +56,7 @@ fn add(alloc: Global, index: &mut Arc<Index>, page: Arc<Page>) -> Result<(), NoM
 }
 
 impl Change {
-    /// The change of any pages to those of an index. Refused only where memory is (90).
+    /// The change of any pages to those of an index.
     pub fn all(alloc: Global, index: &Index) -> Result<Change, NoMemory>
         ensures { IfOk result (λ change.
             (pages : List PageData) → pages_after change pages ≡ index.now) }
@@ -64,8 +64,7 @@ impl Change {
         Ok(Change::All(Arc::new(alloc, index.again(alloc)?)?))
     }
 
-    /// The change of an index's pages to those of another, which begin with them. Refused only where
-    /// memory is (90).
+    /// The change of an index's pages to those of another, which begin with them.
     pub fn between(alloc: Global, before: &Index, index: &Index) -> Result<Change, NoMemory>
         requires { IsPrefix before.now index.now }
         ensures { IfOk result (λ change. pages_after change before.now ≡ index.now) }
@@ -79,8 +78,10 @@ impl Change {
         }
     }
 
-    /// Changes the pages of an index; where the index is shared, another takes its place. Refused (90)
-    /// where memory is, and where there would be over 65,536 pages; then the pages are what they were.
+    /// Changes the pages of an index. If a search shares the index, another takes its place.
+    ///
+    /// # Errors
+    /// 90, also if there would be more than 65,536 pages. The pages are then as before.
     pub fn apply(&self, alloc: Global, index: &mut Arc<Index>) -> Result<(), NoMemory>
         ensures { MatchResult result
             (λ _. arc_value index.new ≡ pages_after self.now (arc_value index.old))

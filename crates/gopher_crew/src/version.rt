@@ -2,6 +2,7 @@
 
 ghost use Rattle.std.specs.Prelude.{◌≡◌, IfOk};
 ghost use Rattle.gopher_index.specs.Answer.{answer_of};
+ghost use Rattle.gopher_index.specs.Begun.{begun_hits};
 ghost use Rattle.gopher_crew.specs.Version.{version_data};
 
 use crate::crew::Crew;
@@ -9,7 +10,7 @@ use crate::history::Beginning;
 use crate::update::Update;
 use crossbeam_utils::rule::{Outcome, Protocol};
 use gopher_catalogue::EventData;
-use gopher_index::{Hit, Index};
+use gopher_index::{Begun, Hit, Index};
 use gopher_item::NoMemory;
 use gopher_page::Query;
 use left_right::Absorb;
@@ -68,6 +69,13 @@ impl Version {
         ensures { result.now ≡ self.now.front }
     {
         &self.front
+    }
+
+    /// Begins a search of the pages. The search shares them with this version.
+    pub fn begin(&self, alloc: Global, query: &Query) -> Result<Begun, NoMemory>
+        ensures { IfOk result (λ begun. begun_hits begun ≡ answer_of self.now.pages query.now) }
+    {
+        self.index.begin(alloc, query)
     }
 
     /// The answer to a query over the pages. Refused only where memory is (90).

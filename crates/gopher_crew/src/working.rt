@@ -1,48 +1,47 @@
 //! Workers, which fetch and settle while they hold no lock.
 
 ghost use Rattle.std.specs.Prelude.{◌≡◌, ◌+◌, ◌*◌, ◌≤◌, vec_len, IfOk};
-ghost use Rattle.gopher_crew.specs.Work.{one_more_call, found_rise, failed_rise, outcome_rise, IsPaid, IsStop};
+ghost use Rattle.gopher_crew.specs.Work.{one_more_call, found_rise, failed_rise, outcome_rise, IsPaid, IsStop, EndsClaim, Works};
 
 use crate::crew::Crew;
 use crate::desk::Desk;
 use crate::fetch::Fetch;
 use crate::settling::settle;
 use crate::share::Share;
-use gopher_catalogue::{Claim, FoundFault, Turn, Why};
+use gopher_catalogue::{Claim, Turn, Why};
 use gopher_page::Page;
 use gopher_scope::Scope;
 use std::alloc::Global;
 use std::sync::Wait;
 
-// How many bytes a reply may have.
+// The most bytes that a reply may have.
 const MOST_BYTES: usize = 1_048_576;
 
 /// Why a worker stopped.
 #[derive(Clone, Copy, Debug, PartialEq, Eq)]
 pub enum Stop {
-    /// The crawl is at its end: no place waits and none is out.
+    /// The crawl is finished: no place waits and none is out.
     Finished,
-    /// Memory was refused to a claim, or before the first one; it is the stop of a worker that never
-    /// began, too.
+    /// Out of memory at a claim, or before the first one.
     NoMemory,
 }
 
-/// A worker at its end.
+/// A worker that stopped: what it worked with, and what it did.
 #[derive(Drop)]
 pub struct WorkEnd<F: Drop, C: Crew> {
-    /// What fetched.
+    /// The fetcher that it was given.
     pub fetcher: F,
-    /// The worker's share.
+    /// The share that it was given, which counts the worker's events too.
     pub share: Share<C>,
-    /// How many pages it handed in.
+    /// The number of pages that it handed in.
     pub found: u32,
-    /// How many places it failed.
+    /// The number of places that it failed.
     pub failed: u32,
     /// Why it stopped.
     pub stop: Stop,
 }
 
-// What became of a place that was claimed.
+// What became of a place that was claimed. Only one that is out no more is refused.
 enum Outcome {
     Found,
     Failed,
@@ -59,6 +58,7 @@ fn hand_in_failure<C: Crew, R: Wait + Drop, W: Wait>(
 ) -> Outcome
     ensures events { share.new.events ≡ share.old.events + outcome_rise result }
     ensures parts { share.new.parts ≡ share.old.parts }
+    ensures out { EndsClaim result number }
 {
     match desk.fail(rt, share, number, why) {
         Ok(_note) => Outcome::Failed,
@@ -66,7 +66,8 @@ fn hand_in_failure<C: Crew, R: Wait + Drop, W: Wait>(
     }
 }
 
-// Hands in the page of a place, or fails it; a page that memory refuses is failed too.
+// Hands in the page of a place, or fails it. A place whose page is refused is failed, too, since it
+// would stay out otherwise.
 fn hand_in<C: Crew, R: Wait + Drop, W: Wait>(
     rt: &W,
     desk: &Desk<C, R>,
@@ -76,14 +77,12 @@ fn hand_in<C: Crew, R: Wait + Drop, W: Wait>(
 ) -> Outcome
     ensures events { share.new.events ≡ share.old.events + outcome_rise result }
     ensures parts { share.new.parts ≡ share.old.parts }
+    ensures out { EndsClaim result number }
 {
     let why = match settled {
         Ok(page) => match desk.found(rt, share, number, page) {
             Ok(_reply) => return Outcome::Found,
-            Err(refused) => match refused.fault {
-                FoundFault::NoMemory => Why::NoMemory,
-                FoundFault::NotOut | FoundFault::WrongPlace => return Outcome::Refused,
-            },
+            Err(_refused) => Why::NoMemory,
         },
         Err(why) => why,
     };
@@ -105,6 +104,7 @@ fn serve<C: Crew, R: Wait + Drop, W: Wait, F: Fetch<W> + Drop>(
     ensures parts { worker.new.share.parts ≡ worker.old.share.parts }
     ensures found { worker.new.found ≡ worker.old.found }
     ensures failed { worker.new.failed ≡ worker.old.failed }
+    ensures out { EndsClaim result claim.now.number }
 {
     let fetched = worker.fetcher.fetch(rt, alloc, &claim.place, MOST_BYTES);
     let settled = settle(alloc, scope, &claim.place, fetched);
@@ -125,13 +125,65 @@ fn count<F: Drop, C: Crew>(outcome: Outcome, worker: &mut WorkEnd<F, C>)
     }
 }
 
-/// Works at a desk until the crawl is finished: claims a place, fetches it and makes its page while it
-/// holds no lock, and hands the page in or fails the place. Where no place waits but some are out, it
-/// waits for another outcome.
+impl<F: Drop, C: Crew> WorkEnd<F, C> {
+    /// The end of a worker that did nothing.
+    pub(crate) fn idle(fetcher: F, share: Share<C>) -> WorkEnd<F, C>
+        ensures fetcher { result.fetcher ≡ fetcher }
+        ensures share { result.share ≡ share }
+    {
+        WorkEnd {
+            fetcher,
+            share,
+            found: 0,
+            failed: 0,
+            stop: Stop::NoMemory,
+        }
+    }
+}
+
+/// Lets a worker begin anew, with its counts at 0, as `work` does.
+pub(crate) fn run<C: Crew, R: Wait + Drop, W: Wait, F: Fetch<W> + Drop>(
+    rt: &W,
+    alloc: Global,
+    desk: &Desk<C, R>,
+    worker: &mut WorkEnd<F, C>,
+)
+    ensures { Works worker.old.share (F.called worker.old.fetcher) worker.new.share
+        (F.called worker.new.fetcher) (worker.new.found + worker.new.failed) worker.new.stop }
+{
+    worker.found = 0;
+    worker.failed = 0;
+    worker.stop = Stop::NoMemory;
+    let Ok(opening) = desk.opening(rt) else {
+        return;
+    };
+    for _round in rt.forever() {
+        match desk.next(rt, alloc, &mut worker.share) {
+            Ok(Turn::Take(claim)) => {
+                let outcome = serve(rt, alloc, desk, opening.scope(), &claim, worker);
+                count(outcome, worker);
+            }
+            Ok(Turn::Idle) => unreachable!(),
+            Ok(Turn::Finished) => {
+                worker.stop = Stop::Finished;
+                return;
+            }
+            Err(_refused) => {
+                worker.stop = Stop::NoMemory;
+                return;
+            }
+        }
+    }
+    unreachable!()
+}
+
+/// Works at a desk until the crawl is finished: claims a place, fetches it, makes its page, and
+/// hands the page in or reports why there is none. It holds no lock while it fetches. If places are
+/// out but none waits, it waits for another outcome.
 ///
-/// A page, or its handing in, that memory refuses is failed with `NoMemory`. The share rises by at least
-/// two for each place found or failed, and by at most two for each call of the fetcher, unless the count
-/// of its calls stands at its last value.
+/// A page that doesn't fit in memory is failed with `NoMemory`. The share rises by at least two for
+/// each place found or failed, and by at most two for each call of the fetcher, unless the count of
+/// its calls is at its last value.
 pub fn work<C: Crew, R: Wait + Drop, W: Wait, F: Fetch<W> + Drop>(
     rt: &W,
     alloc: Global,
@@ -144,32 +196,7 @@ pub fn work<C: Crew, R: Wait + Drop, W: Wait, F: Fetch<W> + Drop>(
     ensures calls { IsPaid share result.share (F.called fetcher) (F.called result.fetcher) }
     ensures parts { result.share.parts ≡ share.parts }
 {
-    let mut worker = WorkEnd {
-        fetcher,
-        share,
-        found: 0,
-        failed: 0,
-        stop: Stop::NoMemory,
-    };
-    let Ok(opening) = desk.opening(rt) else {
-        return worker;
-    };
-    for _round in rt.forever() {
-        match desk.next(rt, alloc, &mut worker.share) {
-            Ok(Turn::Take(claim)) => {
-                let outcome = serve(rt, alloc, desk, opening.scope(), &claim, &mut worker);
-                count(outcome, &mut worker);
-            }
-            Ok(Turn::Idle) => unreachable!(),
-            Ok(Turn::Finished) => {
-                worker.stop = Stop::Finished;
-                return worker;
-            }
-            Err(_refused) => {
-                worker.stop = Stop::NoMemory;
-                return worker;
-            }
-        }
-    }
-    unreachable!()
+    let mut worker = WorkEnd::idle(fetcher, share);
+    run(rt, alloc, desk, &mut worker);
+    worker
 }

@@ -4,9 +4,8 @@ use Rattle.std.specs.List.{list_any, range_with_len}
 use Rattle.gopher_frontier.proofs.Ranges.{range-append}
 use Rattle.std.specs.Int.{from_bool}
 use Rattle.std.specs.Map.{keys_of, values_of, lookup}
-use Rattle.std.proofs.lemmas.List.{map-append, take-map}
+use Rattle.std.proofs.lemmas.List.{map-append, take-map, append-nil, append_assoc, length-append, replicate-append-replicate}
 use Rattle.std.proofs.lemmas.Map.Made.{is_some-lookup}
-use Rattle.std.proofs.lemmas.List.{append-nil, append_assoc, length-append, replicate-append-replicate}
 use Rattle.std.proofs.lemmas.Bool.{cases_Bool, cases_lt, lt-leb, le-leb}
 use Rattle.std.proofs.Math.Seq.{drop-cons, take-append_seam}
 use Rattle.gopher_item.specs.Place.{PlaceData, is_among}

@@ -6,9 +6,9 @@ ghost use Rattle.gopher_hole.specs.Fault.{program_fault_code};
 
 use crate::address_check::tell_addresses;
 use crate::announcing::send_text;
+use crate::arguments::Checking;
 use crate::fault::ProgramFault;
 use crate::opening::{read_settings, settings_bytes};
-use crate::words::Checking;
 use gopher_catalogue::OpenFault;
 use gopher_check::{Report, SiteFault, check, unreadable};
 use gopher_item::NoMemory;

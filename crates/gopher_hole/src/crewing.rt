@@ -4,13 +4,13 @@ ghost use Rattle.std.specs.Prelude.{◌≡◌, []};
 ghost use Rattle.gopher_hole.specs.Program.{fault_at_end};
 
 use crate::announcing::{tell_listening, tell_status};
+use crate::arguments::Serving;
 use crate::fault::ProgramFault;
 use crate::fetching::TcpFetch;
 use crate::listening::listen;
 use crate::opening::{Opened, open, read_settings};
 use crate::progress::crawl_and_tell;
 use crate::starting::{Started, join_all, start_threads};
-use crate::words::Serving;
 use gopher_catalogue::Status;
 use gopher_crew::{Blank, Crew, Desk, Pass, Share, WorkEnd, crawl};
 use gopher_log_writer::{Log, LogQueue, OpenLog, start_log};

@@ -1,4 +1,4 @@
-//! Why the program ended otherwise than well.
+//! The faults of the program.
 
 ghost use Rattle.std.specs.Prelude.{◌≡◌};
 ghost use Rattle.gopher_hole.specs.Fault.{program_fault_code, detail_of, replay_detail, tree_detail, settings_detail, open_detail};
@@ -11,19 +11,19 @@ use gopher_script::ReplayFault;
 use gopher_tree::TreeFault;
 use thiserror::Error;
 
-/// Why the program ended otherwise than well.
+/// Why the program ended with status 1.
 #[derive(Clone, Copy, Debug, PartialEq, Eq, Error)]
 pub enum ProgramFault {
-    /// 10 to 13, 70 or 90: the replay ended so.
+    /// 10 to 13, 70 or 90: the replay failed.
     #[error("{0}")]
     Replay(ReplayFault),
     /// 13: a line couldn't be written or flushed.
     #[error("a write failed")]
     WriteFailed,
-    /// 20 to 26, or 90: the folder makes no tree.
+    /// 20 to 26, or 90: the folder doesn't make a tree.
     #[error("{0}")]
     Tree(TreeFault),
-    /// 30 to 34, or 90: the settings are refused.
+    /// 30 to 34, or 90: the settings are invalid.
     #[error("{0}")]
     Settings(SettingsFault),
     /// 50, 51, 54 or 90: the crawl can't begin.
@@ -35,32 +35,32 @@ pub enum ProgramFault {
     /// 62: the workers' shares don't count the events of the crawl.
     #[error("the shares are not those of the desk")]
     StrangeShare,
-    /// 80: the file of the settings can't be read, has over 1,048,576 bytes, or isn't UTF-8.
+    /// 80: the settings file can't be read, has over 1,048,576 bytes, or isn't UTF-8.
     #[error("the settings can't be read")]
     SettingsUnreadable,
-    /// 81: the server's address couldn't be bound, or a connection couldn't be accepted.
+    /// 81: no address could be bound, or a connection couldn't be accepted.
     #[error("listening failed")]
     ListenFailed,
     /// 82: a server thread couldn't be started.
     #[error("a server thread couldn't be started")]
     NoThread,
-    /// 90: memory was refused.
+    /// 90: out of memory.
     #[error("no memory")]
     NoMemory,
 }
 
-/// What the line of a fault says beside its number.
+/// What the line of a fault says after its number.
 #[derive(Clone, Copy, Debug, PartialEq, Eq)]
 pub enum Detail {
     /// Nothing.
     Nothing,
     /// The key of the settings.
     Key(Key),
-    /// The number of the file in the order of the walk, from 0.
+    /// The index of the file in the order of the walk.
     File(usize),
-    /// The number of the file, and of its line, from 1.
+    /// The index of the file, and the number of its line, from 1.
     FileLine(usize, usize),
-    /// The number of the seed, from 0.
+    /// The index of the seed.
     Seed(usize),
     /// The number of the line, from 1.
     Line(usize),
@@ -112,7 +112,7 @@ fn open_detail(fault: OpenFault) -> Detail
 }
 
 impl ProgramFault {
-    /// The number of the fault.
+    /// Returns the number of the fault.
     pub fn code(self) -> u8
         ensures { result ≡ program_fault_code self }
     {
@@ -131,7 +131,7 @@ impl ProgramFault {
         }
     }
 
-    /// What its line says beside its number: the key for 31 to 33, the file for 20 to 23 and 25, the
+    /// Returns what its line says after its number: the key for 31 to 33, the file for 20 to 23 and 25, the
     /// file and its line for 24, the seed for 50, the line for 70.
     pub fn detail(self) -> Detail
         ensures { result ≡ detail_of self }

@@ -1,15 +1,18 @@
 //! The program `hole` as a library: a server that crawls and answers, and crawls replayed from scripts.
 //!
-//! `run` is the whole program, from its arguments to its status. Callers of its parts find them here
-//! too: `answer` and `serve_one`, the reply to a request line; `fetch_over` and `TcpFetch`, which fetch
-//! from other servers; `replay`, which replays the script of a crawl.
+//! `run` is the whole program, from its arguments to its exit status. For callers of its parts, the crate
+//! also has `answer` and `serve_one` (the reply to a request line), `fetch_over` and `TcpFetch` (fetching
+//! from other servers) and `replay` (replaying the script of a crawl).
 //!
-//! What contracts say of the program as a whole is its status and what it writes; what a client is sent
-//! is said by `gopher_serve`, and what a crawl leaves by `gopher_crew`.
+//! The contracts of this crate cover the program's status and what it writes. `gopher_serve` says what a
+//! client receives, and `gopher_crew` what a crawl leaves.
+//!
+//! Error 90 (`NoMemory`) means out of memory.
 #![tactic(auto)]
 
 mod address_check;
 mod announcing;
+mod arguments;
 mod checking;
 mod crewing;
 mod fault;
@@ -19,7 +22,6 @@ mod opening;
 mod program;
 mod progress;
 mod starting;
-mod words;
 
 pub use fault::{Detail, ProgramFault};
 pub use fetching::TcpFetch;

@@ -1,4 +1,4 @@
-//! The sockets at which a server listens.
+//! The sockets on which a server listens.
 
 use crate::fault::ProgramFault;
 use gopher_item::Home;
@@ -13,10 +13,10 @@ use std::str;
 // The first descriptor that systemd's socket activation hands to a process (sd_listen_fds(3)).
 const FIRST_INHERITED: u8 = 3;
 
-// How many of its sockets are listened at.
+// The most of its sockets that are used.
 const MAX_INHERITED: u8 = 64;
 
-// Tells on the error stream what the system said of an address.
+// Prints on the error stream why an address can't be bound.
 fn tell<R: Eprint>(rt: &R, host: &str, error: io::Error) {
     let _ = rt.eprint("hole: can't listen at ");
     let _ = rt.eprint(host);
@@ -24,7 +24,7 @@ fn tell<R: Eprint>(rt: &R, host: &str, error: io::Error) {
     let _ = rt.eprintln(error);
 }
 
-// Listens at an address. What the system refuses is told.
+// Listens at an address, or prints why the system refuses.
 fn listen_at<R: Net + Eprint>(
     rt: &R,
     alloc: Global,
@@ -46,7 +46,7 @@ fn listen_at<R: Net + Eprint>(
     Ok(())
 }
 
-// Listens at each address of a host. A host that has none is told.
+// Listens at each address of a host, or prints that it has none.
 fn listen_at_host<R: Net + Eprint>(
     rt: &R,
     alloc: Global,
@@ -68,7 +68,7 @@ fn listen_at_host<R: Net + Eprint>(
     Ok(())
 }
 
-// The number that a variable of the environment has.
+// The number in a variable of the environment.
 fn number_of<R: Env + AllocGlobal>(rt: &R, name: &str) -> Option<i32> {
     let text = env::var(rt, name).ok()?;
     text.as_str().parse::<i32>().ok()
@@ -83,7 +83,7 @@ fn inherited_count<R: Env + AllocGlobal>(rt: &R) -> u8 {
     u8::try_from(count).unwrap_or(0).min(MAX_INHERITED)
 }
 
-// The socket of a descriptor that no other value owns, as a listener whose `accept` waits for nobody.
+// The socket of a descriptor that no other value owns, as a listener whose `accept` never blocks.
 fn listener_of(descriptor: u8) -> TcpListener {
     let socket = i32::from(descriptor);
     let _refused = os::set_nonblocking(socket, true);
@@ -126,11 +126,11 @@ fn listen_at_all<R: Net + Eprint>(
 }
 
 /// Listens at each of the addresses: an IP address or a host name, at the port of `home`, or an IP
-/// address with a port of its own, as `127.0.0.1:7070` or `[::1]:7070`. Without addresses, at each
-/// address of the host of `home`. The `accept` of a listener waits for nobody.
+/// address with its own port, for example `127.0.0.1:7070` or `[::1]:7070`. Without addresses, listens at
+/// each address of the host of `home`. The `accept` of a listener never blocks.
 ///
-/// If systemd's socket activation hands sockets to the process, these are listened at, and no address.
-/// An address that can't be bound is told on the error stream of `rt`; one that can be is enough.
+/// If systemd's socket activation hands sockets to the process, it uses these instead of addresses. It
+/// prints on the error stream of `rt` which address can't be bound, and why. One that can is enough.
 ///
 /// # Errors
 ///

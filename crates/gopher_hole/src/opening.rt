@@ -1,4 +1,4 @@
-//! What a server is made of, from its settings on.
+//! Opening a server: its settings, its folder and its desk.
 
 ghost use Rattle.std.specs.Prelude.{◌≡◌, []};
 
@@ -15,15 +15,15 @@ use std::fs::{self, Files};
 use std::str;
 use std::sync::Wait;
 
-// How many bytes a file of settings may have.
-const MOST_SETTINGS: usize = 1_048_576;
+// The most bytes of a settings file.
+const MAX_SETTINGS: usize = 1_048_576;
 
 /// A server with its desk, before it listens.
 #[derive(Drop)]
 pub struct Opened<C: Crew, R: Wait + Drop> {
-    /// What it sends.
+    /// The replies of its folder.
     pub replies: Replies,
-    /// Where its crew crawls.
+    /// The desk of its crawl.
     pub desk: Desk<C, R>,
     /// A pass for each server thread.
     pub passes: Vec<Pass<C>>,
@@ -31,8 +31,12 @@ pub struct Opened<C: Crew, R: Wait + Drop> {
     pub shares: Vec<Share<C>>,
 }
 
-/// The bytes of the file of the settings. Refused with 80 where it can't be read or has over 1,048,576
-/// bytes; 90.
+/// Reads the bytes of a settings file.
+///
+/// # Errors
+///
+/// - `SettingsUnreadable` (80): the file can't be read, or has over 1,048,576 bytes (`MAX_SETTINGS`).
+/// - `NoMemory` (90).
 pub fn settings_bytes<R: Files>(
     rt: &R,
     alloc: Global,
@@ -41,17 +45,20 @@ pub fn settings_bytes<R: Files>(
     let Ok(file) = fs::open(rt, path) else {
         return Err(ProgramFault::SettingsUnreadable);
     };
-    match read_reply(alloc, &mut Watched::new(file), MOST_SETTINGS) {
+    match read_reply(alloc, &mut Watched::new(file), MAX_SETTINGS) {
         Ok(bytes) => Ok(bytes),
         Err(ReplyFault::NoMemory) => Err(ProgramFault::NoMemory),
         Err(_) => Err(ProgramFault::SettingsUnreadable),
     }
 }
 
-/// The settings that a file states.
+/// Reads the settings of a file.
 ///
-/// Refused with 80 where the file can't be read, has over 1,048,576 bytes or isn't UTF-8; as
-/// `Settings::read` has it (30 to 34); 90.
+/// # Errors
+///
+/// - `SettingsUnreadable` (80): the file can't be read, has over 1,048,576 bytes, or isn't UTF-8.
+/// - `Settings` (30 to 34, 90): as `Settings::read` fails.
+/// - `NoMemory` (90).
 pub fn read_settings<R: Files>(
     rt: &R,
     alloc: Global,
@@ -67,7 +74,7 @@ pub fn read_settings<R: Files>(
     }
 }
 
-// The replies of the folder that is served.
+// Loads the folder, and makes its replies.
 fn open_replies<R: Files>(
     rt: &R,
     alloc: Global,
@@ -84,7 +91,7 @@ fn open_replies<R: Files>(
     }
 }
 
-// The catalogue of the crawl.
+// Opens the catalogue of the crawl.
 fn open_catalogue(
     alloc: Global,
     scope: Scope,
@@ -98,11 +105,17 @@ fn open_catalogue(
     }
 }
 
-/// Loads the folder and opens the desk of settings: one pass for each server thread, one share for each
-/// worker.
+/// Loads the folder and opens the desk of the crawl, with one pass for each server thread and one share
+/// for each worker.
 ///
-/// Refused, in this order: as `Tree::load` has it (20 to 26), `Catalogue::open` (50, 51, 54) and
-/// `Desk::open` (60, 61); 90 at each of them.
+/// # Errors
+///
+/// The first of these, in this order:
+///
+/// - `Tree` (20 to 26, 90): as `Tree::load` fails.
+/// - `Open` (50, 51, 54, 90): as `Catalogue::open` fails.
+/// - `Desk` (60, 61, 90): as `Desk::open` fails.
+/// - `NoMemory` (90).
 pub fn open<'r, C: Crew, R: Files + Wait>(
     rt: &'r R,
     alloc: Global,

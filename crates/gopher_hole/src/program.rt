@@ -9,10 +9,10 @@ ghost use Rattle.gopher_hole.specs.Fault.{fault_line};
 ghost use Rattle.gopher_hole.specs.Program.{asks_replay, status_of, said_of, Says, SaysFault};
 
 use crate::announcing::{send_text, write_fault};
+use crate::arguments::{Asked, Text, read_arguments};
 use crate::checking::check_site;
 use crate::crewing::serve;
 use crate::fault::ProgramFault;
-use crate::words::{Asked, Text, read_words};
 use gopher_crew::Blank;
 use gopher_log_writer::OpenLog;
 use gopher_script::{ReplayFault, replay, send_all};
@@ -190,7 +190,7 @@ pub fn run<
     if asks_replay(words) {
         return run_replay(rt.alloc(), input, output, error);
     }
-    match read_words(rt.alloc(), words) {
+    match read_arguments(rt.alloc(), words) {
         Ok(Asked::Replay) => run_replay(rt.alloc(), input, output, error),
         Ok(Asked::Serve(serving)) => {
             let end = serve::<Brand, H, W>(rt, &serving, Blank::new(), output);

@@ -1,4 +1,4 @@
-//! The sizes of a crawl, told as it goes on.
+//! The sizes of a crawl, printed as it goes on.
 
 use crate::fetching::TcpFetch;
 use gopher_catalogue::Status;
@@ -13,13 +13,13 @@ use std::sync::atomic::{AtomicBool, Ordering};
 use std::thread::{self, Threads};
 use std::time::{Clock, Duration};
 
-// After how many rests the sizes are told again.
+// The sizes are printed again after this many rests.
 const RESTS: u32 = 100;
 
-// How many milliseconds a rest has.
+// The milliseconds of a rest.
 const REST: u64 = 100;
 
-// Tells the sizes of a frontier on the error stream. Where memory is refused, nothing is told.
+// Prints the sizes of a frontier on the error stream, or nothing if memory runs out.
 fn tell(rt: &impl Eprint, alloc: Global, status: Status) {
     let Ok(line) = status_line(alloc, status) else {
         return;
@@ -29,7 +29,7 @@ fn tell(rt: &impl Eprint, alloc: Global, status: Status) {
     }
 }
 
-// Waits until the crawl is over, for ten seconds at most, and tells whether it is.
+// Waits until the crawl is over, for ten seconds at most, and returns whether it is.
 fn wait_for_end(clock: &impl Clock, is_over: &AtomicBool) -> bool {
     for _rest in 0..RESTS {
         if is_over.load(Ordering::SeqCst) {
@@ -40,7 +40,7 @@ fn wait_for_end(clock: &impl Clock, is_over: &AtomicBool) -> bool {
     is_over.load(Ordering::SeqCst)
 }
 
-// Tells the sizes every ten seconds, and once the crawl is over, unless they were told already.
+// Prints the sizes every ten seconds if they have changed, and once the crawl is over.
 fn tell_until_over<C: Crew, R: Wait + Drop, W: Wait + Clock + Eprint>(
     rt: &W,
     alloc: Global,
@@ -62,7 +62,7 @@ fn tell_until_over<C: Crew, R: Wait + Drop, W: Wait + Clock + Eprint>(
     unreachable!()
 }
 
-// Crawls, and notes that it is over.
+// Crawls, and sets `is_over` at the end.
 fn crawl_until_over<
     C: Crew + Send + Sync,
     R: Wait + Drop + Send + Sync,
@@ -79,9 +79,9 @@ fn crawl_until_over<
     crawled
 }
 
-/// Crawls as `gopher_crew::crawl` does, and tells the sizes of the crawl on the error stream every ten
-/// seconds if they have changed, and at its end; if the system refuses a thread for that, at its end
-/// alone.
+/// Crawls as `gopher_crew::crawl` does. Prints the sizes of the crawl on the error stream every ten
+/// seconds if they have changed, and at its end. If the system refuses a thread for that, prints them
+/// only at the end.
 pub fn crawl_and_tell<
     C: Crew + Send + Sync,
     R: Wait + Drop + Send + Sync,

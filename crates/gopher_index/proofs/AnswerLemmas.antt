@@ -9,7 +9,7 @@ use Rattle.std.specs.List.{fold, AllByRecursion}
 use Rattle.std.specs.List.Sorted.{IsStrictlySortedBy}
 use Rattle.std.specs.Cmp.{IsTotalOrder}
 use Rattle.std.proofs.lemmas.Cmp.{then_total, on_total, back_total, nat_cmp_total}
-use Rattle.gopher_item.specs.Place.{place_cmp_total}
+use Rattle.gopher_item.specs.Laws.{place_cmp_total}
 use Rattle.gopher_index.specs.Answer.{rank_cmp, ranked}
 use Rattle.gopher_index.specs.declared.hit.Hit.{Hit}
 use Rattle.std.proofs.lemmas.Bool.{both_ways}

@@ -1,10 +1,15 @@
 -- What groups of terms say of the pages of a segment.
-use Rattle.std.proofs.Common.{◌≡◌, ℕ, zero, suc, ◌+◌, ◌*◌, ◌≤◌, Bool, true, List, [], ◌∷◌, ◌++◌, length, map, max, replicate, refl, sym, ◌∙◌, arith}
-use Rattle.std.specs.List.{All}
+use Rattle.std.proofs.Common.{◌≡◌, ℕ, zero, suc, ◌+◌, ◌*◌, ◌≤◌, Bool, List, [], ◌∷◌, ◌++◌, length, map, max, replicate, take, refl, sym, ap, subst, ◌∙◌, arith}
+use Rattle.std.specs.List.{All, length_refill}
+use Rattle.std.specs.Vec.{with_items}
+use Rattle.std.proofs.lemmas.List.{length-map, with_items_is}
+use Rattle.std.proofs.lemmas.Simd.{map-map}
 use Rattle.gopher_page.specs.Page.{PageData}
 use Rattle.gopher_page.specs.Query.{TermData, count_of_term, score}
-use Rattle.gopher_index.specs.Cells.{AreCells, term_counts, zipped}
-use Rattle.gopher_index.specs.Plan.{is_match, verdict_by, verdict, total, AreGroups, AreGroupCells}
+use Rattle.gopher_index.specs.Cells.{AreCells, scores_of, term_counts, truths_of, zipped}
+use Rattle.gopher_index.specs.Joined.{AreJoined}
+use Rattle.gopher_index.specs.Plan.{is_match, verdict_by, verdict, total, wanted_in, AreGroups, AreGroupCells}
+use Rattle.gopher_index.specs.declared.joined.Joined.{Joined}
 use Rattle.gopher_index.specs.declared.plan.Group.{Group}
 use Rattle.gopher_index.proofs.Groups.{verdict_push, total_push, times_few}
 use Rattle.gopher_index.proofs.Lists.{map-constant}
@@ -24,17 +29,17 @@ zeros_few (suc n) = by (zeros_few n)
     by rest zero d less = omega arith
     by rest (suc k) d less = rest k d (omega arith)
 
-module _ (groups : List Group) (group : Group) (pages : List PageData) (counts : List ℕ) (counted : counts ≡ term_counts group.term.now pages) where
+module _ (groups : List Group) (group : Group) (pages : List PageData) (counts : List ℕ) (counted : counts ≡ term_counts group.term pages) where
   pub one_group : (verdicts verdicts_new scores scores_new : List ℕ) → verdicts_new ≡ zipped (λ before count. max before (verdict_by group count)) verdicts counts → scores_new ≡ zipped (λ score count. score + group.wanted * count) scores counts
       → AreGroupCells groups pages verdicts scores → AreGroupCells (groups ++ group ∷ []) pages verdicts_new scores_new
   one_group verdicts verdicts_new scores scores_new takes adds cells = record {
     deciding =
         takes ∙ (λ i. zipped (λ before count. max before (verdict_by group count)) (cells.deciding i) (counted i))
-        ∙ zipped_map (λ before count. max before (verdict_by group count)) (λ (page : PageData). verdict groups page.counts) (λ (page : PageData). count_of_term page.counts group.term.now) pages
+        ∙ zipped_map (λ before count. max before (verdict_by group count)) (λ (page : PageData). verdict groups page.counts) (λ (page : PageData). count_of_term page.counts group.term) pages
         ∙ (λ i. map (λ (page : PageData). sym (verdict_push groups group page.counts) i) pages);
     scoring =
         adds ∙ (λ i. zipped (λ score count. score + group.wanted * count) (cells.scoring i) (counted i))
-        ∙ zipped_map (λ score count. score + group.wanted * count) (λ (page : PageData). total groups page.counts) (λ (page : PageData). count_of_term page.counts group.term.now) pages
+        ∙ zipped_map (λ score count. score + group.wanted * count) (λ (page : PageData). total groups page.counts) (λ (page : PageData). count_of_term page.counts group.term) pages
         ∙ (λ i. map (λ (page : PageData). sym (total_push groups group page.counts) i) pages);
   }
 
@@ -50,12 +55,48 @@ group_few times (score ∷ scores) (count ∷ counts) bound few small =
     by rest (suc k) d less = rest k d (omega arith)
 
 -- what the groups of terms say is what the terms say
-pub terms_cells : (terms : List TermData) (groups : List Group) (pages : List PageData) (truths truths_new : List Bool) (verdicts scores : List ℕ) → AreGroups terms groups → truths ≡ replicate (length pages) true
-    → truths_new ≡ zipped (λ truth v. is_match v) truths verdicts → AreGroupCells groups pages verdicts scores → AreCells terms pages truths_new scores
-terms_cells terms groups pages truths truths_new verdicts scores are all_true settles cells = record {
+pub groups_cells : (terms : List TermData) (groups : List Group) (pages : List PageData) (truths : List Bool) (verdicts scores : List ℕ) → AreGroups terms groups → truths ≡ map is_match verdicts
+    → AreGroupCells groups pages verdicts scores → AreCells terms pages truths scores
+groups_cells terms groups pages truths verdicts scores are settled cells = record {
   matching =
-      settles ∙ (λ i. zipped (λ truth v. is_match v) ((all_true ∙ map-constant (λ (page : PageData). true) true pages (λ page. refl)) i) (cells.deciding i))
-      ∙ zipped_map (λ truth v. is_match v) (λ (page : PageData). true) (λ (page : PageData). verdict groups page.counts) pages
+      settled ∙ ap (map is_match) cells.deciding ∙ map-map is_match (λ (page : PageData). verdict groups page.counts) pages
       ∙ (λ i. map (λ (page : PageData). sym (are.matching page.counts) i) pages);
   scoring = cells.scoring ∙ (λ i. map (λ (page : PageData). sym (are.scoring page.counts) i) pages);
 }
+
+-- cells that say nothing yet, of the pages of a segment
+pub cleared : (groups : List Group) (pages : List PageData) (size : ℕ) (joined : Joined) → joined.groups ≡ 0 → size ≡ length pages → length joined.counts.items ≡ size → joined.verdicts.items ≡ replicate size 1 → joined.scores.items ≡ replicate size 0 → AreJoined groups pages joined
+cleared groups pages size joined none is counts verdicts scores = record {
+  within = omega (arith, none);
+  counts = counts ∙ is;
+  cells = subst (λ n. AreGroupCells (take n groups) pages joined.verdicts.items joined.scores.items) (sym none)
+      (no_group pages joined.verdicts.items joined.scores.items (verdicts ∙ ap (λ n. replicate n 1) is) (scores ∙ ap (λ n. replicate n 0) is));
+  few = subst (λ l. All (λ score. score ≤ 1048576 * wanted_in (take joined.groups groups)) l) (sym scores) (λ k d less. omega (arith, zeros_few size k d less));
+}
+
+-- cells are those of the same pages
+pub same_cells : (terms : List TermData) (pages other : List PageData) (truths truths_other : List Bool) (scores scores_other : List ℕ) → pages ≡ other → truths ≡ truths_other → scores ≡ scores_other → AreCells terms pages truths scores → AreCells terms other truths_other scores_other
+same_cells terms pages other truths truths_other scores scores_other is truth scored cells = record {
+  matching = sym truth ∙ cells.matching ∙ ap (truths_of terms) is;
+  scoring = sym scored ∙ cells.scoring ∙ ap (scores_of terms) is;
+}
+
+-- the cells after more groups were joined
+pub joined_more : (groups : List Group) (pages : List PageData) (old : Joined) (words end : ℕ) (counts verdicts scores : List ℕ) → AreJoined groups pages old → end ≤ length groups → AreGroupCells (take end groups) pages verdicts scores
+    → All (λ score. score ≤ 1048576 * wanted_in (take end groups)) scores
+    → AreJoined groups pages (record { counts = with_items old.counts counts; verdicts = with_items old.verdicts verdicts; scores = with_items old.scores scores; words = words; groups = end })
+joined_more groups pages old words end counts verdicts scores base within cells few =
+    let verdicts_are : (with_items old.verdicts verdicts).items ≡ verdicts =
+    with_items_is old.verdicts verdicts
+    (ap length cells.deciding ∙ length-map pages (λ (page : PageData). verdict (take end groups) page.counts)
+    ∙ sym (length-map pages (λ (page : PageData). verdict (take old.groups groups) page.counts)) ∙ ap length (sym base.cells.deciding) ∙ sym old.verdicts.ok.0) in
+    let scores_are : (with_items old.scores scores).items ≡ scores =
+    with_items_is old.scores scores
+    (ap length cells.scoring ∙ length-map pages (λ (page : PageData). total (take end groups) page.counts)
+    ∙ sym (length-map pages (λ (page : PageData). total (take old.groups groups) page.counts)) ∙ ap length (sym base.cells.scoring) ∙ sym old.scores.ok.0) in
+    record {
+      within = within;
+      counts = sym (length_refill old.counts.len old.counts.items counts old.counts.ok.0) ∙ old.counts.ok.0 ∙ base.counts;
+      cells = record { deciding = verdicts_are ∙ cells.deciding; scoring = scores_are ∙ cells.scoring };
+      few = subst (λ l. All (λ score. score ≤ 1048576 * wanted_in (take end groups)) l) (sym scores_are) few;
+    }

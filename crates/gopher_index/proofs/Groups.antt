@@ -1,6 +1,7 @@
 -- Terms of a query in groups of equal ones.
-use Rattle.std.proofs.Common.{◌≡◌, ℕ, zero, suc, ◌+◌, ◌*◌, ◌%◌, ◌≤◌, ◌<◌, Bool, true, false, cond, List, [], ◌∷◌, ◌++◌, length, max, take, get_or, set, refl, sym, ap, subst, ◌∙◌, arith, length-append, mul-le-mul_left}
+use Rattle.std.proofs.Common.{◌≡◌, ℕ, zero, suc, ◌+◌, ◌-◌, ◌*◌, ◌%◌, ◌≤◌, ◌<◌, Bool, true, false, cond, List, [], ◌∷◌, ◌++◌, length, max, take, drop, get_or, set, refl, sym, ap, subst, ◌∙◌, arith, length-append, mul-le-mul_left}
 use Rattle.std.specs.Prelude.{◌==◌, nat_lt}
+use Rattle.std.proofs.Math.Seq.{take-add}
 use Rattle.std.proofs.lemmas.List.{take_more}
 use Rattle.gopher_page.specs.Counts.{count_meant}
 use Rattle.gopher_page.specs.Query.{TermData, count_of_term, is_not, joined}
@@ -108,11 +109,11 @@ one_term_more terms term number old new is groups adds =
 
 -- ---- one group more
 
-pub verdict_push : (groups : List Group) (group : Group) (counts : List (List ℕ × ℕ)) → verdict (groups ++ group ∷ []) counts ≡ max (verdict groups counts) (verdict_by group (count_of_term counts group.term.now))
+pub verdict_push : (groups : List Group) (group : Group) (counts : List (List ℕ × ℕ)) → verdict (groups ++ group ∷ []) counts ≡ max (verdict groups counts) (verdict_by group (count_of_term counts group.term))
 verdict_push [] group counts = omega arith
 verdict_push (g ∷ groups) group counts = omega (arith, verdict_push groups group counts)
 
-pub total_push : (groups : List Group) (group : Group) (counts : List (List ℕ × ℕ)) → total (groups ++ group ∷ []) counts ≡ total groups counts + group.wanted * count_of_term counts group.term.now
+pub total_push : (groups : List Group) (group : Group) (counts : List (List ℕ × ℕ)) → total (groups ++ group ∷ []) counts ≡ total groups counts + group.wanted * count_of_term counts group.term
 total_push [] group counts = omega arith
 total_push (g ∷ groups) group counts = omega (arith, total_push groups group counts)
 
@@ -126,10 +127,10 @@ pub next_group : (groups : List Group) (index : ℕ) (group : Group) → index <
 next_group groups index group within is = take_more groups index group within ∙ ap (λ g. take index groups ++ g ∷ []) (sym is)
 
 module _ (groups : List Group) (index : ℕ) (group : Group) (within : index < length groups) (is : group ≡ get_or groups index group) where
-  pub next_verdict : (counts : List (List ℕ × ℕ)) → verdict (take (index + 1) groups) counts ≡ max (verdict (take index groups) counts) (verdict_by group (count_of_term counts group.term.now))
+  pub next_verdict : (counts : List (List ℕ × ℕ)) → verdict (take (index + 1) groups) counts ≡ max (verdict (take index groups) counts) (verdict_by group (count_of_term counts group.term))
   next_verdict counts = ap (λ l. verdict l counts) (next_group groups index group within is) ∙ verdict_push (take index groups) group counts
 
-  pub next_total : (counts : List (List ℕ × ℕ)) → total (take (index + 1) groups) counts ≡ total (take index groups) counts + group.wanted * count_of_term counts group.term.now
+  pub next_total : (counts : List (List ℕ × ℕ)) → total (take (index + 1) groups) counts ≡ total (take index groups) counts + group.wanted * count_of_term counts group.term
   next_total counts = ap (λ l. total l counts) (next_group groups index group within is) ∙ total_push (take index groups) group counts
 
   pub next_wanted : wanted_in (take (index + 1) groups) ≡ wanted_in (take index groups) + group.wanted
@@ -138,8 +139,8 @@ module _ (groups : List Group) (index : ℕ) (group : Group) (within : index < l
 -- a group of no terms says nothing
 pub say_alike_push : (groups : List Group) (group : Group) → group.wanted ≡ 0 → group.holds ≡ 0 → group.fails ≡ 0 → SayAlike groups (groups ++ group ∷ [])
 say_alike_push groups group none holds fails = record {
-  verdicts = λ counts. omega (arith, verdict_push groups group counts, nothing (nat_lt 0 (count_of_term counts group.term.now)));
-  totals = λ counts. total_push groups group counts ∙ ap (λ n. total groups counts + n * count_of_term counts group.term.now) none ∙ plain (total groups counts) (count_of_term counts group.term.now);
+  verdicts = λ counts. omega (arith, verdict_push groups group counts, nothing (nat_lt 0 (count_of_term counts group.term)));
+  totals = λ counts. total_push groups group counts ∙ ap (λ n. total groups counts + n * count_of_term counts group.term) none ∙ plain (total groups counts) (count_of_term counts group.term);
   wanted = omega (arith, wanted_push groups group, none);
 }
   where
@@ -168,28 +169,28 @@ pub wanted_at : (groups : List Group) (index : ℕ) (group : Group) → index < 
 wanted_at groups index group within is = omega (arith, wanted_of groups index group within, ap (λ (g : Group). g.wanted) is)
 
 module _ (term : TermData) (number : ℕ) (new : Group) where
-  pub set_verdict : (groups : List Group) (index : ℕ) (old : Group) (counts : List (List ℕ × ℕ)) → index < length groups → old ≡ get_or groups index old → count_of_term counts old.term.now ≡ count_of_term counts term → Joins term number old new
+  pub set_verdict : (groups : List Group) (index : ℕ) (old : Group) (counts : List (List ℕ × ℕ)) → index < length groups → old ≡ get_or groups index old → count_of_term counts old.term ≡ count_of_term counts term → Joins term number old new
       → verdict (set groups index new) counts ≡ max (verdict groups counts) (verdict_of term.operator number (nat_lt 0 (count_of_term counts term)))
   set_verdict [] index old counts within at means joins = absurd (omega (arith, within))
   set_verdict (g ∷ groups) zero old counts within at means joins =
       let holds : Bool = nat_lt 0 (count_of_term counts term) in
-      let here : verdict_by new (count_of_term counts new.term.now) ≡ max (verdict_by g (count_of_term counts g.term.now)) (verdict_of term.operator number holds) =
-      (λ i. cond (nat_lt 0 (count_of_term counts (joins.same i).now)) new.holds new.fails)
+      let here : verdict_by new (count_of_term counts new.term) ≡ max (verdict_by g (count_of_term counts g.term)) (verdict_of term.operator number holds) =
+      (λ i. cond (nat_lt 0 (count_of_term counts (joins.same i))) new.holds new.fails)
       ∙ (λ i. cond (nat_lt 0 (means i)) new.holds new.fails)
       ∙ joined_verdict term number old new joins holds
       ∙ (λ i. max (cond (nat_lt 0 (sym means i)) old.holds old.fails) (verdict_of term.operator number holds))
-      ∙ (λ i. max (verdict_by (at i) (count_of_term counts (at i).term.now)) (verdict_of term.operator number holds)) in
+      ∙ (λ i. max (verdict_by (at i) (count_of_term counts (at i).term)) (verdict_of term.operator number holds)) in
       omega (arith, here)
   set_verdict (g ∷ groups) (suc index) old counts within at means joins = omega (arith, set_verdict groups index old counts (omega (arith, within)) at means joins)
 
-  pub set_total : (groups : List Group) (index : ℕ) (old : Group) (counts : List (List ℕ × ℕ)) → index < length groups → old ≡ get_or groups index old → count_of_term counts old.term.now ≡ count_of_term counts term → Joins term number old new
+  pub set_total : (groups : List Group) (index : ℕ) (old : Group) (counts : List (List ℕ × ℕ)) → index < length groups → old ≡ get_or groups index old → count_of_term counts old.term ≡ count_of_term counts term → Joins term number old new
       → total (set groups index new) counts ≡ total groups counts + wanted_once term.operator * count_of_term counts term
   set_total [] index old counts within at means joins = absurd (omega (arith, within))
   set_total (g ∷ groups) zero old counts within at means joins =
-      let here : new.wanted * count_of_term counts new.term.now ≡ g.wanted * count_of_term counts g.term.now + wanted_once term.operator * count_of_term counts term =
-      (λ i. joins.wanted i * count_of_term counts (joins.same i).now)
-      ∙ apart old.wanted (wanted_once term.operator) (count_of_term counts old.term.now)
-      ∙ (λ i. (at i).wanted * count_of_term counts (at i).term.now + wanted_once term.operator * means i) in
+      let here : new.wanted * count_of_term counts new.term ≡ g.wanted * count_of_term counts g.term + wanted_once term.operator * count_of_term counts term =
+      (λ i. joins.wanted i * count_of_term counts (joins.same i))
+      ∙ apart old.wanted (wanted_once term.operator) (count_of_term counts old.term)
+      ∙ (λ i. (at i).wanted * count_of_term counts (at i).term + wanted_once term.operator * means i) in
       omega (arith, here)
     where
       apart : (a b c : ℕ) → (a + b) * c ≡ a * c + b * c
@@ -213,13 +214,23 @@ same_or (x ∷ xs) (suc i) d e within = same_or xs i d e (omega (arith, within))
 
 pub adds_term : (term : TermData) (number index : ℕ) (old found new : List Group) (here : Group) → SayAlike old found → IsGroupOf term found index → (read : Group) → read ≡ get_or found index read → Joins term number read here → new ≡ set found index here → AddsTerm term number old new
 adds_term term number index old found new here alike group read at joins is =
-    let same : (counts : List (List ℕ × ℕ)) → count_of_term counts group.group.term.now ≡ count_of_term counts term = λ counts. means_same group.group.term.now term counts group.word group.prefix in
+    let same : (counts : List (List ℕ × ℕ)) → count_of_term counts group.group.term ≡ count_of_term counts term = λ counts. means_same group.group.term term counts group.word group.prefix in
     let joined : Joins term number group.group here = subst (λ g. Joins term number g here) (at ∙ same_or found index read group.group group.within ∙ sym group.at) joins in
     record {
       verdicts = λ counts. ap (λ l. verdict l counts) is ∙ set_verdict term number here found index group.group counts group.within group.at (same counts) joined ∙ ap (λ n. max n (verdict_of term.operator number (nat_lt 0 (count_of_term counts term)))) (alike.verdicts counts);
       totals = λ counts. ap (λ l. total l counts) is ∙ set_total term number here found index group.group counts group.within group.at (same counts) joined ∙ ap (λ n. n + wanted_once term.operator * count_of_term counts term) (alike.totals counts);
       wanted = ap wanted_in is ∙ set_wanted term number here found index group.group group.within group.at joined ∙ ap (λ n. n + wanted_once term.operator) alike.wanted;
     }
+
+-- groups one after another
+pub wanted_both : (a b : List Group) → wanted_in (a ++ b) ≡ wanted_in a + wanted_in b
+wanted_both [] b = omega arith
+wanted_both (g ∷ a) b = omega (arith, wanted_both a b)
+
+pub groups_next : (groups : List Group) (start end : ℕ) → start ≤ end → take end groups ≡ take start groups ++ take (end - start) (drop start groups)
+groups_next groups start end forward =
+    let apart : end ≡ start + (end - start) = omega (arith, forward) in
+    ap (λ n. take n groups) apart ∙ take-add start (end - start) groups
 
 -- the first groups want no more than all
 pub wanted_first : (groups : List Group) (n : ℕ) → wanted_in (take n groups) ≤ wanted_in groups

@@ -16,3 +16,5 @@ pub mod OneTermLemmas
 pub mod NextPages
 pub mod Walking
 pub mod WordSegments
+pub mod Steps
+pub mod EarlyRuns

@@ -1,5 +1,6 @@
 -- The best of the candidates of a search.
 use Rattle.std.specs.Prelude.{◌≡◌, ℕ, Bool, false, ◌||◌, ◌==◌, nat_le, max, List, ◌++◌, length, map, take, filter, slice_get}
+use Rattle.std.specs.Arc.{arc_value}
 use Rattle.std.specs.BTreeSet.{insert_key}
 use Rattle.std.specs.List.Sorted.{IsStrictlySortedBy}
 use Rattle.std.specs.Option.{option_map_or}
@@ -8,6 +9,7 @@ use Rattle.std.specs.declared.cmp.Ordering.{Ordering}
 use Rattle.gopher_page.specs.Page.{PageData}
 use Rattle.gopher_page.specs.Query.{TermData}
 use Rattle.gopher_index.specs.Answer.{hits_among, rank_cmp, ranked}
+use Rattle.gopher_index.specs.declared.best.Kept.{Kept}
 use Rattle.gopher_index.specs.declared.best.Ranked.{Ranked}
 use Rattle.gopher_index.specs.declared.hit.Hit.{Hit}
 
@@ -22,7 +24,11 @@ hit_with score page = record { place = page.place; title = page.title; score = s
 
 -- a candidate as a hit
 abbrev pub ranked_hit : Ranked → Hit
-ranked_hit ranked = hit_with ranked.score ranked.page.now
+ranked_hit ranked = hit_with ranked.score (arc_value ranked.page.now)
+
+-- the same of one that is kept
+abbrev pub kept_hit : Kept → Hit
+kept_hit kept = hit_with kept.score (arc_value kept.page)
 
 -- the order of a candidate beside another
 abbrev pub rank_of : Ranked → Ranked → Ordering

@@ -1,5 +1,6 @@
 -- Pages in segments and, behind them, in none yet.
 use Rattle.std.specs.Prelude.{ℕ, ◌+◌, ◌≤◌, ◌≡◌, List, [], ◌∷◌, ◌++◌, length, take}
+use Rattle.std.specs.List.{All}
 use Rattle.gopher_page.specs.Page.{PageData}
 use Rattle.gopher_segment.specs.Segment.{SegmentData, pages_of}
 use Rattle.gopher_segment.specs.SegmentRows.{AreConsecutive}
@@ -26,6 +27,10 @@ pub record StandsIn (run : SegmentData) (pages : List PageData) : Type 0 where
   pub after : List PageData
   pub at : pages ≡ before ++ (run.pages ++ after)
   pub number : length before ≡ run.first
+
+-- each of these runs stands among the pages
+abbrev pub AllStandIn : List PageData → List SegmentData → Type 0
+AllStandIn pages runs = All (λ run. StandsIn run pages) runs
 
 -- this page is the last
 pub record EndsWith (pages : List PageData) (page : PageData) : Type 0 where

@@ -5,3 +5,7 @@ pub mod Best
 pub mod Cells
 pub mod OneTerm
 pub mod Plan
+pub mod Search
+pub mod Begun
+pub mod Joined
+pub mod Progress

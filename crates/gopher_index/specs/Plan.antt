@@ -29,12 +29,12 @@ verdict_by group count = if nat_lt 0 count then group.holds else group.fails
 -- the same of all groups; without one a page matches
 abbrev pub verdict : List Group → List (List ℕ × ℕ) → ℕ
 verdict [] counts = 1
-verdict (group ∷ groups) counts = max (verdict_by group (count_of_term counts group.term.now)) (verdict groups counts)
+verdict (group ∷ groups) counts = max (verdict_by group (count_of_term counts group.term)) (verdict groups counts)
 
 -- what the terms of groups count together, each group's as often as its terms are wanted
 abbrev pub total : List Group → List (List ℕ × ℕ) → ℕ
 total [] counts = 0
-total (group ∷ groups) counts = group.wanted * count_of_term counts group.term.now + total groups counts
+total (group ∷ groups) counts = group.wanted * count_of_term counts group.term + total groups counts
 
 -- how many of the terms of groups are wanted
 abbrev pub wanted_in : List Group → ℕ
@@ -48,10 +48,11 @@ pub record AreGroups (terms : List TermData) (groups : List Group) : Type 0 wher
   pub highest : (counts : List (List ℕ × ℕ)) → verdict groups counts ≤ 2 * length terms + 1
   pub few : wanted_in groups ≤ length terms
 
--- the terms of a query, and their groups
+-- the terms of a query, and their groups, of which there is one at least
 pub record IsPlan (terms : List TermData) (groups : List Group) : Type 0 where
   pub query : IsQuery terms
   pub groups_are : AreGroups terms groups
+  pub some : 0 < length groups
 
 -- a group with one term more
 pub record Joins (term : TermData) (number : ℕ) (old new : Group) : Type 0 where
@@ -65,8 +66,8 @@ pub record IsGroupOf (term : TermData) (groups : List Group) (index : ℕ) : Typ
   pub group : Group
   pub within : index < length groups
   pub at : group ≡ slice_index_or groups index group
-  pub word : group.term.now.word ≡ term.word
-  pub prefix : group.term.now.is_prefix ≡ term.is_prefix
+  pub word : group.term.word ≡ term.word
+  pub prefix : group.term.is_prefix ≡ term.is_prefix
 
 -- groups that say the same of each page
 pub record SayAlike (old new : List Group) : Type 0 where

@@ -1,9 +1,10 @@
-//! The best of many hits, without a sort of them all.
+//! The best of many hits, kept in rank order without sorting all of them.
 
 ghost use Rattle.std.specs.Prelude.{◌≡◌, ℕ, ◌<◌, ◌≤◌, true, false, List, [], ◌∷◌, ◌++◌, length, map, take, filter, IfOk, OnOk};
+ghost use Rattle.std.specs.Arc.{arc_value};
 ghost use Rattle.gopher_index.specs.Answer.{ranked};
 ghost use Rattle.gopher_index.specs.declared.hit.Hit.{Hit};
-ghost use Rattle.gopher_index.specs.Best.{ranked_hit, hit_with, rank_of, is_behind_at, is_equal_at, AreRanked, Inserts, is_whole, lowest_score, reaches};
+ghost use Rattle.gopher_index.specs.Best.{kept_hit, ranked_hit, hit_with, rank_of, is_behind_at, is_equal_at, AreRanked, Inserts, is_whole, lowest_score, reaches};
 
 use crate::hit::Hit;
 use gopher_item::{ByteString, NoMemory};
@@ -11,18 +12,26 @@ use gopher_page::Page;
 use std::alloc::Global;
 use std::cmp::Ordering;
 use std::marker::Model;
+use std::sync::Arc;
 
-/// How many hits a search answers.
+/// The most hits that a search returns.
 pub(crate) const MOST_HITS: usize = 50;
 
-/// A page and its score.
+/// A candidate: a page and its score.
 #[derive(Drop)]
 pub(crate) struct Ranked<'a> {
     score: u64,
-    page: &'a Page,
+    page: &'a Arc<Page>,
 }
 
-// The score decides first, so that a page is only looked at where scores tie.
+/// A candidate that shares its page, so that it can outlive the list that the page comes from.
+#[derive(Debug, Drop)]
+pub(crate) struct Kept {
+    score: u64,
+    page: Arc<Page>,
+}
+
+// Compares the scores first, so that a page is read only if the scores are equal.
 fn rank(a: &Ranked, b: &Ranked) -> Ordering
     ensures { result ≡ rank_of a.now b.now }
 {
@@ -32,7 +41,7 @@ fn rank(a: &Ranked, b: &Ranked) -> Ordering
     }
 }
 
-// Whether the candidate comes behind the one of this index.
+// Returns whether the candidate ranks after the one at `index`.
 fn is_behind(best: &[Ranked], index: usize, candidate: &Ranked) -> bool
     ensures { result ≡ is_behind_at candidate.now best.now index false }
 {
@@ -42,7 +51,7 @@ fn is_behind(best: &[Ranked], index: usize, candidate: &Ranked) -> bool
     }
 }
 
-// How many of the best, which stand in their order, come before the candidate: these are the first.
+// Returns how many of the best rank before the candidate. `best` is in rank order.
 fn count_before(best: &[Ranked], candidate: &Ranked) -> usize
     ensures within { result ≤ length best.now }
     ensures before { AreRanked best.now → (k : ℕ) → k < result
@@ -62,7 +71,7 @@ fn count_before(best: &[Ranked], candidate: &Ranked) -> usize
     low
 }
 
-// Whether the one of this index has the rank of the candidate.
+// Returns whether the one at `index` has the same rank as the candidate.
 fn is_equal_at(best: &[Ranked], index: usize, candidate: &Ranked) -> bool
     ensures { result ≡ is_equal_at candidate.now best.now index }
 {
@@ -72,7 +81,7 @@ fn is_equal_at(best: &[Ranked], index: usize, candidate: &Ranked) -> bool
     }
 }
 
-// Puts a candidate at its place among the best, which stand in their order, unless one of its rank is there.
+// Inserts a candidate into the best at its rank, unless one of the same rank is there already.
 fn put<'a>(best: &mut Vec<Ranked<'a>>, candidate: Ranked<'a>) -> Result<(), NoMemory>
     ensures { OnOk result (Inserts candidate.entry best.old.items best.new.items) }
 {
@@ -86,8 +95,7 @@ fn put<'a>(best: &mut Vec<Ranked<'a>>, candidate: Ranked<'a>) -> Result<(), NoMe
     Ok(())
 }
 
-// Takes a candidate in among the first 50 of the hits so far, in their order; what is past the first
-// 50 goes.
+// Inserts a candidate into the first 50 of the hits so far and drops what is no longer among them.
 fn take_ranked_in<'a>(best: &mut Vec<Ranked<'a>>, candidate: Ranked<'a>) -> Result<(), NoMemory>
     ensures { (hits : List Hit) → map ranked_hit best.old.items ≡ take 50 (ranked hits)
         → OnOk result (map ranked_hit best.new.items
@@ -115,7 +123,36 @@ fn hits_of(alloc: Global, best: &[Ranked]) -> Result<Vec<Hit>, NoMemory>
     Ok(hits)
 }
 
-/// The first 50 of the hits so far, of those that have a least score.
+// Borrows kept candidates. Reserves room for one more than a search returns, because `put` inserts
+// before the last one is dropped.
+fn ranked_of(alloc: Global, kept: &[Kept]) -> Result<Vec<Ranked<'_>>, NoMemory>
+    ensures { IfOk result (λ best. map ranked_hit best.items ≡ map kept_hit kept.now) }
+{
+    let mut best = Vec::with_capacity(alloc, MOST_HITS + 1)?;
+    for one in kept {
+        best.push(Ranked {
+            score: one.score,
+            page: &one.page,
+        })?;
+    }
+    Ok(best)
+}
+
+// Shares the pages of borrowed candidates.
+fn kept_of(alloc: Global, best: &[Ranked]) -> Result<Vec<Kept>, NoMemory>
+    ensures { IfOk result (λ kept. map kept_hit kept.items ≡ map ranked_hit best.now) }
+{
+    let mut kept = Vec::with_capacity(alloc, best.len())?;
+    for one in best {
+        kept.push(Kept {
+            score: one.score,
+            page: one.page.clone()?,
+        })?;
+    }
+    Ok(kept)
+}
+
+/// The first 50 of the hits so far that reach a least score.
 #[derive(Drop)]
 pub(crate) struct Best<'a> {
     least: u64,
@@ -132,7 +169,7 @@ impl<'a> Model for Best<'a> {
 }
 
 impl<'a> Best<'a> {
-    /// No hits yet, of which each is to have a score of at least `least`.
+    /// Creates an empty list for hits with a score of at least `least`.
     pub fn new(alloc: Global, least: u64) -> Result<Best<'a>, NoMemory>
         ensures least { IfOk result (λ best. best.least ≡ least) }
         ensures hits { IfOk result (λ best. best.hits ≡ []) }
@@ -143,15 +180,32 @@ impl<'a> Best<'a> {
         })
     }
 
-    /// Whether they are the best of all hits: each score was asked for, or there are as many as a search
-    /// answers.
+    /// Goes on from kept hits, with no least score.
+    pub fn of(alloc: Global, kept: &'a [Kept]) -> Result<Best<'a>, NoMemory>
+        ensures least { IfOk result (λ best. best.least ≡ 0) }
+        ensures hits { IfOk result (λ best. best.hits ≡ map kept_hit kept.now) }
+    {
+        Ok(Best {
+            least: 0,
+            ranked: ranked_of(alloc, kept)?,
+        })
+    }
+
+    /// Returns the hits as candidates that share their pages.
+    pub fn kept(&self, alloc: Global) -> Result<Vec<Kept>, NoMemory>
+        ensures { IfOk result (λ kept. map kept_hit kept.items ≡ self.now.hits) }
+    {
+        kept_of(alloc, &self.ranked)
+    }
+
+    /// Returns whether these are the best of all hits: there is no least score, or there are 50 of them.
     pub fn is_whole(&self) -> bool
         ensures { result ≡ is_whole self.now }
     {
         self.least == 0 || self.ranked.len() >= MOST_HITS
     }
 
-    /// The lowest score with which a page can come among the best.
+    /// Returns the lowest score with which a page can still get among the best.
     pub fn lowest_score(&self) -> u64
         ensures { result ≡ lowest_score self.now }
     {
@@ -159,13 +213,13 @@ impl<'a> Best<'a> {
         self.least.max(last.map_or(0, |last| last.score))
     }
 
-    /// Takes in a page with its score, unless that is below the least. Refused only where memory is (90).
-    pub fn take_in(&mut self, score: u64, page: &'a Page) -> Result<(), NoMemory>
+    /// Inserts a page with its score, unless the score is below the least.
+    pub fn take_in(&mut self, score: u64, page: &'a Arc<Page>) -> Result<(), NoMemory>
         ensures least { self.new.least ≡ self.old.least }
         ensures hits { (hits : List Hit) → self.old.hits
             ≡ take 50 (ranked (filter (reaches self.old.least) hits)) → OnOk result (self.new.hits
             ≡ take 50 (ranked (filter (reaches self.old.least)
-            (hits ++ hit_with score page.now ∷ [])))) }
+            (hits ++ hit_with score (arc_value page.now) ∷ [])))) }
     {
         if score < self.least {
             return Ok(());
@@ -173,7 +227,7 @@ impl<'a> Best<'a> {
         take_ranked_in(&mut self.ranked, Ranked { score, page })
     }
 
-    /// The hits. Refused only where memory is (90).
+    /// Returns the hits.
     pub fn hits(&self, alloc: Global) -> Result<Vec<Hit>, NoMemory>
         ensures { IfOk result (λ hits. hits.items ≡ self.now.hits) }
     {

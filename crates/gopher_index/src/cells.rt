@@ -1,29 +1,25 @@
-//! What the terms of a query say of the pages of a segment, brought up to date term by term.
+//! The matches and scores of a segment's pages, updated term by term.
 
 ghost use Rattle.std.specs.Prelude.{◌≡◌, ℕ, ◌+◌, ◌*◌, ◌^◌, ◌≤◌, ◌<◌, ◌==◌, ◌∷◌, [], ◌++◌, List, length, nat_lt, max, replicate, slice_index_or, true, false, if◌then◌else◌, OnOk};
 ghost use Rattle.std.specs.List.{All, zip};
 ghost use Rattle.gopher_page.specs.Query.{TermData, is_not, joined};
 ghost use Rattle.gopher_page.specs.declared.query.Operator.TheVariants.{Not};
 ghost use Rattle.gopher_index.specs.Cells.{AreCells, term_counts, zipped};
-ghost use Rattle.gopher_index.specs.Plan.{AreGroupCells, is_match, verdict_by, wanted_in};
-ghost use Rattle.gopher_index.specs.declared.plan.Group.{Group};
 ghost use Rattle.gopher_segment.specs.Postings.{AreWithin, count_in};
 ghost use Rattle.gopher_segment.specs.Segment.{meant_counts};
 
 use crate::likely::Highest;
-use crate::plan::{Group, Plan, higher};
 use gopher_item::NoMemory;
 use gopher_page::{Operator, Term};
 use gopher_segment::{Postings, Segment};
 use std::alloc::Global;
 
-/// What terms say of each page of a segment: whether they match it, and its score.
+/// Arrays with an element for each page of a segment: whether the page matches, and its score.
 ///
-/// One is made for a search, and its memory serves segment after segment.
+/// A search makes them once and uses their memory for all segments.
 #[derive(Drop)]
 pub(crate) struct Cells {
     counts: Vec<u32>,
-    verdicts: Vec<u32>,
     pub truths: Vec<bool>,
     pub scores: Vec<u32>,
 }
@@ -49,8 +45,8 @@ fn add_counts(scores: &mut [u32], counts: &[u32])
     }
 }
 
-// Writes how often the words that a term speaks of stand in each page.
-fn spread_term(segment: &Segment, term: &Term, counts: &mut [u32])
+/// Writes how often the words that a term matches occur in each page.
+pub(crate) fn spread_term(segment: &Segment, term: &Term, counts: &mut [u32])
     requires { length counts.old ≡ length segment.now.pages }
     ensures counts { counts.new ≡ term_counts term.now segment.now.pages }
     ensures few { All (λ count. count ≤ 1048576) counts.new }
@@ -59,7 +55,8 @@ fn spread_term(segment: &Segment, term: &Term, counts: &mut [u32])
     segment.spread(term.is_prefix(), term.word(), counts);
 }
 
-// Leaves out a page for one of its postings: the first of the truths is that of page `first`.
+// Removes a page from the matches for one of its postings. The first of `truths` is that of page
+// `first`.
 fn leave_out(truths: &mut [bool], first: usize, page: usize, count: u8)
     requires from { first ≤ page }
     requires within { page < first + length truths.old }
@@ -70,7 +67,7 @@ fn leave_out(truths: &mut [bool], first: usize, page: usize, count: u8)
     truths[page - first] &= count == 0;
 }
 
-// Leaves out the pages of postings, of which the first truth is that of the first page.
+// Removes the pages of postings from the matches. The first of `truths` is that of the first page.
 fn leave_all_out(postings: &Postings, truths: &mut [bool])
     requires beside { length postings.now.counts.now ≡ length postings.now.numbers.now }
     requires within { AreWithin postings.now.first (length truths.old)
@@ -89,7 +86,7 @@ fn leave_all_out(postings: &Postings, truths: &mut [bool])
     }
 }
 
-// Leaves out the pages in which a word stands, straight from its postings.
+// Removes the pages that contain a word from the matches, through its posting list.
 fn leave_word_out(segment: &Segment, word: &[u8], truths: &mut [bool])
     requires { length truths.old ≡ length segment.now.pages }
     ensures { truths.new ≡ zipped (λ truth count. joined Not truth (nat_lt 0 count)) truths.old
@@ -99,7 +96,7 @@ fn leave_word_out(segment: &Segment, word: &[u8], truths: &mut [bool])
     leave_all_out(&postings, truths);
 }
 
-// What the terms before this one say, joined by what it says itself; the counts are overwritten.
+// Joins a term to the terms before it. Overwrites `counts`.
 fn join_counted(
     segment: &Segment,
     term: &Term,
@@ -123,7 +120,7 @@ fn join_counted(
     }
 }
 
-// The same, without counts where the pages of a word are left out.
+// Joins a term to the terms before it. Overwrites `counts`, unless the term is a word after `not`.
 fn join_term(
     segment: &Segment,
     term: &Term,
@@ -147,7 +144,7 @@ fn join_term(
     }
 }
 
-// What the first term says: its counts are the scores, so that they are written where these stand.
+// Joins the first term. Its counts are the scores, so they are written there directly.
 fn first_term(segment: &Segment, term: &Term, truths: &mut [bool], scores: &mut [u32])
     requires wanted { is_not term.now.operator ≡ false }
     requires truths { truths.old ≡ replicate (length segment.now.pages) true }
@@ -159,7 +156,7 @@ fn first_term(segment: &Segment, term: &Term, truths: &mut [bool], scores: &mut 
     join_truths(term.operator(), truths, scores);
 }
 
-// What the terms before these say, joined by what these say one after another.
+// Joins several terms to the terms before them. Overwrites `counts`.
 fn join_more(
     segment: &Segment,
     terms: &[Term],
@@ -180,7 +177,7 @@ fn join_more(
     }
 }
 
-// What all terms say, from what none of them does.
+// Joins all terms, starting from cells of no term. Overwrites `counts`.
 fn join_terms(
     segment: &Segment,
     terms: &[Term],
@@ -203,114 +200,17 @@ fn join_terms(
     }
 }
 
-// Takes in what the terms of a group say of each page, by how often it has their words.
-fn take_verdicts(group: &Group, verdicts: &mut [u32], counts: &[u32])
-    requires { length verdicts.old ≡ length counts.now }
-    ensures { verdicts.new ≡ zipped (λ verdict count.
-        max verdict (verdict_by group.now count)) verdicts.old counts.now }
-{
-    for (index, count) in counts.iter().enumerate() {
-        verdicts[index] = higher(verdicts[index], group.verdict(*count));
-    }
-}
-
-// Adds each count so many times.
-fn add_times(times: u32, scores: &mut [u32], counts: &[u32])
-    requires same { length scores.old ≡ length counts.now }
-    requires times { times ≤ 1024 }
-    requires room { All (λ score. score ≤ 2 ^ 31) scores.old }
-    requires few { All (λ count. count ≤ 1048576) counts.now }
-    ensures { scores.new ≡ zipped (λ score count. score + times * count) scores.old counts.now }
-{
-    for (index, count) in counts.iter().enumerate() {
-        scores[index] += times * *count;
-    }
-}
-
-// What the groups before this one say, and what it says itself; the counts are overwritten.
-fn join_group(
-    segment: &Segment,
-    group: &Group,
-    counts: &mut [u32],
-    verdicts: &mut [u32],
-    scores: &mut [u32],
-)
-    requires times { group.now.wanted ≤ 1024 }
-    requires counts { length counts.old ≡ length segment.now.pages }
-    requires verdicts { length verdicts.old ≡ length segment.now.pages }
-    requires scores { length scores.old ≡ length segment.now.pages }
-    requires room { All (λ score. score ≤ 2 ^ 31) scores.old }
-    ensures cells { (groups : List Group)
-        → AreGroupCells groups segment.now.pages verdicts.old scores.old
-        → AreGroupCells (groups ++ group.now ∷ []) segment.now.pages verdicts.new scores.new }
-    ensures few { (bound : ℕ) → All (λ score. score ≤ bound) scores.old
-        → All (λ score. score ≤ bound + 1048576 * group.now.wanted) scores.new }
-{
-    spread_term(segment, group.term, counts);
-    take_verdicts(group, verdicts, counts);
-    add_times(group.wanted, scores, counts);
-}
-
-// What all groups say, from what none of them does.
-fn join_groups(
-    segment: &Segment,
-    groups: &[Group],
-    counts: &mut [u32],
-    verdicts: &mut [u32],
-    scores: &mut [u32],
-)
-    requires few { wanted_in groups.now ≤ 1024 }
-    requires counts { length counts.old ≡ length segment.now.pages }
-    requires verdicts { verdicts.old ≡ replicate (length segment.now.pages) 1 }
-    requires scores { scores.old ≡ replicate (length segment.now.pages) 0 }
-    ensures { AreGroupCells groups.now segment.now.pages verdicts.new scores.new }
-{
-    for group in groups {
-        join_group(segment, group, counts, verdicts, scores);
-    }
-}
-
-// Whether each page matches, by what was said of it.
-fn settle_truths(truths: &mut [bool], verdicts: &[u32])
-    requires { length truths.old ≡ length verdicts.now }
-    ensures { truths.new ≡ zipped (λ truth verdict. is_match verdict) truths.old verdicts.now }
-{
-    for (index, verdict) in verdicts.iter().enumerate() {
-        truths[index] = *verdict % 2 == 1;
-    }
-}
-
-// What the terms of a plan say, by its groups, from what none of them does.
-fn join_plan(
-    segment: &Segment,
-    plan: &Plan,
-    counts: &mut [u32],
-    verdicts: &mut [u32],
-    truths: &mut [bool],
-    scores: &mut [u32],
-)
-    requires counts { length counts.old ≡ length segment.now.pages }
-    requires verdicts { verdicts.old ≡ replicate (length segment.now.pages) 1 }
-    requires truths { truths.old ≡ replicate (length segment.now.pages) true }
-    requires scores { scores.old ≡ replicate (length segment.now.pages) 0 }
-    ensures { AreCells plan.now segment.now.pages truths.new scores.new }
-{
-    join_groups(segment, plan.groups(), counts, verdicts, scores);
-    settle_truths(truths, verdicts);
-}
-
 impl Cells {
-    /// No cells.
+    /// Creates cells of no pages.
     pub fn new(alloc: Global) -> Cells {
         Cells {
             counts: Vec::new(alloc),
-            verdicts: Vec::new(alloc),
             truths: Vec::new(alloc),
             scores: Vec::new(alloc),
         }
     }
 
-    // Cells of which none says anything yet.
+    // Resets the cells to those of no term and `size` pages.
     fn clear(&mut self, size: usize) -> Result<(), NoMemory>
         ensures counts { OnOk result (length self.new.counts.items ≡ size) }
         ensures truths { OnOk result (self.new.truths.items ≡ replicate size true) }
@@ -324,27 +224,8 @@ impl Cells {
         Ok(())
     }
 
-    // Makes them say what the terms of a plan say of the pages of a segment, by its groups.
-    fn fill_groups(&mut self, segment: &Segment, plan: &Plan) -> Result<(), NoMemory>
-        ensures { OnOk result
-            (AreCells plan.now segment.now.pages self.new.truths.items self.new.scores.items) }
-    {
-        let size = segment.pages().len();
-        self.clear(size)?;
-        self.verdicts.clear();
-        self.verdicts.resize(size, 1)?;
-        let Cells {
-            counts,
-            verdicts,
-            truths,
-            scores,
-        } = self;
-        join_plan(segment, plan, counts, verdicts, truths, scores);
-        Ok(())
-    }
-
-    // Makes them say what terms, at most 1,024, say of the pages of a segment.
-    fn fill_terms(&mut self, segment: &Segment, terms: &[Term]) -> Result<(), NoMemory>
+    /// Computes the matches and scores of a segment's pages for terms, at most 1,024.
+    pub fn fill(&mut self, segment: &Segment, terms: &[Term]) -> Result<(), NoMemory>
         requires { length terms.now ≤ 1024 }
         ensures { OnOk result
             (AreCells terms.now segment.now.pages self.new.truths.items self.new.scores.items) }
@@ -353,7 +234,6 @@ impl Cells {
         self.clear(size)?;
         let Cells {
             counts,
-            verdicts: _verdicts,
             truths,
             scores,
         } = self;
@@ -361,20 +241,7 @@ impl Cells {
         Ok(())
     }
 
-    /// Makes them say what the terms of a plan say of the pages of a segment. Refused only where memory
-    /// is (90).
-    pub fn fill(&mut self, segment: &Segment, plan: &Plan) -> Result<(), NoMemory>
-        ensures { OnOk result
-            (AreCells plan.now segment.now.pages self.new.truths.items self.new.scores.items) }
-    {
-        if plan.is_short() {
-            self.fill_terms(segment, plan.terms())
-        } else {
-            self.fill_groups(segment, plan)
-        }
-    }
-
-    /// The score that pages of the segment probably reach, so many of them.
+    /// Guesses a score that `wanted` pages of the segment reach.
     pub fn likely_score(&self, wanted: usize) -> u64
         requires { length self.now.scores.items ≡ length self.now.truths.items }
     {

@@ -1,4 +1,4 @@
-//! Pages that are due to be merged.
+//! Runs of pages that are due to be merged.
 
 ghost use Rattle.std.specs.Prelude.{◌≡◌, [], map, IfOk};
 ghost use Rattle.std.specs.Arc.{arc_value};
@@ -12,15 +12,16 @@ use std::alloc::Global;
 use std::marker::Model;
 use std::sync::Arc;
 
-/// Pages that stand next to each other in an index: some that stand in no segment, or those of segments.
+/// Consecutive pages of an index: loose ones, or those of whole segments.
 #[derive(Debug, Drop)]
 pub(crate) enum Run {
     Loose(Vec<Arc<Page>>),
     Segments(Vec<Arc<Segment>>),
 }
 
-/// Pages that stand next to each other in an index, and are due to be merged into one segment. It shares
-/// them with the index, so that they can be merged without it.
+/// Consecutive pages of an index that are due to be merged into one segment.
+///
+/// It shares the pages, so they can be merged without access to the index.
 #[derive(Debug, Drop)]
 pub struct Due {
     pub(crate) first: usize,
@@ -40,7 +41,7 @@ impl Model for Due {
 }
 
 impl Due {
-    /// Pages that stand in no segment, which aren't merged yet. Refused only where memory is (90).
+    /// Creates an unmerged run of loose pages. `first` is the number of the first page.
     pub(crate) fn of_loose(
         alloc: Global,
         first: usize,
@@ -56,7 +57,7 @@ impl Due {
         })
     }
 
-    /// The pages of segments, which aren't merged yet. Refused only where memory is (90).
+    /// Creates an unmerged run of whole segments. `first` is the number of the first page.
     pub(crate) fn of_segments(
         alloc: Global,
         first: usize,
@@ -72,7 +73,7 @@ impl Due {
         })
     }
 
-    /// Merges the pages into one segment, for `Index::install`. Refused only where memory is (90).
+    /// Merges the pages into one segment, for `Index::install`.
     pub fn merge(&mut self, alloc: Global) -> Result<(), NoMemory>
         ensures { self.new ≡ self.old }
     {

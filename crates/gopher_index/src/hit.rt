@@ -1,14 +1,15 @@
-//! What a search finds.
+//! The hits of a search.
 
 use gopher_item::{ByteString, Place};
 
 /// A page that a search found.
 #[derive(Debug, Drop)]
 pub struct Hit {
-    /// The place whose reply the page is.
+    /// The place that the page was fetched from.
     pub place: Place,
-    /// The title of the page, of at most 69 bytes.
+    /// The title of the page, at most 69 bytes.
     pub title: ByteString,
-    /// How often the page has the words that are wanted; a word in two terms counts twice.
+    /// How often the words of the terms without `not` occur in the page. A word of two terms counts
+    /// twice.
     pub score: u64,
 }

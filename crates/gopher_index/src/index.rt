@@ -1,37 +1,57 @@
-//! The pages found, in segments and, at the end, in none yet.
+//! The pages that a crawl found: those in segments, then the loose ones.
 
 ghost use Rattle.std.specs.Prelude.{◌≡◌, ◌+◌, ◌<◌, ◌≤◌, [], ◌∷◌, ◌++◌, length, MatchResult, IfOk, IfSome, OnSome};
 ghost use Rattle.std.specs.Arc.{arc_value};
 ghost use Rattle.gopher_index.specs.Answer.{answer_of, AreOccurrences};
+ghost use Rattle.gopher_index.specs.Begun.{begun_hits};
 ghost use Rattle.gopher_index.specs.Index.{EndsWith, StandsIn};
 
+use crate::begun::Begun;
 use crate::due::Due;
 use crate::hit::Hit;
-use crate::installing::{put_for_loose, put_for_segments};
+use crate::installing::{put_for_loose, put_for_segments, ready};
 use crate::occurrences::occurrences;
 use crate::picking::{due_loose, due_span};
 use crate::search::search;
+use crate::searching::Search;
 use gopher_item::{NoMemory, Place};
-use gopher_page::{Page, Query};
+use gopher_page::{Page, Query, Term};
 use gopher_segment::{Segment, pages_len, shared};
 use std::alloc::Global;
 use std::marker::Model;
 use std::sync::Arc;
 
-// From how many loose pages on a page that is added waits until some are merged: eight times as many as
-// are merged at once, so that workers that merge hold up no others.
+// At this many loose pages, `add` merges first. It is eight times what is merged at once, so that
+// `add` rarely has to merge beside workers that do.
 const MOST_LOOSE: usize = 512;
 
-// How many runs are merged at most where one is due after another.
+// The most runs that one call of `settle` merges.
 const MOST_RUNS: usize = 64;
 
-/// Pages, in the order in which they were found.
+// The most terms of a search that runs to its end in `begin`.
+const FEW_TERMS: usize = 4;
+
+// The most postings that the prefixes of such a search may go through.
+const FEW_POSTINGS: usize = 16_777_216;
+
+// Returns whether a search runs to its end in `begin`. `words` is the number of postings.
+fn is_light(terms: &[Term], words: usize) -> bool {
+    let prefixes = terms.iter().filter(|term| term.is_prefix()).count();
+    terms.len() <= FEW_TERMS && prefixes.saturating_mul(words) <= FEW_POSTINGS
+}
+
+/// A list of pages that can be searched.
 #[derive(Debug, Drop)]
 pub struct Index {
     segments: Vec<Arc<Segment>>,
     loose: Vec<Arc<Page>>,
     settled: usize,
+    // The numbers of the first pages of runs that are being merged, or are in `early`.
     taken: Vec<usize>,
+    // Merged runs that wait until the pages before them are in segments.
+    early: Vec<Due>,
+    // The number of postings: the words of each page, counted for each page.
+    words: usize,
 }
 
 impl Model for Index {
@@ -39,18 +59,20 @@ impl Model for Index {
     ghost use Rattle.std.specs.Arc.{arc_value};
     ghost use Rattle.gopher_page.specs.Page.{PageData};
     ghost use Rattle.gopher_segment.specs.Segment.{pages_of};
-    ghost use Rattle.gopher_index.specs.Index.{IsIndex};
+    ghost use Rattle.gopher_index.specs.Index.{IsIndex, AllStandIn};
 
     ghost Value = { List PageData };
 
     ghost view = { λ i. pages_of (map arc_value i.segments.items) ++ map arc_value i.loose.items };
 
     ghost invariant = { λ i.
-        IsIndex (map arc_value i.segments.items) (map arc_value i.loose.items) i.settled };
+        IsIndex (map arc_value i.segments.items) (map arc_value i.loose.items) i.settled
+        × AllStandIn (pages_of (map arc_value i.segments.items) ++ map arc_value i.loose.items)
+        i.early.items };
 }
 
 impl Index {
-    /// No pages.
+    /// Creates an index of no pages.
     pub fn new(alloc: Global) -> Index
         ensures { result ≡ [] }
     {
@@ -59,21 +81,22 @@ impl Index {
             loose: Vec::new(alloc),
             settled: 0,
             taken: Vec::new(alloc),
+            early: Vec::new(alloc),
+            words: 0,
         }
     }
 
-    /// How many pages there are.
+    /// Returns the number of pages.
     pub fn len(&self) -> usize
         ensures { result ≡ length self.now }
     {
         self.settled + self.loose.len()
     }
 
-    /// Adds a page at the end, of which there are fewer than 65,536. Refused only where memory is (90),
-    /// and then the pages are what they were.
+    /// Appends a page. The index has at most 65,535 pages before.
     ///
-    /// The page stands in no segment until it is merged into one (`due`, `settle`). Where 512 pages
-    /// stand in none, all that is due is merged first.
+    /// The page is loose until it is merged into a segment (`due`, `settle`). If there are 512 loose
+    /// pages, everything that is due is merged first.
     pub fn add(&mut self, page: Arc<Page>) -> Result<(), NoMemory>
         requires { length self.old < 65536 }
         ensures { MatchResult result (λ _. self.new ≡ self.old ++ arc_value page ∷ [])
@@ -83,11 +106,22 @@ impl Index {
             self.taken.clear();
             self.settle();
         }
+        self.push(page)
+    }
+
+    // Adds a loose page at the end.
+    fn push(&mut self, page: Arc<Page>) -> Result<(), NoMemory>
+        requires { length self.old < 65536 }
+        ensures { MatchResult result (λ _. self.new ≡ self.old ++ arc_value page ∷ [])
+            (λ _. self.new ≡ self.old) }
+    {
+        let words = page.counts().len();
         self.loose.push(page)?;
+        self.words = self.words.saturating_add(words);
         Ok(())
     }
 
-    // Pages that are due to be merged and aren't taken yet.
+    // Returns a run of pages that is due to be merged and isn't being merged.
     fn untaken(&self) -> Result<Option<Due>, NoMemory>
         ensures { IfOk result (λ due. IfSome due (λ run. StandsIn run self.now)) }
     {
@@ -104,12 +138,13 @@ impl Index {
         Ok(Some(due))
     }
 
-    /// Pages that are due to be merged, unless none are, and marks them as taken until `install`. Refused
-    /// only where memory is (90). The pages are what they were.
+    /// Returns a run of pages that is due to be merged, if there is one, and marks it as taken until
+    /// `install`.
     ///
-    /// Due are 64 pages that stand in no segment, and four segments of one size, where the first begins
-    /// at a multiple of four times that size and all fit in one; of 1,024 pages each and more once a
-    /// fifth follows them. So the segments' sizes depend on the number of pages alone, once none is due.
+    /// Two kinds of runs are due: 64 loose pages, and four segments of the same number of pages. The
+    /// first segment must begin at a multiple of four times that number, and one segment must be able to
+    /// hold all four. If they have 1,024 pages or more, a fifth of their size must follow. So if nothing
+    /// is due, the sizes of the segments follow from the number of pages alone.
     pub fn due(&mut self) -> Result<Option<Due>, NoMemory>
         ensures same { self.new ≡ self.old }
         ensures stands { IfOk result (λ due. IfSome due (λ run. StandsIn run self.new)) }
@@ -121,20 +156,53 @@ impl Index {
         Ok(Some(due))
     }
 
-    /// Puts the segment of pages that were due in their place, where they were merged, and otherwise
-    /// leaves them to be due again. The pages are what they were.
+    /// Puts a merged run in the place of its pages. A run that wasn't merged becomes due again. The
+    /// pages are what they were.
     ///
-    /// Merged pages come back where some before them still stand in no segment: they are put in their
-    /// place once those are. Where memory is refused, or the pages have been merged with others meanwhile,
-    /// all stays as it was.
-    pub fn install(&mut self, due: Due) -> Option<Due>
+    /// If pages before the run aren't in a segment yet, the index holds it until they are. When out of
+    /// memory, or if its pages were merged with others meanwhile, the run is dropped.
+    pub fn install(&mut self, due: Due)
         requires { StandsIn due self.old }
-        ensures same { self.new ≡ self.old }
-        ensures back { IfSome result (λ back. back ≡ due) }
+        ensures { self.new ≡ self.old }
     {
         if due.merged.is_some() && due.first > self.settled {
-            return Some(due);
+            self.hold(due);
+            return;
         }
+        self.put_run(due);
+        for _run in 0..self.early.len() {
+            let Some(due) = self.take_early() else {
+                return;
+            };
+            self.put_run(due);
+        }
+    }
+
+    // Holds a merged run until the pages before it are in segments. When out of memory, it is due again.
+    fn hold(&mut self, due: Due)
+        requires { StandsIn due self.old }
+        ensures { self.new ≡ self.old }
+    {
+        let first = due.first;
+        if self.early.push(due).is_err() {
+            self.taken.retain(|other| *other != first);
+        }
+    }
+
+    // Takes a run out of `early` if the pages before it are in segments.
+    fn take_early(&mut self) -> Option<Due>
+        ensures same { self.new ≡ self.old }
+        ensures stands { IfSome result (λ due. StandsIn due self.old) }
+    {
+        let at = ready(&self.early, self.settled)?;
+        Some(self.early.swap_remove(at))
+    }
+
+    // Puts a merged run in its place, and leaves one that wasn't merged to be due again.
+    fn put_run(&mut self, due: Due)
+        requires { StandsIn due self.old }
+        ensures { self.new ≡ self.old }
+    {
         let Due {
             first,
             run: _run,
@@ -144,10 +212,9 @@ impl Index {
         if let Some(merged) = merged {
             self.put(first, merged);
         }
-        None
     }
 
-    // Puts a segment in the place of what it was merged from.
+    // Replaces pages by the segment that they were merged into.
     fn put(&mut self, first: usize, merged: Arc<Segment>)
         requires first { (arc_value merged).first ≡ first }
         requires bound { first + length (arc_value merged).pages ≤ 65536 }
@@ -163,22 +230,20 @@ impl Index {
         let _put = put_for_segments(alloc, first, merged, &mut self.segments);
     }
 
-    // Merges one run that is due, and tells whether it did.
+    // Merges one run that is due. Returns whether it did.
     fn settle_one(&mut self) -> bool
         ensures { self.new ≡ self.old }
     {
         let alloc = *self.loose.allocator();
-        let Ok(Some(mut due)) = self.untaken() else {
+        let Ok(Some(mut due)) = self.due() else {
             return false;
         };
-        let Ok(()) = due.merge(alloc) else {
-            return false;
-        };
-        let _early = self.install(due);
-        true
+        let was_merged = due.merge(alloc).is_ok();
+        self.install(due);
+        was_merged
     }
 
-    /// Merges what is due, unless memory is refused. The pages are what they were.
+    /// Merges what is due, at most 64 runs, until nothing is due or memory runs out.
     pub fn settle(&mut self)
         ensures { self.new ≡ self.old }
     {
@@ -189,7 +254,7 @@ impl Index {
         }
     }
 
-    /// The same pages, in the same segments, which both share. Refused only where memory is (90).
+    /// Returns a copy that shares the segments and pages.
     pub fn again(&self, alloc: Global) -> Result<Index, NoMemory>
         ensures { IfOk result (λ index. index ≡ self.now) }
     {
@@ -198,12 +263,15 @@ impl Index {
             loose: shared(alloc, &self.loose)?,
             settled: self.settled,
             taken: Vec::new(alloc),
+            early: Vec::new(alloc),
+            words: self.words,
         })
     }
 
-    /// The last page, where there is one page more than in another index, and as many segments with as
-    /// many pages. None where 512 pages of the other stand in no segment: its next page is added after
-    /// these were merged.
+    /// Returns the last page if this index is `before` with one loose page more, judged by the numbers of
+    /// its segments and pages.
+    ///
+    /// Returns `None` if `before` has 512 loose pages, because `add` merges them first.
     pub fn page_after(&self, before: &Index) -> Option<&Arc<Page>>
         ensures last { IfSome result (λ page. EndsWith self.now (arc_value page.now)) }
         ensures one_more { OnSome result (length self.now ≡ length before.now + 1) }
@@ -218,16 +286,34 @@ impl Index {
         self.loose.last()
     }
 
-    /// What a search finds: the pages that match the query, by score descending, then in place order;
-    /// the first 50. Refused only where memory is (90).
+    /// Begins a search. Returns the hits if the search is short, and otherwise a `Search` that finds them
+    /// in steps.
+    ///
+    /// The hits are the first 50 pages that match the query, by descending score, then in place order.
+    pub fn begin(&self, alloc: Global, query: &Query) -> Result<Begun, NoMemory>
+        ensures { IfOk result (λ begun. begun_hits begun ≡ answer_of self.now query.now) }
+    {
+        let terms = query.terms();
+        if is_light(terms, self.words) {
+            let hits = search(alloc, &self.segments, &self.loose, terms)?;
+            return Ok(Begun::Found(hits));
+        }
+        let search = Search::new(alloc, &self.segments, &self.loose, terms)?;
+        Ok(Begun::Searching(search))
+    }
+
+    /// Searches to the end and returns the hits. See `begin` for what they are.
     pub fn search(&self, alloc: Global, query: &Query) -> Result<Vec<Hit>, NoMemory>
         ensures { IfOk result (λ hits. hits.items ≡ answer_of self.now query.now) }
     {
-        search(alloc, &self.segments, &self.loose, query)
+        match self.begin(alloc, query)? {
+            Begun::Found(hits) => Ok(hits),
+            Begun::Searching(search) => search.finish(),
+        }
     }
 
-    /// The places of the pages in which `word` stands, with how often, in place order. Refused only
-    /// where memory is (90).
+    /// Returns the places of the pages that contain `word`, with how often it occurs in each, in place
+    /// order.
     pub fn occurrences(&self, alloc: Global, word: &[u8]) -> Result<Vec<(Place, u32)>, NoMemory>
         ensures { IfOk result (λ list. AreOccurrences self.now word.now list.items) }
     {

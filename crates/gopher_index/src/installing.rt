@@ -1,19 +1,21 @@
-//! Putting a merged segment in the place of what it was merged from.
+//! Replacing pages by the segment that they were merged into.
 
-ghost use Rattle.std.specs.Prelude.{◌≡◌, ◌+◌, ◌≤◌, ◌∷◌, ◌++◌, List, length, map, take, drop, IfOk, IfSome};
+ghost use Rattle.std.specs.Prelude.{◌≡◌, ◌+◌, ◌<◌, ◌≤◌, ◌∷◌, ◌++◌, List, length, map, take, drop, IfOk, IfSome};
 ghost use Rattle.std.specs.Arc.{arc_value};
 ghost use Rattle.gopher_page.specs.Page.{PageData};
 ghost use Rattle.gopher_segment.specs.Segment.{pages_of};
 ghost use Rattle.gopher_segment.specs.SegmentRows.{AreConsecutive};
 ghost use Rattle.gopher_index.specs.Index.{IsBorder, StandsIn};
 
+use crate::due::Due;
 use gopher_item::NoMemory;
 use gopher_page::Page;
 use gopher_segment::{Segment, pages_len, share, shared};
 use std::alloc::Global;
 use std::sync::Arc;
 
-// Before which segment so many pages stand, where they are those of whole segments.
+// Returns the index of the segment that begins after `pages` pages, if one does. The end counts as
+// well.
 fn border(segments: &[Arc<Segment>], pages: usize) -> Option<usize>
     requires { pages ≤ 65536 }
     ensures { IfSome result (IsBorder (map arc_value segments.now) pages) }
@@ -29,7 +31,7 @@ fn border(segments: &[Arc<Segment>], pages: usize) -> Option<usize>
     None
 }
 
-// The segments, with one in the place of those from one index to another.
+// Returns the segments with those from `start` to `end` replaced by one.
 fn with_one(
     alloc: Global,
     segments: &[Arc<Segment>],
@@ -49,8 +51,8 @@ fn with_one(
     Ok(list)
 }
 
-/// Puts a segment of pages that stand in segments in their place, where whole segments have them. Refused
-/// only where memory is (90), and then all stays as it was.
+/// Replaces whole segments by the segment that they were merged into. Changes nothing if its pages
+/// aren't those of whole segments.
 pub(crate) fn put_for_segments(
     alloc: Global,
     first: usize,
@@ -76,8 +78,8 @@ pub(crate) fn put_for_segments(
     Ok(())
 }
 
-/// Puts a segment of the first loose pages behind the segments. Refused only where memory is (90), and
-/// then all stays as it was.
+/// Appends the segment of the first loose pages to the segments, and removes these pages from the loose
+/// ones.
 pub(crate) fn put_for_loose(
     alloc: Global,
     merged: Arc<Segment>,
@@ -98,4 +100,17 @@ pub(crate) fn put_for_loose(
     segments.push(merged)?;
     *loose = rest;
     Ok(())
+}
+
+/// Returns the index of a run before which all pages are in segments, if there is one.
+pub(crate) fn ready(runs: &[Due], settled: usize) -> Option<usize>
+    ensures { IfSome result (λ at. at < length runs.now) }
+{
+    for at in 0..runs.len() {
+        let run = &runs[at];
+        if run.first <= settled {
+            return Some(at);
+        }
+    }
+    None
 }

@@ -10,42 +10,55 @@
 //! four segments of one size (`picking`). Segments have 64 pages, then 256 and so on up to 16,384,
 //! or fewer if one can't hold so many words. `due` shares the pages of a run, so `merging` works
 //! without the index. `installing` puts the new segment in place of its pages. Runs that are being
-//! merged are marked, and several can be merged at once. A segment can't follow loose pages, so one
-//! that is merged too early is handed back. At 512 loose pages, `add` merges everything that is due
+//! merged are marked, and several can be merged at once. A segment can't follow loose pages, so the
+//! index holds one that is merged too early. At 512 loose pages, `add` merges everything that is due
 //! itself and forgets all marks. Single-threaded callers call `settle` to merge segments.
 //!
 //! # Searches
 //!
-//! A search goes through the segments in order (`search`). For several terms it spreads the counts
-//! of each term over an array with one element for each page, joins them to the matches so far, and
-//! adds them to the scores (`cells`). With more than four terms, equal ones form groups, each
-//! spread once (`plan`). A word behind `not` only removes pages. For a single word it goes through
-//! the posting list and skips blocks of 64 postings that can't reach the best 50 (`one_term`).
-//! Pages that reach the lowest of the best scores are inserted among them (`best`). Loose pages are
-//! searched by their own counts.
+//! `Index::begin` runs a short search to its end (`search`): one of at most four terms whose prefixes
+//! go through at most 16,777,216 postings together. It goes through the segments in order. For several
+//! terms it spreads the counts of each term over an array with one element for each page, joins them
+//! to the matches so far, and adds them to the scores (`cells`). A word behind `not` only removes
+//! pages. For a single word it goes through the posting list and skips blocks of 64 postings that
+//! can't reach the best 50 (`one_term`). Pages that reach the lowest of the best scores are inserted
+//! among them (`best`). Loose pages are searched by their own counts.
 //!
-//! To skip more, a search first guesses a score that 50 pages reach (`likely`). If fewer than 50
+//! To skip more, a short search first guesses a score that 50 pages reach (`likely`). If fewer than 50
 //! hits reach it, the search runs again without a guess. No contract depends on the guess.
+//!
+//! Any other search becomes a `Search`, which shares the pages and goes on in steps (`progress`). Equal
+//! terms form groups (`plan`). A step does one of three things. It joins groups to the matches and
+//! scores of one segment's pages, spreading the counts of each group once (`joined`). Or it inserts the
+//! pages of a segment that match among the best. Or it inserts up to eight loose pages. A step that
+//! joins groups goes through at most 262,144 cells and postings, or those of one group if that has
+//! more: at most all postings of one segment.
 //!
 //! # Errors
 //!
 //! `NoMemory` (90) means out of memory. The object is then as it was before the call.
 #![tactic(auto)]
 
+mod begun;
 mod best;
 mod cells;
 mod due;
 mod hit;
 mod index;
 mod installing;
+mod joined;
 mod likely;
 mod merging;
 mod occurrences;
 mod one_term;
 mod picking;
 mod plan;
+mod progress;
 mod search;
+mod searching;
 
+pub use begun::Begun;
 pub use due::Due;
 pub use hit::Hit;
 pub use index::Index;
+pub use searching::Search;

@@ -1,16 +1,16 @@
-//! A score that as many pages reach as a search answers: a guess, which saves looking at the places of
-//! pages that don't reach it. What is answered doesn't rest on it: where too few pages reach it, the
-//! search is done again without one.
+//! Guessing a score that 50 pages reach, so that a search can skip pages that don't reach it.
+//!
+//! The hits don't depend on the guess: if too few pages reach it, the search runs again without one.
 
 ghost use Rattle.std.specs.Prelude.{◌≡◌, length};
 
 use crate::best::MOST_HITS;
 use gopher_segment::Postings;
 
-// How many postings or pages make a block.
+// The number of postings or pages in a block.
 const BLOCK: usize = 64;
 
-/// How many blocks have which highest score, of scores from 255 on together.
+/// The number of blocks by their highest score. Scores above 255 count as 255.
 #[derive(Drop)]
 pub(crate) struct Highest {
     blocks: [u32; 256],
@@ -35,7 +35,7 @@ fn highest_score(truths: &[bool], scores: &[u32]) -> u32
 }
 
 impl Highest {
-    /// No blocks.
+    /// Creates a histogram of no blocks.
     pub fn new() -> Highest {
         Highest { blocks: [0; 256] }
     }
@@ -45,14 +45,14 @@ impl Highest {
         self.blocks[index] = self.blocks[index].saturating_add(1);
     }
 
-    /// Notes the blocks of the counts of postings.
+    /// Adds the blocks of a list of counts.
     pub fn note_counts(&mut self, counts: &[u8]) {
         for block in counts.chunks(BLOCK) {
             self.note(highest_count(block));
         }
     }
 
-    /// Notes the blocks of pages, by whether each matches and by its score.
+    /// Adds the blocks of a list of pages. A page that doesn't match counts as score 0.
     pub fn note_scores(&mut self, truths: &[bool], scores: &[u32])
         requires { length scores.now ≡ length truths.now }
     {
@@ -65,7 +65,7 @@ impl Highest {
         }
     }
 
-    /// The highest score that so many blocks reach, else 0.
+    /// Returns the highest score that `wanted` blocks reach, or 0 if there is none.
     pub fn reached(&self, wanted: usize) -> u64 {
         let mut blocks = 0_usize;
         for score in 1..256 {
@@ -79,13 +79,14 @@ impl Highest {
     }
 }
 
-/// How many of the hits of a search are probably among some of all pages: half as many again as their share.
+/// Guesses how many of the first 50 hits are among `some` of `all` pages: one and a half times their
+/// share.
 pub(crate) fn likely_hits(some: usize, all: usize) -> usize {
     let share = some.saturating_mul(MOST_HITS + MOST_HITS / 2) / all.max(1);
     share.clamp(1, MOST_HITS)
 }
 
-/// The score that pages probably reach for a word, by its postings in each segment.
+/// Guesses a score that 50 pages reach for a word, from its postings in each segment.
 pub(crate) fn likely_score(found: &[Postings]) -> u64 {
     let mut highest = Highest::new();
     for postings in found {

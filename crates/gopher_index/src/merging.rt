@@ -1,4 +1,4 @@
-//! One segment of pages that stand in none.
+//! Making one segment of loose pages.
 
 ghost use Rattle.std.specs.Prelude.{◌≡◌, ◌+◌, ◌≤◌, length, map, IfOk};
 ghost use Rattle.std.specs.Arc.{arc_value};
@@ -10,11 +10,11 @@ use std::alloc::Global;
 use std::slice::from_ref;
 use std::sync::Arc;
 
-// How many words, each page's for itself, are put into one list at most.
+// The most words that are put into one list. A word of two pages counts twice.
 const MOST_WORDS: usize = 262_144;
 
-// The segment of loose pages, of which the first has this number, page by page: without a list of all
-// their words.
+// Makes a segment of each page and merges these, which needs no list of all words. `first` is the
+// number of the first page.
 fn segment_of_each(alloc: Global, first: usize, loose: &[Arc<Page>]) -> Result<Segment, NoMemory>
     requires { first + length loose.now ≤ 65536 }
     ensures first { IfOk result (λ segment. segment.first ≡ first) }
@@ -28,7 +28,7 @@ fn segment_of_each(alloc: Global, first: usize, loose: &[Arc<Page>]) -> Result<S
     Segment::merged(alloc, first, &singles)
 }
 
-/// The segment of loose pages, of which the first has this number. Refused only where memory is (90).
+/// Makes one segment of loose pages. `first` is the number of the first page.
 pub(crate) fn segment_of(
     alloc: Global,
     first: usize,

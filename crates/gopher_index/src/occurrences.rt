@@ -1,4 +1,4 @@
-//! In which pages a word stands.
+//! Listing the pages that contain a word.
 
 ghost use Rattle.std.specs.Prelude.{◌≡◌, ℕ, ◌≤◌, ◌++◌, ◌∷◌, [], false, List, length, map, nat_lt, IfOk, OnOk, if◌then◌else◌};
 ghost use Rattle.std.specs.Arc.{arc_value};
@@ -11,7 +11,7 @@ use gopher_segment::Segment;
 use std::alloc::Global;
 use std::sync::Arc;
 
-// Adds a page in which the word stands so often, unless it doesn't stand there.
+// Adds a page with its count, unless the count is 0.
 fn push_page(page: &Page, count: u32, found: &mut Vec<(Place, u32)>) -> Result<(), NoMemory>
     ensures { OnOk result (found.new.items
         ≡ found.old.items ++ (if nat_lt 0 count then (page.now.place, count) ∷ [] else [])) }
@@ -82,8 +82,7 @@ fn push_loose(
     Ok(())
 }
 
-/// The occurrences of a word in the pages of segments and in loose pages behind them. Refused only
-/// where memory is (90).
+/// Lists the occurrences of a word in the pages of segments and in the loose pages after them.
 pub(crate) fn occurrences(
     alloc: Global,
     segments: &[Arc<Segment>],

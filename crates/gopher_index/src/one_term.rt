@@ -1,4 +1,4 @@
-//! Searches by one term alone, straight from its postings.
+//! Searching for a single term through its posting list.
 
 ghost use Rattle.std.specs.Prelude.{◌≡◌, ◌+◌, ◌-◌, ◌<◌, ◌≤◌, ◌∷◌, [], List, Some, length, map, min, nat_le, slice_get, OnOk};
 ghost use Rattle.std.specs.Arc.{arc_value};
@@ -14,7 +14,7 @@ use gopher_page::{Page, Term};
 use gopher_segment::Postings;
 use std::sync::Arc;
 
-// How many postings are passed over at once where none of them can come among the best.
+// The number of postings that are skipped at once if none of them can get among the best.
 const BLOCK: usize = 64;
 
 fn any_from(counts: &[u8], lowest: u8) -> bool
@@ -27,7 +27,7 @@ fn any_from(counts: &[u8], lowest: u8) -> bool
     is_reached
 }
 
-// Whether a posting is of the same page as the one before it.
+// Returns whether a posting belongs to the same page as the one before it.
 fn is_again(numbers: &[u16], index: usize) -> bool
     requires { index < length numbers.now }
     ensures { result ≡ is_again numbers.now index }
@@ -38,7 +38,8 @@ fn is_again(numbers: &[u16], index: usize) -> bool
     numbers[index - 1] == numbers[index]
 }
 
-// How often the word stands in a page, by its first posting: one that counts 255 may be of several.
+// Returns how often the word occurs in a page. `count` is that of its first posting: if it is 255, the
+// page may have further postings.
 fn whole_count(page: &Page, term: &Term, count: u8) -> u32
     ensures { count ≡ min (count_of_term page.now.counts term.now) 255
         → result ≡ count_of_term page.now.counts term.now }
@@ -49,30 +50,30 @@ fn whole_count(page: &Page, term: &Term, count: u8) -> u32
     term.count_in(page)
 }
 
-// Takes in a page, by its first posting.
+// Inserts a page into the best. `count` is that of its first posting.
 fn take_posting_in<'a>(
-    page: &'a Page,
+    page: &'a Arc<Page>,
     term: &Term,
     count: u8,
     best: &mut Best<'a>,
 ) -> Result<(), NoMemory>
     requires { term.now.operator ≡ And }
-    ensures { 0 < count → count ≡ min (count_of_term page.now.counts term.now) 255
-        → OnOk result (TakesIn (term.now ∷ []) (page.now ∷ []) best.old best.new) }
+    ensures { 0 < count → count ≡ min (count_of_term (arc_value page.now).counts term.now) 255
+        → OnOk result (TakesIn (term.now ∷ []) (arc_value page.now ∷ []) best.old best.new) }
 {
     let score = u64::from(whole_count(page, term, count));
     best.take_in(score, page)
 }
 
-fn page_at<'a>(pages: &'a [Arc<Page>], first: usize, number: u16) -> &'a Page
+fn page_at<'a>(pages: &'a [Arc<Page>], first: usize, number: u16) -> &'a Arc<Page>
     requires from { first ≤ number }
     requires within { number < first + length pages.now }
-    ensures { slice_get (map arc_value pages.now) (number - first) ≡ Some result.now }
+    ensures { slice_get (map arc_value pages.now) (number - first) ≡ Some (arc_value result.now) }
 {
     &pages[usize::from(number) - first]
 }
 
-// Takes in the pages whose first postings are among those from `start` to `end`.
+// Inserts the pages whose first postings are between `start` and `end`.
 fn take_postings_in<'a>(
     pages: &'a [Arc<Page>],
     term: &Term,
@@ -101,7 +102,7 @@ fn take_postings_in<'a>(
     Ok(())
 }
 
-/// Takes in the pages in which the words of a query's only term stand, by its postings.
+/// Inserts the pages that contain the words of a query's only term, through its posting list.
 pub(crate) fn take_term_in<'a>(
     pages: &'a [Arc<Page>],
     term: &Term,

@@ -1,4 +1,4 @@
-//! Which segments are due to be merged.
+//! Picking the pages that are due to be merged.
 
 ghost use Rattle.std.specs.Prelude.{◌≡◌, ◌≤◌, true, length, IfSome};
 ghost use Rattle.gopher_index.specs.Index.{IsSpan};
@@ -6,24 +6,24 @@ ghost use Rattle.gopher_index.specs.Index.{IsSpan};
 use gopher_segment::{Segment, Size};
 use std::sync::Arc;
 
-// How many segments are merged at once.
+// The number of segments that are merged into one.
 const MERGED: usize = 4;
 
-// How many loose pages are merged at once.
+// The number of loose pages that are merged into one segment.
 const MERGED_LOOSE: usize = 64;
 
-// From how many pages on a segment is merged only once another of its size stands behind those that it
-// is merged with.
+// Segments with at least this many pages are merged only if a fifth of their size follows.
 const LARGE: usize = 1_024;
 
-// Whether a run that begins at this page is among those that are being merged.
+// Returns whether a run that begins at page `first` is being merged.
 fn is_taken(taken: &[usize], first: usize) -> bool {
     taken.iter().any(|other| *other == first)
 }
 
-/// The first of the loose pages that are due to be merged, and the first behind them: 64, with a multiple
-/// of 64 of such pages before them, unless the run that begins with it is taken. The first loose page has
-/// the number `settled`.
+/// Returns the start and the end of the first 64 loose pages that are due to be merged, if there are any.
+///
+/// The start is a multiple of 64. `settled` is the number of the first loose page, and `taken` contains
+/// the numbers of the first pages of runs that are being merged.
 pub(crate) fn due_loose(settled: usize, loose: usize, taken: &[usize]) -> Option<(usize, usize)>
     ensures { IfSome result (IsSpan loose) }
 {
@@ -36,14 +36,14 @@ pub(crate) fn due_loose(settled: usize, loose: usize, taken: &[usize]) -> Option
     None
 }
 
-// Whether segments have so many pages each.
+// Returns whether each segment has `pages` pages.
 fn are_alike(segments: &[Arc<Segment>], pages: usize) -> bool {
     segments
         .iter()
         .all(|segment| segment.pages().len() == pages)
 }
 
-// Whether a segment can take what all of these have.
+// Returns whether one segment can hold the contents of all of these.
 fn fit(segments: &[Arc<Segment>], size: Size) -> bool {
     let mut sum = size;
     for segment in segments {
@@ -52,9 +52,9 @@ fn fit(segments: &[Arc<Segment>], size: Size) -> bool {
     sum.fits()
 }
 
-// Whether the first of these segments, which begins at this page, is due to be merged with those behind
-// it: they have as many pages each, so that the sizes of all that are made so are known from their
-// numbers alone.
+// Returns whether the first of these segments is due to be merged with the next three. `first` is the
+// number of its first page. All have the same number of pages, so the sizes of merged segments follow
+// from the number of pages alone.
 fn is_due(first: usize, segments: &[Arc<Segment>]) -> bool
     ensures { result ≡ true → 4 ≤ length segments.now }
 {
@@ -77,8 +77,8 @@ fn is_due(first: usize, segments: &[Arc<Segment>]) -> bool
     are_alike(&segments[1..needed], size.pages) && fit(&segments[1..MERGED], size)
 }
 
-/// The first segment of those that are due to be merged, and the first behind them, unless the run that
-/// begins with it is taken.
+/// Returns the start and the end of the first four segments that are due to be merged, if there are any.
+/// `taken` contains the numbers of the first pages of runs that are being merged.
 pub(crate) fn due_span(segments: &[Arc<Segment>], taken: &[usize]) -> Option<(usize, usize)>
     ensures { IfSome result (IsSpan (length segments.now)) }
 {

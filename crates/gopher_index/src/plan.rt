@@ -1,22 +1,19 @@
-//! The terms of a query, those that are equal together, so that a search counts their words once.
+//! Groups of equal terms, so that a search counts the words of each group once.
 
 ghost use Rattle.std.specs.Prelude.{◌≡◌, ◌+◌, ◌≤◌, ◌<◌, ◌++◌, ◌∷◌, [], true, max, length, IfOk, IfSome, OnOk};
-ghost use Rattle.gopher_page.specs.Query.{IsQuery, matches, score};
-ghost use Rattle.gopher_index.specs.Plan.{verdict_of, verdict_by, is_match, wanted_in, AddsTerm, AreGroups, IsGroupOf, Joins, SayAlike};
+ghost use Rattle.gopher_page.specs.Query.{IsQuery};
+ghost use Rattle.gopher_index.specs.Plan.{verdict_of, verdict_by, verdict, total, is_match, wanted_in, AddsTerm, IsGroupOf, IsPlan, Joins, SayAlike};
 
 use gopher_item::NoMemory;
 use gopher_page::{Operator, Page, Term};
 use std::alloc::Global;
-use std::marker::Model;
 
-// How many terms a search still takes one by one.
-const FEW: usize = 4;
-
-// What the term of a number says of a page, by whether the page has a word that it means.
+// Returns the verdict of a term on a page. `number` is the term's index, and `holds` says whether the
+// page contains a word that the term matches.
 //
-// Terms are joined from left to right, so that the last that doesn't leave the truth of those before it
-// as it is decides: an `and` that doesn't hold, an `or` or a `not` that does. It gives twice its number
-// and 2, and one more where the page matches; a term that decides nothing gives 0.
+// Terms are joined from left to right, so the last term that changes the result decides: an `and` that
+// doesn't hold, or an `or` or `not` that does. Its verdict is 2 * number + 2, plus 1 if the page
+// matches. The verdict of a term that changes nothing is 0. So the highest verdict decides.
 fn verdict_of(operator: Operator, number: usize, holds: bool) -> u32
     requires { number < 1024 }
     ensures { result ≡ verdict_of operator number holds }
@@ -29,7 +26,7 @@ fn verdict_of(operator: Operator, number: usize, holds: bool) -> u32
     }
 }
 
-/// The higher of two numbers.
+/// Returns the higher of two numbers.
 #[inline(always)]
 pub(crate) fn higher(a: u32, b: u32) -> u32
     ensures { result ≡ max a b }
@@ -37,36 +34,33 @@ pub(crate) fn higher(a: u32, b: u32) -> u32
     if a < b { b } else { a }
 }
 
-/// Terms that are equal: the same word, or the same prefix.
-#[derive(Clone, Copy)]
-pub(crate) struct Group<'a> {
-    /// One of them.
-    pub term: &'a Term,
-    /// How many of them `not` doesn't introduce.
+/// Equal terms: those of the same word, or of the same prefix.
+#[derive(Debug, Drop)]
+pub(crate) struct Group {
+    /// One of the terms.
+    pub term: Term,
+    /// The number of these terms without `not`.
     pub wanted: u32,
-    /// The highest of what they say of a page that has their words.
+    /// Their highest verdict on a page that contains their words.
     pub holds: u32,
-    /// The same of a page that has none of them.
+    /// Their highest verdict on a page that contains none of their words.
     pub fails: u32,
 }
 
-impl<'a> Group<'a> {
-    // The group with one term more, which has this number.
-    fn joined(self, term: &Term, number: usize) -> Group<'a>
+impl Group {
+    // Adds a term. `number` is its index in the query.
+    fn join(&mut self, term: &Term, number: usize)
         requires number { number < 1024 }
-        requires wanted { self.wanted ≤ 1024 }
-        ensures { Joins term.now number self.entry result }
+        requires wanted { self.old.wanted ≤ 1024 }
+        ensures { Joins term.now number self.old self.new }
     {
         let operator = term.operator();
-        Group {
-            term: self.term,
-            wanted: self.wanted + u32::from(!operator.is_not()),
-            holds: higher(self.holds, verdict_of(operator, number, true)),
-            fails: higher(self.fails, verdict_of(operator, number, false)),
-        }
+        self.wanted += u32::from(!operator.is_not());
+        self.holds = higher(self.holds, verdict_of(operator, number, true));
+        self.fails = higher(self.fails, verdict_of(operator, number, false));
     }
 
-    /// What the terms say of a page that has their words so often.
+    /// Returns the highest verdict of these terms on a page that contains their words `count` times.
     pub fn verdict(&self, count: u32) -> u32
         ensures { result ≡ verdict_by self.now count }
     {
@@ -85,15 +79,15 @@ fn find(groups: &[Group], term: &Term) -> Option<usize>
     ensures { IfSome result (IsGroupOf term.now groups.now) }
 {
     for (index, group) in groups.iter().enumerate() {
-        if is_same(group.term, term) {
+        if is_same(&group.term, term) {
             return Some(index);
         }
     }
     None
 }
 
-// The index of the group of a term, which is added without it where it isn't there.
-fn index_of<'a>(groups: &mut Vec<Group<'a>>, term: &'a Term) -> Result<usize, NoMemory>
+// Returns the index of the group of a term. Adds an empty group if there is none.
+fn index_of(groups: &mut Vec<Group>, term: &Term) -> Result<usize, NoMemory>
     ensures found { IfOk result (IsGroupOf term.now groups.new.items) }
     ensures same { OnOk result (SayAlike groups.old.items groups.new.items) }
 {
@@ -102,7 +96,7 @@ fn index_of<'a>(groups: &mut Vec<Group<'a>>, term: &'a Term) -> Result<usize, No
     }
     let index = groups.len();
     groups.push(Group {
-        term,
+        term: term.clone()?,
         wanted: 0,
         holds: 0,
         fails: 0,
@@ -110,20 +104,22 @@ fn index_of<'a>(groups: &mut Vec<Group<'a>>, term: &'a Term) -> Result<usize, No
     Ok(index)
 }
 
-// Adds a term, before which there are so many.
-fn add_term<'a>(groups: &mut Vec<Group<'a>>, term: &'a Term, number: usize) -> Result<(), NoMemory>
+// Adds a term to its group. `number` is its index in the query.
+fn add_term(groups: &mut Vec<Group>, term: &Term, number: usize) -> Result<(), NoMemory>
     requires number { number < 1024 }
     requires few { wanted_in groups.old.items ≤ number }
-    ensures { OnOk result (AddsTerm term.now number groups.old.items groups.new.items) }
+    ensures adds { OnOk result (AddsTerm term.now number groups.old.items groups.new.items) }
+    ensures some { OnOk result (0 < length groups.new.items) }
 {
     let index = index_of(groups, term)?;
-    groups[index] = groups[index].joined(term, number);
+    groups[index].join(term, number);
     Ok(())
 }
 
-fn groups_of<'a>(alloc: Global, terms: &'a [Term]) -> Result<Vec<Group<'a>>, NoMemory>
-    requires { length terms.now ≤ 1024 }
-    ensures { IfOk result (λ groups. AreGroups terms.now groups.items) }
+/// Returns the groups of a query's terms.
+pub(crate) fn groups_of(alloc: Global, terms: &[Term]) -> Result<Vec<Group>, NoMemory>
+    requires { IsQuery terms.now }
+    ensures { IfOk result (λ groups. IsPlan terms.now groups.items) }
 {
     let mut groups = Vec::new(alloc);
     for (number, term) in terms.iter().enumerate() {
@@ -132,70 +128,29 @@ fn groups_of<'a>(alloc: Global, terms: &'a [Term]) -> Result<Vec<Group<'a>>, NoM
     Ok(groups)
 }
 
-/// The terms of a query and, of more than a few, those that are equal together.
-#[derive(Drop)]
-pub(crate) struct Plan<'a> {
-    terms: &'a [Term],
-    groups: Vec<Group<'a>>,
+/// Returns a copy of the terms.
+pub(crate) fn copied(alloc: Global, terms: &[Term]) -> Result<Vec<Term>, NoMemory>
+    ensures { IfOk result (λ copy. copy.items ≡ terms.now) }
+{
+    let mut copy = Vec::with_capacity(alloc, terms.len())?;
+    for term in terms {
+        copy.push(term.clone()?)?;
+    }
+    Ok(copy)
 }
 
-impl<'a> Model for Plan<'a> {
-    ghost use Rattle.std.specs.Prelude.{List};
-    ghost use Rattle.gopher_page.specs.Query.{TermData};
-    ghost use Rattle.gopher_index.specs.Plan.{IsPlan};
-
-    ghost Value = { List TermData };
-
-    ghost view = { λ p. p.terms.now };
-
-    ghost invariant = { λ p. IsPlan p.terms.now p.groups.items };
-}
-
-impl<'a> Plan<'a> {
-    /// The plan of the terms of a query. Refused only where memory is (90).
-    pub fn of(alloc: Global, terms: &'a [Term]) -> Result<Plan<'a>, NoMemory>
-        requires { IsQuery terms.now }
-        ensures { IfOk result (λ plan. plan ≡ terms.now) }
-    {
-        Ok(Plan {
-            terms,
-            groups: groups_of(alloc, terms)?,
-        })
+/// Returns whether a page matches, and its score, from the groups of a query's terms.
+pub(crate) fn weigh(groups: &[Group], page: &Page) -> (bool, u64)
+    requires { wanted_in groups.now ≤ 1024 }
+    ensures truth { result.0 ≡ is_match (verdict groups.now page.now.counts) }
+    ensures score { result.1 ≡ total groups.now page.now.counts }
+{
+    let mut verdict = 1;
+    let mut total = 0;
+    for group in groups {
+        let count = group.term.count_in(page);
+        verdict = higher(verdict, group.verdict(count));
+        total += u64::from(group.wanted) * u64::from(count);
     }
-
-    /// The terms, at most 1,024; the first is joined by `And`.
-    pub fn terms(&self) -> &'a [Term]
-        ensures terms { result.now ≡ self.now }
-        ensures query { IsQuery result.now }
-    {
-        self.terms
-    }
-
-    /// Whether the terms are so few that one after another costs no more than their groups.
-    pub fn is_short(&self) -> bool {
-        self.terms.len() <= FEW
-    }
-
-    /// The groups of equal terms.
-    pub fn groups(&self) -> &[Group<'a>]
-        ensures groups { AreGroups self.now result.now }
-        ensures few { wanted_in result.now ≤ 1024 }
-    {
-        &self.groups
-    }
-
-    /// Whether a page matches, and its score. Takes no memory.
-    pub fn weigh(&self, page: &Page) -> (bool, u64)
-        ensures truth { result.0 ≡ matches self.now page.now.counts }
-        ensures score { result.1 ≡ score self.now page.now.counts }
-    {
-        let mut verdict = 1;
-        let mut total = 0;
-        for group in &self.groups {
-            let count = group.term.count_in(page);
-            verdict = higher(verdict, group.verdict(count));
-            total += u64::from(group.wanted) * u64::from(count);
-        }
-        (verdict % 2 == 1, total)
-    }
+    (verdict % 2 == 1, total)
 }

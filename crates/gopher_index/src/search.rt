@@ -1,9 +1,9 @@
-//! Searches of pages in segments.
+//! Short searches, which run to their end in one call.
 
-ghost use Rattle.std.specs.Prelude.{None, ◌≡◌, ◌≤◌, ◌++◌, ◌∷◌, [], false, List, length, map, nat_le, IfOk, OnOk};
+ghost use Rattle.std.specs.Prelude.{None, ◌≡◌, ◌≤◌, ◌++◌, ◌∷◌, [], false, List, length, map, nat_le, IfOk, OnOk, if◌then◌else◌};
 ghost use Rattle.std.specs.Arc.{arc_value};
 ghost use Rattle.std.specs.List.{list_any};
-ghost use Rattle.gopher_page.specs.Query.{TermData};
+ghost use Rattle.gopher_page.specs.Query.{TermData, IsQuery, is_not, matches, score};
 ghost use Rattle.gopher_page.specs.declared.query.Operator.TheVariants.{And};
 ghost use Rattle.gopher_index.specs.Answer.{answer_of};
 ghost use Rattle.gopher_index.specs.Best.{IsBestOf, TakesIn};
@@ -16,17 +16,16 @@ use crate::cells::Cells;
 use crate::hit::Hit;
 use crate::likely::{likely_hits, likely_score};
 use crate::one_term::take_term_in;
-use crate::plan::Plan;
 use gopher_item::NoMemory;
-use gopher_page::{Page, Query, Term};
+use gopher_page::{Page, Term};
 use gopher_segment::{Postings, Segment, pages_len};
 use std::alloc::Global;
 use std::sync::Arc;
 
-// How many pages are passed over at once where none of them can come among the best.
+// The number of pages that are skipped at once if none of them can get among the best.
 const BLOCK: usize = 64;
 
-// Whether a score reaches the lowest.
+// Returns whether a score reaches `lowest`.
 fn any_reaches(scores: &[u32], lowest: u32) -> bool
     ensures { result ≡ list_any (λ score. nat_le lowest score) scores.now }
 {
@@ -37,8 +36,7 @@ fn any_reaches(scores: &[u32], lowest: u32) -> bool
     is_reached
 }
 
-// Takes in the pages that match, by what the terms say of them: a page whose score alone leaves it out
-// isn't looked up.
+// Inserts the pages that match into the best. A page is read only if its score is high enough.
 fn take_block_in<'a>(
     pages: &'a [Arc<Page>],
     truths: &[bool],
@@ -62,8 +60,8 @@ fn take_block_in<'a>(
     Ok(())
 }
 
-// The same block by block.
-fn take_cells_in<'a>(
+/// Inserts the pages that match into the best. Skips blocks without a score that is high enough.
+pub(crate) fn take_cells_in<'a>(
     pages: &'a [Arc<Page>],
     truths: &[bool],
     scores: &[u32],
@@ -94,44 +92,47 @@ fn take_cells_in<'a>(
 
 fn take_segment_in<'a>(
     segment: &'a Segment,
-    plan: &Plan,
+    terms: &[Term],
     cells: &mut Cells,
     best: &mut Best<'a>,
 ) -> Result<(), NoMemory>
-    ensures { OnOk result (TakesIn plan.now segment.now.pages best.old best.new) }
+    requires { length terms.now ≤ 1024 }
+    ensures { OnOk result (TakesIn terms.now segment.now.pages best.old best.new) }
 {
-    cells.fill(segment, plan)?;
+    cells.fill(segment, terms)?;
     take_cells_in(segment.pages(), &cells.truths, &cells.scores, best)
 }
 
 fn take_segments_in<'a>(
     segments: &'a [Arc<Segment>],
-    plan: &Plan,
+    terms: &[Term],
     cells: &mut Cells,
     best: &mut Best<'a>,
 ) -> Result<(), NoMemory>
+    requires { length terms.now ≤ 1024 }
     ensures { OnOk result
-        (TakesIn plan.now (pages_of (map arc_value segments.now)) best.old best.new) }
+        (TakesIn terms.now (pages_of (map arc_value segments.now)) best.old best.new) }
 {
     for segment in segments {
-        take_segment_in(segment, plan, cells, best)?;
+        take_segment_in(segment, terms, cells, best)?;
     }
     Ok(())
 }
 
-// The best of the first segment: where so many of them are wanted, of those pages that reach a score
-// that probably so many reach.
+// Returns the best of the first segment. If `wanted` is given, the least score is a guess of what so
+// many pages reach.
 fn best_of_first<'a>(
     alloc: Global,
     segment: &'a Segment,
-    plan: &Plan,
+    terms: &[Term],
     cells: &mut Cells,
     wanted: Option<usize>,
 ) -> Result<Best<'a>, NoMemory>
-    ensures best { IfOk result (λ best. IsBestOf plan.now segment.now.pages best) }
+    requires { length terms.now ≤ 1024 }
+    ensures best { IfOk result (λ best. IsBestOf terms.now segment.now.pages best) }
     ensures plain { wanted ≡ None → IfOk result (λ best. best.least ≡ 0) }
 {
-    cells.fill(segment, plan)?;
+    cells.fill(segment, terms)?;
     let least = match wanted {
         Some(wanted) => cells.likely_score(wanted),
         None => 0,
@@ -141,15 +142,16 @@ fn best_of_first<'a>(
     Ok(best)
 }
 
-// The best of segments by cells.
+// Returns the best of segments through cells.
 fn best_of_terms<'a>(
     alloc: Global,
     segments: &'a [Arc<Segment>],
-    plan: &Plan,
+    terms: &[Term],
     is_guessed: bool,
 ) -> Result<Best<'a>, NoMemory>
+    requires { length terms.now ≤ 1024 }
     ensures best { IfOk result (λ best.
-        IsBestOf plan.now (pages_of (map arc_value segments.now)) best) }
+        IsBestOf terms.now (pages_of (map arc_value segments.now)) best) }
     ensures plain { is_guessed ≡ false → IfOk result (λ best. best.least ≡ 0) }
 {
     let Some((first, rest)) = segments.split_first() else {
@@ -161,12 +163,12 @@ fn best_of_terms<'a>(
     } else {
         None
     };
-    let mut best = best_of_first(alloc, first, plan, &mut cells, wanted)?;
-    take_segments_in(rest, plan, &mut cells, &mut best)?;
+    let mut best = best_of_first(alloc, first, terms, &mut cells, wanted)?;
+    take_segments_in(rest, terms, &mut cells, &mut best)?;
     Ok(best)
 }
 
-// The postings of a word in each segment.
+// Returns the posting list of a word in each segment.
 fn postings_of<'a>(
     alloc: Global,
     segments: &'a [Arc<Segment>],
@@ -181,7 +183,7 @@ fn postings_of<'a>(
     Ok(found)
 }
 
-// Takes in the pages of a segment in which a query's only term, a word, stands.
+// Inserts the pages of a segment that contain a word, the query's only term, into the best.
 fn take_word_in<'a>(
     segment: &'a Segment,
     term: &Term,
@@ -196,7 +198,7 @@ fn take_word_in<'a>(
     take_term_in(segment.pages(), term, postings, best)
 }
 
-// The same segment by segment.
+// Inserts the pages of segments that contain a word, the query's only term, into the best.
 fn take_words_in<'a>(
     segments: &'a [Arc<Segment>],
     term: &Term,
@@ -215,7 +217,7 @@ fn take_words_in<'a>(
     Ok(())
 }
 
-// The best of segments by the postings of a query's only term, a word.
+// Returns the best of segments through the posting lists of a word, the query's only term.
 fn best_of_word<'a>(
     alloc: Global,
     segments: &'a [Arc<Segment>],
@@ -235,27 +237,57 @@ fn best_of_word<'a>(
     Ok(best)
 }
 
-// The best of segments: by the postings where the only term is a word, else by cells.
+// Returns the best of segments: through posting lists if the only term is a word, and through cells
+// otherwise.
 fn best_of_segments<'a>(
     alloc: Global,
     segments: &'a [Arc<Segment>],
-    plan: &Plan,
+    terms: &[Term],
     is_guessed: bool,
 ) -> Result<Best<'a>, NoMemory>
+    requires { IsQuery terms.now }
     ensures best { IfOk result (λ best.
-        IsBestOf plan.now (pages_of (map arc_value segments.now)) best) }
+        IsBestOf terms.now (pages_of (map arc_value segments.now)) best) }
     ensures plain { is_guessed ≡ false → IfOk result (λ best. best.least ≡ 0) }
 {
-    match plan.terms() {
+    match terms {
         [term] if !term.is_prefix() => best_of_word(alloc, segments, term, is_guessed),
-        _ => best_of_terms(alloc, segments, plan, is_guessed),
+        _ => best_of_terms(alloc, segments, terms, is_guessed),
     }
 }
 
-fn take_page_in<'a>(page: &'a Page, plan: &Plan, best: &mut Best<'a>) -> Result<(), NoMemory>
-    ensures { OnOk result (TakesIn plan.now (page.now ∷ []) best.old best.new) }
+// Returns what a term with so many occurrences adds to the score.
+fn scored(term: &Term, count: u32) -> u32
+    ensures { result ≡ if is_not term.now.operator then 0 else count }
 {
-    let (truth, score) = plan.weigh(page);
+    if term.operator().is_not() { 0 } else { count }
+}
+
+// Returns whether a page matches, and its score.
+fn weigh(terms: &[Term], page: &Page) -> (bool, u64)
+    requires { length terms.now ≤ 1024 }
+    ensures truth { result.0 ≡ matches terms.now page.now.counts }
+    ensures score { result.1 ≡ score terms.now page.now.counts }
+{
+    let mut truth = true;
+    let mut total = 0;
+    for term in terms {
+        let count = term.count_in(page);
+        truth = term.operator().join(truth, count > 0);
+        total += u64::from(scored(term, count));
+    }
+    (truth, total)
+}
+
+fn take_page_in<'a>(
+    page: &'a Arc<Page>,
+    terms: &[Term],
+    best: &mut Best<'a>,
+) -> Result<(), NoMemory>
+    requires { length terms.now ≤ 1024 }
+    ensures { OnOk result (TakesIn terms.now (arc_value page.now ∷ []) best.old best.new) }
+{
+    let (truth, score) = weigh(terms, page);
     if !truth {
         return Ok(());
     }
@@ -264,50 +296,51 @@ fn take_page_in<'a>(page: &'a Page, plan: &Plan, best: &mut Best<'a>) -> Result<
 
 fn take_pages_in<'a>(
     pages: &'a [Arc<Page>],
-    plan: &Plan,
+    terms: &[Term],
     best: &mut Best<'a>,
 ) -> Result<(), NoMemory>
-    ensures { OnOk result (TakesIn plan.now (map arc_value pages.now) best.old best.new) }
+    requires { length terms.now ≤ 1024 }
+    ensures { OnOk result (TakesIn terms.now (map arc_value pages.now) best.old best.new) }
 {
     for page in pages {
-        take_page_in(page, plan, best)?;
+        take_page_in(page, terms, best)?;
     }
     Ok(())
 }
 
-// The best of all pages.
+// Returns the best of all pages.
 fn best_of_all<'a>(
     alloc: Global,
     segments: &'a [Arc<Segment>],
     loose: &'a [Arc<Page>],
-    plan: &Plan,
+    terms: &[Term],
     is_guessed: bool,
 ) -> Result<Best<'a>, NoMemory>
-    ensures best { IfOk result (λ best. IsBestOf plan.now (pages_of (map arc_value segments.now)
+    requires { IsQuery terms.now }
+    ensures best { IfOk result (λ best. IsBestOf terms.now (pages_of (map arc_value segments.now)
         ++ map arc_value loose.now) best) }
     ensures plain { is_guessed ≡ false → IfOk result (λ best. best.least ≡ 0) }
 {
-    let mut best = best_of_segments(alloc, segments, plan, is_guessed)?;
-    take_pages_in(loose, plan, &mut best)?;
+    let mut best = best_of_segments(alloc, segments, terms, is_guessed)?;
+    take_pages_in(loose, terms, &mut best)?;
     Ok(best)
 }
 
-/// The answer to a query over the pages of segments and loose pages behind them. Refused only where
-/// memory is (90).
+/// Searches the pages of segments and the loose pages after them.
 pub(crate) fn search(
     alloc: Global,
     segments: &[Arc<Segment>],
     loose: &[Arc<Page>],
-    query: &Query,
+    terms: &[Term],
 ) -> Result<Vec<Hit>, NoMemory>
+    requires { IsQuery terms.now }
     ensures { IfOk result (λ hits. hits.items
-        ≡ answer_of (pages_of (map arc_value segments.now) ++ map arc_value loose.now) query.now) }
+        ≡ answer_of (pages_of (map arc_value segments.now) ++ map arc_value loose.now) terms.now) }
 {
-    let plan = Plan::of(alloc, query.terms())?;
-    let best = best_of_all(alloc, segments, loose, &plan, true)?;
+    let best = best_of_all(alloc, segments, loose, terms, true)?;
     if best.is_whole() {
         return best.hits(alloc);
     }
-    let best = best_of_all(alloc, segments, loose, &plan, false)?;
+    let best = best_of_all(alloc, segments, loose, terms, false)?;
     best.hits(alloc)
 }

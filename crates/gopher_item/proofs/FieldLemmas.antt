@@ -3,7 +3,7 @@ use Rattle.std.proofs.Common.{◌≡◌, ℕ, ◌-◌, ◌<◌, Bool, true, fals
 use Rattle.std.specs.List.{list_any, list_all, onto_first}
 use Rattle.std.proofs.lemmas.List.Splits.{slice_split-cons_yes, slice_split-cons_no}
 use Rattle.std.proofs.lemmas.List.{take_all}
-use Rattle.gopher_item.specs.Bytes.{is_special, has_special}
+use Rattle.gopher_item.specs.Special.{is_special, has_special}
 use Rattle.gopher_item.specs.Menu.{BeginsWithField, HasFields, HasFirstField, fields_of}
 use Rattle.gopher_item.proofs.MenuLines.{joined-append}
 

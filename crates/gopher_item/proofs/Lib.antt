@@ -1,9 +1,5 @@
-pub mod Splits
-pub mod PartLemmas
 pub mod PlaceLemmas
 pub mod MenuLines
-pub mod Trims
-pub mod TrimSearches
 pub mod FieldLemmas
 pub mod MenuLemmas
 pub mod ReadBack

@@ -1,7 +1,7 @@
 -- The effect of one more line on the entries of a menu.
 use Rattle.std.proofs.Common.{◌≡◌, ℕ, ◌-◌, true, false, not, eqb, List, ◌∷◌, ◌++◌, length, take, drop, one-add, map, filter, refl, sym, ap, ◌∙◌, append_assoc, arith, length-append}
 use Rattle.std.proofs.lemmas.List.{drop_at}
-use Rattle.gopher_item.specs.Lines.{IsAround}
+use Rattle.gopher_bytes.specs.Lines.{IsAround}
 use Rattle.gopher_item.specs.MenuLine.{StandsAt}
 use Rattle.gopher_item.specs.Menu.{entry_of, entries_of, is_last_line, any_last_line, lines_before_last}
 

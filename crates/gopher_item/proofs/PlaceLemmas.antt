@@ -2,7 +2,8 @@
 use Rattle.std.proofs.Common.{◌≡◌, Bool, true, false, ◌&&◌, refl}
 use Rattle.std.proofs.lemmas.Bool.{eqb-true}
 use Rattle.std.specs.Cmp.Lexicographic.{bytes_decides}
-use Rattle.gopher_item.specs.Place.{PlaceData, same_place, same_place_equiv}
+use Rattle.gopher_item.specs.Laws.{same_place_equiv}
+use Rattle.gopher_item.specs.Place.{PlaceData, same_place}
 
 both_true : (x y : Bool) → (x && y) ≡ true → (x ≡ true) × (y ≡ true)
 both_true true y h = (refl, h)

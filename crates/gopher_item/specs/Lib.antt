@@ -1,9 +1,7 @@
-pub mod Bytes
+pub mod Special
 pub mod Fault
-pub mod Lines
-pub mod Parts
-pub mod Number
 pub mod Place
 pub mod MenuLine
+pub mod Laws
 pub mod Menu
 pub mod Request

@@ -1,17 +1,19 @@
 -- A menu, read from bytes (RFC 1436, section 2, and appendix: Menu; odd lines are this profile's).
-use Rattle.std.specs.Prelude.{◌≡◌, ℕ, Bool, false, ◌||◌, not, List, [], ◌∷◌, ◌++◌, length, map, filter, Option, None, ◌==◌, nat_eq, if◌then◌else◌}
+use Rattle.std.specs.Prelude.{◌≡◌, ℕ, Bool, false, ◌||◌, not, List, [], ◌∷◌, ◌++◌, codes, length, map, filter, Option, None, ◌==◌, nat_eq, if◌then◌else◌}
 use Rattle.std.specs.List.{before_first, list_any, slice_split}
 use Rattle.std.specs.Option.{option_map, option_map_or}
 use Rattle.std.specs.Cmp.Lexicographic.{pointwise}
-use Rattle.gopher_item.specs.Lines.{lines_of}
-use Rattle.gopher_item.specs.Number.{number_of}
-use Rattle.gopher_item.specs.MenuLine.{MenuLineData, StandsAt, joined, menu_line_of, trim_spaces}
+use Rattle.gopher_bytes.specs.Lines.{lines_of}
+use Rattle.gopher_bytes.specs.Number.{number_of}
+use Rattle.gopher_bytes.specs.Trim.{trim_spaces}
+use Rattle.gopher_item.specs.MenuLine.{MenuLineData, StandsAt, joined, menu_line_of}
+use Rattle.gopher_item.specs.declared.limits.TheConstants.{MAX_PORT}
 use Rattle.gopher_item.specs.declared.menu.Entry.{Entry}
 use Rattle.gopher_item.specs.declared.menu.Entry.TheVariants.{Item, Odd}
 
 -- a single period, which ends a menu and a text (RFC 1436, appendix: Lastline)
 abbrev pub is_last_line : List ℕ → Bool
-is_last_line line = pointwise nat_eq line (46 ∷ [])
+is_last_line line = pointwise nat_eq line (codes ".")
 
 -- the lines before the first last line
 abbrev pub lines_before_last : List (List ℕ) → List (List ℕ)
@@ -31,7 +33,7 @@ abbrev pub item_of_fields : List ℕ → List ℕ → List ℕ → List ℕ → 
 item_of_fields [] selector host port = None
 item_of_fields (kind ∷ display) selector host port =
     option_map (λ number. menu_line_of kind display selector (trim_spaces host) number)
-    (number_of 65535 (trim_spaces port))
+    (number_of MAX_PORT (trim_spaces port))
 
 -- the item is the result of reading these four fields
 abbrev pub IsItemOf : List ℕ → List ℕ → List ℕ → List ℕ → Option MenuLineData → Type 0

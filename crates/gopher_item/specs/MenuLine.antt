@@ -1,12 +1,10 @@
 -- One item of a menu (RFC 1436, section 2, and appendix: DirEntity).
-use Rattle.std.specs.Prelude.{◌≡◌, ℕ, ◌+◌, ◌^◌, ◌<◌, ◌≤◌, Bool, false, ◌||◌, ◌&&◌, not, nat_eq, List, [], ◌∷◌, ◌++◌, length, drop, reverse, slice_range, Option, None, Some, is_some, ◌==◌, if◌then◌else◌}
+use Rattle.std.specs.Prelude.{◌≡◌, ℕ, ◌+◌, ◌^◌, ◌<◌, ◌≤◌, Bool, false, ◌||◌, ◌&&◌, not, nat_eq, List, [], ◌∷◌, ◌++◌, codes, length, drop, reverse, slice_range, Option, None, Some, is_some, ◌==◌, if◌then◌else◌}
 use Rattle.std.specs.List.{flat_map}
 use Rattle.std.specs.Fmt.{decimal}
-use Rattle.std.specs.Cmp.{IsEquivalence}
-use Rattle.std.specs.Cmp.Rules.{comparing}
 use Rattle.std.specs.Cmp.Lexicographic.{pointwise}
-use Rattle.std.proofs.Common.{rules}
-use Rattle.gopher_item.specs.Bytes.{is_special, is_control, has_special}
+use Rattle.gopher_bytes.specs.Trim.{trim_spaces}
+use Rattle.gopher_item.specs.Special.{is_special, is_control, has_special}
 use Rattle.gopher_item.specs.Place.{PlaceData, is_host, is_selector, place_fault, place_of}
 use Rattle.gopher_item.specs.declared.fault.ItemFault.{ItemFault}
 use Rattle.gopher_item.specs.declared.fault.ItemFault.TheVariants.{BadSelector, BadHost, BadDisplay, BadType}
@@ -28,18 +26,8 @@ menu_line_of kind display selector host port =
 abbrev pub same_line : MenuLineData → MenuLineData → Bool
 same_line a b =
     (a.kind == b.kind) && pointwise nat_eq a.display b.display
-    && pointwise nat_eq a.selector b.selector && pointwise nat_eq a.host b.host && (a.port == b.port)
-
-pub same_line_equiv : IsEquivalence same_line
-same_line_equiv = search (comparing, rules)
-
--- the bytes without the spaces (32) at their front, and without those at both ends
-abbrev pub trim_front : List ℕ → List ℕ
-trim_front [] = []
-trim_front (byte ∷ bytes) = if byte == 32 then trim_front bytes else byte ∷ bytes
-
-abbrev pub trim_spaces : List ℕ → List ℕ
-trim_spaces bytes = reverse (trim_front (reverse (trim_front bytes)))
+    && pointwise nat_eq a.selector b.selector && pointwise nat_eq a.host b.host
+    && (a.port == b.port)
 
 -- every menu line, read or made: no field contains a special byte, and the host has no space at its
 -- ends
@@ -100,11 +88,12 @@ joined_after kind display selector host = joined (kind ∷ display) selector hos
 -- appendix: DirEntity)
 abbrev pub menu_line_bytes : MenuLineData → List ℕ
 menu_line_bytes line =
-    line.kind ∷ line.display ++ 9 ∷ line.selector ++ 9 ∷ line.host ++ 9 ∷ decimal line.port ++ 13 ∷ 10 ∷ []
+    line.kind ∷ line.display ++ 9 ∷ line.selector ++ 9 ∷ line.host ++ 9 ∷ decimal line.port
+    ++ codes "\r\n"
 
 -- the bytes of a menu: its lines, and a single period (RFC 1436, appendix: Menu)
 abbrev pub menu_bytes : List MenuLineData → List ℕ
-menu_bytes lines = flat_map menu_line_bytes lines ++ 46 ∷ 13 ∷ 10 ∷ []
+menu_bytes lines = flat_map menu_line_bytes lines ++ codes ".\r\n"
 
 -- a type of no line that is made: a control byte, a space or a period
 abbrev pub is_bad_type : ℕ → Bool

@@ -1,15 +1,14 @@
 -- A place: one file or directory of one Gopher server.
-use Rattle.std.specs.Prelude.{◌≡◌, ℕ, ◌+◌, Bool, List, [], ◌∷◌, length, map, filter, nat_eq, Option, None, Some, ◌==◌, ◌||◌, ◌&&◌, not, nat_lt, nat_le, if◌then◌else◌}
+use Rattle.std.specs.Prelude.{ℕ, Bool, List, [], ◌∷◌, length, map, filter, nat_eq, Option, None, Some, ◌==◌, ◌||◌, ◌&&◌, not, nat_lt, nat_le, if◌then◌else◌}
 use Rattle.std.specs.List.{list_any}
-use Rattle.std.specs.Ordering.{nat_cmp, on, then_cmp, eq_by_cmp}
+use Rattle.std.specs.Ordering.{nat_cmp, on, then_cmp}
 use Rattle.std.specs.declared.cmp.Ordering.{Ordering}
-use Rattle.std.specs.Cmp.{IsEquivalence, IsTotalOrder, both_tied, unsigned_ties}
-use Rattle.std.specs.Cmp.Rules.{comparing}
-use Rattle.std.proofs.Common.{rules}
-use Rattle.std.specs.Cmp.Lexicographic.{pointwise, slice_cmp, texts_ties}
-use Rattle.gopher_item.specs.Bytes.{has_special, is_control}
+use Rattle.std.specs.Cmp.Lexicographic.{pointwise, slice_cmp}
+use Rattle.gopher_bytes.specs.Case.{lower_case}
+use Rattle.gopher_item.specs.Special.{has_special, is_control}
 use Rattle.gopher_item.specs.declared.fault.ItemFault.{ItemFault}
 use Rattle.gopher_item.specs.declared.fault.ItemFault.TheVariants.{BadKind, BadSelector, BadHost, BadPort}
+use Rattle.gopher_item.specs.declared.limits.TheConstants.{MAX_HOST, MAX_SELECTOR}
 
 -- a place as data, its fields in place order
 pub record PlaceData : Type 0 where
@@ -29,18 +28,14 @@ is_place_kind kind = (kind == 48) || (kind == 49)
 
 -- a selector: at most 255 bytes, none of them special (RFC 1436, appendix: Selector)
 abbrev pub is_selector : List ℕ → Bool
-is_selector selector = nat_le (length selector) 255 && not (has_special selector)
+is_selector selector = nat_le (length selector) MAX_SELECTOR && not (has_special selector)
 
 -- a host: 1 to 255 bytes, none of them a space or a control byte (stricter than RFC 1436, appendix:
 -- Host)
 abbrev pub is_host : List ℕ → Bool
 is_host host =
-    nat_lt 0 (length host) && nat_le (length host) 255
+    nat_lt 0 (length host) && nat_le (length host) MAX_HOST
     && not (list_any (λ byte. (byte == 32) || is_control byte) host)
-
--- an ASCII letter in lower case, any other byte unchanged
-abbrev pub lower_case : ℕ → ℕ
-lower_case byte = if nat_le 65 byte && nat_le byte 90 then byte + 32 else byte
 
 -- the first fault of the parts of a server's address, if they have one
 abbrev pub address_fault : List ℕ → ℕ → Option ItemFault
@@ -74,9 +69,6 @@ abbrev pub distinct : List PlaceData → List PlaceData
 distinct [] = []
 distinct (place ∷ places) = place ∷ filter (λ other. not (same_place place other)) (distinct places)
 
-pub same_place_equiv : IsEquivalence same_place
-same_place_equiv = search (comparing, rules)
-
 -- place order: by the host's bytes, the port as a number, the selector's bytes, the type
 abbrev pub place_cmp : PlaceData → PlaceData → Ordering
 place_cmp =
@@ -85,12 +77,3 @@ place_cmp =
     (on (λ p. p.port) nat_cmp))
     (on (λ p. p.selector) (slice_cmp nat_cmp)))
     (on (λ p. p.kind) nat_cmp)
-
-pub place_cmp_total : IsTotalOrder place_cmp
-place_cmp_total = search (comparing, rules)
-
--- two places are the same exactly if their order ties
-pub same_place_ties : (a b : PlaceData) → same_place a b ≡ eq_by_cmp place_cmp a b
-same_place_ties a b =
-    let host_port = both_tied _ _ _ _ (texts_ties a.host b.host) (unsigned_ties a.port b.port) in
-    both_tied _ _ _ _ (both_tied _ _ _ _ host_port (texts_ties a.selector b.selector)) (unsigned_ties a.kind b.kind)

@@ -6,11 +6,12 @@ use Rattle.gopher_item.specs.Menu.{fields_of, first_field}
 use Rattle.gopher_item.specs.declared.fault.RequestFault.{RequestFault}
 use Rattle.gopher_item.specs.declared.fault.RequestFault.TheVariants.{BadSelector, LineTooLong, NoMemory}
 use Rattle.gopher_item.specs.declared.request.Request.{Request}
+use Rattle.gopher_item.specs.declared.limits.TheConstants.{MAX_LINE}
 
 -- the first fault of a line, if it has one
 abbrev pub request_fault : List ℕ → Option RequestFault
 request_fault line =
-    if nat_lt 1024 (length line) then Some LineTooLong else
+    if nat_lt MAX_LINE (length line) then Some LineTooLong else
     (if not (is_selector (first_field (fields_of line))) then Some BadSelector else None)
 
 -- the first field is the selector; the second, if there is one, is the search string

@@ -3,34 +3,8 @@
 ghost use Rattle.std.specs.Prelude.{◌≡◌};
 ghost use Rattle.gopher_item.specs.Fault.{item_fault_code, request_fault_code};
 
-use std::alloc::{AllocError, AllocFailed};
+use gopher_bytes::NoMemory;
 use thiserror::Error;
-
-/// Out of memory.
-#[derive(Clone, Copy, Debug, PartialEq, Eq, Error)]
-#[error("no memory")]
-pub struct NoMemory;
-
-impl NoMemory {
-    /// The number of the fault, 90.
-    pub fn code(self) -> u8
-        ensures { result ≡ 90 }
-    {
-        90
-    }
-}
-
-impl From<AllocError> for NoMemory {
-    fn from(_refused: AllocError) -> NoMemory {
-        NoMemory
-    }
-}
-
-impl<T: Drop> From<AllocFailed<T>> for NoMemory {
-    fn from(_refused: AllocFailed<T>) -> NoMemory {
-        NoMemory
-    }
-}
 
 /// Why parts don't make an item.
 #[derive(Clone, Copy, Debug, PartialEq, Eq, Error)]

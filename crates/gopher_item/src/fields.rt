@@ -2,20 +2,23 @@
 
 ghost use Rattle.std.specs.Prelude.{◌≡◌, ◌==◌, ◌||◌, map};
 ghost use Rattle.std.specs.List.{list_any};
-ghost use Rattle.gopher_item.specs.Bytes.{is_control};
+ghost use Rattle.gopher_item.specs.Special.{is_control};
 ghost use Rattle.gopher_item.specs.Fault.{Makes};
-ghost use Rattle.gopher_item.specs.Place.{address_fault, is_host, is_selector, lower_case};
+ghost use Rattle.gopher_bytes.specs.Case.{lower_case};
+ghost use Rattle.gopher_item.specs.Place.{address_fault, is_host, is_selector};
 
-use crate::bytes::{ByteString, has_special, is_control};
 use crate::fault::ItemFault;
+use crate::limits::{MAX_HOST, MAX_SELECTOR};
+use crate::special::{has_special, is_control};
+use gopher_bytes::ByteString;
 use std::alloc::Global;
 
-/// Returns whether the bytes are a valid selector: at most 255 bytes without TAB, CR, LF and NUL
-/// (RFC 1436, appendix: Selector).
+/// Returns whether the bytes are a valid selector: at most 255 bytes (`MAX_SELECTOR`) without TAB,
+/// CR, LF and NUL (RFC 1436, appendix: Selector).
 pub fn is_selector(selector: &[u8]) -> bool
     ensures { result ≡ is_selector selector.now }
 {
-    selector.len() <= 255 && !has_special(selector)
+    selector.len() <= MAX_SELECTOR && !has_special(selector)
 }
 
 fn has_space_or_control(bytes: &[u8]) -> bool
@@ -24,12 +27,13 @@ fn has_space_or_control(bytes: &[u8]) -> bool
     bytes.iter().any(|byte| *byte == b' ' || is_control(*byte))
 }
 
-/// Returns whether the bytes are a valid host: 1 to 255 bytes without spaces and control bytes.
+/// Returns whether the bytes are a valid host: 1 to 255 bytes (`MAX_HOST`) without spaces and
+/// control bytes.
 /// This profile is stricter than RFC 1436, appendix: Host.
 pub fn is_host(host: &[u8]) -> bool
     ensures { result ≡ is_host host.now }
 {
-    !host.is_empty() && host.len() <= 255 && !has_space_or_control(host)
+    !host.is_empty() && host.len() <= MAX_HOST && !has_space_or_control(host)
 }
 
 /// Returns the first fault of a server's address: `BadHost` (3) or `BadPort` (4).

@@ -4,9 +4,9 @@ ghost use Rattle.std.specs.Prelude.{◌≡◌, IfOk};
 ghost use Rattle.gopher_item.specs.Fault.{Makes};
 ghost use Rattle.gopher_item.specs.Place.{HomeData, address_fault};
 
-use crate::bytes::ByteString;
 use crate::fault::ItemFault;
 use crate::fields::address_fault;
+use gopher_bytes::ByteString;
 use std::alloc::Global;
 use std::marker::Model;
 

@@ -2,15 +2,15 @@
 
 ghost use Rattle.std.specs.Prelude.{◌≡◌, false, true, [], ◌∷◌, None, IfOk, MatchOption};
 ghost use Rattle.std.specs.Arc.{arc_value};
-ghost use Rattle.gopher_item.specs.Bytes.{has_special};
-ghost use Rattle.gopher_item.specs.Lines.{has_feed};
+ghost use Rattle.gopher_item.specs.Special.{has_special};
+ghost use Rattle.gopher_bytes.specs.Lines.{has_feed};
 ghost use Rattle.gopher_item.specs.Menu.{BeginsWithField, HasFields, HasFirstField, IsItemOf, IsLastField, entry_of, fields_of, has_return_or_nul, item_of};
 ghost use Rattle.gopher_item.specs.MenuLine.{StandsAt, joined};
 
-use crate::bytes::{ByteString, read_number, split_once, trim_spaces};
-use crate::fault::NoMemory;
+use crate::limits::MAX_PORT;
 use crate::menu::Entry;
 use crate::menu_line::MenuLine;
+use gopher_bytes::{ByteString, NoMemory, read_number, split_once, trim_spaces};
 use memchr::{memchr2, memchr3};
 use std::alloc::Global;
 use std::sync::Arc;
@@ -104,7 +104,7 @@ fn item_of_fields(
     let [kind, display @ ..] = first else {
         return Ok(None);
     };
-    let Some(port) = read_number(65535, trim_spaces(port)) else {
+    let Some(port) = read_number(MAX_PORT, trim_spaces(port)) else {
         return Ok(None);
     };
     let trimmed = trim_spaces(host);

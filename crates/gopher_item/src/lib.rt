@@ -9,30 +9,34 @@
 //! Unless its comment says otherwise, a public call that fails with it leaves its arguments
 //! unchanged. Calls that can't fail with it allocate nothing.
 //!
-//! Library API that only tests and benchmarks here call: `write_menu`, `lines`, `EachLine` and
-//! `ByteString::into_vec`.
+//! Byte strings, lines, numbers and `NoMemory` are those of gopher_bytes.
+//!
+//! Library API that only tests and benchmarks here call: `write_menu`.
 #![tactic(auto)]
 
-mod bytes;
 mod fault;
 mod fields;
 mod home;
 mod item;
+mod limits;
 mod menu;
 mod menu_line;
 mod place;
 mod request;
+mod special;
 mod writing;
 
-pub use bytes::{
-    ByteString, ByteStrings, EachLine, first_line, has_special, is_control, is_last_line, lines,
-    read_number, split_once, trim_spaces,
-};
-pub use fault::{ItemFault, NoMemory, RequestFault};
+pub use fault::{ItemFault, RequestFault};
 pub use fields::{address_fault, is_host, is_selector, lowered_host};
+pub use gopher_bytes::{
+    ByteString, ByteStrings, EachLine, NoMemory, first_line, lines, read_number, split_once,
+    trim_spaces,
+};
 pub use home::Home;
-pub use menu::{Entry, Menu, read_menu};
+pub use limits::{MAX_HOST, MAX_LINE, MAX_PORT, MAX_SELECTOR};
+pub use menu::{Entry, Menu, is_last_line, read_menu};
 pub use menu_line::{MenuLine, is_bad_type};
 pub use place::Place;
 pub use request::{Request, read_request};
+pub use special::{has_special, is_control};
 pub use writing::{push_front, push_last_line, push_menu_line, push_server, write_menu};

@@ -3,15 +3,17 @@
 ghost use Rattle.std.specs.Prelude.{◌≡◌, ℕ, ◌==◌, ◌||◌, ◌<◌, ◌^◌, IfOk, IfNone};
 ghost use Rattle.std.specs.Arc.{arc_value};
 ghost use Rattle.std.specs.Cmp;
-ghost use Rattle.gopher_item.specs.Bytes.{is_control};
+ghost use Rattle.gopher_item.specs.Special.{is_control};
 ghost use Rattle.gopher_item.specs.Fault.{Makes};
 ghost use Rattle.gopher_item.specs.Place.{place_fault, place_of};
-ghost use Rattle.gopher_item.specs.MenuLine.{IsMenuLine, StandsAt, is_bad_type, joined_after, menu_line_fault, menu_line_of, same_line, same_line_equiv};
+ghost use Rattle.gopher_item.specs.Laws.{same_line_equiv};
+ghost use Rattle.gopher_item.specs.MenuLine.{IsMenuLine, StandsAt, is_bad_type, joined_after, menu_line_fault, menu_line_of, same_line};
 
-use crate::bytes::{ByteString, has_special, is_control};
-use crate::fault::{ItemFault, NoMemory};
+use crate::fault::ItemFault;
 use crate::fields::{is_host, is_selector};
 use crate::place::Place;
+use crate::special::{has_special, is_control};
+use gopher_bytes::{ByteString, NoMemory};
 use std::alloc::{AllocError, Global};
 use std::fmt;
 use std::marker::Model;

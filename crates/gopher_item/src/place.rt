@@ -4,11 +4,12 @@ ghost use Rattle.std.specs.Prelude.{◌≡◌, refl, IfOk};
 ghost use Rattle.std.specs.Cmp;
 ghost use Rattle.std.specs.Ordering.{as_partial_cmp};
 ghost use Rattle.gopher_item.specs.Fault.{Makes};
-ghost use Rattle.gopher_item.specs.Place.{PlaceData, place_fault, place_of, same_place, same_place_equiv, place_cmp, place_cmp_total, same_place_ties};
+ghost use Rattle.gopher_item.specs.Laws.{same_place_equiv, place_cmp_total, same_place_ties};
+ghost use Rattle.gopher_item.specs.Place.{PlaceData, place_fault, place_of, same_place, place_cmp};
 
-use crate::bytes::ByteString;
-use crate::fault::{ItemFault, NoMemory};
+use crate::fault::ItemFault;
 use crate::fields::{is_selector, lowered_host};
+use gopher_bytes::{ByteString, NoMemory};
 use std::alloc::Global;
 use std::cmp::Ordering;
 use std::marker::Model;

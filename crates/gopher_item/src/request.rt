@@ -3,10 +3,11 @@
 ghost use Rattle.std.specs.Prelude.{◌≡◌};
 ghost use Rattle.gopher_item.specs.Request.{ReadsRequest};
 
-use crate::bytes::ByteString;
 use crate::fault::RequestFault;
 use crate::fields::is_selector;
 use crate::item::field;
+use crate::limits::MAX_LINE;
+use gopher_bytes::ByteString;
 use std::alloc::{AllocError, Global};
 
 /// A request of a client (RFC 1436, sections 2 and 3.7).
@@ -38,13 +39,13 @@ impl Clone for Request {
 /// # Errors
 ///
 /// The first fault in this order:
-/// - `LineTooLong` (7): the line has over 1,024 bytes, a limit of this profile
+/// - `LineTooLong` (7): the line has over 1,024 bytes (`MAX_LINE`), a limit of this profile
 /// - `BadSelector` (2): the selector has over 255 bytes, or contains a CR, LF or NUL
 /// - `NoMemory` (90)
 pub fn read_request(alloc: Global, line: &[u8]) -> Result<Request, RequestFault>
     ensures { ReadsRequest line.now result }
 {
-    if line.len() > 1024 {
+    if line.len() > MAX_LINE {
         return Err(RequestFault::LineTooLong);
     }
     let (selector, rest) = field(line);

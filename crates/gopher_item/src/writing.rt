@@ -1,14 +1,14 @@
 //! Writing menus.
 
-ghost use Rattle.std.specs.Prelude.{◌≡◌, ◌++◌, [], ◌∷◌, true, map, All, OnOk, OnErr};
+ghost use Rattle.std.specs.Prelude.{◌≡◌, ◌++◌, [], ◌∷◌, true, codes, map, All, OnOk, OnErr};
 ghost use Rattle.std.specs.Fmt.{decimal};
 ghost use Rattle.std.specs.Io.{StartsWith};
 ghost use Rattle.gopher_item.specs.MenuLine.{IsMenuLine, menu_line_bytes, menu_bytes, menu_line_of};
 ghost use Rattle.gopher_item.specs.Menu.{ReadsMenu};
 ghost use Rattle.gopher_item.specs.declared.menu.Entry.TheVariants.{Item};
 
-use crate::fault::NoMemory;
 use crate::menu_line::MenuLine;
+use gopher_bytes::NoMemory;
 use itoa::Buffer;
 use std::alloc::AllocError;
 
@@ -31,7 +31,7 @@ pub fn push_front(kind: u8, display: &[u8], out: &mut Vec<u8>) -> Result<(), All
 /// If out of memory, `out` can end with a prefix of these bytes.
 pub fn push_server(host: &[u8], port: u16, out: &mut Vec<u8>) -> Result<(), AllocError>
     ensures written { OnOk result (out.new.items ≡ out.old.items
-        ++ (9 ∷ host.now ++ 9 ∷ decimal port ++ 13 ∷ 10 ∷ [])) }
+        ++ (9 ∷ host.now ++ 9 ∷ decimal port ++ codes "\r\n")) }
     ensures kept { StartsWith out.new.items out.old.items }
 {
     let mut digits = Buffer::new();
@@ -65,7 +65,7 @@ pub fn push_menu_line(
 
 /// Appends the line that ends a menu: a single period and CR LF (RFC 1436, appendix: Lastline).
 pub fn push_last_line(out: &mut Vec<u8>) -> Result<(), AllocError>
-    ensures written { OnOk result (out.new.items ≡ out.old.items ++ 46 ∷ 13 ∷ 10 ∷ []) }
+    ensures written { OnOk result (out.new.items ≡ out.old.items ++ codes ".\r\n") }
     ensures refused { OnErr result (out.new.items ≡ out.old.items) }
 {
     out.extend_from_slice(b".\r\n")

@@ -31,7 +31,7 @@ with_request batch request = if is_full batch then with_dropped batch else with_
 abbrev pub dropped_line : ℕ → List ℕ
 dropped_line dropped = codes "# dropped " ++ decimal dropped ++ codes "\n"
 
--- the lines, and behind them that of the dropped requests, if any were dropped
+-- the lines, and after them that of the dropped requests, if any were dropped
 abbrev pub all_told : BatchData → List ℕ
 all_told batch = if batch.dropped == 0 then batch.written else batch.written ++ dropped_line batch.dropped
 

@@ -9,7 +9,7 @@ is_plain byte = nat_le 32 byte && nat_le byte 126 && not (byte == 92)
 abbrev pub hex_digit : ℕ → ℕ
 hex_digit number = if nat_lt number 10 then 48 + number else 87 + number
 
--- a plain byte stands for itself; any other is a backslash, x, and its two hexadecimal digits
+-- a plain byte is written as it is; any other is a backslash, x, and its two hexadecimal digits
 abbrev pub escaped_byte : ℕ → List ℕ
 escaped_byte byte = if is_plain byte then byte ∷ [] else 92 ∷ 120 ∷ hex_digit (byte / 16) ∷ hex_digit (byte % 16) ∷ []
 

@@ -1,4 +1,4 @@
--- The line of a request: six fields, which stand between TABs.
+-- The line of a request: six fields, separated by TABs.
 use Rattle.std.specs.Prelude.{ℕ, List, ◌++◌, codes, drop}
 use Rattle.std.specs.Fmt.{decimal}
 use Rattle.gopher_item.specs.Menu.{fields_of, first_field}
@@ -17,11 +17,11 @@ pub record RequestData : Type 0 where
 abbrev pub request_with : Moment → List ℕ → List ℕ → ℕ → ℕ → RequestData
 request_with ended peer asked sent micros = record { ended = ended; peer = peer; asked = asked; sent = sent; micros = micros }
 
--- what stands before the first TAB of a line
+-- the part of a line before its first TAB
 abbrev pub selector_of : List ℕ → List ℕ
 selector_of asked = first_field (fields_of asked)
 
--- what stands between the first TAB of a line and the second; nothing where it has none
+-- the part of a line between its first TAB and the second; nothing if it has no TAB
 abbrev pub search_of : List ℕ → List ℕ
 search_of asked = first_field (drop 1 (fields_of asked))
 

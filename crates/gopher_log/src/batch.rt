@@ -1,4 +1,4 @@
-//! Lines gathered before they are written.
+//! Batches of lines.
 
 ghost use Rattle.std.specs.Prelude.{◌≡◌, OnOk, OnErr};
 ghost use Rattle.gopher_log.specs.Batch.{is_full, is_empty, with_line, with_dropped, with_request, with_told, no_lines};
@@ -10,11 +10,11 @@ use std::alloc::Global;
 use std::marker::Model;
 use std::mem::replace;
 
-// A batch of more bytes takes no further line.
-const MOST_BYTES: usize = 65_536;
+// A batch of this many bytes takes no further line.
+const MAX_BYTES: usize = 65_536;
 
-/// Lines of requests, and the number of requests that were dropped since the last of them. It takes
-/// memory as it grows, for 65,536 bytes and one line more at most.
+/// Lines of requests, and the number of requests that were dropped since the last of them. Its lines
+/// have at most 65,536 bytes (`MAX_BYTES`) and one line more.
 #[derive(Drop)]
 pub struct Batch {
     written: Vec<u8>,
@@ -31,7 +31,7 @@ impl Model for Batch {
 }
 
 impl Batch {
-    /// A batch without lines. Takes no memory.
+    /// Makes a batch without lines. Takes no memory.
     pub fn new(alloc: Global) -> Batch
         ensures { result ≡ no_lines }
     {
@@ -42,23 +42,25 @@ impl Batch {
         }
     }
 
-    /// Whether it takes no line more: it has 65,536 bytes or more. Takes no memory.
+    /// Returns whether it takes no further line, because it has 65,536 bytes or more. Takes no memory.
     pub fn is_full(&self) -> bool
         ensures { result ≡ is_full self.now }
     {
-        self.written.len() >= MOST_BYTES
+        self.written.len() >= MAX_BYTES
     }
 
-    /// Whether there is nothing in it: no line, and no dropped request. Takes no memory.
+    /// Returns whether it has no line and no dropped request. Takes no memory.
     pub fn is_empty(&self) -> bool
         ensures { result ≡ is_empty self.now }
     {
         self.written.is_empty() && self.dropped == 0
     }
 
-    /// Appends the line of a request; a batch that is full counts the request as dropped.
+    /// Appends the line of a request. A full batch counts the request as dropped instead.
     ///
-    /// Refused only where memory is (90); the request is counted as dropped.
+    /// # Errors
+    ///
+    /// `NoMemory` (90): the request is counted as dropped.
     pub fn add(&mut self, request: &RequestLine<'_>) -> Result<(), NoMemory>
         ensures added { OnOk result (self.new ≡ with_request self.old request.now) }
         ensures refused { OnErr result (self.new ≡ with_dropped self.old) }
@@ -92,9 +94,11 @@ impl Batch {
         self.dropped = self.dropped.saturating_add(1);
     }
 
-    /// Appends a line that tells how many requests were dropped, if any were; it counts from none again.
+    /// Appends a line with the number of dropped requests, if there are any, and sets the number to 0.
     ///
-    /// Refused only where memory is (90); the batch is as it was.
+    /// # Errors
+    ///
+    /// `NoMemory` (90).
     pub fn tell_dropped(&mut self) -> Result<(), NoMemory>
         ensures told { OnOk result (self.new ≡ with_told self.old) }
         ensures refused { OnErr result (self.new ≡ self.old) }
@@ -113,14 +117,14 @@ impl Batch {
         Ok(())
     }
 
-    /// Its lines. Takes no memory.
+    /// Returns its lines. Takes no memory.
     pub fn lines(&self) -> &[u8]
         ensures { result.now ≡ self.now.written }
     {
         &self.written
     }
 
-    /// Hands out all that it has; nothing is left in it. Takes no memory.
+    /// Returns all that it has, and leaves it empty. Takes no memory.
     pub fn take(&mut self, alloc: Global) -> Batch
         ensures taken { result ≡ self.old }
         ensures emptied { self.new ≡ no_lines }

@@ -1,4 +1,4 @@
-//! Bytes that a client sent, as the log writes them.
+//! Escaping the bytes that a client sent.
 
 ghost use Rattle.std.specs.Prelude.{◌≡◌, ◌++◌, ◌<◌, OnOk};
 ghost use Rattle.std.specs.List.{list_all};
@@ -6,14 +6,14 @@ ghost use Rattle.gopher_log.specs.Escaped.{is_plain, hex_digit, escaped_byte, es
 
 use std::alloc::AllocError;
 
-// Whether a byte stands for itself in the log.
+// Whether a byte is written as it is.
 fn is_plain(byte: u8) -> bool
     ensures { result ≡ is_plain byte }
 {
     byte >= 32 && byte <= 126 && byte != b'\\'
 }
 
-// Whether each of the bytes stands for itself.
+// Whether each of the bytes is written as it is.
 fn are_plain(bytes: &[u8]) -> bool
     ensures { result ≡ list_all is_plain bytes.now }
 {
@@ -32,7 +32,7 @@ fn hex_digit(number: u8) -> u8
     }
 }
 
-// Appends a byte.
+// Appends a byte, escaped if it isn't plain.
 fn push_byte(out: &mut Vec<u8>, byte: u8) -> Result<(), AllocError>
     ensures { OnOk result (out.new.items ≡ out.old.items ++ escaped_byte byte) }
 {
@@ -43,7 +43,7 @@ fn push_byte(out: &mut Vec<u8>, byte: u8) -> Result<(), AllocError>
     out.extend_from_slice(&[b'\\', b'x', hex_digit(byte / 16), hex_digit(byte % 16)])
 }
 
-// Appends bytes one by one.
+// Appends bytes one by one, each escaped if it isn't plain.
 fn push_each(out: &mut Vec<u8>, bytes: &[u8]) -> Result<(), AllocError>
     ensures { OnOk result (out.new.items ≡ out.old.items ++ escaped bytes.now) }
 {
@@ -53,8 +53,12 @@ fn push_each(out: &mut Vec<u8>, bytes: &[u8]) -> Result<(), AllocError>
     Ok(())
 }
 
-/// Appends bytes as the log writes them: those from 32 to 126 but for the backslash as they are, any
-/// other as a backslash, `x` and its two hexadecimal digits.
+/// Appends bytes, escaped: those from 32 to 126 except the backslash as they are, any other as a
+/// backslash, `x` and its two hexadecimal digits.
+///
+/// # Errors
+///
+/// Out of memory: a prefix was appended.
 #[tactic(auto, using(crate::proofs::Escapes::escaped_plain))]
 pub fn push_escaped(out: &mut Vec<u8>, bytes: &[u8]) -> Result<(), AllocError>
     ensures { OnOk result (out.new.items ≡ out.old.items ++ escaped bytes.now) }

@@ -1,10 +1,13 @@
 //! The log of a server: a line for each request, and lines gathered before they are written.
 //!
-//! No socket, no clock and no file appears here: what a line tells is given as values, and what is to be
-//! written is handed out as bytes.
+//! It uses no socket, clock or file: callers pass what a line says as values, and get the lines as bytes.
 //!
-//! The program rests on one promise: what is handed out is whole lines, each of them of one request, as
-//! it was given, or of the number of requests that were dropped for want of room.
+//! The crate above uses these contracts: `Batch::add`, `tell_dropped` and `take` change a batch as
+//! `with_request`, `with_told` and `no_lines` define (`specs/Batch.antt`). So the lines of a batch are
+//! whole, each is of one request as it was passed, or of the number of dropped requests.
+//!
+//! Error 90 (`NoMemory`) means out of memory, and leaves a batch unchanged unless a call says otherwise.
+//! RFC 1436 doesn't define a log: this profile does.
 #![tactic(auto)]
 
 mod batch;

@@ -1,4 +1,4 @@
-//! Moments, and how the log writes them.
+//! Moments of Coordinated Universal Time.
 
 ghost use Rattle.std.specs.Prelude.{◌≡◌, ◌++◌, OnOk, MatchOption};
 ghost use Rattle.gopher_log.specs.Moment.{IsMomentAt, IsPastLastDay, pair, moment_bytes, day_bytes, clock_bytes, fraction_bytes};
@@ -6,10 +6,10 @@ ghost use Rattle.gopher_log.specs.Moment.{IsMomentAt, IsPastLastDay, pair, momen
 use jiff_core::civil::Date;
 use std::alloc::AllocError;
 
-// How many microseconds a day has.
+// The microseconds of a day.
 const DAY: u64 = 86_400_000_000;
 
-/// A microsecond of the years 1970 to 9999, of Coordinated Universal Time.
+/// A moment of Coordinated Universal Time in the years 1970 to 9999, to the microsecond.
 #[derive(Clone, Copy)]
 pub struct Moment {
     /// Its day.
@@ -21,7 +21,8 @@ pub struct Moment {
 }
 
 impl Moment {
-    /// The moment so many microseconds after the beginning of 1970. None after the year 9999.
+    /// Returns the moment `micros` microseconds after the beginning of 1970, or `None` after the year
+    /// 9999.
     pub fn at(micros: u64) -> Option<Moment>
         ensures { MatchOption result (IsPastLastDay micros) (IsMomentAt micros) }
     {
@@ -45,7 +46,7 @@ fn push_pair(out: &mut Vec<u8>, number: u32) -> Result<(), AllocError>
     out.extend_from_slice(&[tens, ones])
 }
 
-// Appends a day, as 2001-02-03.
+// Appends a day, for example 2001-02-03.
 fn push_day(out: &mut Vec<u8>, date: Date) -> Result<(), AllocError>
     ensures { OnOk result (out.new.items ≡ out.old.items ++ day_bytes date) }
 {
@@ -58,7 +59,7 @@ fn push_day(out: &mut Vec<u8>, date: Date) -> Result<(), AllocError>
     push_pair(out, u32::from(date.day))
 }
 
-// Appends a second of a day, as 04:05:06.
+// Appends a second of a day, for example 04:05:06.
 fn push_clock(out: &mut Vec<u8>, second: u32) -> Result<(), AllocError>
     ensures { OnOk result (out.new.items ≡ out.old.items ++ clock_bytes second) }
 {
@@ -69,7 +70,7 @@ fn push_clock(out: &mut Vec<u8>, second: u32) -> Result<(), AllocError>
     push_pair(out, second % 60)
 }
 
-// Appends a microsecond of a second, as 000789.
+// Appends a microsecond of a second, for example 000789.
 fn push_fraction(out: &mut Vec<u8>, micro: u32) -> Result<(), AllocError>
     ensures { OnOk result (out.new.items ≡ out.old.items ++ fraction_bytes micro) }
 {
@@ -78,7 +79,11 @@ fn push_fraction(out: &mut Vec<u8>, micro: u32) -> Result<(), AllocError>
     push_pair(out, micro)
 }
 
-/// Appends a moment, as `2001-02-03T04:05:06.000789Z` (RFC 3339, section 5.6).
+/// Appends a moment, for example `2001-02-03T04:05:06.000789Z` (RFC 3339, section 5.6).
+///
+/// # Errors
+///
+/// Out of memory: a prefix was appended.
 pub fn push_moment(out: &mut Vec<u8>, moment: Moment) -> Result<(), AllocError>
     ensures { OnOk result (out.new.items ≡ out.old.items ++ moment_bytes moment) }
 {

@@ -11,18 +11,18 @@ use itoa::Buffer;
 use std::alloc::AllocError;
 use std::marker::Model;
 
-/// What a line of the log tells of a request.
+/// What a line of the log says of a request.
 #[derive(Drop)]
 pub struct RequestLine<'a> {
-    /// When it came to its end.
+    /// When it ended.
     pub ended: Moment,
-    /// Who asked.
+    /// The IP address of the client.
     pub peer: &'a [u8],
-    /// The line that was asked, without its end.
+    /// The line that the client sent, without its end.
     pub asked: &'a [u8],
-    /// How many bytes of the reply were sent.
+    /// The number of bytes of the reply that were sent.
     pub sent: u64,
-    /// For how many microseconds it was served.
+    /// The microseconds from accepting the connection to its end.
     pub micros: u64,
 }
 
@@ -44,7 +44,7 @@ fn selector_of(asked: &[u8]) -> &[u8]
     }
 }
 
-// The search string of a line; nothing where it has none.
+// The search string of a line; empty if it has none.
 fn search_of(asked: &[u8]) -> &[u8]
     ensures { result.now ≡ search_of asked.now }
 {
@@ -71,7 +71,7 @@ fn push_number(out: &mut Vec<u8>, number: u64) -> Result<(), AllocError>
     out.extend_from_slice(digits.format(number).as_bytes())
 }
 
-// Appends two numbers, each behind a TAB.
+// Appends two numbers, each after a TAB.
 fn push_numbers(out: &mut Vec<u8>, sent: u64, micros: u64) -> Result<(), AllocError>
     ensures { OnOk result (out.new.items ≡ out.old.items ++ numbers_bytes sent micros) }
 {
@@ -81,7 +81,11 @@ fn push_numbers(out: &mut Vec<u8>, sent: u64, micros: u64) -> Result<(), AllocEr
     push_number(out, micros)
 }
 
-/// Appends the line of a request; a beginning of it where memory is refused.
+/// Appends the line of a request.
+///
+/// # Errors
+///
+/// Out of memory: a prefix of the line was appended.
 pub fn push_request(out: &mut Vec<u8>, request: &RequestLine<'_>) -> Result<(), AllocError>
     ensures { OnOk result (out.new.items ≡ out.old.items ++ request_bytes request.now) }
 {

@@ -1,12 +1,19 @@
 //! The log of a server, as its threads fill it and a thread of its own writes it.
 //!
-//! A server thread gathers lines and hands them on in batches. It never waits for the file: if too many
-//! batches wait, it keeps its lines, and counts those for which it has no room. The thread that writes
-//! sleeps while there is nothing to write. What a line says is `gopher_log`'s.
+//! A server thread gathers lines and hands them on in batches. It never waits for the file: if 64 batches
+//! wait, it keeps its lines, and counts those for which it has no room. The thread that writes sleeps
+//! while there is nothing to write. `gopher_log` defines what a line says.
+//!
+//! The program rests on one promise: each write takes the first of the bytes that remain, no byte is
+//! written twice or left out, and a batch that the queue or the file refuses stays whole. Contracts know
+//! nothing of files, clocks and channels, so what the thread itself does is tested.
 #![tactic(auto)]
 
+mod pending;
 mod queue;
+mod rests;
 mod thread_log;
+mod timing;
 mod writer;
 
 pub use queue::LogQueue;

@@ -1,5 +1,7 @@
 //! The batches of lines that wait to be written.
 
+ghost use Rattle.std.specs.Prelude.{◌≡◌, IfErr};
+
 use crossbeam_channel::{Receiver, Sender, bounded};
 use gopher_item::NoMemory;
 use gopher_log::Batch;
@@ -7,10 +9,10 @@ use std::alloc::Global;
 use std::sync::Wait;
 use std::sync::atomic::{AtomicBool, Ordering};
 
-// How many batches wait to be written at most.
+// How many batches wait at most.
 const MAX_BATCHES: usize = 64;
 
-/// What server threads hand batches to.
+/// The queue that leads from the server threads to the thread that writes.
 #[derive(Drop)]
 pub struct LogQueue {
     sender: Sender<Batch, Global>,
@@ -18,7 +20,11 @@ pub struct LogQueue {
 }
 
 impl LogQueue {
-    /// A queue without batches, and what takes them out.
+    /// Makes an empty queue, and the receiver that takes batches out of it.
+    ///
+    /// # Errors
+    ///
+    /// `NoMemory` (90).
     pub(crate) fn new(alloc: Global) -> Result<(LogQueue, Receiver<Batch, Global>), NoMemory> {
         let (sender, receiver) = bounded(alloc, MAX_BATCHES)?;
         let queue = LogQueue {
@@ -28,25 +34,27 @@ impl LogQueue {
         Ok((queue, receiver))
     }
 
-    /// Hands on a batch.
+    /// Hands on a batch, without waiting for room.
     ///
     /// # Errors
     ///
-    /// The batch, if too many wait.
-    pub(crate) fn offer(&self, rt: &impl Wait, batch: Batch) -> Result<(), Batch> {
+    /// The batch, if 64 wait or memory runs out.
+    pub(crate) fn offer(&self, rt: &impl Wait, batch: Batch) -> Result<(), Batch>
+        ensures { IfErr result (λ refused. refused ≡ batch) }
+    {
         match self.sender.try_send(rt, batch) {
             Ok(()) => Ok(()),
             Err(refused) => Err(refused.into_inner()),
         }
     }
 
-    /// Says that no more batches come. The empty one wakes the thread that writes.
+    /// Notes that no more batches come. An empty one wakes the thread that writes.
     pub(crate) fn close(&self, rt: &impl Wait, alloc: Global) {
         self.is_closed.store(true, Ordering::SeqCst);
         let _gone = self.sender.send(rt, Batch::new(alloc));
     }
 
-    /// Whether no more batches come.
+    /// Returns whether no more batches come.
     pub(crate) fn is_closed(&self) -> bool {
         self.is_closed.load(Ordering::SeqCst)
     }

@@ -1,6 +1,12 @@
 //! A server thread's part of the log.
 
+ghost use Rattle.std.specs.Prelude.{◌≡◌, not};
+ghost use Rattle.std.specs.Option.{is_some};
+ghost use Rattle.gopher_log.specs.Batch.{is_empty, no_lines};
+ghost use Rattle.gopher_log_writer.specs.Batches.{AddsLine, AddsTo, IsHandedOn};
+
 use crate::queue::LogQueue;
+use crate::timing::{is_due, kept_until, max_kept, micros_of, moment_at};
 use gopher_log::{Batch, Moment, RequestLine};
 use std::alloc::Global;
 use std::net::IpAddr;
@@ -13,9 +19,6 @@ const MAX_TRIES: u32 = 20;
 
 const REST: u64 = 50;
 
-// For how many milliseconds a server thread keeps a line to itself at most.
-const MAX_KEPT: u64 = 250;
-
 /// How a connection was accepted.
 #[derive(Clone, Copy)]
 pub struct Accepted {
@@ -23,22 +26,14 @@ pub struct Accepted {
     began: Instant,
 }
 
-// The present moment. None where the clock can't be read, or is set before 1970 or after 9999.
+// Returns the present moment, or `None` if the clock can't be read, or is set before 1970 or after 9999.
 fn moment_now(clock: &impl Clock) -> Option<Moment> {
     let now = SystemTime::now(clock).ok()?;
-    let since = now.duration_since(UNIX_EPOCH).ok()?;
-    let micros = since.as_secs().checked_mul(1_000_000)?;
-    Moment::at(micros.checked_add(u64::from(since.subsec_micros()))?)
+    moment_at(now.duration_since(UNIX_EPOCH).ok()?)
 }
 
-// How many microseconds a time has.
-fn micros_of(time: Duration) -> u64 {
-    let micros = time.as_secs().saturating_mul(1_000_000);
-    micros.saturating_add(u64::from(time.subsec_micros()))
-}
-
-/// A server thread's part of the log. It never waits for the thread that writes: if too many batches
-/// wait already, it keeps its lines, and counts those for which it has no room.
+/// A server thread's part of the log. It never waits for the thread that writes: if the queue is full,
+/// it keeps its lines, and counts the requests for which it has no room.
 #[derive(Drop)]
 pub struct ThreadLog {
     batch: Batch,
@@ -47,9 +42,11 @@ pub struct ThreadLog {
 }
 
 impl ThreadLog {
-    /// A part without lines, whose batches go to a queue. Without a queue, nothing is logged. Takes no
-    /// memory.
-    pub fn new(alloc: Global, queue: Option<Arc<LogQueue>>) -> ThreadLog {
+    /// Makes a part without lines, whose batches go to `queue`. Without a queue, nothing is logged.
+    /// Takes no memory.
+    pub fn new(alloc: Global, queue: Option<Arc<LogQueue>>) -> ThreadLog
+        ensures { result.batch ≡ no_lines }
+    {
         ThreadLog {
             batch: Batch::new(alloc),
             queue,
@@ -57,8 +54,8 @@ impl ThreadLog {
         }
     }
 
-    /// Notes that a connection from an address is accepted now. None if nothing is logged, or the clock
-    /// can't be read.
+    /// Notes that a connection from an address is accepted now. Returns `None` if nothing is logged, or
+    /// the clock can't be read.
     pub fn accept(&self, clock: &impl Clock, peer: IpAddr) -> Option<Accepted> {
         if self.queue.is_none() {
             return None;
@@ -67,8 +64,8 @@ impl ThreadLog {
         Some(Accepted { peer, began })
     }
 
-    /// Adds the line of a request that came to its end now: how its connection was accepted, what was
-    /// asked, and how many bytes were sent. A request is left out if a clock can't be read.
+    /// Adds the line of a request that ends now: how its connection was accepted, the line that was
+    /// asked, and how many bytes were sent. Does nothing if a clock can't be read.
     pub fn add<R: Wait + Clock>(
         &mut self,
         rt: &R,
@@ -76,7 +73,9 @@ impl ThreadLog {
         accepted: Accepted,
         asked: &[u8],
         sent: u64,
-    ) {
+    )
+        ensures { AddsLine asked.now sent self.old.batch self.new.batch }
+    {
         let (Ok(now), Some(ended)) = (Instant::now(rt), moment_now(rt)) else {
             return;
         };
@@ -84,42 +83,63 @@ impl ThreadLog {
         let Ok(peer) = format!(in alloc; "{address}") else {
             return;
         };
-        if self.batch.is_full() {
-            self.hand_on(rt, alloc);
-        }
-        let _refused = self.batch.add(&RequestLine {
+        self.make_room(rt, alloc);
+        let request = RequestLine {
             ended,
             peer: peer.as_bytes(),
             asked,
             sent,
             micros: micros_of(now.duration_since(accepted.began)),
-        });
-        if self.due.is_none() {
-            self.due = now.checked_add(Duration::from_millis(MAX_KEPT));
-        }
-    }
-
-    /// How long the thread may wait before it hands on what it has; none if it has nothing.
-    pub fn poll_timeout(&self) -> Option<Duration> {
-        if self.batch.is_empty() {
-            None
-        } else {
-            Some(Duration::from_millis(MAX_KEPT))
-        }
-    }
-
-    /// Hands on its lines, if the first of them has been kept for its time.
-    pub fn hand_on_due<R: Wait + Clock>(&mut self, rt: &R, alloc: Global) {
-        let (Some(due), Ok(now)) = (self.due, Instant::now(rt)) else {
-            return;
         };
-        if due <= now {
+        self.add_request(&request);
+        if self.due.is_none() {
+            self.due = kept_until(now);
+        }
+    }
+
+    // Hands on its lines if there is no room for another.
+    fn make_room<R: Wait + Clock>(&mut self, rt: &R, alloc: Global)
+        ensures { IsHandedOn self.old.batch self.new.batch }
+    {
+        if self.batch.is_full() {
             self.hand_on(rt, alloc);
         }
     }
 
-    /// Hands on its lines, if they find room.
-    pub fn hand_on<R: Wait + Clock>(&mut self, rt: &R, alloc: Global) {
+    // Adds the line of a request, or counts the request as dropped.
+    fn add_request(&mut self, request: &RequestLine<'_>)
+        ensures { AddsTo request.now self.old.batch self.new.batch }
+    {
+        let _refused = self.batch.add(request);
+    }
+
+    /// Returns how long the thread may wait before it hands on its lines, or `None` if it has none.
+    pub fn poll_timeout(&self) -> Option<Duration>
+        ensures { is_some result ≡ not (is_empty self.now.batch) }
+    {
+        if self.batch.is_empty() {
+            None
+        } else {
+            Some(max_kept())
+        }
+    }
+
+    /// Hands on its lines, if the first of them was kept for 250 ms.
+    pub fn hand_on_due<R: Wait + Clock>(&mut self, rt: &R, alloc: Global)
+        ensures { IsHandedOn self.old.batch self.new.batch }
+    {
+        let Ok(now) = Instant::now(rt) else {
+            return;
+        };
+        if is_due(self.due, now) {
+            self.hand_on(rt, alloc);
+        }
+    }
+
+    /// Hands on its lines, if the queue has room.
+    pub fn hand_on<R: Wait + Clock>(&mut self, rt: &R, alloc: Global)
+        ensures { IsHandedOn self.old.batch self.new.batch }
+    {
         self.due = None;
         let Some(queue) = &self.queue else {
             return;
@@ -134,8 +154,11 @@ impl ThreadLog {
         }
     }
 
-    /// Hands on its lines when the thread ends. It waits for room, a second at most.
-    pub fn end<R: Wait + Clock>(&mut self, rt: &R, alloc: Global) {
+    /// Hands on its lines when the thread ends. It waits for room, for a second at most.
+    #[tactic(auto, using(crate::proofs::Handing::handed_again))]
+    pub fn end<R: Wait + Clock>(&mut self, rt: &R, alloc: Global)
+        ensures { IsHandedOn self.old.batch self.new.batch }
+    {
         for _try in 0..MAX_TRIES {
             self.hand_on(rt, alloc);
             if self.batch.is_empty() {
@@ -145,10 +168,12 @@ impl ThreadLog {
         }
     }
 
-    // Keeps its lines for a time more.
-    fn keep_on(&mut self, clock: &impl Clock) {
+    // Keeps its lines for 250 ms more.
+    fn keep_on(&mut self, clock: &impl Clock)
+        ensures { self.new.batch ≡ self.old.batch }
+    {
         if let Ok(now) = Instant::now(clock) {
-            self.due = now.checked_add(Duration::from_millis(MAX_KEPT));
+            self.due = kept_until(now);
         }
     }
 }

@@ -1,23 +1,21 @@
 //! The thread that writes the log.
 
+ghost use Rattle.std.specs.Prelude.{◌≡◌, true, false};
+ghost use Rattle.gopher_log.specs.Batch.{is_empty};
+
+use crate::pending::{Pending, Step, step_after};
 use crate::queue::LogQueue;
+use crate::rests::Rests;
 use crossbeam_channel::Receiver;
 use gopher_item::NoMemory;
 use gopher_log::Batch;
 use std::alloc::Global;
 use std::fs::{File, OpenOptions};
-use std::io::{self, Eprint, ErrorKind, Write};
+use std::io::{self, Eprint};
 use std::os::fd::AsRawFd;
 use std::sync::{Arc, Wait};
 use std::thread::{self, JoinHandle, Threads};
 use std::time::{Clock, Duration};
-
-// For how many milliseconds the thread rests at most if nothing can be written. It rests for one at
-// first, and then for twice as long each time.
-const MAX_REST: u64 = 100;
-
-// How often it tries in vain to write what is left, once the server has ended.
-const MAX_TRIES_AT_END: u32 = 10;
 
 /// The log of a server, while it is written.
 #[derive(Drop)]
@@ -26,31 +24,26 @@ pub struct Log {
     thread: JoinHandle<()>,
 }
 
-// How a write ended.
-#[derive(Clone, Copy, PartialEq, Eq)]
-enum Step {
-    // Something was written, or can be tried again at once.
-    Written,
-    // The file took nothing.
-    Refused,
-}
-
 // What the thread works with.
 #[derive(Drop)]
 struct LogWriter {
     path: String,
     file: Option<File>,
     alloc: Global,
-    batch: Batch,
-    written: usize,
+    pending: Pending,
     is_told: bool,
 }
 
-/// A runtime that opens logs. It is a trait of its own since what is known of a type parameter's `Files`
-/// isn't known in another thread.
+/// A runtime that opens logs. It is a trait of its own, because what is known of a type parameter's
+/// `Files` isn't known in another thread.
 pub trait OpenLog {
-    /// Opens a log. A file is appended to, and made where there is none; a pipe is opened for reading too,
-    /// so that it can be opened, and written, while nobody reads it. No call of it waits for a reader.
+    /// Opens a log for appending, and makes the file if there is none. A pipe is opened for reading too,
+    /// so that it can be opened and written while nobody reads it. Calls of the file don't wait for a
+    /// reader.
+    ///
+    /// # Errors
+    ///
+    /// The system's error.
     fn open_log(&self, path: &str) -> io::Result<File>;
 }
 
@@ -65,7 +58,7 @@ impl OpenLog for HostRuntime {
 }
 
 impl LogWriter {
-    // Tells on the error stream, once, that the log can't be written.
+    // Prints on the error stream, once, that the log can't be written.
     fn tell(&mut self, rt: &impl Eprint, error: io::Error) {
         if !self.is_told {
             self.is_told = true;
@@ -91,8 +84,11 @@ impl LogWriter {
         rt: &impl Wait,
         receiver: &Receiver<Batch, Global>,
         queue: &LogQueue,
-    ) -> bool {
-        if !self.batch.is_empty() {
+    ) -> bool
+        ensures { is_empty self.old.pending.batch ≡ false
+            → (result ≡ true) × (self.new.pending ≡ self.old.pending) }
+    {
+        if !self.pending.is_empty() {
             return true;
         }
         let next = if queue.is_closed() {
@@ -103,57 +99,45 @@ impl LogWriter {
         let Some(batch) = next else {
             return false;
         };
-        self.batch = batch;
-        self.written = 0;
+        self.pending = Pending::new(batch);
         true
     }
 
-    // Records that so many bytes more of the batch are written.
-    fn advance(&mut self, count: usize) {
-        self.written = self.written.saturating_add(count);
-        if self.written >= self.batch.lines().len() {
-            self.batch = Batch::new(self.alloc);
-            self.written = 0;
-        }
-    }
-
     // Writes what is left of the batch, as far as the file takes it.
-    fn write(&mut self, rt: &impl Eprint) -> Step {
+    fn write(&mut self, rt: &impl Eprint) -> Step
+        requires { self.old.pending.batch.dropped ≡ 0 }
+    {
         let Some(file) = &mut self.file else {
             return Step::Refused;
         };
-        let lines = self.batch.lines();
-        match file.write(&lines[self.written.min(lines.len())..]) {
+        match self.pending.write_to(self.alloc, file) {
             Ok(0) => Step::Refused,
-            Ok(count) => {
-                self.advance(count);
-                Step::Written
-            }
+            Ok(_) => Step::Written,
             Err(error) => {
-                if error.kind() == ErrorKind::Interrupted {
-                    return Step::Written;
+                let step = step_after(error.kind());
+                if step == Step::Refused {
+                    self.tell(rt, error);
                 }
-                self.tell(rt, error);
-                Step::Refused
+                step
             }
         }
     }
 
     // Writes once, if there is something to write.
     fn step<R: OpenLog + Eprint>(&mut self, rt: &R) -> Step {
-        if self.batch.is_empty() {
+        if self.pending.is_empty() {
             return Step::Written;
         }
         self.open(rt);
-        if self.batch.tell_dropped().is_err() {
+        if self.pending.tell_dropped().is_err() {
             return Step::Refused;
         }
         self.write(rt)
     }
 }
 
-// Writes the batches of a queue until no more come. What a file refuses is tried again; what it refuses
-// after the last batch came is given up after some tries.
+// Writes the batches of a queue until no more come. What the file doesn't take is tried again after a
+// rest; once no more batches come, it is given up after some tries.
 fn write_log<R: OpenLog + Wait + Clock + Eprint>(
     rt: &R,
     writer: LogWriter,
@@ -161,31 +145,25 @@ fn write_log<R: OpenLog + Wait + Clock + Eprint>(
     queue: &LogQueue,
 ) {
     let mut writer = writer;
-    let mut tries = 0u32;
-    let mut rest = 1u64;
+    let mut rests = Rests::new();
     writer.open(rt);
     for _step in rt.forever() {
         if !writer.take_next(rt, receiver, queue) {
             return;
         }
         if writer.step(rt) == Step::Written {
-            tries = 0;
-            rest = 1;
+            rests = Rests::new();
             continue;
         }
-        if queue.is_closed() && rest == MAX_REST {
-            tries = tries.saturating_add(1);
-            if tries > MAX_TRIES_AT_END {
-                return;
-            }
+        match rests.next(queue.is_closed()) {
+            Some(millis) => thread::sleep(rt, Duration::from_millis(millis)),
+            None => return,
         }
-        thread::sleep(rt, Duration::from_millis(rest));
-        rest = rest.saturating_mul(2).min(MAX_REST);
     }
     unreachable!()
 }
 
-// Starts the thread. None if the system refuses it.
+// Starts the thread. `None` if the system refuses it.
 fn spawn_writer<R: OpenLog + Threads + Wait + Clock + Eprint + Clone + Send + Drop + 'static>(
     rt: &R,
     alloc: Global,
@@ -197,8 +175,7 @@ fn spawn_writer<R: OpenLog + Threads + Wait + Clock + Eprint + Clone + Send + Dr
         path: String::from_str(alloc, path)?,
         file: None,
         alloc,
-        batch: Batch::new(alloc),
-        written: 0,
+        pending: Pending::new(Batch::new(alloc)),
         is_told: false,
     };
     let theirs = Arc::try_clone(&queue)?;
@@ -211,8 +188,8 @@ fn spawn_writer<R: OpenLog + Threads + Wait + Clock + Eprint + Clone + Send + Dr
     }
 }
 
-/// Starts the thread that writes the log at a path. If it can't be started, that is told on the error
-/// stream, and nothing is logged.
+/// Starts the thread that writes the log at `path`. If it can't be started, prints that on the error
+/// stream and returns `None`; then nothing is logged.
 pub fn start_log<R: OpenLog + Threads + Wait + Clock + Eprint + Clone + Send + Drop + 'static>(
     rt: &R,
     alloc: Global,
@@ -228,12 +205,12 @@ pub fn start_log<R: OpenLog + Threads + Wait + Clock + Eprint + Clone + Send + D
 }
 
 impl Log {
-    /// What server threads hand batches to. None if memory is refused.
+    /// Returns the queue for server threads, or `None` if memory runs out.
     pub fn queue(&self) -> Option<Arc<LogQueue>> {
         Arc::try_clone(&self.queue).ok()
     }
 
-    /// Ends the log: what waits is written, as far as the file takes it.
+    /// Ends the log: writes the batches that wait, as far as the file takes them.
     pub fn end<R: Threads + Wait>(self, rt: &R, alloc: Global) {
         self.queue.close(rt, alloc);
         self.thread.join(rt);

@@ -6,8 +6,8 @@ use Rattle.std.proofs.lemmas.List.{length-append, length-map, map-append}
 use Rattle.std.proofs.lemmas.List.Elements.{filter-append}
 use Rattle.std.proofs.lemmas.List.Sums.{sum_by-cons, sum_by-append}
 use Rattle.std.specs.List.{slice_split, onto_first, flat_map}
-use Rattle.gopher_item.proofs.Splits.{some_part}
-use Rattle.gopher_item.specs.Place.{lower_case}
+use Rattle.gopher_bytes.proofs.Splits.{some_part}
+use Rattle.gopher_bytes.specs.Case.{lower_case}
 use Rattle.gopher_page.specs.Words.{is_gap, is_word, bare_words, words_of}
 use Rattle.gopher_page.proofs.Short.{split_size, filter_size, map_size}
 

@@ -5,7 +5,7 @@ use Rattle.std.proofs.lemmas.List.{take_rest}
 use Rattle.std.proofs.lemmas.List.Quantifiers.{position-Some}
 use Rattle.std.proofs.lemmas.List.Sums.{fails_before_first}
 use Rattle.std.specs.List.{slice_split, onto_first, zip, position, position_or_len}
-use Rattle.gopher_item.proofs.Splits.{some_part}
+use Rattle.gopher_bytes.proofs.Splits.{some_part}
 use Rattle.gopher_page.specs.Words.{is_gap, runs_of}
 
 some_mark : (gaps : List ℕ) → (first : Bool) × (more : List Bool) × (map (λ gap. eqb gap 42) gaps ++ false ∷ [] ≡ first ∷ more)

@@ -2,7 +2,7 @@
 use Rattle.std.proofs.Common.{◌≡◌, ℕ, true, false, cond, eqb, List, [], ◌∷◌, ◌++◌, map, take, sym, ap, ◌∙◌}
 use Rattle.std.specs.Prelude.{reverse}
 use Rattle.std.proofs.lemmas.List.{take-map, map-append, reverse-append, reverse-reverse}
-use Rattle.gopher_item.specs.MenuLine.{trim_front}
+use Rattle.gopher_bytes.specs.Trim.{trim_front}
 use Rattle.gopher_page.specs.Page.{plain_byte, title_text}
 
 -- a byte that isn't blank stays at the front, and a blank is dropped

@@ -6,7 +6,7 @@ use Rattle.std.proofs.lemmas.List.Splits.{length-slice_split}
 use Rattle.std.proofs.lemmas.List.Sums.{length-filter}
 use Rattle.std.specs.Prelude.{nat_lt, MatchOption}
 use Rattle.std.specs.List.{slice_split, zip}
-use Rattle.gopher_item.specs.Place.{lower_case}
+use Rattle.gopher_bytes.specs.Case.{lower_case}
 use Rattle.gopher_page.specs.Words.{Token, is_gap, is_word, runs_of, token_of, tokens_of, bare_words, words_of}
 
 -- the tokens of runs

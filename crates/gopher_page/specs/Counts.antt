@@ -17,7 +17,8 @@ counts_of words = map (λ word. (word, count_by (same_word word) words)) (sorted
 -- run lengths after `count` more of a word in front
 abbrev pub joined_run : List ℕ → ℕ → List (List ℕ × ℕ) → List (List ℕ × ℕ)
 joined_run word count [] = (word, count) ∷ []
-joined_run word count (run ∷ runs) = if same_word word run.0 then (word, count + run.1) ∷ runs else (word, count) ∷ run ∷ runs
+joined_run word count (run ∷ runs) =
+    if same_word word run.0 then (word, count + run.1) ∷ runs else (word, count) ∷ run ∷ runs
 
 -- the lengths of the runs of equal words
 abbrev pub run_lengths : List (List ℕ) → List (List ℕ × ℕ)
@@ -26,11 +27,14 @@ run_lengths (word ∷ words) = joined_run word 1 (run_lengths words)
 
 -- the words from `start` up to, not including, `end` are one run of equal words
 abbrev pub IsRun : List (List ℕ) → ℕ → ℕ → Type 0
-IsRun words start end = run_lengths (drop start words) ≡ (slice_index_or words start [], end - start) ∷ run_lengths (drop end words)
+IsRun words start end =
+    run_lengths (drop start words)
+    ≡ (slice_index_or words start [], end - start) ∷ run_lengths (drop end words)
 
 -- the word equals the sought one or, if that is a prefix, begins with it
 abbrev pub is_meant : Bool → List ℕ → List ℕ → Bool
-is_meant is_prefix sought word = if is_prefix then starts_with nat_eq word sought else same_word sought word
+is_meant is_prefix sought word =
+    if is_prefix then starts_with nat_eq word sought else same_word sought word
 
 -- the number of occurrences of all words that pass a test
 abbrev pub count_where : (List ℕ → Bool) → List (List ℕ × ℕ) → ℕ
@@ -54,4 +58,5 @@ AreBefore counts end sought = (k : ℕ) → k < end → is_before (word_at count
 
 -- no word from this index on comes before the sought one
 abbrev pub NoneBefore : List (List ℕ × ℕ) → ℕ → List ℕ → Type 0
-NoneBefore counts start sought = (k : ℕ) → start ≤ k → k < length counts → is_before (word_at counts k) sought ≡ false
+NoneBefore counts start sought =
+    (k : ℕ) → start ≤ k → k < length counts → is_before (word_at counts k) sought ≡ false

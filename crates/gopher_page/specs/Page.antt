@@ -2,14 +2,16 @@
 use Rattle.std.specs.Prelude.{◌≡◌, ℕ, Bool, List, [], ◌∷◌, length, take, reverse, map, filter, Option, None, ◌==◌, nat_lt, if◌then◌else◌}
 use Rattle.std.specs.List.{filter_map, find, flat_map}
 use Rattle.std.specs.Option.{option_map_or}
-use Rattle.gopher_item.specs.Bytes.{is_control}
-use Rattle.gopher_item.specs.Lines.{lines_of}
+use Rattle.gopher_item.specs.Special.{is_control}
+use Rattle.gopher_bytes.specs.Lines.{lines_of}
 use Rattle.gopher_item.specs.Place.{PlaceData, same_place, distinct}
-use Rattle.gopher_item.specs.MenuLine.{place_named, trim_front, trim_spaces}
+use Rattle.gopher_bytes.specs.Trim.{trim_front, trim_spaces}
+use Rattle.gopher_item.specs.MenuLine.{place_named}
 use Rattle.gopher_item.specs.Menu.{entries_of}
 use Rattle.gopher_item.specs.declared.menu.Entry.{Entry}
 use Rattle.gopher_item.specs.declared.menu.Entry.TheVariants.{Item, Odd}
 use Rattle.gopher_scope.specs.Scope.{ScopeData, allows}
+use Rattle.gopher_page.specs.declared.title.TheConstants.{MAX_TITLE}
 use Rattle.gopher_page.specs.Words.{words_of}
 use Rattle.gopher_page.specs.Counts.{counts_of}
 use Rattle.gopher_text.specs.Text.{text_lines}
@@ -23,7 +25,8 @@ pub record PageData : Type 0 where
   pub counts : List (List ℕ × ℕ)
 
 abbrev pub page_with : PlaceData → List ℕ → List PlaceData → List (List ℕ × ℕ) → PageData
-page_with place title links counts = record { place = place; title = title; links = links; counts = counts }
+page_with place title links counts =
+    record { place = place; title = title; links = links; counts = counts }
 
 -- the place that an entry of a menu names, if it names one
 abbrev pub place_of_entry : Entry → Option PlaceData
@@ -74,7 +77,7 @@ plain_byte byte = if is_control byte then 32 else byte
 -- the first 69 bytes of a text, after control bytes become spaces and spaces at both ends are
 -- dropped; RFC 1436, section 3.9, asks for display strings under 70
 abbrev pub title_text : List ℕ → List ℕ
-title_text bytes = take 69 (trim_spaces (map plain_byte bytes))
+title_text bytes = take MAX_TITLE (trim_spaces (map plain_byte bytes))
 
 -- bytes without the spaces at their end
 abbrev pub trim_back : List ℕ → List ℕ
@@ -85,7 +88,9 @@ has_word line = nat_lt 0 (length (words_of line))
 
 -- the title if no line contains a word: the selector, or the host if the selector leaves no title
 abbrev pub place_title : PlaceData → List ℕ
-place_title place = if length (title_text place.selector) == 0 then take 69 place.host else title_text place.selector
+place_title place =
+    if length (title_text place.selector) == 0 then take MAX_TITLE place.host
+    else title_text place.selector
 
 -- the title: the first line that contains a word
 abbrev pub title_of : PlaceData → List (List ℕ) → List ℕ
@@ -93,18 +98,21 @@ title_of place lines = option_map_or title_text (find has_word lines) (place_tit
 
 -- the page of a place with these lines and links; the counts cover the words of all lines
 abbrev pub page_of_lines : PlaceData → List (List ℕ) → List PlaceData → PageData
-page_of_lines place lines links = page_with place (title_of place lines) links (counts_of (flat_map words_of lines))
+page_of_lines place lines links =
+    page_with place (title_of place lines) links (counts_of (flat_map words_of lines))
 
 abbrev pub IsPageOfLines : PlaceData → List (List ℕ) → List PlaceData → PageData → Type 0
 IsPageOfLines place lines links page = page ≡ page_of_lines place lines links
 
 -- the page of a directory and the page of a file
 abbrev pub page_of_menu : ScopeData → PlaceData → List ℕ → PageData
-page_of_menu scope place bytes = page_of_lines place (menu_page_lines bytes) (menu_links scope bytes)
+page_of_menu scope place bytes =
+    page_of_lines place (menu_page_lines bytes) (menu_links scope bytes)
 
 abbrev pub page_of_text : PlaceData → List ℕ → PageData
 page_of_text place bytes = page_of_lines place (text_lines bytes) []
 
 -- the page of a reply depends only on the scope, the place and the bytes
 unfoldable pub page_of : ScopeData → PlaceData → List ℕ → PageData
-page_of scope place bytes = page_of_lines place (page_lines place bytes) (links_of scope place bytes)
+page_of scope place bytes =
+    page_of_lines place (page_lines place bytes) (links_of scope place bytes)

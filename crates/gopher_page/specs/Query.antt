@@ -1,7 +1,8 @@
 -- Queries: which pages they match, and the scores of these.
-use Rattle.std.specs.Prelude.{◌≡◌, ◌+◌, ◌≤◌, ℕ, Bool, IsTrue, true, false, ◌&&◌, ◌||◌, not, List, [], ◌∷◌, length, filter, slice_get, nat_lt, Option, None, Some, Result, Ok, Err, if◌then◌else◌}
+use Rattle.std.specs.Prelude.{◌≡◌, ◌+◌, ◌≤◌, ℕ, Bool, IsTrue, true, false, ◌&&◌, ◌||◌, not, List, [], ◌∷◌, codes, length, filter, slice_get, nat_lt, Option, None, Some, Result, Ok, Err, if◌then◌else◌}
 use Rattle.std.specs.List.{fold, sum_by, list_any}
 use Rattle.std.specs.Option.{option_map, option_map_or}
+use Rattle.gopher_item.specs.declared.limits.TheConstants.{MAX_LINE}
 use Rattle.gopher_page.specs.Words.{Token, same_word, token_of, tokens_of}
 use Rattle.gopher_page.specs.Counts.{count_meant}
 use Rattle.gopher_page.specs.declared.fault.QueryFault.{QueryFault}
@@ -21,19 +22,21 @@ pub record TermData : Type 0 where
 abbrev pub operator_of : Token → Option Operator
 operator_of token =
     if token.is_prefix then None
-    else (if same_word token.word (97 ∷ 110 ∷ 100 ∷ []) then Some And
-    else (if same_word token.word (111 ∷ 114 ∷ []) then Some Or
-    else (if same_word token.word (110 ∷ 111 ∷ 116 ∷ []) then Some Not else None)))
+    else (if same_word token.word (codes "and") then Some And
+    else (if same_word token.word (codes "or") then Some Or
+    else (if same_word token.word (codes "not") then Some Not else None)))
 
 abbrev pub term_of : Operator → Token → TermData
-term_of operator token = record { operator = operator; word = token.word; is_prefix = token.is_prefix }
+term_of operator token =
+    record { operator = operator; word = token.word; is_prefix = token.is_prefix }
 
 -- the terms of the tokens after a term and this operator: of several operators in a row the last
 -- counts, and operators after the last term are ignored
 abbrev pub terms_after : Operator → List Token → List TermData
 terms_after operator [] = []
 terms_after operator (token ∷ tokens) =
-    option_map_or (λ next. terms_after next tokens) (operator_of token) (term_of operator token ∷ terms_after And tokens)
+    option_map_or (λ next. terms_after next tokens) (operator_of token)
+    (term_of operator token ∷ terms_after And tokens)
 
 -- the first token is always a term; terms without an operator between them are joined by `and`
 abbrev pub terms_of : List Token → List TermData
@@ -67,7 +70,9 @@ joined Not truth holds = truth && not holds
 
 -- a page with these counts matches: its terms are joined from left to right
 unfoldable pub matches : List TermData → List (List ℕ × ℕ) → Bool
-matches terms counts = fold (λ truth term. joined term.operator truth (nat_lt 0 (count_of_term counts term))) true terms
+matches terms counts =
+    fold (λ truth term. joined term.operator truth (nat_lt 0 (count_of_term counts term)))
+    true terms
 
 abbrev pub is_not : Operator → Bool
 is_not Not = true
@@ -102,7 +107,7 @@ BeginsWithAnd (term ∷ terms) = term.operator ≡ And
 -- the terms of a query: 1 to 1,024, the first joined by `and`
 pub record IsQuery (terms : List TermData) : Type 0 where
   pub first : BeginsWithAnd terms
-  pub few : length terms ≤ 1024
+  pub few : length terms ≤ MAX_LINE
 
 abbrev pub query_fault_code : QueryFault → ℕ
 query_fault_code NoWords = 40
@@ -110,4 +115,5 @@ query_fault_code NoMemory = 90
 
 -- the page contains a word that a term without `not` matches
 abbrev pub HasWanted : List TermData → List (List ℕ × ℕ) → Type 0
-HasWanted terms counts = IsTrue (list_any (λ term. nat_lt 0 (count_of_term counts term)) (wanted terms))
+HasWanted terms counts =
+    IsTrue (list_any (λ term. nat_lt 0 (count_of_term counts term)) (wanted terms))

@@ -3,7 +3,8 @@ use Rattle.std.specs.Prelude.{◌≡◌, ◌+◌, ◌<◌, ◌≤◌, ℕ, Bool,
 use Rattle.std.specs.Borrow.{Bor}
 use Rattle.std.specs.List.{flat_map, slice_split, zip}
 use Rattle.std.specs.Cmp.Lexicographic.{pointwise}
-use Rattle.gopher_item.specs.Place.{lower_case}
+use Rattle.gopher_bytes.specs.Case.{lower_case}
+use Rattle.gopher_page.specs.declared.word.TheConstants.{MAX_WORD}
 
 -- the bytes of each of these lines or words
 abbrev pub texts : List (Bor (List ℕ)) → List (List ℕ)
@@ -15,7 +16,9 @@ joined_lines lines = flat_map (λ line. line ++ 10 ∷ []) lines
 
 -- an ASCII letter, an ASCII digit, or a byte of 128 or more
 abbrev pub is_word_byte : ℕ → Bool
-is_word_byte byte = (nat_le 48 byte && nat_le byte 57) || (nat_le 65 byte && nat_le byte 90) || (nat_le 97 byte && nat_le byte 122) || nat_le 128 byte
+is_word_byte byte =
+    (nat_le 48 byte && nat_le byte 57) || (nat_le 65 byte && nat_le byte 90)
+    || (nat_le 97 byte && nat_le byte 122) || nat_le 128 byte
 
 -- any other byte: it separates words
 abbrev pub is_gap : ℕ → Bool
@@ -23,7 +26,7 @@ is_gap byte = not (is_word_byte byte)
 
 -- a run between two gaps, or a gap and an end, is a word if it has 1 to 40 bytes
 abbrev pub is_word : List ℕ → Bool
-is_word run = nat_lt 0 (length run) && nat_le (length run) 40
+is_word run = nat_lt 0 (length run) && nat_le (length run) MAX_WORD
 
 -- the words of bytes in order, with their letters unchanged
 unfoldable pub bare_words : List ℕ → List (List ℕ)
@@ -43,7 +46,8 @@ pub record Token : Type 0 where
 
 -- the runs between gaps and at both ends, each with whether the gap directly after it is a `*` (42)
 abbrev pub runs_of : List ℕ → List (List ℕ × Bool)
-runs_of text = zip (slice_split is_gap text) (map (λ gap. gap == 42) (filter is_gap text) ++ false ∷ [])
+runs_of text =
+    zip (slice_split is_gap text) (map (λ gap. gap == 42) (filter is_gap text) ++ false ∷ [])
 
 abbrev pub token_of : List ℕ × Bool → Token
 token_of run = record { word = map lower_case run.0; is_prefix = run.1 }

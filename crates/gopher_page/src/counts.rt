@@ -7,11 +7,13 @@ ghost use Rattle.std.specs.Ordering.{nat_cmp};
 ghost use Rattle.std.specs.Cmp.Lexicographic.{slice_cmp};
 ghost use Rattle.gopher_page.specs.Words.{texts, same_word};
 ghost use Rattle.gopher_page.specs.Counts.{is_meant, count_meant, counts_of, is_before, word_at, AreBefore, NoneBefore, IsRun};
-ghost use Rattle.gopher_page.specs.Packed.{AreCounts, IsChain, start_at, part_at};
+ghost use Rattle.gopher_bytes.specs.Parts.{ArePacked, start_at};
+ghost use Rattle.gopher_page.specs.Packed.{AreCounts, part_at};
 
 use crate::ends::Ends;
 use crate::repeats::Repeats;
 use gopher_item::NoMemory;
+use gopher_text::MAX_REPLY;
 use std::alloc::Global;
 use std::marker::Model;
 
@@ -43,7 +45,7 @@ impl Model for Counts {
 
     ghost use Rattle.gopher_page.specs.Packed.{unpack, IsPacked};
 
-    ghost view = { λ c. unpack c.bytes.items 0 c.ends c.counts };
+    ghost view = { λ c. unpack c.bytes.items c.ends c.counts };
 
     ghost invariant = { λ c. IsPacked c.bytes.items c.ends c.counts };
 }
@@ -71,7 +73,7 @@ fn between(bytes: &[u8], start: usize, end: usize) -> &[u8]
 fn part_at<'a>(bytes: &'a [u8], ends: &Ends, counts: &Repeats, index: usize) -> (&'a [u8], u32)
     requires within { index < length ends.now }
     requires same { length counts.now ≡ length ends.now }
-    requires chain { IsChain 0 ends.now (length bytes.now) }
+    requires packed { ArePacked bytes.now ends.now }
     ensures { part_at bytes.now ends.now counts.now index ≡ Some (result.0.now, result.1) }
 {
     let word = between(bytes, start_of(ends, index), ends.get(index) as usize);
@@ -125,11 +127,11 @@ fn room_of(words: &[&[u8]]) -> Room {
 
 impl Counts {
     /// Counts the occurrences of each word. The words are in byte order; there are at most
-    /// 1,048,576, with at most 1,048,576 bytes together.
+    /// 1,048,576 (`MAX_REPLY`), with at most as many bytes together.
     pub fn packed(alloc: Global, words: &[&[u8]]) -> Result<Counts, NoMemory>
         requires sorted { IsSorted (λ a b. slice_cmp nat_cmp a.now b.now) words.now }
-        requires short { sum_by length (texts words.now) ≤ 1048576 }
-        requires few { length words.now ≤ 1048576 }
+        requires short { sum_by length (texts words.now) ≤ MAX_REPLY }
+        requires few { length words.now ≤ MAX_REPLY }
         ensures { IfOk result (λ counts. counts ≡ counts_of (texts words.now)) }
     {
         let room = room_of(words);

@@ -27,4 +27,5 @@ pub use fault::QueryFault;
 pub use numbered::Numbered;
 pub use page::Page;
 pub use query::{Operator, Query, Term};
-pub use word::words;
+pub use title::MAX_TITLE;
+pub use word::{MAX_WORD, words};

@@ -14,6 +14,7 @@ use crate::tally::count_words;
 use crate::title::title_of;
 use gopher_item::{ByteString, NoMemory, Place, read_menu};
 use gopher_scope::Scope;
+use gopher_text::MAX_REPLY;
 use std::alloc::Global;
 use std::marker::Model;
 use std::sync::Arc;
@@ -30,12 +31,13 @@ impl Model for Parts {
     ghost use Rattle.std.specs.Prelude.{◌≤◌, length, map};
     ghost use Rattle.std.specs.Arc.{arc_value};
     ghost use Rattle.gopher_page.specs.Page.{PageData, page_with};
+    ghost use Rattle.gopher_text.specs.declared.reply_reader.TheConstants.{MAX_REPLY};
 
     ghost Value = { PageData };
 
     ghost view = { λ p. page_with p.place p.title (map arc_value p.links.items) p.counts };
 
-    ghost invariant = { λ p. length p.links.items ≤ 1048576 };
+    ghost invariant = { λ p. length p.links.items ≤ MAX_REPLY };
 }
 
 /// What a catalogue keeps of the reply of a place: title, links and word counts.
@@ -62,8 +64,8 @@ fn page_of_lines(
     lines: &[&[u8]],
     links: Vec<Arc<Place>>,
 ) -> Result<Page, NoMemory>
-    requires short { sum_by length (texts lines.now) ≤ 1048576 }
-    requires few { length links.items ≤ 1048576 }
+    requires short { sum_by length (texts lines.now) ≤ MAX_REPLY }
+    requires few { length links.items ≤ MAX_REPLY }
     ensures { IfOk result (IsPageOfLines place.now (texts lines.now) (map arc_value links.items)) }
 {
     let counts = count_words(alloc, lines)?;
@@ -79,7 +81,7 @@ fn page_of_lines(
 }
 
 fn page_of_menu(alloc: Global, scope: &Scope, place: &Place, bytes: &[u8]) -> Result<Page, NoMemory>
-    requires small { length bytes.now ≤ 1048576 }
+    requires small { length bytes.now ≤ MAX_REPLY }
     ensures { IfOk result (λ page. page ≡ page_of_menu scope.now place.now bytes.now) }
 {
     let menu = read_menu(alloc, bytes)?;
@@ -89,7 +91,7 @@ fn page_of_menu(alloc: Global, scope: &Scope, place: &Place, bytes: &[u8]) -> Re
 }
 
 fn page_of_text(alloc: Global, place: &Place, bytes: &[u8]) -> Result<Page, NoMemory>
-    requires small { length bytes.now ≤ 1048576 }
+    requires small { length bytes.now ≤ MAX_REPLY }
     ensures { IfOk result (λ page. page ≡ page_of_text place.now bytes.now) }
 {
     let lines = text_lines(alloc, bytes)?;
@@ -97,7 +99,7 @@ fn page_of_text(alloc: Global, place: &Place, bytes: &[u8]) -> Result<Page, NoMe
 }
 
 impl Page {
-    /// Makes the page of a place from its reply: `bytes`, at most 1,048,576.
+    /// Makes the page of a place from its reply: `bytes`, at most 1,048,576 (`MAX_REPLY`).
     ///
     /// For a directory (type `1`) the lines are one for each entry of the menu: an item's display
     /// string or an odd line's bytes. Its links are those links of the menu that `scope` allows.
@@ -105,7 +107,7 @@ impl Page {
     /// cover the words of all lines.
     #[tactic(auto, using(crate::proofs::Pages::pages))]
     pub fn of(alloc: Global, scope: &Scope, place: &Place, bytes: &[u8]) -> Result<Page, NoMemory>
-        requires { length bytes.now ≤ 1048576 }
+        requires { length bytes.now ≤ MAX_REPLY }
         ensures { IfOk result (λ page. page ≡ page_of scope.now place.now bytes.now) }
     {
         if place.kind() == b'1' {
@@ -131,8 +133,8 @@ impl Page {
         &self.parts.place
     }
 
-    /// Returns the title, at most 69 bytes: RFC 1436, section 3.9, asks for display strings under
-    /// 70.
+    /// Returns the title, at most 69 bytes (`MAX_TITLE`): RFC 1436, section 3.9, asks for display
+    /// strings under 70.
     ///
     /// It is the first line that contains a word or, if none does, the selector. Each control byte
     /// becomes a space, spaces at both ends are dropped, and then the first 69 bytes remain, so the
@@ -144,11 +146,11 @@ impl Page {
         self.parts.title.as_slice()
     }
 
-    /// Returns the links, at most 1,048,576: the allowed places that the menu names, each once, in
-    /// the order of first mention.
+    /// Returns the links, at most 1,048,576 (`MAX_REPLY`): the allowed places that the menu names,
+    /// each once, in the order of first mention.
     pub fn links(&self) -> &[Arc<Place>]
         ensures links { map arc_value result.now ≡ self.now.links }
-        ensures few { length result.now ≤ 1048576 }
+        ensures few { length result.now ≤ MAX_REPLY }
     {
         &self.parts.links
     }

@@ -6,7 +6,7 @@ ghost use Rattle.gopher_page.specs.Query.{operator_of, later_terms, terms_from, 
 use crate::fault::QueryFault;
 use crate::page::Page;
 use crate::word::next_token;
-use gopher_item::{ByteString, NoMemory};
+use gopher_item::{ByteString, MAX_LINE, NoMemory};
 use std::alloc::Global;
 use std::marker::Model;
 
@@ -78,6 +78,17 @@ impl Term {
         ensures { result ≡ self.now.is_prefix }
     {
         self.is_prefix
+    }
+
+    /// Returns a copy of the term.
+    pub fn clone(&self) -> Result<Term, NoMemory>
+        ensures { IfOk result (λ term. term ≡ self.now) }
+    {
+        Ok(Term {
+            operator: self.operator,
+            word: self.word.clone()?,
+            is_prefix: self.is_prefix,
+        })
     }
 
     /// Returns how often the words that the term matches occur in `page`.
@@ -172,7 +183,7 @@ impl Model for Query {
 }
 
 impl Query {
-    /// Reads the query of a text of at most 1,024 bytes.
+    /// Reads the query of a text of at most 1,024 bytes (`MAX_LINE`).
     ///
     /// The tokens are the words of the text. A token directly followed by `*` is a prefix: it
     /// matches every word that begins with it. The first token is always a term. A later token
@@ -185,7 +196,7 @@ impl Query {
     /// - `NoWords` (40): the text contains no word
     /// - `NoMemory` (90)
     pub fn read(alloc: Global, text: &[u8]) -> Result<Query, QueryFault>
-        requires { length text.now ≤ 1024 }
+        requires { length text.now ≤ MAX_LINE }
         ensures { ReadsQuery (query_of text.now) result }
     {
         let Some((token, is_prefix, after)) = next_token(text) else {

@@ -3,10 +3,11 @@
 ghost use Rattle.std.specs.Prelude.{◌≡◌, ◌<◌, ◌≤◌, Some, [], ◌∷◌, ◌++◌, length, slice_get, IfOk, OnOk};
 
 use gopher_item::NoMemory;
+use gopher_text::MAX_REPLY;
 use std::alloc::Global;
 use std::marker::Model;
 
-/// Counts of at most 1,048,576, with one byte for each.
+/// Counts of at most 1,048,576 (`MAX_REPLY`), with one byte for each.
 ///
 /// Each count up to the last one of 256 or more takes two bytes more.
 #[derive(Debug, Drop)]
@@ -40,7 +41,7 @@ impl Repeats {
 
     /// Appends a count.
     pub fn push(&mut self, count: u32) -> Result<(), NoMemory>
-        requires { count ≤ 1048576 }
+        requires { count ≤ MAX_REPLY }
         ensures { OnOk result (self.new ≡ self.old ++ count ∷ []) }
     {
         let index = self.low.len();

@@ -9,6 +9,7 @@ use crate::counts::Counts;
 use crate::numbered::{Numbered, slices};
 use crate::word::next_token;
 use gopher_item::{ByteString, NoMemory};
+use gopher_text::MAX_REPLY;
 use std::alloc::Global;
 
 // The lines, each followed by an LF.
@@ -36,9 +37,9 @@ fn words_in(alloc: Global, text: &[u8]) -> Result<Vec<Numbered<'_>>, NoMemory>
     Ok(words)
 }
 
-/// Counts the words of the lines, which have at most 1,048,576 bytes together.
+/// Counts the words of the lines, which have at most 1,048,576 bytes (`MAX_REPLY`) together.
 pub fn count_words(alloc: Global, lines: &[&[u8]]) -> Result<Counts, NoMemory>
-    requires { sum_by length (texts lines.now) ≤ 1048576 }
+    requires { sum_by length (texts lines.now) ≤ MAX_REPLY }
     ensures { IfOk result (λ counts. counts ≡ counts_of (flat_map words_of (texts lines.now))) }
 {
     let text = joined(alloc, lines)?;

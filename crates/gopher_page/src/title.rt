@@ -3,7 +3,7 @@
 ghost use Rattle.std.specs.Prelude.{◌≡◌, ◌==◌, map, take, IfOk};
 ghost use Rattle.std.specs.List.{find};
 ghost use Rattle.std.specs.Option.{option_map};
-ghost use Rattle.gopher_item.specs.MenuLine.{trim_front};
+ghost use Rattle.gopher_bytes.specs.Trim.{trim_front};
 ghost use Rattle.gopher_page.specs.Words.{texts};
 ghost use Rattle.gopher_page.specs.Page.{plain_byte, trim_back, title_text, has_word, place_title, title_of};
 
@@ -11,8 +11,8 @@ use crate::word::next_token;
 use gopher_item::{ByteString, NoMemory, Place, is_control};
 use std::alloc::{AllocError, Global};
 
-// The most bytes of a title.
-const LIMIT: usize = 69;
+/// The most bytes of a title.
+pub const MAX_TITLE: usize = 69;
 
 fn plain_byte(byte: u8) -> u8
     ensures { result ≡ plain_byte byte }
@@ -62,9 +62,9 @@ fn without_back(bytes: &[u8]) -> &[u8]
 }
 
 fn first_bytes(bytes: &[u8]) -> &[u8]
-    ensures { result.now ≡ take 69 bytes.now }
+    ensures { result.now ≡ take MAX_TITLE bytes.now }
 {
-    &bytes[..bytes.len().min(LIMIT)]
+    &bytes[..bytes.len().min(MAX_TITLE)]
 }
 
 #[tactic(auto, using(crate::proofs::Titles::shown))]

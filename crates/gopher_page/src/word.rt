@@ -6,6 +6,9 @@ ghost use Rattle.gopher_page.specs.Words.{is_gap, is_word_byte, is_word, bare_wo
 use gopher_item::{ByteString, NoMemory};
 use std::alloc::Global;
 
+/// The most bytes of a word. A longer run is no word.
+pub const MAX_WORD: usize = 40;
+
 fn is_word_byte(byte: u8) -> bool
     ensures { result ≡ is_word_byte byte }
 {
@@ -15,7 +18,7 @@ fn is_word_byte(byte: u8) -> bool
 fn is_word(run: &[u8]) -> bool
     ensures { result ≡ is_word run.now }
 {
-    !run.is_empty() && run.len() <= 40
+    !run.is_empty() && run.len() <= MAX_WORD
 }
 
 fn first_gap(bytes: &[u8]) -> Option<usize>

@@ -2,7 +2,7 @@
 use Rattle.std.proofs.Common.{◌≡◌, ℕ, ◌+◌, ◌<◌, ◌≤◌, min, leb, true, false, cond, eqb, List, [], ◌∷◌, length, Option, None, Some, ◌⊎◌, inl, inr, refl, sym, ap, ◌∙◌, arith}
 use Rattle.std.proofs.lemmas.Bool.Decides.{leb_tells}
 use Rattle.gopher_item.specs.Place.{HomeData}
-use Rattle.gopher_item.specs.Lines.{lines_of}
+use Rattle.gopher_bytes.specs.Lines.{lines_of}
 use Rattle.gopher_text.specs.Text.{text_bytes}
 use Rattle.gopher_tree.specs.Files.{File}
 use Rattle.gopher_tree.specs.Reply.{Named, NamedFile, NamedFolder, named, reply_to, tree_reply, not_found_bytes}

@@ -1,1 +1,4 @@
 pub mod Kept
+pub mod Hits
+pub mod SearchReply
+pub mod Answer

@@ -2,7 +2,8 @@
 use Rattle.std.specs.Prelude.{ℕ, Bool, ◌&&◌, not, List, map, Option, Some, nat_eq, ◌==◌, if◌then◌else◌}
 use Rattle.std.specs.List.{starts_with}
 use Rattle.std.specs.Cmp.Lexicographic.{pointwise}
-use Rattle.gopher_item.specs.Place.{PlaceData, address_fault, is_selector, lower_case}
+use Rattle.gopher_bytes.specs.Case.{lower_case}
+use Rattle.gopher_item.specs.Place.{PlaceData, address_fault, is_selector}
 use Rattle.gopher_item.specs.declared.fault.ItemFault.{ItemFault}
 use Rattle.gopher_item.specs.declared.fault.ItemFault.TheVariants.{BadSelector}
 

@@ -8,8 +8,8 @@ use Rattle.std.proofs.lemmas.List.Elements.{All-cons, All-nil}
 use Rattle.std.proofs.lemmas.List.Splits.{slice_split-cons_yes, slice_split-cons_no}
 use Rattle.std.proofs.lemmas.List.Sums.{take_while-cons}
 use Rattle.gopher_script.specs.declared.command.Command.{Command}
-use Rattle.gopher_item.specs.Lines.{lines_of}
-use Rattle.gopher_item.proofs.Splits.{some_part}
+use Rattle.gopher_bytes.specs.Lines.{lines_of}
+use Rattle.gopher_bytes.proofs.Splits.{some_part}
 use Rattle.gopher_script.specs.Command.{command_of}
 use Rattle.gopher_script.specs.Statement.{StatementData, HasSmallReply}
 use Rattle.gopher_script.specs.Script.{is_block_line, block_of, reply_of, reply_after, takes_block, statements_of, statements_in}

@@ -3,7 +3,7 @@ use Rattle.std.specs.Prelude.{ℕ, Bool, true, List, [], ◌∷◌, length, code
 use Rattle.std.specs.Option.{option_map, option_and_then}
 use Rattle.std.specs.Cmp.Lexicographic.{pointwise}
 use Rattle.gopher_item.specs.Menu.{fields_of}
-use Rattle.gopher_item.specs.Number.{number_of}
+use Rattle.gopher_bytes.specs.Number.{number_of}
 use Rattle.gopher_item.specs.Place.{PlaceData}
 use Rattle.gopher_scope.specs.Rule.{RuleData}
 use Rattle.gopher_catalogue.specs.declared.event.Why.{Why}

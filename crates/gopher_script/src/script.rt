@@ -1,7 +1,7 @@
 //! The statements of a script.
 
 ghost use Rattle.std.specs.Prelude.{◌≡◌, ◌+◌, ◌^◌, ◌<◌, ◌≤◌, [], ◌∷◌, true, false, length, IfOk, IfSome, MatchOption};
-ghost use Rattle.gopher_item.specs.Lines.{lines_of};
+ghost use Rattle.gopher_bytes.specs.Lines.{lines_of};
 ghost use Rattle.gopher_script.specs.Statement.{StatementData};
 ghost use Rattle.gopher_script.specs.Script.{begins_block, block_of, reply_of, reply_after, takes_block, statements_of, statements_after, statements_in};
 

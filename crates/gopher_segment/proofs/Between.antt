@@ -8,38 +8,13 @@ use Rattle.std.specs.Cmp.Lexicographic.{bytes_decides}
 use Rattle.gopher_page.specs.Counts.{is_before, is_meant}
 use Rattle.gopher_page.specs.Words.{same_word}
 use Rattle.gopher_page.proofs.Order.{meant_past}
-use Rattle.gopher_segment.specs.Parts.{parts, start_at, AreEnds, ArePackedRuns}
-use Rattle.gopher_segment.specs.Postings.{AreWithin, count_in, one_run}
+use Rattle.gopher_bytes.specs.Parts.{parts, start_at, AreEnds}
+use Rattle.gopher_bytes.proofs.PartLemmas.{start_le_at}
+use Rattle.gopher_segment.specs.Postings.{ArePackedRuns, AreWithin, count_in, one_run}
 use Rattle.gopher_segment.specs.Rows.{runs_of_rows, rows_count, postings_of, AreInOrder}
 use Rattle.gopher_segment.proofs.PostingLemmas.{count_in-append}
 use Rattle.gopher_segment.proofs.RowSearch.{word_at, in_order, nothing_from}
-use Rattle.gopher_segment.proofs.RunLemmas.{length-zip, zip-take, zip-drop}
-
--- ---- where they start
-
-start_le_at : (start : ℕ) (ends : List ℕ) (limit i : ℕ) → AreEnds start ends limit → start ≤ start_at start ends i
-start_le_at start ends limit zero chain = omega arith
-start_le_at start [] limit (suc i) chain = omega arith
-start_le_at start (end ∷ ends) limit (suc i) chain = omega (arith, chain.0, start_le_at end ends limit i chain.1)
-
--- no run starts before one that it follows
-pub starts_forward : (start : ℕ) (ends : List ℕ) (limit i n : ℕ) → AreEnds start ends limit → start_at start ends i ≤ start_at start ends (i + n)
-starts_forward start ends limit zero n chain = start_le_at start ends limit (0 + n) chain
-starts_forward start [] limit (suc i) n chain =
-    let next : suc i + n ≡ suc (i + n) = omega arith in
-    let same : start ≡ start_at start [] (suc i + n) = ap (start_at start []) (sym next) in
-    omega (arith, same)
-starts_forward start (end ∷ ends) limit (suc i) n chain =
-    let next : suc i + n ≡ suc (i + n) = omega arith in
-    let same : start_at end ends (i + n) ≡ start_at start (end ∷ ends) (suc i + n) = ap (start_at start (end ∷ ends)) (sym next) in
-    omega (arith, same, starts_forward end ends limit i n chain.1)
-
--- nor past the limit
-pub start_within : (start : ℕ) (ends : List ℕ) (limit i : ℕ) → AreEnds start ends limit → start_at start ends i ≤ limit
-start_within start [] limit zero chain = chain
-start_within start [] limit (suc i) chain = chain
-start_within start (end ∷ ends) limit zero chain = omega (arith, chain.0, start_within end ends limit 0 chain.1)
-start_within start (end ∷ ends) limit (suc i) chain = start_within end ends limit i chain.1
+use Rattle.gopher_bytes.proofs.Zips.{length-zip, zip-take, zip-drop}
 
 -- ---- their items
 

@@ -1,4 +1,3 @@
-mod PartLemmas
 pub mod PostingLemmas
 pub mod RunLemmas
 mod RowLemmas

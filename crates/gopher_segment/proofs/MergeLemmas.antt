@@ -14,7 +14,7 @@ use Rattle.gopher_page.proofs.Order.{not_before-trans}
 use Rattle.gopher_segment.specs.Postings.{count_in}
 use Rattle.gopher_segment.specs.Rows.{words_of_rows, AreInOrder, rows_count, first_word, passed, taken, lowest_from, AreAllInOrder, is_at, LackBefore, tables_count, rows_left, AllBefore, AreBefore, ComeBefore}
 use Rattle.gopher_segment.proofs.PostingLemmas.{count_in-append}
-use Rattle.gopher_segment.proofs.RunLemmas.{zip-append}
+use Rattle.gopher_bytes.proofs.Zips.{zip-append}
 use Rattle.gopher_segment.proofs.RowLemmas.{rows_count-append}
 use Rattle.gopher_segment.proofs.WordOrder.{never_before_itself, less_from_apart, not_before_through, all_before_next}
 

@@ -3,7 +3,7 @@ use Rattle.std.proofs.Common.{◌≡◌, ℕ, Bool, true, false, zero, suc, ◌+
 use Rattle.std.proofs.lemmas.List.{take_more, take-append-drop}
 use Rattle.std.specs.List.{zip}
 use Rattle.gopher_segment.specs.Postings.{count_in, pieces}
-use Rattle.gopher_segment.proofs.RunLemmas.{length-zip, get_or-zip}
+use Rattle.gopher_bytes.proofs.Zips.{length-zip, get_or-zip}
 
 pub count_in-append : (page : ℕ) (a b : List (ℕ × ℕ)) → count_in page (a ++ b) ≡ count_in page a + count_in page b
 count_in-append page [] b = omega arith

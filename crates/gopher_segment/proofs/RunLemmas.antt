@@ -3,43 +3,10 @@ use Rattle.std.proofs.Common.{◌≡◌, ℕ, zero, suc, ◌-◌, ◌<◌, ◌�
 use Rattle.std.proofs.lemmas.List.{length-append, length-drop, drop-append-le, take_rest, drop_all}
 use Rattle.std.proofs.lemmas.List.Elements.{All-from_recursion}
 use Rattle.std.specs.List.{zip}
-use Rattle.gopher_segment.specs.Parts.{parts, start_at, last_end, AreEnds, ArePackedRuns}
-use Rattle.gopher_segment.specs.Postings.{AreWithin}
-use Rattle.gopher_segment.proofs.PartLemmas.{parts-get, parts_more, parts_push, ends_push, ends_grow, last_push, last_le_limit}
-
--- ---- zips
-
-pub length-zip : {A B : Type 0} (a : List A) (b : List B) → length b ≡ length a → length (zip a b) ≡ length a
-length-zip [] [] same = refl
-length-zip [] (y ∷ b) same = refl
-length-zip (x ∷ a) [] same = absurd (omega arith)
-length-zip (x ∷ a) (y ∷ b) same = ap suc (length-zip a b (omega arith))
-
-pub get_or-zip : {A B : Type 0} (a : List A) (b : List B) (i : ℕ) (d : A) (e : B) → length b ≡ length a → i < length a → get_or (zip a b) i (d, e) ≡ (get_or a i d, get_or b i e)
-get_or-zip [] b i d e same within = absurd (omega arith)
-get_or-zip (x ∷ a) [] i d e same within = absurd (omega arith)
-get_or-zip (x ∷ a) (y ∷ b) zero d e same within = refl
-get_or-zip (x ∷ a) (y ∷ b) (suc i) d e same within = get_or-zip a b i d e (omega arith) (omega arith)
-
-pub zip-append : {A B : Type 0} (a more_a : List A) (b more_b : List B) → length b ≡ length a → zip (a ++ more_a) (b ++ more_b) ≡ zip a b ++ zip more_a more_b
-zip-append [] more_a [] more_b same = refl
-zip-append [] more_a (y ∷ b) more_b same = absurd (omega arith)
-zip-append (x ∷ a) more_a [] more_b same = absurd (omega arith)
-zip-append (x ∷ a) more_a (y ∷ b) more_b same = ap (λ l. (x, y) ∷ l) (zip-append a more_a b more_b (omega arith))
-
-pub zip-take : {A B : Type 0} (a : List A) (b : List B) (n : ℕ) → length b ≡ length a → zip (take n a) (take n b) ≡ take n (zip a b)
-zip-take a b zero same = refl
-zip-take [] [] (suc n) same = refl
-zip-take [] (y ∷ b) (suc n) same = absurd (omega arith)
-zip-take (x ∷ a) [] (suc n) same = absurd (omega arith)
-zip-take (x ∷ a) (y ∷ b) (suc n) same = ap (λ l. (x, y) ∷ l) (zip-take a b n (omega arith))
-
-pub zip-drop : {A B : Type 0} (a : List A) (b : List B) (n : ℕ) → length b ≡ length a → zip (drop n a) (drop n b) ≡ drop n (zip a b)
-zip-drop a b zero same = refl
-zip-drop [] [] (suc n) same = refl
-zip-drop [] (y ∷ b) (suc n) same = absurd (omega arith)
-zip-drop (x ∷ a) [] (suc n) same = absurd (omega arith)
-zip-drop (x ∷ a) (y ∷ b) (suc n) same = zip-drop a b n (omega arith)
+use Rattle.gopher_bytes.specs.Parts.{parts, start_at, last_end, AreEnds}
+use Rattle.gopher_bytes.proofs.Zips.{get_or-zip, length-zip, zip-append, zip-drop, zip-take}
+use Rattle.gopher_segment.specs.Postings.{ArePackedRuns, AreWithin}
+use Rattle.gopher_bytes.proofs.PartLemmas.{parts-get, parts_more, parts_push, ends_push, ends_grow, last_push, last_le_limit}
 
 pub one_posting : (pages counts : List ℕ) → length counts ≡ length pages → length pages ≡ 1 → zip pages counts ≡ (get_or pages 0 0, get_or counts 0 0) ∷ []
 one_posting [] counts same one = absurd (omega (arith, one))

@@ -16,7 +16,7 @@ use Rattle.gopher_segment.specs.Postings.{pieces, run_of}
 use Rattle.gopher_segment.specs.Rows.{words_of_rows, runs_of_rows, AreInOrder, postings_of, page_rows, first_word, passed, taken, lowest_from, AreAllInOrder}
 use Rattle.gopher_segment.proofs.MergeLemmas.{IsFrom, AreFrom, never_none}
 use Rattle.gopher_segment.proofs.RowSearch.{word_at, in_order}
-use Rattle.gopher_segment.proofs.RunLemmas.{zip-append}
+use Rattle.gopher_bytes.proofs.Zips.{zip-append}
 use Rattle.gopher_segment.proofs.WordOrder.{never_before_itself, less_from_apart}
 
 -- each of the words comes after another

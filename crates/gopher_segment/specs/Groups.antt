@@ -12,7 +12,7 @@ head_row chains head = (head.0, slice_index_or chains head.1 [])
 abbrev pub rows_of_heads : List (List (ℕ × ℕ)) → List (List ℕ × ℕ) → List (List ℕ × List (ℕ × ℕ))
 rows_of_heads chains heads = map (head_row chains) heads
 
--- the rows of heads, that of the last head first
+-- the rows of heads, from the last head to the first
 abbrev pub latest : List (List (ℕ × ℕ)) → List (List ℕ × ℕ) → List (List ℕ × List (ℕ × ℕ))
 latest chains [] = []
 latest chains (head ∷ heads) = latest chains heads ++ head_row chains head ∷ []
@@ -20,26 +20,29 @@ latest chains (head ∷ heads) = latest chains heads ++ head_row chains head ∷
 abbrev pub words_of : List (List ℕ × ℕ) → List (List ℕ)
 words_of heads = map (λ head. head.0) heads
 
--- none of these words is this one
+-- the words don't contain this one
 abbrev pub LackWord : List ℕ → List (List ℕ) → Type 0
 LackWord word words = AllByRecursion (λ other. same_word other word ≡ false) words
 
--- the lists of heads are there
+-- each head's list is one of so many lists
 abbrev pub HaveLists : ℕ → List (List ℕ × ℕ) → Type 0
 HaveLists lists heads = AllByRecursion (λ head. head.1 < lists) heads
 
--- the slot to which words of a number come
+-- the slot of words with this leading number
 abbrev pub slot_of_number : ℕ → ℕ
 slot_of_number number = number * 11400714819323198485 % 2 ^ 64 / 2 ^ 50
 
--- a word came to a slot, and none behind it is the same
+-- the slot has the last of the equal words, at this index
 pub record IsPlaced (words : List (List ℕ)) (slot at : ℕ) : Type 0 where
   pub within : at < length words
   pub came : slot_of_number (leading 8 (slice_index_or words at [])) ≡ slot
   pub last : LackWord (slice_index_or words at []) (drop (at + 1) words)
 
--- in each slot stands nothing, or a head whose word came to it
-pub record AreGroups (slots : List ℕ) (heads : List (List ℕ × ℕ)) (chains : List (List (ℕ × ℕ))) : Type 0 where
+-- each slot is empty or has the index of a head whose word belongs to it
+pub record AreGroups (slots : List ℕ) (heads : List (List ℕ × ℕ)) (chains : List (List (ℕ × ℕ)))
+    : Type 0 where
   pub size : length slots ≡ 16384
   pub lists : HaveLists (length chains) heads
-  pub placed : (slot : ℕ) → slot < 16384 → (slice_index_or slots slot 0 ≡ 2 ^ 32 - 1) ⊎ IsPlaced (words_of heads) slot (slice_index_or slots slot 0)
+  pub placed : (slot : ℕ) → slot < 16384
+      → (slice_index_or slots slot 0 ≡ 2 ^ 32 - 1)
+      ⊎ IsPlaced (words_of heads) slot (slice_index_or slots slot 0)

@@ -1,6 +1,5 @@
 pub mod Chains
 pub mod Groups
-pub mod Parts
 pub mod Postings
 pub mod Rows
 pub mod Segment

@@ -20,26 +20,30 @@ runs_of_rows rows = map (λ row. row.1) rows
 abbrev pub AreInOrder : List (List ℕ × List (ℕ × ℕ)) → Type 0
 AreInOrder rows = IsStrictlySortedBy (slice_cmp nat_cmp) (words_of_rows rows)
 
--- how often the words that pass a test stand in a page
+-- the number of occurrences, in a page, of words that pass a test
 abbrev pub rows_count : (List ℕ → Bool) → ℕ → List (List ℕ × List (ℕ × ℕ)) → ℕ
 rows_count test page [] = 0
-rows_count test page (row ∷ rows) = (if test row.0 then count_in page row.1 else 0) + rows_count test page rows
+rows_count test page (row ∷ rows) =
+    (if test row.0 then count_in page row.1 else 0) + rows_count test page rows
 
--- the postings of a word, none where it isn't there
+-- the postings of a word, or none if no row has it
 abbrev pub postings_of : List ℕ → List (List ℕ × List (ℕ × ℕ)) → List (ℕ × ℕ)
 postings_of word [] = []
-postings_of word (row ∷ rows) = (if same_word word row.0 then row.1 else []) ++ postings_of word rows
+postings_of word (row ∷ rows) =
+    (if same_word word row.0 then row.1 else []) ++ postings_of word rows
 
--- whether the word of the row at an index comes before what is sought
+-- the word of the row at an index comes before the sought one
 abbrev pub is_before_at : List (List ℕ × List (ℕ × ℕ)) → List ℕ → ℕ → Bool
 is_before_at rows sought index = is_before (slice_index_or (words_of_rows rows) index []) sought
 
--- whether it is meant by what is sought
+-- the word of the row at an index equals the sought one or, if that is a prefix, begins with it
 abbrev pub is_meant_at : List (List ℕ × List (ℕ × ℕ)) → Bool → List ℕ → ℕ → Bool
-is_meant_at rows is_prefix sought index = is_meant is_prefix sought (slice_index_or (words_of_rows rows) index [])
+is_meant_at rows is_prefix sought index =
+    is_meant is_prefix sought (slice_index_or (words_of_rows rows) index [])
 
--- from a start on, the words up to an end are those that are meant
-pub record AreMeant (rows : List (List ℕ × List (ℕ × ℕ))) (is_prefix : Bool) (sought : List ℕ) (start end : ℕ) : Type 0 where
+-- of the words from `start` on, exactly those before `end` are meant
+pub record AreMeant (rows : List (List ℕ × List (ℕ × ℕ))) (is_prefix : Bool) (sought : List ℕ)
+    (start end : ℕ) : Type 0 where
   pub forward : start ≤ end
   pub within : end ≤ length rows
   pub meant : (k : ℕ) → start ≤ k → k < end → is_meant_at rows is_prefix sought k ≡ true
@@ -49,20 +53,21 @@ pub record AreMeant (rows : List (List ℕ × List (ℕ × ℕ))) (is_prefix : B
 abbrev pub page_rows : ℕ → List (List ℕ × ℕ) → List (List ℕ × List (ℕ × ℕ))
 page_rows number counts = map (λ entry. (entry.0, pieces number entry.1)) counts
 
--- ---- rows of several tables, which are merged
+-- ---- merging tables
 
--- the word of the first row, where there is a row
+-- the word of the first row, if there is a row
 abbrev pub first_word : List (List ℕ × List (ℕ × ℕ)) → Option (List ℕ)
 first_word [] = None
 first_word (row ∷ rows) = Some row.0
 
--- a number is that of a word's first eight bytes, and the last of all where there is no word
+-- the leading number of a word, or 2^64 - 1 for no word
 abbrev pub IsNumberOf : ℕ → Option (List ℕ) → Type 0
 IsNumberOf number None = number ≡ 2 ^ 64 - 1
 IsNumberOf number (Some word) = IsNumbered number word
 
--- a cursor stands at a row of a table or past all, beside the word of that row and its number
-pub record IsCursor (rows : List (List ℕ × List (ℕ × ℕ))) (at number : ℕ) (word : Option (List ℕ)) : Type 0 where
+-- a cursor at a row of a table or past all rows, with the word of that row and its leading number
+pub record IsCursor (rows : List (List ℕ × List (ℕ × ℕ))) (at number : ℕ) (word : Option (List ℕ))
+    : Type 0 where
   pub within : at ≤ length rows
   pub word_is : word ≡ first_word (drop at rows)
   pub number_is : IsNumberOf number (first_word (drop at rows))
@@ -71,17 +76,17 @@ abbrev pub first_run : List (List ℕ × List (ℕ × ℕ)) → List (ℕ × ℕ
 first_run [] = []
 first_run (row ∷ rows) = row.1
 
--- whether a word is that of the first row
+-- the first row has this word
 abbrev pub is_at : List ℕ → List (List ℕ × List (ℕ × ℕ)) → Bool
 is_at word [] = false
 is_at word (row ∷ rows) = same_word row.0 word
 
--- the rows after a word that none of them comes before
+-- the rows without the first one if that has this word
 abbrev pub passed : List ℕ → List (List ℕ × List (ℕ × ℕ)) → List (List ℕ × List (ℕ × ℕ))
 passed word [] = []
 passed word (row ∷ rows) = if same_word row.0 word then rows else row ∷ rows
 
--- and the postings of the word
+-- the postings of the first row if that has this word
 abbrev pub taken : List ℕ → List (List ℕ × List (ℕ × ℕ)) → List (ℕ × ℕ)
 taken word [] = []
 taken word (row ∷ rows) = if same_word row.0 word then row.1 else []
@@ -90,12 +95,13 @@ taken word (row ∷ rows) = if same_word row.0 word then row.1 else []
 abbrev pub LackBefore : List ℕ → ℕ → List (List (List ℕ × List (ℕ × ℕ))) → Type 0
 LackBefore word first tables = (k : ℕ) → k < first → is_at word (slice_index_or tables k []) ≡ false
 
--- whether there is a word, and it comes before another where there is another
+-- there is a word, and it comes before the other, if there is another
 abbrev pub is_lower : Option (List ℕ) → Option (List ℕ) → Bool
 is_lower None low = false
 is_lower (Some word) None = true
 is_lower (Some word) (Some low) = is_before word low
 
+-- the lower of two words, if there are any; the first if they are equal
 abbrev pub lower : Option (List ℕ) → Option (List ℕ) → Option (List ℕ)
 lower None word = word
 lower (Some low) None = Some low
@@ -114,42 +120,48 @@ abbrev pub tables_count : (List ℕ → Bool) → ℕ → List (List (List ℕ �
 tables_count test page [] = 0
 tables_count test page (rows ∷ tables) = rows_count test page rows + tables_count test page tables
 
--- how many rows there are
+-- the number of rows of all tables
 abbrev pub rows_left : List (List (List ℕ × List (ℕ × ℕ))) → ℕ
 rows_left [] = 0
 rows_left (rows ∷ tables) = length rows + rows_left tables
 
--- each of the words comes before another
+-- all words come before this one
 abbrev pub AllBefore : List (List ℕ) → List ℕ → Type 0
 AllBefore words word = AllByRecursion (λ earlier. slice_cmp nat_cmp earlier word ≡ Less) words
 
--- each of the words comes before a word, where there is one
+-- all words come before this one, if there is one
 abbrev pub AreBefore : List (List ℕ) → Option (List ℕ) → Type 0
 AreBefore words None = Unit {0}
 AreBefore words (Some word) = AllBefore words word
 
--- each of the words comes before all words of the tables, whose words are in order
+-- all words come before the first word of each table
 abbrev pub ComeBefore : List (List ℕ) → List (List (List ℕ × List (ℕ × ℕ))) → Type 0
 ComeBefore words [] = Unit {0}
 ComeBefore words (rows ∷ tables) = AreBefore words (first_word rows) × ComeBefore words tables
 
--- ---- rows of one table after another, which are joined
+-- ---- joining rows
 
--- rows count for each page, and each test of words, what others do, and have the postings that others
--- have of each word
+-- two lists of rows count the same for each page and each test of words, and have the same postings
+-- of each word
 pub record TellAlike (rows others : List (List ℕ × List (ℕ × ℕ))) : Type 0 where
-  pub counts : (test : List ℕ → Bool) (page : ℕ) → rows_count test page others ≡ rows_count test page rows
+  pub counts : (test : List ℕ → Bool) (page : ℕ)
+      → rows_count test page others ≡ rows_count test page rows
   pub runs : (word : List ℕ) → postings_of word others ≡ postings_of word rows
 
--- a row and those behind it, of which those that stand side by side and have one word are joined
-abbrev pub joined_from : List ℕ × List (ℕ × ℕ) → List (List ℕ × List (ℕ × ℕ)) → List (List ℕ × List (ℕ × ℕ))
+-- the rows after neighbours with equal words are joined, beginning with this row
+abbrev pub joined_from : List ℕ × List (ℕ × ℕ) → List (List ℕ × List (ℕ × ℕ))
+    → List (List ℕ × List (ℕ × ℕ))
 joined_from row [] = row ∷ []
-joined_from row (next ∷ rows) = if same_word next.0 row.0 then joined_from (row.0, row.1 ++ next.1) rows else row ∷ joined_from next rows
+joined_from row (next ∷ rows) =
+    if same_word next.0 row.0 then joined_from (row.0, row.1 ++ next.1) rows
+    else row ∷ joined_from next rows
 
 abbrev pub joined_rows : List (List ℕ × List (ℕ × ℕ)) → List (List ℕ × List (ℕ × ℕ))
 joined_rows [] = []
 joined_rows (row ∷ rows) = joined_from row rows
 
--- the rows from `start` up to `end` have one word, and together these postings
+-- the rows from `start` up to, not including, `end` have one word, and together these postings
 abbrev pub IsJoined : List (List ℕ × List (ℕ × ℕ)) → ℕ → ℕ → List (ℕ × ℕ) → Type 0
-IsJoined rows start end postings = joined_rows (drop start rows) ≡ (slice_index_or (words_of_rows rows) start [], postings) ∷ joined_rows (drop end rows)
+IsJoined rows start end postings =
+    joined_rows (drop start rows)
+    ≡ (slice_index_or (words_of_rows rows) start [], postings) ∷ joined_rows (drop end rows)

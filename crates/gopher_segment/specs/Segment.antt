@@ -13,10 +13,10 @@ pub record SegmentData : Type 0 where
 abbrev pub pages_of : List SegmentData → List PageData
 pages_of segments = flat_map (λ segment. segment.pages) segments
 
--- how often the words that are meant stand in each page
+-- the number of occurrences in each page of the sought word, or of all words that begin with it
 abbrev pub meant_counts : Bool → List ℕ → List PageData → List ℕ
 meant_counts is_prefix sought pages = map (λ page. count_meant is_prefix sought page.counts) pages
 
--- how many words pages have, each as often as there are pages in which it stands
+-- the sum of the numbers of distinct words of each page
 abbrev pub words_count : List PageData → ℕ
 words_count pages = sum_by (λ page. length page.counts) pages

@@ -1,43 +1,57 @@
--- What the rows of segments say of their pages.
+-- The rows of a segment, which say the same as its pages.
 use Rattle.std.specs.Prelude.{ℕ, ◌+◌, ◌≤◌, ◌≡◌, Bool, false, List, [], ◌∷◌, length, ◌==◌, if◌then◌else◌}
 use Rattle.std.specs.List.{sum_by, AllByRecursion}
+use Rattle.gopher_text.specs.declared.reply_reader.TheConstants.{MAX_REPLY}
 use Rattle.gopher_page.specs.Counts.{count_where}
 use Rattle.gopher_page.specs.Page.{PageData}
 use Rattle.gopher_segment.specs.Postings.{run_of}
 use Rattle.gopher_segment.specs.Rows.{AreInOrder, rows_count, postings_of}
 use Rattle.gopher_segment.specs.Segment.{SegmentData, meant_counts}
 
--- how often the words that pass a test stand in the page of a number, of pages from a number on
+-- the number of occurrences, in the page `number`, of words that pass a test; the first of these
+-- pages has the number `first`
 abbrev pub count_at : (List ℕ → Bool) → ℕ → ℕ → List PageData → ℕ
 count_at test number first [] = 0
-count_at test number first (page ∷ pages) = (if first == number then count_where test page.counts else 0) + count_at test number (first + 1) pages
+count_at test number first (page ∷ pages) =
+    (if first == number then count_where test page.counts else 0)
+    + count_at test number (first + 1) pages
 
--- no page has more than 1,048,576 words
+-- no page has more than `MAX_REPLY` words
 abbrev pub AreSmall : List PageData → Type 0
-AreSmall pages = AllByRecursion (λ page. sum_by (λ entry. entry.1) page.counts ≤ 1048576) pages
+AreSmall pages =
+    AllByRecursion (λ page. sum_by (λ entry. entry.1) page.counts ≤ MAX_REPLY) pages
 
--- for each number and each test of words, rows count what the page of that number does, and for each
--- word they have its postings in the pages, in the order of these
-pub record Tell (first : ℕ) (pages : List PageData) (rows : List (List ℕ × List (ℕ × ℕ))) : Type 0 where
-  pub counts : (test : List ℕ → Bool) (number : ℕ) → rows_count test number rows ≡ count_at test number first pages
-  pub runs : (word : List ℕ) → postings_of word rows ≡ run_of first (meant_counts false word pages)
+-- for each page and each test of words, rows count what the page counts, and for each word they
+-- have its postings in the pages, in order
+pub record Tell (first : ℕ) (pages : List PageData) (rows : List (List ℕ × List (ℕ × ℕ)))
+    : Type 0 where
+  pub counts : (test : List ℕ → Bool) (number : ℕ)
+      → rows_count test number rows ≡ count_at test number first pages
+  pub runs : (word : List ℕ)
+      → postings_of word rows ≡ run_of first (meant_counts false word pages)
 
-pub record AreRowsOf (first : ℕ) (pages : List PageData) (rows : List (List ℕ × List (ℕ × ℕ))) : Type 0 where
+-- the rows of these pages, in order
+pub record AreRowsOf (first : ℕ) (pages : List PageData) (rows : List (List ℕ × List (ℕ × ℕ)))
+    : Type 0 where
   pub order : AreInOrder rows
   pub tell : Tell first pages rows
 
-pub record IsSegment (first : ℕ) (pages : List PageData) (rows : List (List ℕ × List (ℕ × ℕ))) : Type 0 where
+-- the rows of a segment of these pages
+pub record IsSegment (first : ℕ) (pages : List PageData) (rows : List (List ℕ × List (ℕ × ℕ)))
+    : Type 0 where
   pub table : AreRowsOf first pages rows
   pub small : AreSmall pages
 
 -- each segment begins where the one before it ends, and the first at a number
 abbrev pub AreConsecutive : ℕ → List SegmentData → Type 0
 AreConsecutive first [] = Unit {0}
-AreConsecutive first (segment ∷ segments) = (segment.first ≡ first) × AreConsecutive (first + length segment.pages) segments
+AreConsecutive first (segment ∷ segments) =
+    (segment.first ≡ first) × AreConsecutive (first + length segment.pages) segments
 
 -- tables, each of the rows of a segment
 abbrev pub AreTablesOf : List SegmentData → List (List (List ℕ × List (ℕ × ℕ))) → Type 0
 AreTablesOf [] [] = Unit {0}
 AreTablesOf [] (rows ∷ tables) = ⊥
 AreTablesOf (segment ∷ segments) [] = ⊥
-AreTablesOf (segment ∷ segments) (rows ∷ tables) = AreRowsOf segment.first segment.pages rows × AreTablesOf segments tables
+AreTablesOf (segment ∷ segments) (rows ∷ tables) =
+    AreRowsOf segment.first segment.pages rows × AreTablesOf segments tables

@@ -1,16 +1,17 @@
-//! Lists of postings that share their ends.
+//! Lists of postings that share their last parts.
 
 ghost use Rattle.std.specs.Prelude.{◌≡◌, [], ◌∷◌, ◌++◌, length, slice_index_or, IfOk, OnOk, OnErr};
 ghost use Rattle.gopher_segment.specs.Postings.{pieces};
 
 use crate::runs::Runs;
-use gopher_item::NoMemory;
+use gopher_bytes::NoMemory;
 use std::alloc::Global;
 use std::marker::Model;
 
-/// Lists of postings, each of which is that of one page, and then one of the lists before it, or none.
+/// Lists of postings. Each consists of the postings of one page, followed by those of an earlier
+/// list or nothing.
 ///
-/// A link has the page, how often the word stands there, and which list goes on from there.
+/// A link is the page's number, its count of the word, and the number of the earlier list.
 #[derive(Debug, Drop)]
 pub(crate) struct Chains {
     links: Vec<(u16, u32, u32)>,
@@ -26,7 +27,7 @@ impl Model for Chains {
 }
 
 impl Chains {
-    /// No lists, with room for so many. Refused only where memory is (90).
+    /// An empty list of lists with room for `lists` lists.
     pub fn with_capacity(alloc: Global, lists: usize) -> Result<Chains, NoMemory>
         ensures { IfOk result (λ chains. chains ≡ []) }
     {
@@ -35,15 +36,15 @@ impl Chains {
         })
     }
 
-    /// How many lists there are.
+    /// Returns the number of lists.
     pub fn len(&self) -> usize
         ensures { result ≡ length self.now }
     {
         self.links.len()
     }
 
-    /// Adds a list: the postings of a page, and then those of the list `next`, where there is one. Refused
-    /// only where memory is (90).
+    /// Appends a list: the postings of a page that has the word `count` times, then those of the
+    /// list `next`, if there is one.
     pub fn push(&mut self, page: u16, count: u32, next: u32) -> Result<(), NoMemory>
         ensures added { OnOk result (self.new ≡ self.old
             ++ (pieces page count ++ slice_index_or self.old next []) ∷ []) }
@@ -53,7 +54,9 @@ impl Chains {
         Ok(())
     }
 
-    /// Adds the postings of a list, where there is one, to the last run. Refused only where memory is (90).
+    /// Appends the postings of the list `list`, if there is one, to the last run.
+    ///
+    /// If out of memory, the run can end with a prefix of them.
     pub fn add_to(&self, list: u32, runs: &mut Runs) -> Result<(), NoMemory>
         ensures whole { runs.new.whole ≡ runs.old.whole }
         ensures begun { OnOk result (runs.new.begun

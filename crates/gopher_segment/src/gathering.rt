@@ -8,12 +8,12 @@ ghost use Rattle.gopher_segment.specs.Segment.{words_count};
 ghost use Rattle.gopher_segment.specs.SegmentRows.{AreSmall, Tell};
 
 use crate::row::Row;
-use gopher_item::NoMemory;
+use gopher_bytes::NoMemory;
 use gopher_page::{Counts, Page};
 use std::alloc::Global;
 use std::sync::Arc;
 
-// Adds the words of the page of a number.
+// Appends the rows of the page `number`.
 fn add_counts<'a>(number: u16, counts: &'a Counts, rows: &mut Vec<Row<'a>>) -> Result<(), NoMemory>
     ensures rows { OnOk result (rows.new.items ≡ rows.old.items ++ page_rows number counts.now) }
     ensures sound { AreCounts counts.now }
@@ -26,8 +26,7 @@ fn add_counts<'a>(number: u16, counts: &'a Counts, rows: &mut Vec<Row<'a>>) -> R
     Ok(())
 }
 
-/// How many words pages have, each as often as there are pages in which it stands, up to the last value
-/// of a `usize`. Takes no memory.
+/// Returns the sum of the numbers of distinct words of each page, at most `usize::MAX`.
 pub fn words_len(pages: &[Arc<Page>]) -> usize
     ensures { result ≡ min (words_count (map arc_value pages.now)) (2 ^ 64 - 1) }
 {
@@ -38,7 +37,7 @@ pub fn words_len(pages: &[Arc<Page>]) -> usize
     words
 }
 
-/// The words of pages, of which the first has a number, as they stand. Refused only where memory is (90).
+/// Returns the rows of all pages, page by page. The first page has the number `first`.
 pub(crate) fn rows_of<'a>(
     alloc: Global,
     first: usize,

@@ -7,18 +7,18 @@ ghost use Rattle.gopher_segment.specs.Groups.{slot_of_number};
 use crate::chains::Chains;
 use crate::head::Head;
 use crate::row::Row;
-use crate::words::MOST_ITEMS;
-use gopher_item::NoMemory;
+use gopher_bytes::{MAX_PACKED, NoMemory};
 use std::alloc::Global;
 use std::marker::Model;
 
-// How many slots there are.
+// The number of slots.
 const SLOTS: usize = 16_384;
 
-// What stands in a slot to which no word came, and goes on from a list at its end.
+// The content of an empty slot, and the number that means no earlier list.
 const NONE: u32 = 4_294_967_295;
 
-// The slot to which words of a number come.
+// The slot of the words with this leading number. The factor is 2^64 divided by the golden ratio,
+// which spreads close numbers (Fibonacci hashing); the top 14 bits of the product are the slot.
 fn slot_of(number: u64) -> usize
     ensures slot { result ≡ slot_of_number number }
     ensures within { result < 16384 }
@@ -26,8 +26,10 @@ fn slot_of(number: u64) -> usize
     (number.wrapping_mul(0x9E37_79B9_7F4A_7C15) >> 50) as usize
 }
 
-/// Rows grouped by their words. A word comes to a slot, and finds its group there, unless another word
-/// came to it meanwhile: then its rows stand in several groups.
+/// Rows grouped by their words.
+///
+/// A slot has the newest group of one of its words. If words share a slot, a word can have several
+/// groups, and `join` joins them after a sort.
 #[derive(Debug, Drop)]
 pub(crate) struct Groups<'a> {
     pub(crate) slots: Vec<u32>,
@@ -47,7 +49,7 @@ impl<'a> Model for Groups<'a> {
 }
 
 impl<'a> Groups<'a> {
-    /// No groups, with room for those of so many rows. Refused only where memory is (90).
+    /// No groups, with room for those of `rows` rows.
     pub fn new(alloc: Global, rows: usize) -> Result<Groups<'a>, NoMemory>
         ensures { IfOk result (λ groups. groups ≡ []) }
     {
@@ -58,12 +60,16 @@ impl<'a> Groups<'a> {
         })
     }
 
-    /// Adds a row before those that were added. Refused (90) where memory is, or past 4,294,967,295 rows.
+    /// Adds a row in front of the rows that were added before.
+    ///
+    /// # Errors
+    ///
+    /// `NoMemory` (90): out of memory, or there would be over 4,294,967,295 rows (`MAX_PACKED`).
     pub fn add(&mut self, row: &Row<'a>) -> Result<(), NoMemory>
         ensures { OnOk result ((rows : List (List ℕ × List (ℕ × ℕ)))
             → TellAlike rows self.old → TellAlike (row.now ∷ rows) self.new) }
     {
-        if self.chains.len() >= MOST_ITEMS || self.heads.len() >= MOST_ITEMS {
+        if self.chains.len() >= MAX_PACKED || self.heads.len() >= MAX_PACKED {
             return Err(NoMemory);
         }
         let list = self.chains.len() as u32;
@@ -83,7 +89,7 @@ impl<'a> Groups<'a> {
     }
 }
 
-/// Rows grouped. Refused (90) where memory is, or past 4,294,967,295 rows.
+/// Groups rows by their words. The error is that of `Groups::add`.
 pub(crate) fn grouped<'a>(alloc: Global, rows: &[Row<'a>]) -> Result<Groups<'a>, NoMemory>
     ensures { IfOk result (λ groups. TellAlike rows.now groups) }
 {

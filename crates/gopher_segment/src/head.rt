@@ -1,4 +1,4 @@
-//! Words, as they are sorted for a table.
+//! Words with their lists of postings, sorted for a table.
 
 ghost use Rattle.std.specs.Prelude.{◌≡◌, ◌++◌, [], Some, nat_eq, refl, slice_index_or, OnOk};
 ghost use Rattle.std.specs.Ordering.{nat_cmp};
@@ -8,12 +8,12 @@ ghost use Rattle.gopher_page.specs.Words.{same_word};
 
 use crate::chains::Chains;
 use crate::runs::Runs;
-use gopher_item::NoMemory;
+use gopher_bytes::NoMemory;
 use gopher_page::Numbered;
 use std::cmp::Ordering;
 use std::marker::Model;
 
-/// A word, and which list has its postings. In the order of the words' bytes, whatever the list.
+/// A word and the number of its list of postings. Heads are ordered by their words' bytes alone.
 #[derive(Debug, Drop)]
 pub(crate) struct Head<'a> {
     pub(crate) word: Numbered<'a>,
@@ -29,21 +29,23 @@ impl<'a> Model for Head<'a> {
 }
 
 impl<'a> Head<'a> {
-    /// The word.
+    /// Returns the word.
     pub fn word(&self) -> &'a [u8]
         ensures { result.now ≡ self.now.0 }
     {
         self.word.word()
     }
 
-    /// Whether two heads have one word.
+    /// Returns whether both heads have the same word.
     pub fn is_alike(&self, other: &Head<'_>) -> bool
         ensures { result ≡ same_word self.now.0 other.now.0 }
     {
         self.word == other.word
     }
 
-    /// Adds the postings of the word's list to the last of the runs. Refused only where memory is (90).
+    /// Appends the postings of the word's list to the last run.
+    ///
+    /// If out of memory, the run can end with a prefix of them.
     pub fn add_to(&self, chains: &Chains, runs: &mut Runs) -> Result<(), NoMemory>
         ensures whole { runs.new.whole ≡ runs.old.whole }
         ensures begun { OnOk result (runs.new.begun

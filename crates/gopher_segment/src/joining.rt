@@ -13,11 +13,10 @@ use crate::head::Head;
 use crate::row::Row;
 use crate::runs::Runs;
 use crate::table::Table;
-use crate::words::Words;
-use gopher_item::NoMemory;
+use gopher_bytes::{ByteStrings, NoMemory};
 use std::alloc::Global;
 
-// How many bytes the words have, up to the last value of a `usize`.
+// The number of bytes of all words, at most `usize::MAX`.
 fn bytes_len(heads: &[Head<'_>]) -> usize {
     let mut bytes = 0_usize;
     for head in heads {
@@ -26,8 +25,8 @@ fn bytes_len(heads: &[Head<'_>]) -> usize {
     bytes
 }
 
-// The words of rows in their order, and the lists of their postings. A word that was crowded out of its
-// slot stands here more than once, its earliest rows first.
+// The words of rows in order, and the lists of their postings. A word that lost its slot to another
+// occurs more than once, its earliest rows first.
 fn heads_of<'a>(alloc: Global, rows: &[Row<'a>]) -> Result<(Vec<Head<'a>>, Chains), NoMemory>
     ensures order { IfOk result (λ r. IsSorted (λ x y. slice_cmp nat_cmp x.0 y.0) r.0.items) }
     ensures alike { IfOk result (λ r. TellAlike rows.now (rows_of_heads r.1 r.0.items)) }
@@ -42,8 +41,8 @@ fn heads_of<'a>(alloc: Global, rows: &[Row<'a>]) -> Result<(Vec<Head<'a>>, Chain
     Ok((heads, chains))
 }
 
-// Adds the postings of the head at an index, and of those behind it that have the same word, to the last
-// run, and tells where these heads end.
+// Appends the postings of the head at `start`, and of the next heads with the same word, to the
+// last run. Returns the end of these heads.
 fn take_word(
     heads: &[Head<'_>],
     chains: &Chains,
@@ -70,11 +69,11 @@ fn take_word(
     Ok(end)
 }
 
-// One table of heads in order: those of each word are one row, which has their postings in their order.
+// The table of sorted heads: the heads of a word become one row, with their postings in order.
 fn table_of(alloc: Global, heads: &[Head<'_>], chains: &Chains) -> Result<Table, NoMemory>
     ensures { IfOk result (λ table. table ≡ joined_rows (rows_of_heads chains.now heads.now)) }
 {
-    let mut words = Words::with_capacity(alloc, heads.len(), bytes_len(heads))?;
+    let mut words = ByteStrings::with_capacity(alloc, heads.len(), bytes_len(heads))?;
     let mut runs = Runs::with_capacity(alloc, heads.len(), chains.len())?;
     let mut at = 0;
     while at < heads.len() {
@@ -85,8 +84,12 @@ fn table_of(alloc: Global, heads: &[Head<'_>], chains: &Chains) -> Result<Table,
     Ok(Table::packed(words, runs))
 }
 
-/// One table of rows: those of each word are one row, which has their postings in their order. Refused
-/// (90) where memory is, or past 4,294,967,295 rows.
+/// Makes one table of rows: the rows of a word become one row, with their postings in order.
+///
+/// # Errors
+///
+/// `NoMemory` (90): out of memory, or there would be over 4,294,967,295 rows or postings
+/// (`MAX_PACKED`).
 pub(crate) fn join(alloc: Global, rows: &[Row<'_>]) -> Result<Table, NoMemory>
     ensures order { IfOk result (λ table. AreInOrder table) }
     ensures alike { IfOk result (λ table. TellAlike rows.now table) }

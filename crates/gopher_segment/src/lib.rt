@@ -1,9 +1,16 @@
-//! Consecutive pages with the table of their words: what an index is made of.
+//! Consecutive pages with one table of their words and posting lists: the parts of an index.
 //!
-//! RFC 1436 leaves it to a search server how it finds pages: all of this is this profile's.
+//! RFC 1436 doesn't say how a search server finds pages: everything here is this profile's.
 //!
-//! The crates above rest on one promise: a `Segment` is the list of its pages and the number of the first
-//! of them, and what it says of a word, or of all words that begin with one, is what these pages say.
+//! The crates above use these contracts: contracts see a `Segment` as the list of its pages and the
+//! number of the first page, and `Segment::postings` and `Segment::spread` return for a word what
+//! these pages count (`specs/Segment.antt`).
+//!
+//! Pages have consecutive numbers. A table has a row for each word: the word and its run, which is
+//! its list of postings.
+//!
+//! Error 90 (`NoMemory`) means out of memory. Unless its comment says otherwise, a public call that
+//! fails with it leaves its arguments unchanged. Calls that can't fail with it allocate nothing.
 #![tactic(auto)]
 
 mod chains;
@@ -12,7 +19,6 @@ mod groups;
 mod head;
 mod joining;
 mod merging;
-mod parts;
 mod postings;
 mod row;
 mod runs;
@@ -20,7 +26,6 @@ mod segment;
 mod sharing;
 mod size;
 mod table;
-mod words;
 
 pub use gathering::words_len;
 pub use postings::Postings;

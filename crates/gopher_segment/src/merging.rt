@@ -7,13 +7,12 @@ ghost use Rattle.gopher_segment.specs.Rows.{AreInOrder, rows_count, postings_of,
 
 use crate::runs::{Run, Runs};
 use crate::table::Table;
-use crate::words::Words;
-use gopher_item::NoMemory;
+use gopher_bytes::{ByteStrings, NoMemory};
 use gopher_page::Numbered;
 use std::alloc::Global;
 use std::marker::Model;
 
-// The word of the row at an index, where there is a row.
+// The word of the row at an index, if there is a row.
 fn word_at<'a>(table: &'a Table, at: usize) -> Option<Numbered<'a>>
     ensures { result ≡ first_word (drop at table.now) }
 {
@@ -24,7 +23,7 @@ fn word_at<'a>(table: &'a Table, at: usize) -> Option<Numbered<'a>>
     }
 }
 
-// The number of a word, and the last number of all where there is no word.
+// The leading number of a word, or `u64::MAX` for no word.
 fn number_of(word: &Option<Numbered<'_>>) -> u64
     ensures { IsNumberOf result word.now }
 {
@@ -34,10 +33,10 @@ fn number_of(word: &Option<Numbered<'_>>) -> u64
     }
 }
 
-/// The rows of a table that are left to merge.
+/// The rows of a table that aren't merged yet.
 ///
-/// The word of the first of them is kept, since it is compared many times, and its number beside it,
-/// which decides most of these.
+/// The first row's word is kept, because it is compared many times, with its leading number, which
+/// decides most of the comparisons.
 #[derive(Debug, Drop)]
 pub(crate) struct Cursor<'a> {
     table: &'a Table,
@@ -58,7 +57,7 @@ impl<'a> Model for Cursor<'a> {
 }
 
 impl<'a> Cursor<'a> {
-    /// All rows of a table.
+    /// Starts before the first row of a table.
     pub fn new(table: &'a Table) -> Cursor<'a>
         ensures { result ≡ table.now }
     {
@@ -71,21 +70,21 @@ impl<'a> Cursor<'a> {
         }
     }
 
-    // The number of the first row's word, and the last number of all where there is no row.
+    // The leading number of the first row's word, or `u64::MAX` without a row.
     fn number(&self) -> u64
         ensures { IsNumberOf result (first_word self.now) }
     {
         self.number
     }
 
-    // The word of the first row, where there is a row.
+    // The word of the first row, if there is a row.
     fn word(&self) -> Option<&Numbered<'a>>
         ensures { option_copied result ≡ first_word self.now }
     {
         self.word.as_ref()
     }
 
-    // Whether a word is that of the first row.
+    // Whether the first row has this word.
     fn is_at(&self, word: &Numbered<'_>) -> bool
         ensures { result ≡ is_at word.now self.now }
     {
@@ -118,7 +117,7 @@ impl<'a> Cursor<'a> {
     }
 }
 
-// Whether there is a word, and it comes before the lowest where there is one.
+// Whether there is a word, and it comes before the lowest one, if there is one.
 fn is_lower(word: Option<&Numbered<'_>>, lowest: Option<&Numbered<'_>>) -> bool
     ensures { result ≡ is_lower (option_copied word.entry) (option_copied lowest.entry) }
 {
@@ -129,7 +128,8 @@ fn is_lower(word: Option<&Numbered<'_>>, lowest: Option<&Numbered<'_>>) -> bool
     }
 }
 
-// The same of the first word of a cursor, beside the number of the lowest.
+// Whether the cursor has a row whose word comes before the lowest one, whose leading number is
+// `number`.
 fn begins_lower(cursor: &Cursor<'_>, lowest: Option<&Numbered<'_>>, number: u64) -> bool
     requires { IsNumberOf number (option_copied lowest) }
     ensures { result ≡ is_lower (first_word cursor.now) (option_copied lowest.entry) }
@@ -140,7 +140,7 @@ fn begins_lower(cursor: &Cursor<'_>, lowest: Option<&Numbered<'_>>, number: u64)
     is_lower(cursor.word(), lowest)
 }
 
-// The lowest of the first words, and the first of the tables that begin with it.
+// The lowest of the first words, and the index of the first cursor that begins with it.
 fn lowest_word<'a>(cursors: &[Cursor<'a>]) -> Option<(usize, Numbered<'a>)>
     ensures word { option_map (λ r. r.1) result ≡ lowest_from None cursors.now }
     ensures first { IfSome result (λ r. LackBefore r.1 r.0 cursors.now) }
@@ -162,7 +162,7 @@ fn lowest_word<'a>(cursors: &[Cursor<'a>]) -> Option<(usize, Numbered<'a>)>
     }
 }
 
-// Takes the postings of a word, which the first word doesn't come before.
+// Appends the postings of the word, if the first row has it, and passes over this row.
 fn take_run(word: &Numbered<'_>, cursor: &mut Cursor<'_>, runs: &mut Runs) -> Result<(), NoMemory>
     ensures cursor { OnOk result (cursor.new ≡ passed word.now cursor.old) }
     ensures whole { runs.new.whole ≡ runs.old.whole }
@@ -176,7 +176,7 @@ fn take_run(word: &Numbered<'_>, cursor: &mut Cursor<'_>, runs: &mut Runs) -> Re
     Ok(())
 }
 
-// The same table by table, from the first that begins with it.
+// Does the same for all cursors. The first that begins with the word has the index `first`.
 fn take_runs(
     word: &Numbered<'_>,
     first: usize,
@@ -195,7 +195,7 @@ fn take_runs(
     Ok(())
 }
 
-// What tables take, and so one of their rows at most.
+// The sizes of several tables together, which the merged table doesn't exceed.
 #[derive(Clone, Copy)]
 struct Room {
     rows: usize,
@@ -218,7 +218,12 @@ fn room_of(cursors: &[Cursor<'_>]) -> Room {
     room
 }
 
-/// One table of the rows of several, whose words are in order. Refused only where memory is (90).
+/// Merges tables into one. The rows of a word become one row, with their postings in order.
+///
+/// # Errors
+///
+/// `NoMemory` (90): out of memory, or the words would exceed 4,294,967,295 bytes, or the postings
+/// that number (`MAX_PACKED`).
 pub(crate) fn merge(alloc: Global, cursors: &mut [Cursor<'_>]) -> Result<Table, NoMemory>
     requires { AreAllInOrder cursors.old }
     ensures order { IfOk result (λ table. AreInOrder table) }
@@ -228,7 +233,7 @@ pub(crate) fn merge(alloc: Global, cursors: &mut [Cursor<'_>]) -> Result<Table, 
         (word : List ℕ) → postings_of word table ≡ flat_map (postings_of word) cursors.old) }
 {
     let room = room_of(cursors);
-    let mut words = Words::with_capacity(alloc, room.rows, room.bytes)?;
+    let mut words = ByteStrings::with_capacity(alloc, room.rows, room.bytes)?;
     let mut runs = Runs::with_capacity(alloc, room.rows, room.postings)?;
     while let Some((first, word)) = lowest_word(cursors) {
         words.push(word.word())?;

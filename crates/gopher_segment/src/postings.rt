@@ -1,15 +1,14 @@
-//! The postings of a word, as a search goes through them.
+//! The postings of a word, for searches.
 
-/// The postings of a word in consecutive pages: in which of them it stands, and how often.
+/// The posting list of a word: the numbers of the pages that contain it, with its counts.
 ///
-/// A posting counts at most 255. A page in which the word stands more often has several, one after
-/// another.
+/// A posting counts at most 255. A page with a higher count has several postings in sequence.
 #[derive(Drop)]
 pub struct Postings<'a> {
-    /// The number of the first of the pages.
+    /// The number of the segment's first page.
     pub first: usize,
-    /// For each posting the number of its page, in ascending order.
+    /// The page number of each posting, in ascending order.
     pub numbers: &'a [u16],
-    /// For each posting how often it says that the word stands there.
+    /// The count of each posting.
     pub counts: &'a [u8],
 }

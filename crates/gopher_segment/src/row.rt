@@ -1,4 +1,4 @@
-//! The words of pages, as they are joined into a table.
+//! The words of pages, to be joined into a table.
 
 ghost use Rattle.std.specs.Prelude.{◌≡◌, [], ◌∷◌, ◌++◌, slice_index_or, OnOk, OnErr};
 ghost use Rattle.gopher_page.specs.Words.{same_word};
@@ -7,11 +7,11 @@ ghost use Rattle.gopher_segment.specs.Postings.{pieces};
 
 use crate::chains::Chains;
 use crate::head::Head;
-use gopher_item::NoMemory;
+use gopher_bytes::NoMemory;
 use gopher_page::Numbered;
 use std::marker::Model;
 
-/// A word of a page: the number of the page, and how often the word stands there.
+/// A word of a page, with the page's number and its count of the word.
 #[derive(Debug, Drop)]
 pub(crate) struct Row<'a> {
     word: Numbered<'a>,
@@ -30,7 +30,7 @@ impl<'a> Model for Row<'a> {
 }
 
 impl<'a> Row<'a> {
-    /// The row of a word that stands so often in the page of this number.
+    /// The row of a word that the page `number` has `count` times.
     pub fn new(number: u16, word: &'a [u8], count: u32) -> Row<'a>
         ensures { result ≡ (word.now, pieces number count) }
     {
@@ -41,14 +41,14 @@ impl<'a> Row<'a> {
         }
     }
 
-    /// The first eight bytes of the word as one number.
+    /// Returns the leading number of the word: its first eight bytes.
     pub fn leading(&self) -> u64
         ensures { IsNumbered result self.now.0 }
     {
         self.word.number()
     }
 
-    /// The word, with which list has its postings.
+    /// Returns the word with the number of its list of postings.
     pub fn head(&self, list: u32) -> Head<'a>
         ensures { result ≡ (self.now.0, list) }
     {
@@ -58,15 +58,14 @@ impl<'a> Row<'a> {
         }
     }
 
-    /// Whether a head has the row's word.
+    /// Returns whether a head has the row's word.
     pub fn is_of(&self, head: &Head<'_>) -> bool
         ensures { result ≡ same_word head.now.0 self.now.0 }
     {
         head.word == self.word
     }
 
-    /// Adds a list: the postings of the row, and then those of the list `next`, where there is one.
-    /// Refused only where memory is (90).
+    /// Appends a list: the postings of the row, then those of the list `next`, if there is one.
     pub fn add_to_chains(&self, next: u32, chains: &mut Chains) -> Result<(), NoMemory>
         ensures added { OnOk result (chains.new ≡ chains.old
             ++ (self.now.1 ++ slice_index_or chains.old next []) ∷ []) }

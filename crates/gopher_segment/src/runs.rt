@@ -4,15 +4,13 @@ ghost use Rattle.std.specs.Prelude.{◌≡◌, ℕ, ◌+◌, ◌^◌, ◌<◌, �
 ghost use Rattle.std.specs.List.{zip};
 ghost use Rattle.gopher_segment.specs.Postings.{AreWithin, count_in, one_run, pieces};
 
-use crate::parts::{range_at, span_at};
-use crate::words::MOST_ITEMS;
-use gopher_item::NoMemory;
+use gopher_bytes::{MAX_PACKED, NoMemory, range_at, span_at};
 use std::alloc::Global;
 use std::marker::Model;
 
-/// The postings of a word: the numbers of the pages in which it stands, and how often it does.
+/// The postings of a word: page numbers, with a count for each.
 ///
-/// A posting counts at most 255. A page in which the word stands more often has several.
+/// A posting counts at most 255. A page with a higher count has several postings in sequence.
 #[derive(Debug, Drop)]
 pub(crate) struct Run<'a> {
     pages: &'a [u16],
@@ -30,7 +28,7 @@ impl<'a> Model for Run<'a> {
     ghost invariant = { λ r. length r.counts.now ≡ length r.pages.now };
 }
 
-// Adds a count to the cell of a page: the first cell is that of page `first`.
+// Adds a count to the cell of a page. The first cell is that of page `first`.
 fn add_count(cells: &mut [u32], first: usize, page: usize, count: u32)
     requires from { first ≤ page }
     requires within { page < first + length cells.old }
@@ -53,7 +51,7 @@ impl<'a> Run<'a> {
         }
     }
 
-    /// The numbers of the pages, and beside them the counts.
+    /// Returns the page numbers and the counts.
     pub fn parts(&self) -> (&'a [u16], &'a [u8])
         ensures whole { zip result.0.now result.1.now ≡ self.now }
         ensures beside { length result.1.now ≡ length result.0.now }
@@ -61,7 +59,7 @@ impl<'a> Run<'a> {
         (self.pages, self.counts)
     }
 
-    /// Adds the counts to the cells of their pages, of which the first is that of page `first`.
+    /// Adds the counts to the cells of their pages. The first cell is that of page `first`.
     pub fn add_to(&self, first: usize, cells: &mut [u32])
         requires within { AreWithin first (length cells.old) self.now }
         requires room { (k : ℕ) → k < length cells.old
@@ -80,7 +78,7 @@ impl<'a> Run<'a> {
     }
 }
 
-/// Runs of postings one after another. The last may not be ended yet.
+/// A packed list of runs of postings. The last run may not be ended yet.
 #[derive(Debug, Drop)]
 pub(crate) struct Runs {
     pages: Vec<u16>,
@@ -95,7 +93,8 @@ impl Model for Runs {
 
     ghost Value = { RunsData };
 
-    ghost use Rattle.gopher_segment.specs.Parts.{parts, last_end, ArePackedRuns};
+    ghost use Rattle.gopher_bytes.specs.Parts.{parts, last_end};
+    ghost use Rattle.gopher_segment.specs.Postings.{ArePackedRuns};
 
     ghost view = { λ r. record {
       whole = parts (zip r.pages.items r.counts.items) 0 r.ends.items;
@@ -106,7 +105,7 @@ impl Model for Runs {
 }
 
 impl Runs {
-    /// No runs, with room for so many of so many postings. Refused only where memory is (90).
+    /// An empty list with room for `runs` runs with `postings` postings together.
     pub fn with_capacity(alloc: Global, runs: usize, postings: usize) -> Result<Runs, NoMemory>
         ensures whole { IfOk result (λ runs. runs.whole ≡ []) }
         ensures begun { IfOk result (λ runs. runs.begun ≡ []) }
@@ -118,7 +117,7 @@ impl Runs {
         })
     }
 
-    /// Gives back the memory that no posting takes.
+    /// Frees unused room.
     pub fn shrink_to_fit(&mut self)
         ensures { self.new ≡ self.old }
     {
@@ -127,12 +126,12 @@ impl Runs {
         self.ends.shrink_to_fit();
     }
 
-    /// How many postings there are.
+    /// Returns the number of postings of all runs.
     pub fn postings_len(&self) -> usize {
         self.pages.len()
     }
 
-    /// The run at an index.
+    /// Returns the run at `index`.
     pub fn get(&self, index: usize) -> Run<'_>
         requires { index < length self.now.whole }
         ensures { slice_get self.now.whole index ≡ Some result }
@@ -144,7 +143,7 @@ impl Runs {
         }
     }
 
-    /// The postings of the runs from an index up to another, one run after another.
+    /// Returns the postings of the runs from index `start` up to, not including, `end`, as one run.
     pub fn between(&self, start: usize, end: usize) -> Run<'_>
         requires forward { start ≤ end }
         requires within { end ≤ length self.now.whole }
@@ -157,7 +156,7 @@ impl Runs {
         }
     }
 
-    // Adds a posting to the last run.
+    // Appends a posting to the last run.
     #[inline(always)]
     fn push(&mut self, page: u16, count: u8) -> Result<(), NoMemory>
         ensures whole { self.new.whole ≡ self.old.whole }
@@ -169,7 +168,9 @@ impl Runs {
         Ok(())
     }
 
-    /// Adds to the last run that the word stands so often in a page. Refused only where memory is (90).
+    /// Appends the postings of a page that has the word `count` times to the last run.
+    ///
+    /// If out of memory, the run can end with some of them.
     pub fn push_count(&mut self, page: u16, count: u32) -> Result<(), NoMemory>
         ensures whole { self.new.whole ≡ self.old.whole }
         ensures begun { OnOk result (self.new.begun ≡ self.old.begun ++ pieces page count) }
@@ -183,7 +184,7 @@ impl Runs {
         Ok(())
     }
 
-    /// Adds the postings of a run to the last run. Refused only where memory is (90).
+    /// Appends the postings of a run to the last run.
     pub fn extend(&mut self, run: &Run<'_>) -> Result<(), NoMemory>
         ensures whole { self.new.whole ≡ self.old.whole }
         ensures begun { OnOk result (self.new.begun ≡ self.old.begun ++ run.now) }
@@ -198,13 +199,17 @@ impl Runs {
         Ok(())
     }
 
-    /// Ends the last run, and begins another. Refused (90) where memory is, or past 4,294,967,295 postings.
+    /// Ends the last run and begins another.
+    ///
+    /// # Errors
+    ///
+    /// `NoMemory` (90): out of memory, or there are over 4,294,967,295 postings (`MAX_PACKED`).
     #[inline(always)]
     pub fn end_run(&mut self) -> Result<(), NoMemory>
         ensures whole { OnOk result (self.new.whole ≡ self.old.whole ++ self.old.begun ∷ []) }
         ensures begun { OnOk result (self.new.begun ≡ []) }
     {
-        if self.pages.len() > MOST_ITEMS {
+        if self.pages.len() > MAX_PACKED {
             return Err(NoMemory);
         }
         self.ends.push(self.pages.len() as u32)?;

@@ -1,4 +1,4 @@
-//! Consecutive pages with the table of their words.
+//! Segments.
 
 ghost use Rattle.std.specs.Prelude.{◌≡◌, ◌+◌, ◌≤◌, ◌-◌, ◌^◌, false, ◌++◌, length, map, min, replicate, IfOk, OnOk};
 ghost use Rattle.std.specs.Arc.{arc_value};
@@ -14,13 +14,15 @@ use crate::merging::{Cursor, merge};
 use crate::postings::Postings;
 use crate::sharing::{share, shared};
 use crate::table::Table;
-use gopher_item::NoMemory;
+use gopher_bytes::NoMemory;
 use gopher_page::Page;
+use gopher_text::MAX_REPLY;
 use std::alloc::Global;
 use std::marker::Model;
 use std::sync::Arc;
 
-/// Consecutive pages with the table of their words. It is never changed, so that many can share it.
+/// Consecutive pages with one table of their words and posting lists. It never changes, so indexes
+/// share it.
 #[derive(Debug, Drop)]
 pub struct Segment {
     first: usize,
@@ -43,9 +45,10 @@ impl Model for Segment {
 }
 
 impl Segment {
-    /// The segment of pages, of which the first has this number. Refused only where memory is (90).
+    /// Makes the segment of `pages`. The first page has the number `first`.
     ///
-    /// For a moment it takes up to 108 bytes for each word of each page, and 65,536 more.
+    /// While it runs it allocates up to 108 bytes for each distinct word of each page, and 65,536
+    /// bytes more.
     pub fn of_pages(alloc: Global, first: usize, pages: &[Arc<Page>]) -> Result<Segment, NoMemory>
         requires { first + length pages.now ≤ 65536 }
         ensures first { IfOk result (λ segment. segment.first ≡ first) }
@@ -61,8 +64,7 @@ impl Segment {
         })
     }
 
-    /// One segment of the pages of several, of which the first begins at a number. Refused only where
-    /// memory is (90).
+    /// Merges consecutive segments into one. The first page has the number `first`.
     pub fn merged(
         alloc: Global,
         first: usize,
@@ -83,7 +85,7 @@ impl Segment {
         })
     }
 
-    /// The pages.
+    /// Returns the pages.
     pub fn pages(&self) -> &[Arc<Page>]
         ensures pages { map arc_value result.now ≡ self.now.pages }
         ensures small { AreSmall self.now.pages }
@@ -92,25 +94,27 @@ impl Segment {
         &self.pages
     }
 
-    /// The table of the words.
+    /// Returns the table of the words.
     pub(crate) fn table(&self) -> &Table
         ensures { AreRowsOf self.now.first self.now.pages result.now }
     {
         &self.table
     }
 
-    /// Writes into the cells of the pages how often the word `sought` stands in each, or all words that
-    /// begin with it where it is a prefix.
+    /// Writes for each page the number of occurrences of `sought` or, if `is_prefix`, of all words
+    /// that begin with it.
+    ///
+    /// `cells` has a 0 for each page.
     pub fn spread(&self, is_prefix: bool, sought: &[u8], cells: &mut [u32])
         requires { cells.old ≡ replicate (length self.now.pages) 0 }
         ensures counts { cells.new
             ≡ map (λ page. count_meant is_prefix sought.now page.counts) self.now.pages }
-        ensures few { All (λ count. count ≤ 1048576) cells.new }
+        ensures few { All (λ count. count ≤ MAX_REPLY) cells.new }
     {
         self.table.spread(is_prefix, sought, self.first, cells);
     }
 
-    /// The postings of a word.
+    /// Returns the posting list of a word, which is empty if no page contains it.
     pub fn postings(&self, word: &[u8]) -> Postings<'_>
         ensures run { zip result.numbers.now result.counts.now
             ≡ run_of result.first (meant_counts false word.now self.now.pages) }
@@ -135,7 +139,7 @@ fn cursors_of<'a>(alloc: Global, segments: &'a [Arc<Segment>]) -> Result<Vec<Cur
     Ok(cursors)
 }
 
-/// How many pages segments have, up to the last value of a `usize`. Takes no memory.
+/// Returns the number of pages of all segments, at most `usize::MAX`.
 pub fn pages_len(segments: &[Arc<Segment>]) -> usize
     ensures { result ≡ min (length (pages_of (map arc_value segments.now))) (2 ^ 64 - 1) }
 {

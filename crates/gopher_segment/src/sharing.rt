@@ -1,13 +1,15 @@
-//! Handles that several lists share.
+//! Shared values in several lists.
 
 ghost use Rattle.std.specs.Prelude.{◌≡◌, ◌++◌, map, IfOk, OnOk};
 ghost use Rattle.std.specs.Arc.{arc_value};
 
-use gopher_item::NoMemory;
+use gopher_bytes::NoMemory;
 use std::alloc::Global;
 use std::sync::Arc;
 
-/// Adds the same handles. Refused only where memory is (90); then some of them may have been added.
+/// Appends the items to a list, which then shares them.
+///
+/// If out of memory, the list can end with some of them.
 pub fn share<T: Drop>(items: &[Arc<T>], list: &mut Vec<Arc<T>>) -> Result<(), NoMemory>
     ensures { OnOk result (map arc_value list.new.items
         ≡ map arc_value list.old.items ++ map arc_value items.now) }
@@ -19,7 +21,7 @@ pub fn share<T: Drop>(items: &[Arc<T>], list: &mut Vec<Arc<T>>) -> Result<(), No
     Ok(())
 }
 
-/// The same handles. Refused only where memory is (90).
+/// Returns a list that shares the items.
 pub fn shared<T: Drop>(alloc: Global, items: &[Arc<T>]) -> Result<Vec<Arc<T>>, NoMemory>
     ensures { IfOk result (λ list. map arc_value list.items ≡ map arc_value items.now) }
 {

@@ -1,24 +1,28 @@
-//! What a segment takes.
+//! Sizes of segments.
 
 ghost use Rattle.std.specs.Prelude.{◌≡◌, ◌≤◌, ◌+◌, ◌-◌, ◌^◌, true, length, min};
 
 use crate::segment::Segment;
-use crate::words::MOST_ITEMS;
+use gopher_bytes::MAX_PACKED;
 
-// How many pages a segment has at most.
-const MOST_PAGES: usize = 16_384;
+// The most pages of a segment.
+const MAX_PAGES: usize = 16_384;
 
-/// What a segment of so many pages takes.
+// The most postings of a segment that was merged from others. A step of a search goes through the
+// postings of one segment at most.
+const MAX_POSTINGS: usize = 8_388_608;
+
+/// The size of a segment: its pages, the bytes of its words, and its postings.
 #[derive(Clone, Copy)]
 pub struct Size {
-    /// How many pages it has.
+    /// The number of pages.
     pub pages: usize,
     bytes: usize,
     postings: usize,
 }
 
 impl Size {
-    /// What a segment takes. Takes no memory.
+    /// Returns the size of a segment.
     pub fn of(segment: &Segment) -> Size
         ensures { result.pages ≡ length segment.now.pages }
     {
@@ -29,7 +33,7 @@ impl Size {
         }
     }
 
-    /// What a segment takes that is merged with another; no sum goes past the last value of a `usize`.
+    /// Returns the most that two segments have when merged; each sum is at most `usize::MAX`.
     pub fn with(self, other: Size) -> Size
         ensures { result.pages ≡ min (self.pages + other.pages) (2 ^ 64 - 1) }
     {
@@ -40,11 +44,11 @@ impl Size {
         }
     }
 
-    /// Whether a segment can take so much: at most 16,384 pages, 4,294,967,295 bytes of words and as many
-    /// postings. Takes no memory.
+    /// Returns whether a segment can have this size: at most 16,384 pages (`MAX_PAGES`),
+    /// 4,294,967,295 bytes of words (`MAX_PACKED`) and 8,388,608 postings (`MAX_POSTINGS`).
     pub fn fits(self) -> bool
         ensures { result ≡ true → self.pages ≤ 16384 }
     {
-        self.pages <= MOST_PAGES && self.bytes <= MOST_ITEMS && self.postings <= MOST_ITEMS
+        self.pages <= MAX_PAGES && self.bytes <= MAX_PACKED && self.postings <= MAX_POSTINGS
     }
 }

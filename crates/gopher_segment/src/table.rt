@@ -1,4 +1,4 @@
-//! Words with their postings.
+//! The words of a segment with their postings.
 
 ghost use Rattle.std.specs.Prelude.{◌≡◌, true, false, ℕ, ◌+◌, ◌^◌, ◌<◌, ◌≤◌, List, Some, length, slice_get, slice_index};
 ghost use Rattle.std.specs.List.{zip};
@@ -7,7 +7,7 @@ ghost use Rattle.gopher_segment.specs.Postings.{AreWithin};
 ghost use Rattle.gopher_segment.specs.Rows.{words_of_rows, runs_of_rows, is_before_at, is_meant_at, AreInOrder, AreMeant, rows_count, postings_of};
 
 use crate::runs::{Run, Runs};
-use crate::words::Words;
+use gopher_bytes::ByteStrings;
 use std::marker::Model;
 
 fn is_meant(is_prefix: bool, sought: &[u8], word: &[u8]) -> bool
@@ -20,10 +20,10 @@ fn is_meant(is_prefix: bool, sought: &[u8], word: &[u8]) -> bool
     }
 }
 
-/// Rows, each a word with its postings.
+/// Rows: words, each with its postings.
 #[derive(Debug, Drop)]
 pub(crate) struct Table {
-    words: Words,
+    words: ByteStrings,
     runs: Runs,
 }
 
@@ -39,8 +39,8 @@ impl Model for Table {
 }
 
 impl Table {
-    /// The table of words and as many runs, without memory that nothing takes.
-    pub fn packed(mut words: Words, mut runs: Runs) -> Table
+    /// Makes the table of words and as many runs, and frees unused room.
+    pub fn packed(mut words: ByteStrings, mut runs: Runs) -> Table
         requires { length runs.whole ≡ length words }
         ensures { result ≡ zip words runs.whole }
     {
@@ -49,24 +49,24 @@ impl Table {
         Table { words, runs }
     }
 
-    /// How many rows there are.
+    /// Returns the number of rows.
     pub fn len(&self) -> usize
         ensures { result ≡ length self.now }
     {
         self.words.len()
     }
 
-    /// How many bytes the words have.
+    /// Returns the number of bytes of all words.
     pub fn bytes_len(&self) -> usize {
         self.words.bytes_len()
     }
 
-    /// How many postings there are.
+    /// Returns the number of postings of all rows.
     pub fn postings_len(&self) -> usize {
         self.runs.postings_len()
     }
 
-    /// The word of the row at an index.
+    /// Returns the word of the row at `index`.
     pub fn word(&self, index: usize) -> &[u8]
         requires { index < length self.now }
         ensures { slice_get (words_of_rows self.now) index ≡ Some result.now }
@@ -74,7 +74,7 @@ impl Table {
         self.words.get(index)
     }
 
-    /// The postings of the row at an index.
+    /// Returns the postings of the row at `index`.
     pub fn run(&self, index: usize) -> Run<'_>
         requires { index < length self.now }
         ensures { slice_get (runs_of_rows self.now) index ≡ Some result }
@@ -89,7 +89,7 @@ impl Table {
         self.word(index).cmp(sought).is_lt()
     }
 
-    // How many words come before `sought`: these are the first.
+    // The number of words before `sought`. The words are in order.
     fn words_before(&self, sought: &[u8]) -> usize
         requires { AreInOrder self.now }
         ensures within { result ≤ length self.now }
@@ -110,7 +110,7 @@ impl Table {
         low
     }
 
-    /// The postings of a word, none where it isn't there.
+    /// Returns the postings of a word, or none if no row has it.
     pub fn find(&self, sought: &[u8]) -> Run<'_>
         requires { AreInOrder self.now }
         ensures { result ≡ postings_of sought.now self.now }
@@ -129,7 +129,7 @@ impl Table {
         is_meant(is_prefix, sought, self.word(index))
     }
 
-    // Where the words that are meant end, which begin at `start`.
+    // The end of the words that equal or begin with `sought`, which begin at `start`.
     fn words_meant(&self, is_prefix: bool, sought: &[u8], start: usize) -> usize
         requires order { AreInOrder self.now }
         requires start { start ≤ length self.now }
@@ -150,8 +150,8 @@ impl Table {
         low
     }
 
-    /// Adds to the cells of pages, of which the first is that of page `first`, how often the word
-    /// `sought` stands in each, or all words that begin with it where it is a prefix.
+    /// Adds to the cell of each page the number of occurrences of `sought` or, if `is_prefix`, of
+    /// all words that begin with it. The first cell is that of page `first`.
     pub fn spread(&self, is_prefix: bool, sought: &[u8], first: usize, cells: &mut [u32])
         requires order { AreInOrder self.now }
         requires within { (word : List ℕ)

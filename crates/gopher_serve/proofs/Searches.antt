@@ -2,30 +2,17 @@
 use Rattle.std.proofs.Common.{◌≡◌, ℕ, zero, suc, Bool, true, false, ◌+◌, ◌<◌, ◌≤◌, List, [], ◌∷◌, ◌++◌, length, get_or, map, Option, None, Some, IfSome, Ok, cond, not, nat_lt, refl, subst, sym, ap, ◌∙◌, arith, append_assoc}
 use Rattle.std.specs.Prelude.{slice_get, ◌==◌, if◌then◌else◌}
 use Rattle.std.proofs.lemmas.Bool.Decides.{nat_tests}
-use Rattle.std.specs.List.{flat_map, slice_split, onto_first}
-use Rattle.std.proofs.lemmas.List.Concat.{flat_map-cons}
-use Rattle.gopher_item.specs.Place.{HomeData}
+use Rattle.std.specs.List.{slice_split, onto_first}
+use Rattle.gopher_item.specs.Place.{HomeData, is_selector}
 use Rattle.gopher_item.specs.Menu.{fields_of, first_field}
-use Rattle.gopher_item.specs.MenuLine.{menu_line_bytes, menu_bytes}
-use Rattle.gopher_item.specs.Place.{is_selector}
 use Rattle.gopher_item.specs.Request.{answers, request_of, ReadsRequest}
 use Rattle.gopher_item.specs.declared.fault.RequestFault.TheVariants.{BadSelector, LineTooLong}
 use Rattle.gopher_item.specs.declared.request.Request.{Request}
 use Rattle.gopher_page.specs.Query.{TermData}
 use Rattle.gopher_index.specs.declared.hit.Hit.{Hit}
 use Rattle.gopher_crew.specs.Crew.{PassData}
-use Rattle.gopher_serve.specs.Answer.{AnswersTerms, Finds, SeesOn, hit_line, hits_bytes, no_catalogue_bytes}
-
--- the lines of hits, one after another
-flat_map-hits : (hits : List Hit) → flat_map menu_line_bytes (map hit_line hits) ≡ flat_map (λ hit. menu_line_bytes (hit_line hit)) hits
-flat_map-hits [] = refl
-flat_map-hits (hit ∷ hits) =
-    flat_map-cons menu_line_bytes (hit_line hit) (map hit_line hits)
-    ∙ ap (λ l. menu_line_bytes (hit_line hit) ++ l) (flat_map-hits hits)
-    ∙ sym (flat_map-cons (λ hit. menu_line_bytes (hit_line hit)) hit hits)
-
-pub hits_menu_is : (hits : List Hit) (out : List ℕ) → out ≡ flat_map (λ hit. menu_line_bytes (hit_line hit)) hits ++ 46 ∷ 13 ∷ 10 ∷ [] → out ≡ hits_bytes hits
-hits_menu_is hits out is = is ∙ ap (λ l. l ++ 46 ∷ 13 ∷ 10 ∷ []) (sym (flat_map-hits hits))
+use Rattle.gopher_replies.specs.Hits.{hits_bytes}
+use Rattle.gopher_serve.specs.Answer.{AnswersTerms, Finds, SeesOn, no_catalogue_bytes}
 
 -- a search that ended
 pub answers_hits : (home : HomeData) (old new : PassData) (terms : List TermData) (hits : List Hit) (reply : List ℕ)

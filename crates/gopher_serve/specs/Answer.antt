@@ -1,9 +1,7 @@
 -- The reply to a request line: a function of the tree's files, the server's address, the line, and how its search ended.
-use Rattle.std.specs.Prelude.{◌≡◌, ℕ, Bool, nat_eq, codes, List, [], ◌∷◌, map, Option, None, Some, if◌then◌else◌}
+use Rattle.std.specs.Prelude.{◌≡◌, ℕ, Bool, nat_eq, codes, List, [], ◌∷◌, Option, None, Some, if◌then◌else◌}
 use Rattle.std.specs.Cmp.Lexicographic.{pointwise}
-use Rattle.std.specs.List.{flat_map}
 use mathlib.Core.List.{IsPrefix}
-use Rattle.gopher_item.specs.MenuLine.{MenuLineData, menu_bytes, menu_line_bytes}
 use Rattle.gopher_item.specs.Place.{HomeData}
 use Rattle.gopher_item.specs.Request.{request_fault, request_of}
 use Rattle.gopher_item.specs.declared.fault.RequestFault.{RequestFault}
@@ -12,6 +10,7 @@ use Rattle.gopher_page.specs.Query.{TermData, query_of}
 use Rattle.gopher_index.specs.declared.hit.Hit.{Hit}
 use Rattle.gopher_tree.specs.Files.{File}
 use Rattle.gopher_tree.specs.Reply.{error_bytes, tree_reply}
+use Rattle.gopher_replies.specs.Hits.{hits_bytes}
 use Rattle.gopher_catalogue.specs.Legal.{IsLegal}
 use Rattle.gopher_crew.specs.Crew.{PassData, hits_of}
 
@@ -28,17 +27,6 @@ no_words_bytes home = error_bytes (codes "No words") home
 
 abbrev pub no_catalogue_bytes : HomeData → List ℕ
 no_catalogue_bytes home = error_bytes (codes "No catalogue") home
-
--- a hit as a line of a menu: the type, title, selector, host and port of the page that was found
-abbrev pub hit_line : Hit → MenuLineData
-hit_line hit = record { kind = hit.place.kind; display = hit.title; selector = hit.place.selector; host = hit.place.host; port = hit.place.port }
-
--- the lines of hits
-abbrev pub hit_lines : List Hit → List ℕ
-hit_lines hits = flat_map (λ hit. menu_line_bytes (hit_line hit)) hits
-
-abbrev pub hits_bytes : List Hit → List ℕ
-hits_bytes hits = menu_bytes (map hit_line hits)
 
 -- the terms that a search string asks for; none where there is no string
 abbrev pub asked : Option (List ℕ) → List TermData

@@ -1,31 +1,32 @@
 //! The reply to a request line.
 
 ghost use Rattle.std.specs.Prelude.{◌≡◌, ◌≤◌, IfOk, IfSome, OnErr, length};
-ghost use Rattle.gopher_replies.specs.Kept.{reply_bytes};
+ghost use Rattle.gopher_replies.specs.Answer.{answer_bytes};
 ghost use Rattle.gopher_serve.specs.Answer.{AnswersLine, AnswersRequest, SeesOn, bad_request_bytes, is_search};
 
-use crate::searching::search;
+use crate::searching::{begin_search, search};
 use gopher_crew::{Crew, Pass};
 use gopher_item::{ByteString, Home, NoMemory, Request, RequestFault, read_request};
-use gopher_replies::{Replies, Reply};
+use gopher_replies::{Answer, Replies, Reply};
 use gopher_tree::{Tree, error_reply};
 use std::alloc::Global;
 
-/// The reply of a server to a request line (RFC 1436, section 2), given without its end.
+/// Returns the reply of a server to a request line (RFC 1436, section 2). `line` is without its
+/// end.
 ///
-/// - The error reply `Bad request`, if the line is over 1,024 bytes, or its selector is over 255 bytes or
-///   holds a CR, LF or NUL.
-/// - At the selector `/search`: the hits as a menu. The error reply `No words`, if the line has no search
-///   string or one without words. The error reply `No catalogue`, if the published catalogue can't be
-///   entered (61).
-/// - At any other selector what `Tree::reply` gives.
+/// - The line is over 1,024 bytes, or its selector is over 255 bytes or contains a CR, LF or NUL:
+///   the error reply `Bad request`.
+/// - The selector is `/search`: the hits as a menu. If the line has no search string, or one
+///   without words, the error reply `No words`. If the published catalogue can't be entered (61),
+///   the error reply `No catalogue`.
+/// - Any other selector: the reply of `Tree::reply`.
 ///
-/// What the pass was told of and has seen is a prefix of the record that it answers from. It is asked
-/// only if there are words to search for.
+/// The pass searches only if there are words to search for. It answers from a record that begins
+/// with everything that it had seen or was told of.
 ///
 /// # Errors
 ///
-/// Out of memory (90). The pass may have seen more then.
+/// Out of memory (90). The pass may have seen more.
 pub fn answer<C: Crew>(
     alloc: Global,
     tree: &Tree,
@@ -44,7 +45,7 @@ pub fn answer<C: Crew>(
     }
 }
 
-// The reply to a request of a line that isn't too long.
+// The reply to a request whose line isn't too long.
 fn answer_request<C: Crew>(
     alloc: Global,
     tree: &Tree,
@@ -63,44 +64,47 @@ fn answer_request<C: Crew>(
     tree.reply(alloc, request.selector.as_slice(), home)
 }
 
-/// The reply that `answer` gives, from replies that are kept.
+/// Returns the reply that `answer` returns, from replies that are kept, or a search that makes it.
+/// The search answers from the record that was published when it began.
 ///
 /// # Errors
 ///
-/// Out of memory (90). The pass may have seen more then.
+/// Out of memory (90). The pass may have seen more.
 pub fn answer_kept<'a, C: Crew>(
     alloc: Global,
     replies: &'a Replies,
     pass: &mut Pass<C>,
     line: &[u8],
-) -> Result<Reply<'a>, NoMemory>
-    ensures answered { IfOk result (λ reply.
-        AnswersLine replies.now.files replies.now.home pass.old pass.new line.now (reply_bytes reply)) }
+) -> Result<Answer<'a>, NoMemory>
+    ensures answered { IfOk result (λ answer.
+        AnswersLine replies.now.files replies.now.home pass.old pass.new line.now
+        (answer_bytes answer)) }
     ensures refused { OnErr result (SeesOn pass.old pass.new) }
 {
     match read_request(alloc, line) {
         Ok(request) => answer_kept_request(alloc, replies, pass, &request),
         Err(RequestFault::NoMemory) => Err(NoMemory),
-        Err(_bad) => Ok(Reply::Made(bad_request(alloc, replies.home())?)),
+        Err(_bad) => Ok(Answer::Ready(Reply::Made(bad_request(alloc, replies.home())?))),
     }
 }
 
-// The reply to a request of a line that isn't too long, from replies that are kept.
+// The reply to such a request from replies that are kept, or a search that makes it.
 fn answer_kept_request<'a, C: Crew>(
     alloc: Global,
     replies: &'a Replies,
     pass: &mut Pass<C>,
     request: &Request,
-) -> Result<Reply<'a>, NoMemory>
+) -> Result<Answer<'a>, NoMemory>
     requires { IfSome request.now.search (λ text. length text ≤ 1024) }
-    ensures answered { IfOk result (λ reply.
-        AnswersRequest replies.now.files replies.now.home pass.old pass.new request.now (reply_bytes reply)) }
+    ensures answered { IfOk result (λ answer.
+        AnswersRequest replies.now.files replies.now.home pass.old pass.new request.now
+        (answer_bytes answer)) }
     ensures refused { OnErr result (SeesOn pass.old pass.new) }
 {
     if is_search(request.selector.as_slice()) {
-        return Ok(Reply::Made(search(alloc, replies.home(), pass, &request.search)?));
+        return begin_search(alloc, replies.home(), pass, &request.search);
     }
-    replies.reply(alloc, request.selector.as_slice())
+    Ok(Answer::Ready(replies.reply(alloc, request.selector.as_slice())?))
 }
 
 // Whether the selector is that of the search line.

@@ -9,16 +9,15 @@ use gopher_text::{ReplyFault, Watched, read_reply, send};
 use std::alloc::{AllocError, Global};
 use std::io::{Read, Write};
 
-/// Fetches the reply of a place over a connection to its server: sends the selector and CR LF, and reads
-/// to the end of the input, at most `limit` bytes, which is at most 1,048,576.
+/// Fetches the reply of a place over a connection to its server: sends the selector and CR LF, and
+/// reads to the end of the input. `limit` is the most bytes of the reply, at most 1,048,576.
 ///
 /// # Errors
 ///
-/// - `Write` (3): a write failed, as `gopher_text::send` has it; a beginning of the request was written.
-/// - `Read` (2): a read failed, or too many reads didn't reach the end, as `gopher_text::read_reply` has
-///   it.
-/// - `TooLong` (4): the reply has more than `limit` bytes, of which one more than that was read.
-/// - `NoMemory` (5): memory was refused.
+/// - `Write` (3): `gopher_text::send` failed. A prefix of the request was written.
+/// - `Read` (2): `gopher_text::read_reply` failed with a failed read or too many reads.
+/// - `TooLong` (4): the reply has more than `limit` bytes. One byte more than that was read.
+/// - `NoMemory` (5): out of memory.
 pub fn fetch_over<S: Read + Write>(
     alloc: Global,
     stream: &mut Watched<S>,
@@ -43,7 +42,7 @@ pub fn fetch_over<S: Read + Write>(
     }
 }
 
-// What is sent to a server for a place: its selector, and CR LF.
+// The request for a place: its selector, and CR LF.
 fn request_of(alloc: Global, place: &Place) -> Result<Vec<u8>, AllocError>
     ensures { IfOk result (λ request. request.items ≡ request_bytes place.now) }
 {
@@ -52,7 +51,7 @@ fn request_of(alloc: Global, place: &Place) -> Result<Vec<u8>, AllocError>
     Ok(request)
 }
 
-// Why there is no reply where it wasn't read to its end.
+// The reason of a reply that wasn't read to its end.
 fn why_of(fault: ReplyFault) -> Why
     ensures { result ≡ why_of fault }
 {

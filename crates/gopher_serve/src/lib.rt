@@ -1,8 +1,12 @@
-//! What a server answers: the reply to each request line, from a tree and a pass, and the reply that is
-//! fetched from another server.
+//! The replies of a server to request lines, from a tree and a pass, and the replies that it
+//! fetches from other servers.
 //!
-//! The program rests on one promise: what `answer` gives to a line is `reply_of` of the tree's files,
-//! the server's address, the line, and how its search ended. No socket appears here.
+//! The program rests on one promise: `answer` and `answer_kept` return `reply_of` for the tree's
+//! files, the server's address, the line, and how its search ended. `answer_kept` may return a
+//! search that is to be done in steps; its bytes are decided when it begins. No socket appears
+//! here.
+//!
+//! `NoMemory` (90) means out of memory. Calls that can't fail with it allocate nothing.
 #![tactic(auto)]
 
 mod answering;
@@ -13,6 +17,8 @@ mod site;
 
 pub use answering::{answer, answer_kept};
 pub use fetching::fetch_over;
-pub use gopher_conversation::{Answers, Conversation, Progress, ServeFault, advance, serve_with};
+pub use gopher_conversation::{
+    Answers, Conversation, Progress, ServeFault, advance, converse, serve_with,
+};
 pub use serving::serve_one;
 pub use site::Site;

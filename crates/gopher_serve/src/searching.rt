@@ -1,17 +1,34 @@
 //! The reply to a search.
 
-ghost use Rattle.std.specs.Prelude.{◌≡◌, ◌<◌, ◌≤◌, ◌++◌, IfOk, IfSome, OnErr, OnOk, length};
-ghost use Rattle.gopher_item.specs.MenuLine.{menu_line_bytes};
-ghost use Rattle.gopher_serve.specs.Answer.{AnswersTerms, SeesOn, asked, hit_line, hit_lines, hits_bytes, no_catalogue_bytes, no_words_bytes};
+ghost use Rattle.std.specs.Prelude.{◌≡◌, ◌<◌, ◌≤◌, [], IfOk, IfSome, MatchOption, OnErr, length};
+ghost use Rattle.gopher_replies.specs.Answer.{answer_bytes};
+ghost use Rattle.gopher_serve.specs.Answer.{AnswersTerms, SeesOn, asked, no_catalogue_bytes, no_words_bytes};
 
 use gopher_crew::{Crew, Pass, SearchFault};
-use gopher_index::Hit;
-use gopher_item::{ByteString, Home, NoMemory, push_last_line, push_menu_line};
+use gopher_index::Begun;
+use gopher_item::{ByteString, Home, NoMemory};
 use gopher_page::{Query, QueryFault};
+use gopher_replies::{Answer, Reply, SearchReply, hits_menu};
 use gopher_tree::error_reply;
-use std::alloc::{AllocError, Global};
+use std::alloc::Global;
 
-/// The reply to a search of this string, if the line has one. It has at most 1,024 bytes.
+// The query of a search string, of at most 1,024 bytes; none if there are no words.
+fn query_of(alloc: Global, search: &Option<ByteString>) -> Result<Option<Query>, NoMemory>
+    requires { IfSome search.now (λ text. length text ≤ 1024) }
+    ensures { IfOk result (λ query. MatchOption query (asked search.now ≡ [])
+        (λ terms. (terms ≡ asked search.now) × (0 < length terms))) }
+{
+    let Some(text) = search else {
+        return Ok(None);
+    };
+    match Query::read(alloc, text.as_slice()) {
+        Ok(query) => Ok(Some(query)),
+        Err(QueryFault::NoWords) => Ok(None),
+        Err(QueryFault::NoMemory) => Err(NoMemory),
+    }
+}
+
+/// Returns the reply to a search for a string of at most 1,024 bytes, if the line has one.
 pub fn search<C: Crew>(
     alloc: Global,
     home: &Home,
@@ -23,14 +40,35 @@ pub fn search<C: Crew>(
         AnswersTerms home.now pass.old pass.new (asked search.now) reply.items) }
     ensures refused { OnErr result (SeesOn pass.old pass.new) }
 {
-    let Some(text) = search else {
-        return no_words(alloc, home);
-    };
-    match Query::read(alloc, text.as_slice()) {
-        Ok(query) => look_up(alloc, home, pass, &query),
-        Err(QueryFault::NoWords) => no_words(alloc, home),
-        Err(QueryFault::NoMemory) => Err(NoMemory),
+    match query_of(alloc, search)? {
+        Some(query) => look_up(alloc, home, pass, &query),
+        None => no_words(alloc, home),
     }
+}
+
+/// Returns the same reply, or a search that makes it.
+pub fn begin_search<'a, C: Crew>(
+    alloc: Global,
+    home: &Home,
+    pass: &mut Pass<C>,
+    search: &Option<ByteString>,
+) -> Result<Answer<'a>, NoMemory>
+    requires { IfSome search.now (λ text. length text ≤ 1024) }
+    ensures answered { IfOk result (λ answer.
+        AnswersTerms home.now pass.old pass.new (asked search.now) (answer_bytes answer)) }
+    ensures refused { OnErr result (SeesOn pass.old pass.new) }
+{
+    match query_of(alloc, search)? {
+        Some(query) => begin_look_up(alloc, home, pass, &query),
+        None => Ok(made(no_words(alloc, home)?)),
+    }
+}
+
+// A reply that was made for the request.
+fn made<'a>(bytes: Vec<u8>) -> Answer<'a>
+    ensures { answer_bytes result ≡ bytes.items }
+{
+    Answer::Ready(Reply::Made(bytes))
 }
 
 // The reply to a query.
@@ -53,6 +91,27 @@ fn look_up<C: Crew>(
     }
 }
 
+// The same reply, or a search that makes it.
+#[tactic(auto, using(crate::proofs::Searches::answers_hits, crate::proofs::Searches::answers_none))]
+fn begin_look_up<'a, C: Crew>(
+    alloc: Global,
+    home: &Home,
+    pass: &mut Pass<C>,
+    query: &Query,
+) -> Result<Answer<'a>, NoMemory>
+    requires { 0 < length query.now }
+    ensures answered { IfOk result (λ answer.
+        AnswersTerms home.now pass.old pass.new query.now (answer_bytes answer)) }
+    ensures refused { OnErr result (SeesOn pass.old pass.new) }
+{
+    match pass.begin(query) {
+        Ok(Begun::Found(hits)) => Ok(made(hits_menu(alloc, &hits)?)),
+        Ok(Begun::Searching(search)) => Ok(Answer::Searching(SearchReply::new(search))),
+        Err(SearchFault::NoEntry) => Ok(made(no_catalogue(alloc, home)?)),
+        Err(SearchFault::NoMemory) => Err(NoMemory),
+    }
+}
+
 // The reply to a search that names no word.
 fn no_words(alloc: Global, home: &Home) -> Result<Vec<u8>, NoMemory>
     ensures { IfOk result (λ reply. reply.items ≡ no_words_bytes home.now) }
@@ -65,39 +124,4 @@ fn no_catalogue(alloc: Global, home: &Home) -> Result<Vec<u8>, NoMemory>
     ensures { IfOk result (λ reply. reply.items ≡ no_catalogue_bytes home.now) }
 {
     error_reply(alloc, b"No catalogue", home)
-}
-
-// The menu of the hits.
-fn hits_menu(alloc: Global, hits: &[Hit]) -> Result<Vec<u8>, NoMemory>
-    ensures { IfOk result (λ bytes. bytes.items ≡ hits_bytes hits.now) }
-{
-    let mut out = Vec::new(alloc);
-    push_hits(hits, &mut out)?;
-    push_last_line(&mut out)?;
-    Ok(out)
-}
-
-// Appends a line for each hit.
-fn push_hits(hits: &[Hit], out: &mut Vec<u8>) -> Result<(), AllocError>
-    ensures { OnOk result (out.new.items ≡ out.old.items ++ hit_lines hits.now) }
-{
-    for hit in hits {
-        push_hit(hit, out)?;
-    }
-    Ok(())
-}
-
-// Appends the line of a hit.
-fn push_hit(hit: &Hit, out: &mut Vec<u8>) -> Result<(), AllocError>
-    ensures { OnOk result (out.new.items ≡ out.old.items ++ menu_line_bytes (hit_line hit.now)) }
-{
-    let place = &hit.place;
-    push_menu_line(
-        place.kind(),
-        hit.title.as_slice(),
-        place.selector(),
-        place.host(),
-        place.port(),
-        out,
-    )
 }

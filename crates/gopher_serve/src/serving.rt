@@ -1,4 +1,4 @@
-//! One conversation of a tree, over streams that wait.
+//! One conversation of a tree, over streams that block.
 
 ghost use Rattle.std.specs.Prelude.{◌≡◌, IfErr};
 ghost use Rattle.gopher_conversation.specs.Serve.{IsUnheard, Serves, stream_of};
@@ -13,15 +13,15 @@ use gopher_tree::Tree;
 use std::alloc::Global;
 use std::io::{Read, Write};
 
-/// Reads a request line from `reader`, not a byte after its end, and sends to `writer` the reply that
-/// `answer` gives to it.
+/// Reads a request line from `reader`, not a byte after its end, and sends the reply of `answer` to
+/// `writer`.
 ///
 /// # Errors
 ///
-/// - `LineTooLong` (7), `ReadFailed` (10), `TooManyTurns` (11), as `gopher_text::read_line_from` has
-///   them. Nothing was asked, and nothing written.
-/// - `WriteFailed` (13), as `gopher_text::send` has it. A prefix of the reply was written.
-/// - `NoMemory` (90). Nothing was written.
+/// - `LineTooLong` (7), `ReadFailed` (10), `TooManyTurns` (11): those of
+///   `gopher_text::read_line_from`. Nothing was asked, and nothing written.
+/// - `WriteFailed` (13): that of `gopher_text::send`. A prefix of the reply was written.
+/// - `NoMemory` (90): out of memory. Nothing was written.
 pub fn serve_one<C: Crew, R: Read, W: Write>(
     alloc: Global,
     tree: &Tree,

@@ -7,11 +7,11 @@ use crate::answering::answer_kept;
 use gopher_conversation::Answers;
 use gopher_crew::{Crew, Pass};
 use gopher_item::NoMemory;
-use gopher_replies::{Replies, Reply};
+use gopher_replies::{Answer, Replies};
 use std::alloc::Global;
 use std::marker::Model;
 
-/// A tree's replies and a pass, which answer as `answer_kept` does.
+/// A tree's replies and a pass. It answers as `answer_kept` does.
 #[derive(Drop)]
 pub struct Site<'a, C: Crew> {
     replies: &'a Replies,
@@ -27,14 +27,14 @@ impl<'a, C: Crew> Model for Site<'a, C> {
 }
 
 impl<'a, C: Crew> Site<'a, C> {
-    /// A site of these replies, whose searches are this pass's. Takes no memory.
+    /// Makes a site of replies, with the pass for its searches.
     pub fn new(replies: &'a Replies, pass: Pass<C>) -> Site<'a, C>
         ensures { result ≡ site_with replies.now.files replies.now.home pass }
     {
         Site { replies, pass }
     }
 
-    /// The pass, with what it has seen. Takes no memory.
+    /// Returns the pass, with what it has seen.
     pub fn into_pass(self) -> Pass<C>
         ensures { result ≡ self.entry.pass }
     {
@@ -49,7 +49,7 @@ impl<'a, C: Crew> Answers<'a> for Site<'a, C> {
 
     ghost leads_to = { LeadsOn };
 
-    fn answer(&mut self, alloc: Global, line: &[u8]) -> Result<Reply<'a>, NoMemory> {
+    fn answer(&mut self, alloc: Global, line: &[u8]) -> Result<Answer<'a>, NoMemory> {
         answer_kept(alloc, self.replies, &mut self.pass, line)
     }
 }

@@ -1,4 +1,4 @@
-//! What a refused accept means.
+//! Failed accepts, by the system's error.
 
 ghost use Rattle.std.specs.Prelude.{◌≡◌};
 ghost use Rattle.gopher_server.specs.Accepting.{failure_of, is_lost, is_short};
@@ -34,7 +34,7 @@ const EHOSTDOWN: u32 = 112;
 
 const EHOSTUNREACH: u32 = 113;
 
-/// What a refused accept means.
+/// What the error of a failed accept means.
 #[derive(Clone, Copy, Debug, PartialEq, Eq)]
 pub(crate) enum AcceptFailure {
     /// The connection is lost; the next may be accepted.
@@ -52,8 +52,8 @@ fn is_short(error: u32) -> bool
     error == ENOMEM || error == ENFILE || error == EMFILE || error == ENOBUFS
 }
 
-// Whether the call was interrupted, or one connection is lost: accept(2) has the network errors after
-// which to try again.
+// Whether the call was interrupted, or one connection is lost: accept(2) has the network errors
+// after which to try again.
 fn is_lost(error: u32) -> bool
     ensures { result ≡ is_lost error }
 {
@@ -70,7 +70,7 @@ fn is_lost(error: u32) -> bool
         || error == EHOSTUNREACH
 }
 
-/// What an error of accept(2) means, by its number.
+/// Returns what an error of accept(2) means, by its number.
 pub(crate) fn failure_of(error: u32) -> AcceptFailure
     ensures { result ≡ failure_of error }
 {

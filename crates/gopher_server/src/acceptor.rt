@@ -16,7 +16,7 @@ const PAUSE: u64 = 100;
 enum Accepting {
     // It accepts what waits.
     Watches,
-    // It holds so many connections that it leaves further ones to other threads.
+    // It holds more than its share of connections and leaves new ones to other threads.
     Leaves,
     // Descriptors or memory are short: it accepts nothing before this time, in milliseconds.
     Pauses(u64),
@@ -34,7 +34,7 @@ pub(crate) struct Acceptor {
 }
 
 impl Acceptor {
-    /// One that accepts at these listeners, whose connections are reported already.
+    /// Makes an acceptor for these listeners. Their connections are reported already.
     pub(crate) fn new(listeners: Arc<Vec<TcpListener>>, shared: Arc<ServerShared>) -> Acceptor {
         shared.places.add_thread();
         Acceptor {
@@ -44,12 +44,12 @@ impl Acceptor {
         }
     }
 
-    /// Whether it accepts nothing more.
+    /// Returns whether it accepts nothing more.
     pub(crate) fn is_ended(&self) -> bool {
         self.listeners.is_none()
     }
 
-    /// When it goes on, if it pauses.
+    /// Returns the end of its pause, if it pauses.
     pub(crate) fn resumes_at(&self) -> Option<u64> {
         match self.accepting {
             Accepting::Pauses(until) => Some(until),
@@ -57,14 +57,14 @@ impl Acceptor {
         }
     }
 
-    // Has the listeners' connections reported no more.
+    // Stops the reports of the listeners' connections.
     fn unwatch(&self, poll: &Poll) {
         if let Some(listeners) = &self.listeners {
             unwatch(poll, listeners);
         }
     }
 
-    /// Accepts nothing more. The last one that does closes the listeners.
+    /// Stops accepting. The last thread that stops closes the listeners.
     pub(crate) fn stop(&mut self, poll: &Poll) {
         if self.is_ended() {
             return;
@@ -75,14 +75,14 @@ impl Acceptor {
         self.shared.lose_thread();
     }
 
-    /// Takes one of the quota, or accepts nothing more.
+    /// Takes one of the quota, or stops accepting if none is left.
     pub(crate) fn take_quota(&mut self, poll: &Poll) {
         if !self.shared.quota.take() {
             self.stop(poll);
         }
     }
 
-    /// The next connection that waits at a listener; none if nothing is accepted now.
+    /// Accepts the next connection at a listener; `None` if nothing is accepted now.
     pub(crate) fn next_client(&self, index: usize) -> Option<io::Result<(TcpStream, SocketAddr)>> {
         if self.accepting != Accepting::Watches {
             return None;
@@ -91,13 +91,13 @@ impl Acceptor {
         Some(listener.accept())
     }
 
-    /// Accepts nothing for a time.
+    /// Accepts nothing for 100 ms.
     pub(crate) fn pause(&mut self, poll: &Poll, now: u64) {
         self.unwatch(poll);
         self.accepting = Accepting::Pauses(now.saturating_add(PAUSE));
     }
 
-    // Accepts again, if the system allows it, and pauses if not.
+    // Accepts again. If the system refuses, pauses again.
     fn resume(&mut self, poll: &Poll, now: u64) {
         let Some(listeners) = &self.listeners else {
             return;
@@ -109,15 +109,15 @@ impl Acceptor {
         };
     }
 
-    // Leaves further connections to the other threads.
+    // Leaves new connections to the other threads.
     fn leave(&mut self, poll: &Poll) {
         self.unwatch(poll);
         self.accepting = Accepting::Leaves;
         self.shared.wake_all();
     }
 
-    /// Leaves connections to the other threads if this one holds many more than its share, and accepts
-    /// them again if it doesn't, or the pause is over.
+    /// Leaves new connections to other threads while this thread holds many more than its share.
+    /// Accepts again when it doesn't, or when a pause is over.
     pub(crate) fn keep_share(&mut self, poll: &Poll, held: u64, now: u64) {
         let leaves = self.shared.places.leaves_to_others(held);
         match self.accepting {

@@ -1,6 +1,6 @@
 //! One connection with a client.
 
-use gopher_conversation::{Answers, Conversation, Progress, advance};
+use gopher_conversation::{Answers, Conversation, Progress, converse};
 use gopher_log_writer::{Accepted, ThreadLog};
 use gopher_text::Watched;
 use mio::net::TcpStream;
@@ -10,26 +10,39 @@ use std::net::Shutdown;
 use std::sync::Wait;
 use std::time::Clock;
 
-/// How many bytes are read at once: a request line has at most 1,026.
+/// The bytes that are read at once. A request line has at most 1,026.
 pub(crate) const BUFFER_BYTES: usize = 4_096;
 
-// A connection whose reply has more bytes lingers after it.
+// A connection lingers after a reply of more bytes.
 const LINGER_ABOVE: usize = 65_536;
 
-// How often a lingering connection is read in one go.
+// The most reads of a lingering connection before other events are handled.
 const MAX_READS: u32 = 16;
 
-/// What a connection does next.
+/// The next step of a connection.
 #[derive(Clone, Copy, PartialEq, Eq)]
 pub(crate) enum NextStep {
     /// It goes on when the client is ready.
     Waits,
+    /// A search makes its reply. It can go on at once, but others are served first.
+    Works,
     /// It can go on at once.
     Ready,
-    /// Its reply is sent; what the client still sends is read, and thrown away.
+    /// Its reply is sent. What the client still sends is read and dropped.
     Lingers,
     /// It ends.
     Ends,
+}
+
+// What a connection is doing.
+#[derive(Clone, Copy, PartialEq, Eq)]
+enum Activity {
+    // It converses with the client.
+    Talks,
+    // A search makes its reply.
+    Searches,
+    // Its reply is sent, and it reads what the client still sends.
+    Lingers,
 }
 
 /// A connection with a client, which never waits.
@@ -38,7 +51,7 @@ pub(crate) struct Connection<'a> {
     stream: TcpStream,
     conversation: Conversation<'a>,
     accepted: Option<Accepted>,
-    lingers: bool,
+    activity: Activity,
 }
 
 // Adds the line of a conversation to the log, if a line was asked.
@@ -55,7 +68,7 @@ fn add_line<R: Wait + Clock>(
 }
 
 impl<'a> Connection<'a> {
-    /// A connection of which nothing was read yet, and how it was accepted, if its request is logged.
+    /// Makes a connection that has read nothing yet. `accepted` is there if its request is logged.
     pub(crate) fn new(
         alloc: Global,
         stream: TcpStream,
@@ -65,30 +78,35 @@ impl<'a> Connection<'a> {
             stream,
             conversation: Conversation::new(alloc),
             accepted,
-            lingers: false,
+            activity: Activity::Talks,
         }
     }
 
-    /// The stream to the client.
+    /// Returns the stream to the client.
     pub(crate) fn stream_mut(&mut self) -> &mut TcpStream {
         &mut self.stream
     }
 
-    /// Goes on for as long as the client is ready.
+    /// Returns whether a search makes its reply.
+    pub(crate) fn searches(&self) -> bool {
+        self.activity == Activity::Searches
+    }
+
+    /// Goes on while the client is ready. If a search makes the reply, takes one step of it.
     pub(crate) fn go_on<A: Answers<'a>>(
         &mut self,
         alloc: Global,
         answers: &mut A,
         buffer: &mut [u8; BUFFER_BYTES],
     ) -> NextStep {
-        if self.lingers {
+        if self.activity == Activity::Lingers {
             self.read_on(buffer)
         } else {
             self.talk(alloc, answers, buffer)
         }
     }
 
-    /// Has its request logged, unless that was done, or no line was asked.
+    /// Adds its request to the log, unless that was done or no line was asked.
     pub(crate) fn log_request<R: Wait + Clock>(
         &mut self,
         rt: &R,
@@ -100,39 +118,40 @@ impl<'a> Connection<'a> {
         }
     }
 
-    // Converses for as long as the client is ready.
+    // Converses while the client is ready and no search makes the reply.
     fn talk<A: Answers<'a>>(
         &mut self,
         alloc: Global,
         answers: &mut A,
         buffer: &mut [u8; BUFFER_BYTES],
     ) -> NextStep {
-        for _step in 0..u64::MAX {
-            let progress = advance(
-                alloc,
-                &mut self.conversation,
-                answers,
-                &mut Watched::new(&self.stream),
-                &mut Watched::new(&self.stream),
-                buffer,
-            );
-            match progress {
-                Progress::Paused => {}
-                Progress::Waits => return NextStep::Waits,
-                Progress::Failed(_fault) => return NextStep::Ends,
-                Progress::Done => return self.end_reply(),
+        let progress = converse(
+            alloc,
+            &mut self.conversation,
+            answers,
+            &mut Watched::new(&self.stream),
+            &mut Watched::new(&self.stream),
+            buffer,
+        );
+        self.activity = Activity::Talks;
+        match progress {
+            Progress::Works => {
+                self.activity = Activity::Searches;
+                NextStep::Works
             }
+            Progress::Waits => NextStep::Waits,
+            Progress::Done => self.end_reply(),
+            Progress::Paused | Progress::Failed(_) => NextStep::Ends,
         }
-        NextStep::Ends
     }
 
-    // Ends the sending side: the client sees the end of the reply. It may have sent more than its line,
-    // and a connection that is closed over unread bytes is reset, which takes from the client what it
-    // hasn't read of the reply.
+    // Ends the sending side: the client sees the end of the reply. It may have sent more than its
+    // line, and a connection that is closed over unread bytes is reset, which takes from the client
+    // what it hasn't read of the reply.
     fn end_reply(&mut self) -> NextStep {
         let ended = self.stream.shutdown(Shutdown::Write);
-        if ended.is_ok() && self.conversation.reply_len() > LINGER_ABOVE {
-            self.lingers = true;
+        if ended.is_ok() && self.conversation.sent_len() > LINGER_ABOVE {
+            self.activity = Activity::Lingers;
             NextStep::Lingers
         } else {
             NextStep::Ends

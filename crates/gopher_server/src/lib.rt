@@ -1,8 +1,12 @@
-//! A server thread: it accepts connections at all listeners, converses with the clients over sockets
-//! that never block, and closes the connections that are idle longest when all places are taken.
+//! A server thread. It accepts connections at all listeners and converses with clients over sockets
+//! that never block. When all places are taken, it closes the connection that was idle longest.
 //!
-//! What its contracts say of a connection is that each call is safe and ends; what a client is sent is
-//! said by `gopher_conversation`, and which connection goes by `gopher_connections`.
+//! Searches that take long are done in steps. While their queue isn't empty, a thread doesn't wait
+//! for events: in each round it handles all events first, then works for about a millisecond on the
+//! first search of the queue.
+//!
+//! The contracts here say only that calls are safe. `gopher_conversation` promises what a client
+//! receives, and `gopher_connections` which connection is closed and which search is next.
 #![tactic(auto)]
 
 mod accepting;
@@ -14,6 +18,7 @@ mod setup;
 mod shared;
 mod thread_clock;
 mod thread_end;
+mod waiting;
 
 pub use server::serve;
 pub use setup::{ThreadSetup, set_up};

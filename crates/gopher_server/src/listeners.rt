@@ -1,29 +1,30 @@
-//! The listeners, as a server thread has their connections reported.
+//! The listeners, and the reports of their connections.
 
 use mio::Poll;
 use mio::net::TcpListener;
 use std::os::fd::AsRawFd;
 
-// What the events of the first listener are named; those of each further one have the next number. Keys
-// of connections are below.
+// The token of the first listener's events; each further listener has the next number. Keys of
+// connections are lower.
 const FIRST_LISTENER: usize = usize::MAX - 1_024;
 
-// Wakes one thread for each connection, and not all (`EPOLLEXCLUSIVE` of Linux).
+// Wakes one thread for each connection instead of all (`EPOLLEXCLUSIVE` of Linux).
 const EPOLLEXCLUSIVE: u32 = 1 << 28;
 
-// How many bytes of a reply the system queues for a client at most, before it doubles the number for its
-// own use. A client that reads nothing holds no more of the system's memory.
+// The most bytes of a reply that the system queues for a client. The system doubles the number for
+// its own use. It bounds the kernel memory of a client that reads nothing.
 const SEND_BUFFER: i32 = 65_536;
 
-/// What the events of a thread's waker are named.
+/// The token of the events of a thread's waker.
 pub(crate) const WAKER: usize = usize::MAX - 1_025;
 
-/// The number of the listener that an event is of. None for any other event.
+/// Returns the number of an event's listener; `None` for other events.
 pub(crate) fn listener_index(token: usize) -> Option<usize> {
     token.checked_sub(FIRST_LISTENER)
 }
 
-/// Has the connections that wait at the listeners reported. False if the system refuses that.
+/// Starts reports of the connections that wait at the listeners. Returns false if the system
+/// refuses.
 pub(crate) fn watch(poll: &Poll, listeners: &[TcpListener]) -> bool {
     for (index, listener) in listeners.iter().enumerate() {
         let added = os::epoll_ctl(
@@ -41,7 +42,7 @@ pub(crate) fn watch(poll: &Poll, listeners: &[TcpListener]) -> bool {
     true
 }
 
-/// Has the connections that wait at the listeners reported no more.
+/// Stops the reports of connections that wait at the listeners.
 pub(crate) fn unwatch(poll: &Poll, listeners: &[TcpListener]) {
     for listener in listeners {
         let _refused = os::epoll_ctl(
@@ -54,8 +55,8 @@ pub(crate) fn unwatch(poll: &Poll, listeners: &[TcpListener]) {
     }
 }
 
-/// Limits how many bytes the system queues for each client of a listener. What it refuses stays as it
-/// was.
+/// Limits the bytes that the system queues for each client of a listener. If the system refuses,
+/// its own limit stays.
 pub(crate) fn limit_send_buffer(listener: &TcpListener) {
     let mut value = [0u8; 16];
     value[..4].copy_from_slice(&SEND_BUFFER.to_ne_bytes());

@@ -7,37 +7,35 @@ use crate::listeners::{WAKER, listener_index};
 use crate::setup::ThreadSetup;
 use crate::thread_clock::ThreadClock;
 use crate::thread_end::ThreadEnd;
-use gopher_connections::{Connections, Deadlines};
+use gopher_connections::{Connections, Deadlines, WorkQueue};
 use gopher_conversation::Answers;
 use gopher_log_writer::ThreadLog;
 use mio::net::TcpStream;
-use mio::{Events, Interest, Poll, Token};
+use mio::{Events, Poll};
 use std::alloc::Global;
 use std::io::{self, Eprint, ErrorKind};
 use std::net::SocketAddr;
 use std::sync::Wait;
 use std::time::{Clock, Duration};
 
-// How many connections are accepted in one go.
+// The most connections that are accepted before other events are handled.
 const MAX_ACCEPTS: u32 = 16;
 
-// For how many milliseconds a connection lingers at most. No more than 128 KiB of its reply are still in
-// the system by then, so that each client receives all that takes 8 KiB a second.
-const LINGER: u64 = 16_000;
-
-// A server thread.
+/// A server thread.
 #[derive(Drop)]
-struct Server<'a, A: Answers<'a> + Drop> {
-    alloc: Global,
-    poll: Poll,
-    buffer: [u8; BUFFER_BYTES],
-    acceptor: Acceptor,
-    connections: Connections<Connection<'a>>,
-    deadlines: Deadlines,
-    answers: A,
-    log: ThreadLog,
-    clock: ThreadClock,
-    end: ThreadEnd,
+pub(crate) struct Server<'a, A: Answers<'a> + Drop> {
+    pub(crate) alloc: Global,
+    pub(crate) poll: Poll,
+    pub(crate) buffer: [u8; BUFFER_BYTES],
+    pub(crate) acceptor: Acceptor,
+    pub(crate) connections: Connections<Connection<'a>>,
+    pub(crate) deadlines: Deadlines,
+    /// The connections whose replies searches make.
+    pub(crate) searching: WorkQueue,
+    pub(crate) answers: A,
+    pub(crate) log: ThreadLog,
+    pub(crate) clock: ThreadClock,
+    pub(crate) end: ThreadEnd,
 }
 
 // Tells on the error stream what failed, and what the system said.
@@ -88,8 +86,8 @@ impl<'a, A: Answers<'a> + Drop> Server<'a, A> {
         }
     }
 
-    // Closes the connection idle longest if descriptors or memory are short. If that didn't help, or
-    // there is none, accepts nothing for a time.
+    // Closes the connection idle longest if descriptors or memory are short. If that didn't help,
+    // or there is none, accepts nothing for a time.
     fn make_do<R: Wait + Clock>(&mut self, rt: &R, was_short: bool) {
         match self.connections.idle_longest() {
             Some(key) if !was_short => self.close(rt, key),
@@ -118,156 +116,16 @@ impl<'a, A: Answers<'a> + Drop> Server<'a, A> {
         }
     }
 
-    // ---- connections that wait
-
-    // Keeps a connection, and closes the one idle longest if there are too many.
-    fn keep<R: Wait + Clock>(&mut self, rt: &R, connection: Connection<'a>, step: NextStep) {
-        match self.connections.put(connection) {
-            Ok(key) => {
-                self.acceptor.shared.places.take();
-                if self.watch_client(key, false) {
-                    self.meet_step(rt, key, step);
-                } else {
-                    self.close(rt, key);
-                }
-                self.make_room(rt);
-            }
-            Err(refused) => {
-                let mut connection = refused;
-                connection.log_request(rt, self.alloc, &mut self.log);
-            }
-        }
-    }
-
-    // Whether it holds more than its share of the places.
-    fn is_above_share(&self) -> bool {
-        let held = self.connections.len() as u64;
-        self.acceptor.shared.places.is_above_share(held)
-    }
-
-    // Closes connections of this thread if all places are taken and it has more than its share of them;
-    // if another has, that one does.
-    fn make_room<R: Wait + Clock>(&mut self, rt: &R) {
-        if !self.acceptor.shared.places.are_exceeded() {
-            return;
-        }
-        if self.is_above_share() {
-            self.close_excess(rt);
-        } else {
-            self.acceptor.shared.wake_all();
-        }
-    }
-
-    // Closes the connections idle longest while all places are taken and this thread has more than its
-    // share of them.
-    fn close_excess<R: Wait + Clock>(&mut self, rt: &R) {
-        for _closed in 0..self.connections.len() {
-            if !self.is_above_share() {
-                return;
-            }
-            if !self.acceptor.shared.places.give_back_excess() {
-                return;
-            }
-            if let Some(key) = self.connections.idle_longest() {
-                let _closed = self.take_out(rt, key);
-            }
-        }
-    }
-
-    // Has the request of the connection at a key logged.
-    fn log_at<R: Wait + Clock>(&mut self, rt: &R, key: usize) {
-        if let Some(connection) = self.connections.get_mut(key) {
-            connection.log_request(rt, self.alloc, &mut self.log);
-        }
-    }
-
-    // Takes out the connection at a key, which closes it, and returns whether there was one.
-    fn take_out<R: Wait + Clock>(&mut self, rt: &R, key: usize) -> bool {
-        self.log_at(rt, key);
-        self.connections.remove(key).is_some()
-    }
-
-    // Closes the connection at a key, and gives its place back.
-    fn close<R: Wait + Clock>(&mut self, rt: &R, key: usize) {
-        if self.take_out(rt, key) {
-            self.acceptor.shared.places.give_back();
-        }
-    }
-
-    // Has the connection at a key reported when its client is ready; once it is watched, even if the
-    // client is ready already. False if the system refuses.
-    fn watch_client(&mut self, key: usize, is_watched: bool) -> bool {
-        let Some(connection) = self.connections.get_mut(key) else {
-            return false;
-        };
-        let (stream, both) = (
-            connection.stream_mut(),
-            Interest::READABLE | Interest::WRITABLE,
-        );
-        let registry = self.poll.registry();
-        let watched = if is_watched {
-            registry.reregister(stream, Token(key), both)
-        } else {
-            registry.register(stream, Token(key), both)
-        };
-        watched.is_ok()
-    }
-
-    // Goes on with the connection at a key.
-    fn go_on<R: Wait + Clock>(&mut self, rt: &R, key: usize) {
-        let Some(connection) = self.connections.get_mut(key) else {
-            return;
-        };
-        let step = connection.go_on(self.alloc, &mut self.answers, &mut self.buffer);
-        let _found = self.connections.touch(key);
-        self.meet_step(rt, key, step);
-        if step != NextStep::Waits && step != NextStep::Ends && !self.watch_client(key, true) {
-            self.close(rt, key);
-        }
-    }
-
-    // Does what the next step of the connection at a key asks.
-    fn meet_step<R: Wait + Clock>(&mut self, rt: &R, key: usize, step: NextStep) {
-        match step {
-            NextStep::Waits | NextStep::Ready => {}
-            NextStep::Lingers => self.linger(rt, key),
-            NextStep::Ends => self.close(rt, key),
-        }
-    }
-
-    // Has the connection at a key, whose reply is sent, closed in time.
-    fn linger<R: Wait + Clock>(&mut self, rt: &R, key: usize) {
-        self.log_at(rt, key);
-        let deadline = self.clock.now(rt).saturating_add(LINGER);
-        if self.deadlines.set(key, deadline).is_err() {
-            self.close(rt, key);
-        }
-    }
-
-    // Closes the connections that lingered for their time.
-    fn end_lingering<R: Wait + Clock>(&mut self, rt: &R) {
-        if self.deadlines.first().is_none() {
-            return;
-        }
-        let now = self.clock.now(rt);
-        for _closed in 0..u64::MAX {
-            let Some(key) = self.deadlines.take_due(now) else {
-                return;
-            };
-            self.close(rt, key);
-        }
-    }
-
     // ---- rounds
 
-    // Goes on with what an event names.
-    fn handle_event<R: Wait + Clock + Eprint>(&mut self, rt: &R, token: usize) {
+    // Goes on with what an event names. `is_gone` says that a client takes nothing more.
+    fn handle_event<R: Wait + Clock + Eprint>(&mut self, rt: &R, token: usize, is_gone: bool) {
         if token == WAKER {
             return;
         }
         match listener_index(token) {
             Some(index) => self.accept(rt, index),
-            None => self.go_on(rt, token),
+            None => self.go_on(rt, token, is_gone),
         }
     }
 
@@ -287,6 +145,9 @@ impl<'a, A: Answers<'a> + Drop> Server<'a, A> {
 
     // How long it may wait for events; none if it may wait until one comes.
     fn poll_timeout(&self, clock: &impl Clock) -> Option<Duration> {
+        if self.searching.first().is_some() {
+            return Some(Duration::from_millis(0));
+        }
         let log = self.log.poll_timeout();
         let Some(time) = self.next_time() else {
             return log;
@@ -313,8 +174,10 @@ impl<'a, A: Answers<'a> + Drop> Server<'a, A> {
         let timeout = self.poll_timeout(rt);
         self.poll.poll(events, timeout)?;
         for event in events.iter() {
-            self.handle_event(rt, event.token().0);
+            let is_gone = event.is_error() || event.is_write_closed();
+            self.handle_event(rt, event.token().0, is_gone);
         }
+        self.search(rt);
         self.end_lingering(rt);
         self.close_excess(rt);
         self.keep_share(rt);
@@ -356,8 +219,9 @@ impl<'a, A: Answers<'a> + Drop> Server<'a, A> {
     }
 }
 
-/// Serves in this thread: accepts connections, answers each, and ends once none of the quota is left and
-/// no connection waits. Why it ended otherwise is told on the error stream of `rt` at once.
+/// Serves in this thread: accepts connections and answers each. Returns when the quota is used up
+/// and no connection is left. If it fails before, it reports why on the error stream of `rt` at
+/// once.
 pub fn serve<'a, A: Answers<'a> + Drop, R: Wait + Clock + Eprint>(
     rt: &R,
     alloc: Global,
@@ -383,6 +247,7 @@ pub fn serve<'a, A: Answers<'a> + Drop, R: Wait + Clock + Eprint>(
         acceptor: Acceptor::new(listeners, shared),
         connections,
         deadlines: Deadlines::new(alloc),
+        searching: WorkQueue::new(alloc),
         answers,
         log,
         clock,

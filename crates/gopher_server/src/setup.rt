@@ -1,4 +1,4 @@
-//! What server threads need of the system, made before they start.
+//! The system resources of server threads, made before the threads start.
 
 use crate::listeners::{WAKER, limit_send_buffer, watch};
 use crate::shared::ServerShared;
@@ -12,10 +12,10 @@ use std::io;
 use std::net::Net;
 use std::sync::Arc;
 
-// How many events are taken in at once.
+// The most events of one round.
 const MAX_EVENTS: usize = 256;
 
-/// What a server thread needs of the system.
+/// The system resources of a server thread.
 #[derive(Drop)]
 pub struct ThreadSetup {
     pub(crate) poll: Poll,
@@ -25,7 +25,7 @@ pub struct ThreadSetup {
     pub(crate) log: ThreadLog,
 }
 
-// How many files the process may hold open.
+// The limit of open files of the process.
 fn max_files() -> u64 {
     let mut limit = libc::types::rlimit {
         rlim_cur: 0,
@@ -38,14 +38,14 @@ fn max_files() -> u64 {
     }
 }
 
-// What a thread waits by, and what wakes it.
+// A poll for a thread, and its waker.
 fn poll_and_waker<R: Net>(rt: &R) -> io::Result<(Poll, Waker)> {
     let poll = Poll::new(rt)?;
     let waker = Waker::new(poll.registry(), Token(WAKER))?;
     Ok((poll, waker))
 }
 
-// What as many threads wait by, and what wakes them; fewer if the system refuses some.
+// A poll and a waker for each thread; fewer if the system refuses some.
 fn polls_and_wakers<R: Net>(
     rt: &R,
     alloc: Global,
@@ -62,7 +62,7 @@ fn polls_and_wakers<R: Net>(
     Ok((polls, wakers))
 }
 
-// What a thread needs that waits by this poll.
+// The resources of the thread with this poll.
 fn setup_with(
     alloc: Global,
     poll: Poll,
@@ -83,9 +83,10 @@ fn setup_with(
     })
 }
 
-/// Sets up as many server threads, which accept `requests` connections together, or connections without
-/// an end, at all of the listeners, and hand the lines of their log to `log`. They are fewer if the system
-/// refuses some what they need. No thread is started.
+/// Sets up `threads` server threads, or fewer if the system refuses resources. Starts no thread.
+///
+/// The threads accept `requests` connections together, or any number, at all listeners. They hand
+/// the lines of their log to `log`.
 ///
 /// # Errors
 ///

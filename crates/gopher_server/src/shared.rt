@@ -1,10 +1,10 @@
-//! What all server threads share.
+//! The state that all server threads share.
 
 use gopher_connections::{AcceptQuota, Places};
 use mio::Waker;
 
-/// What all server threads share: how many connections they accept and hold together, and what wakes
-/// each of them.
+/// The state that all server threads share: how many connections they accept and hold together, and
+/// the waker of each thread.
 #[derive(Drop)]
 pub struct ServerShared {
     pub(crate) quota: AcceptQuota,
@@ -13,14 +13,14 @@ pub struct ServerShared {
 }
 
 impl ServerShared {
-    /// Has each thread look anew at what they share.
+    /// Wakes all threads, so that each looks at the shared state again.
     pub(crate) fn wake_all(&self) {
         for waker in self.wakers.iter() {
             let _refused = waker.wake();
         }
     }
 
-    /// Notes that one thread less accepts connections. The others then accept those that it would have.
+    /// Records that one thread fewer accepts connections, and wakes the others.
     pub(crate) fn lose_thread(&self) {
         self.places.lose_thread();
         self.wake_all();

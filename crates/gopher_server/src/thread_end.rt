@@ -3,10 +3,10 @@
 /// How a server thread ended.
 #[derive(Clone, Copy, Debug, PartialEq, Eq)]
 pub enum ThreadEnd {
-    /// All connections of the quota were accepted, and all that it accepted are at their end.
+    /// All connections of the quota were accepted, and all of its connections have ended.
     Served,
     /// A listener is broken, or the system refused to wait.
     Failed,
-    /// Memory was refused before anything was accepted.
+    /// Out of memory before anything was accepted.
     LacksMemory,
 }

@@ -11,9 +11,9 @@ use Rattle.std.proofs.lemmas.List.Concat.{flat_map-append, flat_map-cons}
 use Rattle.std.proofs.lemmas.List.Folds.{list_any-append}
 use Rattle.std.proofs.lemmas.List.Splits.{slice_split-cons_yes, slice_split-cons_no}
 use Rattle.std.proofs.Math.Seq.{get_or-append_seam}
-use Rattle.gopher_item.specs.Lines.{lines_of}
+use Rattle.gopher_bytes.specs.Lines.{lines_of}
 use Rattle.gopher_item.specs.Menu.{lines_before_last, any_last_line, is_last_line}
-use Rattle.gopher_item.proofs.Splits.{lines_of_cut}
+use Rattle.gopher_bytes.proofs.Splits.{lines_of_cut}
 use Rattle.gopher_item.proofs.MenuLemmas.{any_last_line-line}
 use Rattle.gopher_text.specs.Line.{has_feed}
 use Rattle.gopher_text.specs.Text.{begins_with_period, line_sent, line_read, text_line_bytes, text_bytes, text_lines, ReadsText}

@@ -2,7 +2,8 @@
 use Rattle.std.specs.Prelude.{◌≡◌, ℕ, ◌<◌, ◌≤◌, ◌⊎◌, false, List, [], ◌∷◌, ◌++◌, length, take, Option, Result, Ok, Err, IfSome, if◌then◌else◌}
 use Rattle.std.specs.Io.BufRead.{take_through, first_line, ends_with_byte, strip_last, DropsThrough}
 use Rattle.std.specs.Io.KnownBytes.{Consumes, IsAtEnd}
-pub use Rattle.gopher_item.specs.Lines.{has_feed}
+pub use Rattle.gopher_bytes.specs.Lines.{has_feed}
+use Rattle.gopher_item.specs.declared.limits.TheConstants.{MAX_LINE}
 use Rattle.gopher_text.specs.Watched.{CountsFailure, HasFailed}
 use Rattle.gopher_text.specs.Reply.{SpendsTurns}
 use Rattle.gopher_text.specs.declared.fault.LineFault.{LineFault}
@@ -39,7 +40,7 @@ FailsInLine old new before after bytes =
 -- if reads failed, and the line with its end if out of memory
 abbrev pub RefusesLine : Option (List ℕ) → Option (List ℕ) → ℕ → ℕ → LineFault → Type 0
 RefusesLine old new before after LineTooLong =
-    IfSome old (λ bytes. (1024 < length (first_line bytes))
+    IfSome old (λ bytes. (MAX_LINE < length (first_line bytes))
     × Consumes old new (take 1026 (take_through 10 bytes)))
 RefusesLine old new before after ReadFailed =
     (bytes : List ℕ) × FailsInLine old new before after bytes
@@ -47,7 +48,7 @@ RefusesLine old new before after TooManyTurns =
     (bytes : List ℕ) × (FailsInLine old new before after bytes
     × SpendsTurns 4096 before after (length bytes))
 RefusesLine old new before after NoMemory =
-    IfSome old (λ bytes. length (first_line bytes) ≤ 1024) × DropsThrough old new 10
+    IfSome old (λ bytes. length (first_line bytes) ≤ MAX_LINE) × DropsThrough old new 10
 
 -- why reading stopped after these bytes of a line
 abbrev pub StopsInLine : {T : Type 0} → Option (List ℕ) → ℕ → ℕ → List ℕ → Result T LineFault
@@ -64,6 +65,6 @@ StopsInLine new before after bytes (Err NoMemory) = ⊥
 
 -- why a call fails after it has read all of a line of this length
 abbrev pub RefusesLength : ℕ → LineFault → Type 0
-RefusesLength length LineTooLong = 1024 < length
-RefusesLength length NoMemory = length ≤ 1024
+RefusesLength length LineTooLong = MAX_LINE < length
+RefusesLength length NoMemory = length ≤ MAX_LINE
 RefusesLength length _ = ⊥

@@ -1,7 +1,7 @@
 -- Texts (RFC 1436, appendix: TextFile Entity).
-use Rattle.std.specs.Prelude.{◌≡◌, ℕ, Bool, false, ◌==◌, ◌&&◌, List, [], ◌∷◌, ◌++◌, map, All, if◌then◌else◌}
+use Rattle.std.specs.Prelude.{◌≡◌, ℕ, Bool, false, ◌==◌, ◌&&◌, List, [], ◌∷◌, ◌++◌, codes, map, All, if◌then◌else◌}
 use Rattle.std.specs.List.{flat_map}
-use Rattle.gopher_item.specs.Lines.{lines_of}
+use Rattle.gopher_bytes.specs.Lines.{lines_of}
 use Rattle.gopher_item.specs.Menu.{lines_before_last, any_last_line}
 use Rattle.gopher_text.specs.Line.{has_feed}
 
@@ -18,12 +18,13 @@ abbrev pub line_read : List ℕ → List ℕ
 line_read [] = []
 line_read (byte ∷ bytes) = if (byte == 46) && begins_with_period bytes then bytes else byte ∷ bytes
 
--- the bytes of a line as it is sent, and of a text: its lines, and a single period
+-- the bytes of a line as it is sent
 abbrev pub text_line_bytes : List ℕ → List ℕ
-text_line_bytes line = line_sent line ++ 13 ∷ 10 ∷ []
+text_line_bytes line = line_sent line ++ codes "\r\n"
 
+-- the bytes of a text as it is sent: its lines, and a line with a single period (46)
 abbrev pub text_bytes : List (List ℕ) → List ℕ
-text_bytes lines = flat_map text_line_bytes lines ++ 46 ∷ 13 ∷ 10 ∷ []
+text_bytes lines = flat_map text_line_bytes lines ++ codes ".\r\n"
 
 -- the lines of a text, up to the first last line
 abbrev pub text_lines : List ℕ → List (List ℕ)

@@ -21,7 +21,7 @@ mod writing;
 
 pub use fault::{LineFault, ReplyFault, SendFault};
 pub use line_reader::read_line_from;
-pub use reply_reader::read_reply;
+pub use reply_reader::{MAX_REPLY, read_reply};
 pub use sending::send;
 pub use text::{Text, first_text_line, read_text};
 pub use watched::Watched;

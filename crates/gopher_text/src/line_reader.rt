@@ -8,17 +8,15 @@ ghost use Rattle.gopher_text.specs.Line.{RefusesLine, StopsInLine, RefusesLength
 use crate::fault::LineFault;
 use crate::reading::{ByteRead, read_byte};
 use crate::watched::Watched;
+use gopher_item::MAX_LINE;
 use std::alloc::Global;
 use std::io::Read;
 
 // The most reads for a line.
-const MOST_TURNS: u64 = 4_096;
-
-// The most bytes of a line before its end.
-const MOST_IN_LINE: usize = 1_024;
+const MAX_TURNS: u64 = 4_096;
 
 // The most bytes of a line with its end, CR LF.
-const MOST_WITH_END: usize = 1_026;
+const MAX_WITH_END: usize = MAX_LINE + 2;
 
 /// Reads the next line of `reader` and not a byte after it.
 ///
@@ -28,8 +26,8 @@ const MOST_WITH_END: usize = 1_026;
 ///
 /// # Errors
 ///
-/// - `LineTooLong` (7): the line has more than 1,024 bytes before its end; at most 1,026 bytes of
-///   it were read
+/// - `LineTooLong` (7): the line has more than 1,024 bytes (`MAX_LINE`) before its end; at most
+///   1,026 bytes of it were read
 /// - `ReadFailed` (10): a read failed for another reason than an interruption
 /// - `TooManyTurns` (11): 4,096 reads, including interrupted ones, didn't reach the end of the line
 /// - `NoMemory` (90): the whole line and its end were read
@@ -38,7 +36,7 @@ pub fn read_line_from<R: Read>(alloc: Global, reader: &mut Watched<R>) -> Result
         (λ bytes. line.items ≡ first_line bytes)) }
     ensures rest { OnOk result
         (DropsThrough (R.remaining reader.old.device) (R.remaining reader.new.device) 10) }
-    ensures short { IfOk result (λ line. vec_len line ≤ 1024) }
+    ensures short { IfOk result (λ line. vec_len line ≤ MAX_LINE) }
     ensures refused { IfErr result (RefusesLine (R.remaining reader.old.device)
         (R.remaining reader.new.device) reader.old.failures reader.new.failures) }
     ensures turns { (reader.old.failures ≤ reader.new.failures)
@@ -46,7 +44,7 @@ pub fn read_line_from<R: Read>(alloc: Global, reader: &mut Watched<R>) -> Result
         × Consumes (R.remaining reader.old.device) (R.remaining reader.new.device) bytes
         × (reader.new.failures + length bytes ≤ reader.old.failures + 4096)) }
 {
-    let mut held = [0; MOST_WITH_END];
+    let mut held = [0; MAX_WITH_END];
     let (filled, end) = fill(reader, &mut held);
     match end {
         Ok(()) => line_of(alloc, &held[..filled]),
@@ -57,11 +55,11 @@ pub fn read_line_from<R: Read>(alloc: Global, reader: &mut Watched<R>) -> Result
 // The line that was read, without its end.
 fn line_of(alloc: Global, bytes: &[u8]) -> Result<Vec<u8>, LineFault>
     ensures line { IfOk result (λ line. line.items ≡ without_end bytes.now) }
-    ensures short { OnOk result (length (without_end bytes.now) ≤ 1024) }
+    ensures short { OnOk result (length (without_end bytes.now) ≤ MAX_LINE) }
     ensures refused { IfErr result (RefusesLength (length (without_end bytes.now))) }
 {
     let line = without_end(bytes);
-    if line.len() > MOST_IN_LINE {
+    if line.len() > MAX_LINE {
         return Err(LineFault::LineTooLong);
     }
     Ok(Vec::from_slice(alloc, line)?)
@@ -80,7 +78,7 @@ fn fill<R: Read>(reader: &mut Watched<R>, held: &mut [u8]) -> (usize, Result<(),
         × (reader.new.failures + result.0 ≤ reader.old.failures + 4096) }
 {
     let mut filled = 0;
-    for _turn in 0..MOST_TURNS {
+    for _turn in 0..MAX_TURNS {
         match read_byte(reader) {
             ByteRead::Byte(byte) => {
                 held[filled] = byte;
@@ -88,7 +86,7 @@ fn fill<R: Read>(reader: &mut Watched<R>, held: &mut [u8]) -> (usize, Result<(),
                 if byte == b'\n' {
                     return (filled, Ok(()));
                 }
-                if filled == MOST_WITH_END {
+                if filled == MAX_WITH_END {
                     return (filled, Err(LineFault::LineTooLong));
                 }
             }

@@ -10,14 +10,17 @@ use crate::watched::Watched;
 use std::alloc::{AllocError, Global};
 use std::io::Read;
 
+/// The most bytes of a reply that can be read. So a page has at most as many words and links.
+pub const MAX_REPLY: usize = 1_048_576;
+
 // The most reads for a reply.
-const MOST_TURNS: u64 = 2_097_152;
+const MAX_TURNS: u64 = 2_097_152;
 
 // How many bytes the first read asks for.
 const FIRST_ROOM: usize = 8_192;
 
 /// Reads all of `reader`: a reply or other input of at most `limit` bytes, with `limit` at most
-/// 1,048,576. Interrupted reads are tried again.
+/// 1,048,576 (`MAX_REPLY`). Interrupted reads are tried again.
 ///
 /// # Errors
 ///
@@ -33,7 +36,7 @@ pub fn read_reply<R: Read>(
     reader: &mut Watched<R>,
     limit: usize,
 ) -> Result<Vec<u8>, ReplyFault>
-    requires { limit ≤ 1048576 }
+    requires { limit ≤ MAX_REPLY }
     ensures read { IfOk result (λ bytes.
         Consumes (R.remaining reader.old.device) (R.remaining reader.new.device) bytes.items) }
     ensures whole { OnOk result (IsAtEnd (R.remaining reader.new.device)) }
@@ -55,7 +58,7 @@ fn read_within<R: Read>(
     bytes: &mut Vec<u8>,
     limit: usize,
 ) -> Result<(), ReplyFault>
-    requires limit { limit ≤ 1048576 }
+    requires limit { limit ≤ MAX_REPLY }
     requires empty { length bytes.old.items ≡ 0 }
     ensures read { Consumes (R.remaining reader.old.device) (R.remaining reader.new.device)
         bytes.new.items }
@@ -76,7 +79,7 @@ fn fill<R: Read>(
     bytes: &mut Vec<u8>,
     limit: usize,
 ) -> (usize, Result<(), ReplyFault>)
-    requires limit { limit ≤ 1048576 }
+    requires limit { limit ≤ MAX_REPLY }
     requires empty { length bytes.old.items ≡ 0 }
     ensures within { result.0 ≤ length bytes.new.items }
     ensures read { Consumes (R.remaining reader.old.device) (R.remaining reader.new.device)
@@ -87,7 +90,7 @@ fn fill<R: Read>(
         × (reader.new.failures ≤ reader.old.failures + 2097152) }
 {
     let mut filled = 0;
-    for _turn in 0..MOST_TURNS {
+    for _turn in 0..MAX_TURNS {
         if make_room(bytes, filled, limit).is_err() {
             return (filled, Err(ReplyFault::NoMemory));
         }
@@ -108,7 +111,7 @@ fn fill<R: Read>(
 
 // Makes `bytes` longer than `filled` if it isn't. The bytes after `filled` are zeros.
 fn make_room(bytes: &mut Vec<u8>, filled: usize, limit: usize) -> Result<(), AllocError>
-    requires limit { limit ≤ 1048576 }
+    requires limit { limit ≤ MAX_REPLY }
     requires filled { filled ≤ limit }
     requires within { filled ≤ length bytes.old.items }
     requires short { length bytes.old.items ≤ limit + 1 }

@@ -10,7 +10,7 @@ use crate::watched::Watched;
 use std::io::{ErrorKind, Write};
 
 // A call fails after this many interrupted writes.
-const MOST_INTERRUPTIONS: u64 = 4_096;
+const MAX_INTERRUPTIONS: u64 = 4_096;
 
 // The outcome of one write.
 #[derive(Clone, Copy)]
@@ -47,7 +47,7 @@ pub fn send<W: Write>(writer: &mut Watched<W>, bytes: &[u8]) -> Result<(), SendF
             Writing::Took(count) => sent += count,
             Writing::Interrupted => {
                 interruptions += 1;
-                if interruptions == MOST_INTERRUPTIONS {
+                if interruptions == MAX_INTERRUPTIONS {
                     return Err(SendFault { sent });
                 }
             }

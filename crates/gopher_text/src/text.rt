@@ -4,7 +4,7 @@ ghost use Rattle.std.specs.Prelude.{◌≡◌, ◌<◌, ◌++◌, ◌==◌, [], 
 ghost use Rattle.std.specs.Io.{StartsWith};
 ghost use Rattle.std.specs.Io.BufRead.{drop_through};
 ghost use Rattle.std.specs.List.{flat_map};
-ghost use Rattle.gopher_item.specs.Lines.{lines_of};
+ghost use Rattle.gopher_bytes.specs.Lines.{lines_of};
 ghost use Rattle.gopher_item.specs.Menu.{any_last_line};
 ghost use Rattle.gopher_text.specs.Line.{has_feed};
 ghost use Rattle.gopher_text.specs.Text.{HoldNoFeed, ReadsText, line_read, text_bytes, text_line_bytes, text_lines};

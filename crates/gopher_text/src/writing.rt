@@ -2,7 +2,7 @@
 
 ghost use Rattle.std.specs.Prelude.{◌≡◌, ◌++◌, true, OnOk, OnErr};
 ghost use Rattle.std.specs.Io.{StartsWith};
-ghost use Rattle.gopher_item.specs.Lines.{lines_of};
+ghost use Rattle.gopher_bytes.specs.Lines.{lines_of};
 ghost use Rattle.gopher_text.specs.Text.{HoldNoFeed, ReadsText, begins_with_period, text_bytes, text_line_bytes};
 
 use gopher_item::{ByteStrings, NoMemory, first_line};

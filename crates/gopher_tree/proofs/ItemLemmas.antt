@@ -1,6 +1,6 @@
 -- The tests of a written line's parts are the tests of a menu line that is made.
 use Rattle.std.proofs.Common.{◌≡◌, ℕ, Bool, true, false, cond, ◌&&◌, not, List, Option, None, Some, is_some, refl}
-use Rattle.gopher_item.specs.Bytes.{has_special}
+use Rattle.gopher_item.specs.Special.{has_special}
 use Rattle.gopher_item.specs.MenuLine.{is_bad_type}
 use Rattle.gopher_item.specs.Place.{is_selector}
 use Rattle.gopher_item.specs.declared.fault.ItemFault.{ItemFault}

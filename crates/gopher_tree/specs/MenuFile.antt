@@ -1,10 +1,11 @@
 -- A `.menu` file: the menu of its folder. The format is this profile's.
 use Rattle.std.specs.Prelude.{ℕ, ◌+◌, Bool, not, List, [], ◌∷◌, codes, map, Option, None, Some, is_some, if◌then◌else◌}
 use Rattle.std.specs.List.{filter_map}
-use Rattle.gopher_item.specs.Lines.{lines_of}
+use Rattle.gopher_bytes.specs.Lines.{lines_of}
 use Rattle.gopher_item.specs.Menu.{fields_of}
-use Rattle.gopher_item.specs.MenuLine.{MenuLineData, menu_line_fault, trim_spaces}
-use Rattle.gopher_item.specs.Number.{number_of}
+use Rattle.gopher_bytes.specs.Trim.{trim_spaces}
+use Rattle.gopher_item.specs.MenuLine.{MenuLineData, menu_line_fault}
+use Rattle.gopher_bytes.specs.Number.{number_of}
 use Rattle.gopher_item.specs.Place.{HomeData, is_host}
 
 -- a line of the file; a line without a server is of the server that sends the file

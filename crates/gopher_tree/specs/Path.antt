@@ -2,7 +2,7 @@
 use Rattle.std.specs.Prelude.{ℕ, suc, zero, Bool, true, false, ◌&&◌, ◌||◌, not, nat_eq, ◌==◌, List, [], ◌∷◌, ◌++◌, codes, length, take, slice_index, Option, None, Some, is_some, if◌then◌else◌}
 use Rattle.std.specs.List.{slice_split}
 use Rattle.std.specs.Cmp.Lexicographic.{pointwise}
-use Rattle.gopher_item.specs.Bytes.{has_special}
+use Rattle.gopher_item.specs.Special.{has_special}
 
 -- the names of a path: the pieces between slashes
 abbrev pub names_of : List ℕ → List (List ℕ)

@@ -1,7 +1,7 @@
 -- The reply of a tree to a selector (RFC 1436, section 2; folders as menus are this profile's).
 use Rattle.std.specs.Prelude.{ℕ, length, ◌==◌, List, [], ◌∷◌, ◌++◌, codes, map, Option, None, Some, if◌then◌else◌}
 use Rattle.std.specs.Option.{option_map}
-use Rattle.gopher_item.specs.Lines.{lines_of}
+use Rattle.gopher_bytes.specs.Lines.{lines_of}
 use Rattle.gopher_item.specs.MenuLine.{MenuLineData, menu_bytes}
 use Rattle.gopher_item.specs.Place.{HomeData}
 use Rattle.gopher_text.specs.Text.{text_bytes}

@@ -4,7 +4,7 @@ ghost use Rattle.std.specs.Prelude.{◌≡◌, ℕ, ◌++◌, ◌&&◌, ◌||◌
 ghost use Rattle.std.specs.Io.{StartsWith};
 ghost use Rattle.std.specs.List.{filter_map, flat_map};
 ghost use Rattle.std.specs.Option.{option_map};
-ghost use Rattle.gopher_item.specs.Bytes.{is_control};
+ghost use Rattle.gopher_item.specs.Special.{is_control};
 ghost use Rattle.gopher_item.specs.Menu.{fields_of};
 ghost use Rattle.gopher_item.specs.MenuLine.{menu_line_bytes, menu_bytes};
 ghost use Rattle.gopher_tree.specs.MenuFile.{is_item, item_of, line_of_fields, server_of, written_line, bad_line, written_menu, line_at};

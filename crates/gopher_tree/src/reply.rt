@@ -2,7 +2,7 @@
 
 ghost use Rattle.std.specs.Prelude.{◌≡◌, false, ◌++◌, ◌==◌, length, IfOk, OnOk, if◌then◌else◌};
 ghost use Rattle.std.specs.List.{flat_map};
-ghost use Rattle.gopher_item.specs.Bytes.{has_special};
+ghost use Rattle.gopher_item.specs.Special.{has_special};
 ghost use Rattle.gopher_item.specs.MenuLine.{menu_line_bytes, menu_bytes};
 ghost use Rattle.gopher_tree.specs.MenuFile.{written_menu};
 ghost use Rattle.gopher_tree.specs.Reply.{front_of, head_lines, listing_of, file_reply, error_bytes, not_found_bytes};

@@ -10,13 +10,13 @@ fn main(rt: HostRuntime) -> ExitCode {
     let mut input = Watched::new(rt.stdin());
     let mut output = Watched::new(rt.stdout());
     let mut error = Watched::new(rt.stderr());
-    let words = match env::args(&rt) {
-        Ok(words) => words.skip(1).collect(rt.alloc()),
+    let arguments = match env::args(&rt) {
+        Ok(arguments) => arguments.skip(1).collect(rt.alloc()),
         Err(_) => Ok(Vec::new(rt.alloc())),
     };
-    let Ok(words) = words else {
+    let Ok(arguments) = arguments else {
         let _ = rt.eprintln("hole: 90");
         return ExitCode::FAILURE;
     };
-    ExitCode::from(run(&rt, &words, &mut input, &mut output, &mut error))
+    ExitCode::from(run(&rt, &arguments, &mut input, &mut output, &mut error))
 }

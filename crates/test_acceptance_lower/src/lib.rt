@@ -1,6 +1,11 @@
-//! Tests of the crates below the catalogue: worked examples with their bytes, and devices that fail.
+//! Tests of the crates up to the catalogue: worked examples with their bytes, devices that fail, and what calls of the
+//! catalogue and the book hand out and give back, as no script can show.
 #![tactic(auto)]
 
+#[cfg(test)]
+mod books;
+#[cfg(test)]
+mod calls;
 #[cfg(test)]
 mod devices;
 #[cfg(test)]
@@ -9,6 +14,8 @@ mod folders;
 mod items;
 #[cfg(test)]
 mod menus;
+#[cfg(test)]
+mod merges;
 #[cfg(test)]
 mod pages;
 #[cfg(test)]

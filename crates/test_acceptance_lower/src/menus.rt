@@ -105,6 +105,7 @@ const MENUS: &[(&[u8], &[Wanted], bool)] = &[
     ),
     (b"", &[], false),
     (b".", &[], true),
+    (b"1Mo", &[Odd(b"1Mo")], false),
     (b"0A\t/a\th\t70\r", &[Odd(b"0A")], false),
     (b"\t/a\th\t70\r\n", &[Odd(b"")], false),
     (b"0A\t/a\0\th\t70\r\n", &[Odd(b"0A")], false),

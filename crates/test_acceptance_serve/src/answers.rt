@@ -41,6 +41,7 @@ const LATE: Rows = &[
     (SEARCH, FOUND),
     (b"/search\tDOCS\t+", FOUND),
     (b"/search\tmars", NOTHING),
+    (b"/search\tmars or a or docs or b or c or d", FOUND),
     (b"/search", NO_WORDS),
 ];
 
@@ -53,9 +54,8 @@ const CLOSED: Rows = &[
 // Whether each of the lines has its reply.
 fn answers_all<C: Crew>(alloc: Global, site: &mut Site<'_, C>, rows: Rows) -> bool {
     for (line, wanted) in rows {
-        match site.answer(alloc, *line) {
-            Ok(reply) if reply.as_slice() == *wanted => {}
-            _ => return false,
+        if !has_reply(alloc, site, *line, *wanted) {
+            return false;
         }
     }
     true
@@ -63,7 +63,10 @@ fn answers_all<C: Crew>(alloc: Global, site: &mut Site<'_, C>, rows: Rows) -> bo
 
 // Whether a line has this reply.
 fn has_reply<C: Crew>(alloc: Global, site: &mut Site<'_, C>, line: &[u8], wanted: &[u8]) -> bool {
-    match site.answer(alloc, line) {
+    let Ok(answer) = site.answer(alloc, line) else {
+        return false;
+    };
+    match answer.finish(alloc) {
         Ok(reply) => reply.as_slice() == wanted,
         Err(_) => false,
     }

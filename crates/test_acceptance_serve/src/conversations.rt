@@ -4,8 +4,8 @@ ghost use Rattle.std.specs.Prelude.{◌<◌, length};
 use crate::sites::{BAD_REQUEST, HELLO, ROOT};
 use crate::streams::{Ending, Stream};
 use gopher_item::NoMemory;
-use gopher_replies::Reply;
-use gopher_serve::{Answers, Conversation, Progress, ServeFault, advance, serve_with};
+use gopher_replies::{Answer, Reply};
+use gopher_serve::{Answers, Conversation, Progress, ServeFault, converse, serve_with};
 use gopher_text::Watched;
 use std::alloc::Global;
 
@@ -20,12 +20,12 @@ impl<'a> Answers<'a> for Fixed {
 
     ghost leads_to = { λ before after. before ≡ before };
 
-    fn answer(&mut self, _alloc: Global, line: &[u8]) -> Result<Reply<'a>, NoMemory> {
-        Ok(Reply::Kept(match line {
+    fn answer(&mut self, _alloc: Global, line: &[u8]) -> Result<Answer<'a>, NoMemory> {
+        Ok(Answer::Ready(Reply::Kept(match line {
             b"" => ROOT,
             b"/a.txt" => HELLO,
             _ => BAD_REQUEST,
-        }))
+        })))
     }
 }
 
@@ -37,13 +37,7 @@ fn last_turn(
     writer: &mut Watched<Stream>,
 ) -> Progress {
     let mut buffer = [0; 8];
-    for _step in 0..10_000 {
-        match advance(alloc, conversation, &mut Fixed, reader, writer, &mut buffer) {
-            Progress::Paused => {}
-            turn => return turn,
-        }
-    }
-    Progress::Paused
+    converse(alloc, conversation, &mut Fixed, reader, writer, &mut buffer)
 }
 
 // How a conversation over these streams ends, and how much it leaves unsent.
@@ -178,5 +172,4 @@ fn a_conversation_waits_and_goes_on(rt: HostRuntime) {
         let turn = last_turn(rt.alloc(), &mut conversation, &mut reader, &mut writer);
         assert!(rt; turn == *wanted && conversation.sent_len() == *sent);
     }
-    assert!(rt; conversation.reply_len() == HELLO.len());
 }

@@ -1,7 +1,7 @@
 // Fetches over streams in memory.
 use crate::streams::{Ending, Stream};
 use gopher_catalogue::Why;
-use gopher_item::{Entry, Place, read_menu};
+use gopher_item::Place;
 use gopher_serve::fetch_over;
 use gopher_text::Watched;
 use std::alloc::Global;
@@ -81,20 +81,4 @@ fn fetches_that_fail_say_why(rt: HostRuntime) {
     for room in 0..REQUEST.len() {
         assert!(rt; fails(rt.alloc(), reply, room, Ending::Fails, Why::Write));
     }
-}
-
-// Whether a reply is read as one odd line of the same bytes.
-fn is_odd_line(alloc: Global, bytes: &[u8]) -> bool {
-    match read_menu(alloc, bytes) {
-        Ok(menu) => match menu.entries.as_slice() {
-            [Entry::Odd(line)] => line.as_slice() == bytes,
-            _ => false,
-        },
-        Err(_refused) => false,
-    }
-}
-
-#[test]
-fn a_reply_that_is_no_menu_is_read(rt: HostRuntime) {
-    assert!(rt; is_odd_line(rt.alloc(), b"1Mo"));
 }

@@ -2,13 +2,29 @@
 
 ghost use Rattle.std.specs.Prelude.{◌≡◌, []};
 
-use crate::opening::{Checked, opened, root, scope_at_last};
-use crate::searching::{query_at_last, searched};
+use crate::opening::{Checked, opened, scope_at_last, seeds_at_last};
 use gopher_catalogue::{Added, Status, Turn};
-use gopher_crew::{Blank, Crew, Desk, Note, Pass, Share};
+use gopher_crew::{Answer, Blank, Crew, Desk, Note, Pass, SearchFault, Share};
 use gopher_page::{Page, Query};
 use std::alloc::Global;
 use std::sync::Wait;
+
+/// The answer of a search, in one of two tries.
+pub fn searched<C: Crew>(pass: &mut Pass<C>, query: &Query) -> Checked<Answer> {
+    match pass.search(query) {
+        Ok(answer) => Ok(answer),
+        Err(SearchFault::NoMemory) => pass.search(query).ok().ok_or("a search is refused twice"),
+        Err(_fault) => Err("a search is refused twice"),
+    }
+}
+
+/// A query of one word, in one of two tries.
+pub fn query(alloc: Global, word: &[u8; 4]) -> Checked<Query> {
+    match Query::read(alloc, word) {
+        Ok(query) => Ok(query),
+        Err(_refused) => Query::read(alloc, word).ok().ok_or("no query"),
+    }
+}
 
 fn state<C: Crew, R: Wait>(rt: &R, desk: &Desk<C, &R>, share: &Share<C>) -> (Status, u64) {
     (desk.status(rt), share.events())
@@ -52,16 +68,17 @@ fn claims<C: Crew, R: Wait>(
 }
 
 // The page of the root, which leads to one directory.
-fn page(alloc: Global) -> Option<Page> {
-    let scope = scope_at_last(alloc).ok()?;
-    let root = root(alloc)?;
-    Page::of(alloc, &scope, &root, b"1Docs\t/docs\th\t70\r\n.\r\n").ok()
+fn page(alloc: Global) -> Checked<Option<Page>> {
+    let scope = scope_at_last(alloc)?;
+    let mut seeds = seeds_at_last(alloc)?;
+    let root = seeds.pop().ok_or("no root")?;
+    Ok(Page::of(alloc, &scope, &root, b"1Docs\t/docs\th\t70\r\n.\r\n").ok())
 }
 
 fn page_at_last(alloc: Global) -> Checked<Page> {
-    match page(alloc) {
+    match page(alloc)? {
         Some(page) => Ok(page),
-        None => page(alloc).ok_or("no page"),
+        None => page(alloc)?.ok_or("a page is refused twice"),
     }
 }
 
@@ -84,113 +101,53 @@ fn found<C: Crew, R: Wait>(
     }
 }
 
-// Hands in the page of the root.
-fn finds<C: Crew, R: Wait>(
-    rt: &R,
-    desk: &Desk<C, &R>,
-    share: &mut Share<C>,
-    page: Page,
-) -> Checked<Option<Note<C>>> {
-    let (added, note) = found(rt, desk, share, page)?;
-    if added.fresh == 1 {
-        Ok(note)
-    } else {
-        Err("a page adds something else")
-    }
-}
-
-// A pass has seen at least so many events, and has the page where they are three or more.
+// Whether a pass sees so many events at least, and the page from the third event on.
 fn sees<C: Crew>(pass: &mut Pass<C>, query: &Query, at_least: u32) -> Checked<()> {
     let answer = searched(pass, query)?;
-    let wanted = if answer.at >= 3 { 1 } else { 0 };
-    if answer.at < at_least || answer.hits.len() != wanted {
+    let is_found = answer.hits.len() == 1;
+    if answer.at < at_least || is_found != (answer.at >= 3) {
         return Err("a search answers something else");
     }
     Ok(())
 }
 
-fn sees_nothing<C: Crew>(pass: &mut Pass<C>, query: &Query) -> Checked<()> {
-    let answer = searched(pass, query)?;
-    if answer.at > 2 || !answer.hits.is_empty() {
-        return Err("a page without a note is seen");
-    }
-    Ok(())
-}
-
 // Hands in the page of the root. Without a note it isn't seen before the next claim, which gives one.
-fn noted<C: Crew, R: Wait>(
+fn finds<C: Crew, R: Wait + AllocGlobal>(
     rt: &R,
     desk: &Desk<C, &R>,
     share: &mut Share<C>,
-    page: Page,
     pass: &mut Pass<C>,
     query: &Query,
 ) -> Checked<Note<C>> {
-    match finds(rt, desk, share, page)? {
-        Some(note) => Ok(note),
-        None => {
-            sees_nothing(pass, query)?;
-            claims(rt, desk, share, 1)?.ok_or("no note with ample memory")
-        }
+    let (added, note) = found(rt, desk, share, page_at_last(rt.alloc())?)?;
+    if added.fresh != 1 {
+        return Err("a page adds something else");
     }
-}
-
-// Claims the root, hands in its page, and has the pass hear of it: of how many events it is told.
-fn told<C: Crew, R: Wait>(
-    rt: &R,
-    alloc: Global,
-    desk: &Desk<C, &R>,
-    share: &mut Share<C>,
-    pass: &mut Pass<C>,
-    query: &Query,
-) -> Checked<u32> {
-    claims(rt, desk, share, 0)?;
-    let page = page_at_last(alloc)?;
-    let note = noted(rt, desk, share, page, pass, query)?;
-    let at = note.at();
-    pass.hear(note);
-    Ok(at)
+    if let Some(note) = note {
+        return Ok(note);
+    }
+    if searched(pass, query)?.at > 2 {
+        return Err("a page without a note is seen");
+    }
+    claims(rt, desk, share, 1)?.ok_or("no note with ample memory")
 }
 
 // The first of two passes hears of the page, and both see it.
-fn work_at<C: Crew, R: Wait>(
+fn work_at<C: Crew, R: Wait + AllocGlobal>(
     rt: &R,
-    alloc: Global,
     desk: &Desk<C, &R>,
     share: &mut Share<C>,
     first: &mut Pass<C>,
     second: &mut Pass<C>,
 ) -> Checked<()> {
-    let query = query_at_last(alloc, b"docs")?;
+    let query = query(rt.alloc(), b"docs")?;
     sees(second, &query, 1)?;
-    let at = told(rt, alloc, desk, share, first, &query)?;
+    claims(rt, desk, share, 0)?;
+    let note = finds(rt, desk, share, first, &query)?;
+    let at = note.at();
+    first.hear(note);
     sees(first, &query, at)?;
     sees(second, &query, 3)
-}
-
-// The share, and the two passes.
-fn taken<C: Crew>(
-    passes: Vec<Pass<C>>,
-    shares: Vec<Share<C>>,
-) -> Option<(Share<C>, Pass<C>, Pass<C>)> {
-    let mut shares = shares;
-    let share = shares.pop()?;
-    let mut passes = passes;
-    let second = passes.pop()?;
-    let first = passes.pop()?;
-    Some((share, first, second))
-}
-
-/// Claims the root, hands in its page, and has the pass hear of it.
-pub fn tell<C: Crew, R: Wait + AllocGlobal>(
-    rt: &R,
-    desk: &Desk<C, &R>,
-    share: &mut Share<C>,
-    pass: &mut Pass<C>,
-) -> Checked<()> {
-    let query = query_at_last(rt.alloc(), b"docs")?;
-    told(rt, rt.alloc(), desk, share, pass, &query)?;
-    Ok(())
 }
 
 /// Claims the root, hands in its page, and searches by two passes, of which the first hears the note.
@@ -200,9 +157,10 @@ pub fn check<C: Crew, R: Wait + AllocGlobal>(rt: &R, blank: Blank) -> Checked<()
     requires history { blank.history ≡ C.history }
     requires begun { blank.begun ≡ [] }
 {
-    let (desk, passes, shares) = opened::<C, R>(rt, blank)?;
-    let Some((mut share, mut first, mut second)) = taken(passes, shares) else {
-        return Err("a desk without its passes or its share");
+    let (desk, mut passes, mut shares) = opened::<C, R>(rt, blank)?;
+    let mut share = shares.pop().ok_or("no share")?;
+    let (Some(mut second), Some(mut first)) = (passes.pop(), passes.pop()) else {
+        return Err("no passes");
     };
-    work_at(rt, rt.alloc(), &desk, &mut share, &mut first, &mut second)
+    work_at(rt, &desk, &mut share, &mut first, &mut second)
 }

@@ -1,7 +1,6 @@
 //! A catalogue and a desk, of which one growth may be refused.
 
-ghost use Rattle.std.specs.Prelude.{◌≡◌, [], IfOk, IfSome};
-ghost use mathlib.Core.List.{IsPrefix};
+ghost use Rattle.std.specs.Prelude.{◌≡◌, []};
 
 use gopher_catalogue::Catalogue;
 use gopher_crew::{Blank, Crew, Desk, Pass, Share};
@@ -29,7 +28,7 @@ fn scope(alloc: Global) -> Option<Scope> {
     Some(Scope::new(allow, deny))
 }
 
-/// The scope of one host, but for what is private, where one of two tries makes it.
+/// The scope of one host, but for what is private, in one of two tries.
 pub fn scope_at_last(alloc: Global) -> Checked<Scope> {
     match scope(alloc) {
         Some(scope) => Ok(scope),
@@ -37,17 +36,20 @@ pub fn scope_at_last(alloc: Global) -> Checked<Scope> {
     }
 }
 
-/// The root of the host.
-pub fn root(alloc: Global) -> Option<Place> {
-    Place::new(alloc, b'1', b"", b"h", 70).ok()
-}
-
-/// The root alone.
-pub fn seeds(alloc: Global) -> Option<Vec<Place>> {
-    let root = root(alloc)?;
+// The root of the host.
+fn seeds(alloc: Global) -> Option<Vec<Place>> {
+    let root = Place::new(alloc, b'1', b"", b"h", 70).ok()?;
     let mut seeds = Vec::new(alloc);
     seeds.push(root).ok()?;
     Some(seeds)
+}
+
+/// The root alone, in one of two tries.
+pub fn seeds_at_last(alloc: Global) -> Checked<Vec<Place>> {
+    match seeds(alloc) {
+        Some(seeds) => Ok(seeds),
+        None => seeds(alloc).ok_or("no seeds"),
+    }
 }
 
 // A crawl that begins in the root.

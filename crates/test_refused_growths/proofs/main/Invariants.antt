@@ -12,9 +12,3 @@ ghosts-check-2-C-Ledger g a = record { name = a.blank.name; parts = a.blank.part
 
 abbrev pub ghosts-check-2-C-Crew : goal.ghosts-check-2-C-Crew
 ghosts-check-2-C-Crew g a = record { history = a.blank.history }
-
-abbrev pub ghosts-check-3-C-Ledger : goal.ghosts-check-3-C-Ledger
-ghosts-check-3-C-Ledger g a = record { name = a.blank.name; parts = a.blank.parts }
-
-abbrev pub ghosts-check-3-C-Crew : goal.ghosts-check-3-C-Crew
-ghosts-check-3-C-Crew g a = record { history = a.blank.history }

@@ -1,5 +1,5 @@
 use Rattle.std.specs.Prelude.{◌==◌}
-use Rattle.gopher_item.proofs.Splits.{list_any_found}
+use Rattle.gopher_bytes.proofs.Splits.{list_any_found}
 use Rattle.std.proofs.Common.{sym, ◌∙◌}
 use Rattle.gopher_conversation.proofs.conversation.has_feed.Goals as goal
 

@@ -5,7 +5,8 @@ use Rattle.std.specs.List.{zip}
 use Rattle.gopher_page.specs.Query.{joined}
 use Rattle.gopher_page.specs.declared.query.Operator.TheVariants.{Not}
 use Rattle.gopher_segment.specs.Postings.{count_in}
-use Rattle.gopher_segment.proofs.RunLemmas.{length-zip, number_at}
+use Rattle.gopher_bytes.proofs.Zips.{length-zip}
+use Rattle.gopher_segment.proofs.RunLemmas.{number_at}
 use Rattle.gopher_segment.proofs.PostingLemmas.{run_step}
 use Rattle.gopher_index.proofs.Unwanted.{not_twice, not_none}
 use Rattle.gopher_index.proofs.cells.leave_all_out.Goals as goal

@@ -31,9 +31,9 @@ loop-index-preserved c = λ old start.
       | then-not-is_again+in_ok-take_posting_in w ↦
           let turn = walk_turn c.args.term.now c.requires.and c.args.postings.now.first pages c.args.postings.now.numbers.now c.args.postings.now.counts.now c.requires.beside old c.loop-index.best c.loop-index.index (omega arith) walk
           (sym c.is_again.ensures ∙ w.if-not-is_again.true) in
-          let read : turn.page ≡ w.page_at-page.result.now =
-          page_read pages turn.before turn.after turn.page w.page_at-page.result.now (get_or c.args.postings.now.numbers.now c.loop-index.index 0) c.args.postings.now.first turn.whole turn.number w.page_at-page.ensures in
-          let count : get_or c.args.postings.now.counts.now c.loop-index.index 0 ≡ min (count_of_term w.page_at-page.result.now.counts c.args.term.now) 255 =
+          let read : turn.page ≡ arc_value w.page_at-page.result.now =
+          page_read pages turn.before turn.after turn.page (arc_value w.page_at-page.result.now) (get_or c.args.postings.now.numbers.now c.loop-index.index 0) c.args.postings.now.first turn.whole turn.number w.page_at-page.ensures in
+          let count : get_or c.args.postings.now.counts.now c.loop-index.index 0 ≡ min (count_of_term (arc_value w.page_at-page.result.now).counts c.args.term.now) 255 =
           turn.count ∙ ap (λ (page : PageData). min (count_of_term page.counts c.args.term.now) 255) read in
           let some : 0 < get_or c.args.postings.now.counts.now c.loop-index.index 0 = omega (arith, turn.count, turn.some) in
           subst (λ best. Walk c.args.term.now c.args.postings.now.first pages c.args.postings.now.numbers.now c.args.postings.now.counts.now old best (c.loop-index.index + 1)) (sym w.best-is)

@@ -1,6 +1,9 @@
-use Rattle.std.proofs.Common.{take}
+use Rattle.std.proofs.Common.{◌<◌, length, take}
 use Rattle.gopher_index.specs.Plan.{AreGroups}
 use Rattle.gopher_index.proofs.plan.groups_of.Given as goal
 
 abbrev pub invariant-loop-number : goal.invariant-loop-number
-invariant-loop-number l = AreGroups (take l.number l.terms) l.groups.items
+invariant-loop-number l = record {
+  groups_are : AreGroups (take l.number l.terms) l.groups.items;
+  some : 0 < l.number → 0 < length l.groups.items;
+}

@@ -6,9 +6,9 @@ use Rattle.gopher_index.proofs.search.best_of_first.Goals as goal
 
 pub returns-clause-best : goal.returns-clause-best
 returns-clause-best c =
-    ((c.in_ok-take_cells_in.ensures c.args.plan.now
+    ((c.in_ok-take_cells_in.ensures c.args.terms.now
     (record {
-      matching = c.deref.ensures.value ∙ c.in_ok-fill.ensures.matching ∙ ap (truths_of c.args.plan.now) (sym c.pages.ensures.pages);
-      scoring = c.deref-2.ensures.value ∙ c.in_ok-fill.ensures.scoring ∙ ap (scores_of c.args.plan.now) (sym c.pages.ensures.pages);
-    })).answers [] (c.in_ok-best.ensures.hits ∙ answer_of_none c.in_ok-best.best.least c.args.plan.now))
-    ∙ ap (λ pages. answer_from c.take_cells_in.new.best.least pages c.args.plan.now) c.pages.ensures.pages
+      matching = c.deref.ensures.value ∙ c.in_ok-fill.ensures.matching ∙ ap (truths_of c.args.terms.now) (sym c.pages.ensures.pages);
+      scoring = c.deref-2.ensures.value ∙ c.in_ok-fill.ensures.scoring ∙ ap (scores_of c.args.terms.now) (sym c.pages.ensures.pages);
+    })).answers [] (c.in_ok-best.ensures.hits ∙ answer_of_none c.in_ok-best.best.least c.args.terms.now))
+    ∙ ap (λ pages. answer_from c.take_cells_in.new.best.least pages c.args.terms.now) c.pages.ensures.pages

@@ -10,15 +10,13 @@ use Rattle.gopher_index.proofs.search.search.Goals as goal
 
 pub returns-then-is_whole : goal.returns-then-is_whole
 returns-then-is_whole c =
-    let terms : c.in_ok-plan.plan ≡ c.args.query.now = c.in_ok-plan.ensures ∙ c.terms.ensures.terms in
     let pages : List PageData = pages_of (map arc_value c.args.segments.now) ++ map arc_value c.args.loose.now in
-    let whole : c.in_ok-best.best.hits ≡ answer_of pages c.args.query.now = answer_of_whole c.in_ok-best.best pages c.args.query.now (sym c.is_whole.ensures ∙ c.if-is_whole.true) (c.in_ok-best.ensures.best ∙ ap (answer_from c.in_ok-best.best.least pages) terms) in
-    ok_from c.hits.result (λ hits. hits.items ≡ c.in_ok-best.best.hits) (λ hits. hits.items ≡ answer_of pages c.args.query.now) (λ hits e. e ∙ whole) c.hits.ensures
+    let whole : c.in_ok-best.best.hits ≡ answer_of pages c.args.terms.now = answer_of_whole c.in_ok-best.best pages c.args.terms.now (sym c.is_whole.ensures ∙ c.if-is_whole.true) c.in_ok-best.ensures.best in
+    ok_from c.hits.result (λ hits. hits.items ≡ c.in_ok-best.best.hits) (λ hits. hits.items ≡ answer_of pages c.args.terms.now) (λ hits e. e ∙ whole) c.hits.ensures
 
 pub returns : goal.returns
 returns c =
-    let terms : c.in_ok-plan.plan ≡ c.args.query.now = c.in_ok-plan.ensures ∙ c.terms.ensures.terms in
     let pages : List PageData = pages_of (map arc_value c.args.segments.now) ++ map arc_value c.args.loose.now in
-    let whole : c.in_ok-best-2.best.hits ≡ answer_of pages c.args.query.now =
-    c.in_ok-best-2.ensures.best ∙ ap (answer_from c.in_ok-best-2.best.least pages) terms ∙ ap (λ least. answer_from least pages c.args.query.now) (c.in_ok-best-2.ensures.plain refl) ∙ answer_from_0 pages c.args.query.now in
-    ok_from c.hits-2.result (λ hits. hits.items ≡ c.in_ok-best-2.best.hits) (λ hits. hits.items ≡ answer_of pages c.args.query.now) (λ hits e. e ∙ whole) c.hits-2.ensures
+    let whole : c.in_ok-best-2.best.hits ≡ answer_of pages c.args.terms.now =
+    c.in_ok-best-2.ensures.best ∙ ap (λ least. answer_from least pages c.args.terms.now) (c.in_ok-best-2.ensures.plain refl) ∙ answer_from_0 pages c.args.terms.now in
+    ok_from c.hits-2.result (λ hits. hits.items ≡ c.in_ok-best-2.best.hits) (λ hits. hits.items ≡ answer_of pages c.args.terms.now) (λ hits e. e ∙ whole) c.hits-2.ensures

@@ -1,4 +1,4 @@
-use Rattle.std.proofs.Common.{◌≡◌, false, [], ◌∷◌, get_or, map, take, sym, subst, ◌∙◌, arith, rules}
+use Rattle.std.proofs.Common.{◌≡◌, false, [], ◌∷◌, get_or, map, take, refl, sym, subst, ◌∙◌, arith, rules}
 use Rattle.std.specs.Arc.{arc_value}
 use Rattle.gopher_page.specs.Page.{PageData}
 use Rattle.gopher_page.specs.Query.{matches, score}
@@ -20,7 +20,7 @@ loop-index-preserved c = record {
       elim c.if-score-lowest.branch [
         | then-score-lowest+then-truths-index+in_ok-take_in w ↦
             subst (λ best. TakesIn terms (page ∷ []) c.loop-index.best best) (sym w.best-is)
-            (takes_scored terms page w.deref.result.now (get_or c.args.truths.now c.loop-index.index false) c.from-score.result c.loop-index.best w.take_in.new.self w.deref.ensures truth w.if-truths-index.true
+            (takes_scored terms page page (get_or c.args.truths.now c.loop-index.index false) c.from-score.result c.loop-index.best w.take_in.new.self refl truth w.if-truths-index.true
             (c.from-score.ensures ∙ scored) w.take_in.ensures.least w.in_ok-take_in.ensures.hits)
         | else-score-lowest w ↦
             subst (λ best. TakesIn terms (page ∷ []) c.loop-index.best best) (sym w.best-is)

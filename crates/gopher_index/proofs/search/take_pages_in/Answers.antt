@@ -6,10 +6,10 @@ use Rattle.gopher_index.proofs.Taking.{takes_none, takes_both}
 use Rattle.gopher_index.proofs.search.take_pages_in.Goals as goal
 
 pub loop-page-init : goal.loop-page-init
-loop-page-init c = takes_none c.args.plan.now c.args.best.now
+loop-page-init c = takes_none c.args.terms.now c.args.best.now
 
 pub loop-page-preserved : goal.loop-page-preserved
 loop-page-preserved c =
-    subst (λ pages. TakesIn c.args.plan.now pages c.args.best.now c.take_page_in.new.best) (sym (map-next arc_value c.args.pages.now c.loop-page.page-index c.page-item.result (omega arith) c.page-item.is))
-    (takes_both c.args.plan.now (map arc_value (take c.loop-page.page-index c.args.pages.now)) (arc_value c.page-item.result ∷ []) c.args.best.now c.loop-page.best c.take_page_in.new.best c.loop-page.invariant
-    (subst (λ page. TakesIn c.args.plan.now (page ∷ []) c.loop-page.best c.take_page_in.new.best) c.deref.ensures c.in_ok-take_page_in.ensures))
+    subst (λ pages. TakesIn c.args.terms.now pages c.args.best.now c.take_page_in.new.best) (sym (map-next arc_value c.args.pages.now c.loop-page.page-index c.page-item.result (omega arith) c.page-item.is))
+    (takes_both c.args.terms.now (map arc_value (take c.loop-page.page-index c.args.pages.now)) (arc_value c.page-item.result ∷ []) c.args.best.now c.loop-page.best c.take_page_in.new.best c.loop-page.invariant
+    c.in_ok-take_page_in.ensures)

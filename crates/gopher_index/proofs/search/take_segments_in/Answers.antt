@@ -7,10 +7,10 @@ use Rattle.gopher_index.proofs.Taking.{takes_none, takes_both}
 use Rattle.gopher_index.proofs.search.take_segments_in.Goals as goal
 
 pub loop-segment-init : goal.loop-segment-init
-loop-segment-init c = takes_none c.args.plan.now c.args.best.now
+loop-segment-init c = takes_none c.args.terms.now c.args.best.now
 
 pub loop-segment-preserved : goal.loop-segment-preserved
 loop-segment-preserved c =
-    subst (λ pages. TakesIn c.args.plan.now pages c.args.best.now c.take_segment_in.new.best) (sym (pages-next arc_value c.args.segments.now c.loop-segment.segment-index c.segment-item.result (omega arith) c.segment-item.is))
-    (takes_both c.args.plan.now (pages_of (map arc_value (take c.loop-segment.segment-index c.args.segments.now))) (arc_value c.segment-item.result).pages c.args.best.now c.loop-segment.best c.take_segment_in.new.best c.loop-segment.invariant
-    (subst (λ segment. TakesIn c.args.plan.now segment.pages c.loop-segment.best c.take_segment_in.new.best) c.deref.ensures c.in_ok-take_segment_in.ensures))
+    subst (λ pages. TakesIn c.args.terms.now pages c.args.best.now c.take_segment_in.new.best) (sym (pages-next arc_value c.args.segments.now c.loop-segment.segment-index c.segment-item.result (omega arith) c.segment-item.is))
+    (takes_both c.args.terms.now (pages_of (map arc_value (take c.loop-segment.segment-index c.args.segments.now))) (arc_value c.segment-item.result).pages c.args.best.now c.loop-segment.best c.take_segment_in.new.best c.loop-segment.invariant
+    (subst (λ segment. TakesIn c.args.terms.now segment.pages c.loop-segment.best c.take_segment_in.new.best) c.deref.ensures c.in_ok-take_segment_in.ensures))

@@ -5,4 +5,4 @@ use Rattle.gopher_segment.specs.Segment.{pages_of}
 use Rattle.gopher_index.proofs.search.take_segments_in.Given as goal
 
 abbrev pub invariant-loop-segment : goal.invariant-loop-segment
-invariant-loop-segment l = TakesIn l.plan (pages_of (map arc_value (take l.segment-index l.segments))) l.initial.best l.best
+invariant-loop-segment l = TakesIn l.terms (pages_of (map arc_value (take l.segment-index l.segments))) l.initial.best l.best

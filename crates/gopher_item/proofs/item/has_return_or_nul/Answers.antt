@@ -1,6 +1,6 @@
 use Rattle.std.proofs.Common.{sym, ◌∙◌}
 use Rattle.std.specs.Prelude.{◌==◌, ◌||◌}
-use Rattle.gopher_item.proofs.Splits.{list_any_found}
+use Rattle.gopher_bytes.proofs.Splits.{list_any_found}
 use Rattle.gopher_item.proofs.item.has_return_or_nul.Goals as goal
 
 pub returns : goal.returns

@@ -1,9 +1,10 @@
 use Rattle.std.proofs.Common.{◌≡◌, length, sym, subst, ap, ◌∙◌, arith}
 use Rattle.std.specs.Arc.{arc_value}
-use Rattle.gopher_item.specs.Bytes.{is_special}
-use Rattle.gopher_item.specs.MenuLine.{StandsAt, joined, trim_spaces}
+use Rattle.gopher_item.specs.Special.{is_special}
+use Rattle.gopher_bytes.specs.Trim.{trim_spaces}
+use Rattle.gopher_item.specs.MenuLine.{StandsAt, joined}
 use Rattle.gopher_item.proofs.FieldLemmas.{plain_parts, whole_field}
-use Rattle.gopher_item.proofs.Trims.{none_in_trim, trim_spaces-same_length, trim_spaces-trim_spaces}
+use Rattle.gopher_bytes.proofs.Trims.{none_in_trim, trim_spaces-same_length, trim_spaces-trim_spaces}
 use Rattle.gopher_item.proofs.item.item_of_fields.Goals as goal
 
 pub in_text-requires : goal.in_text-requires

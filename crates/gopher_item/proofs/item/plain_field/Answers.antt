@@ -2,7 +2,7 @@ use Rattle.std.proofs.Common.{◌≡◌, ℕ, Bool, true, false, ◌||◌, eqb, 
 use Rattle.std.specs.List.{list_any, slice_split}
 use Rattle.std.proofs.lemmas.List.Folds.{list_any-append}
 use Rattle.memchr.specs.Find.{Nowhere, Passes, is_byte, is_byte3}
-use Rattle.gopher_item.proofs.Splits.{after_cut, cut_whole, list_any_before, list_any_nowhere, slice_split_at_first, slice_split_nowhere}
+use Rattle.gopher_bytes.proofs.Splits.{after_cut, cut_whole, list_any_before, list_any_nowhere, slice_split_at_first, slice_split_nowhere}
 use Rattle.gopher_item.proofs.item.plain_field.Goals as goal
 
 -- the test of a CR or a NUL, and the test of a TAB, a CR or a NUL

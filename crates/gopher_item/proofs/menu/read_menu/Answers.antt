@@ -1,5 +1,5 @@
 use Rattle.std.proofs.Common.{◌++◌, [], ap, sym, refl, ◌∙◌, append_assoc, length-append, arith, length}
-use Rattle.gopher_item.specs.Lines.{lines_of}
+use Rattle.gopher_bytes.specs.Lines.{lines_of}
 use Rattle.gopher_item.specs.Menu.{entries_of, any_last_line}
 use Rattle.gopher_item.proofs.MenuLemmas.{any_last_line-line, entries_of-line, entries_of-empty, stands_in_rest, still_left}
 use Rattle.gopher_item.proofs.menu.read_menu.Goals as goal

@@ -4,7 +4,7 @@ use Rattle.std.proofs.lemmas.List.Sorted.{length_permutation, sum_by-IsPermutati
 use Rattle.std.proofs.lemmas.Result.{IfOk-weaker}
 use Rattle.std.specs.List.{flat_map}
 use Rattle.std.specs.List.Sorted.{IsSorted}
-use Rattle.gopher_item.specs.Place.{lower_case}
+use Rattle.gopher_bytes.specs.Case.{lower_case}
 use Rattle.gopher_page.specs.Words.{bare_words, words_of}
 use Rattle.gopher_page.specs.Counts.{counts_of}
 use Rattle.gopher_page.proofs.Lengths.{rises, counted_sorted, sorted_behind}

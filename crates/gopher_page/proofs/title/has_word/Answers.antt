@@ -1,5 +1,5 @@
 use Rattle.std.proofs.Common.{◌∙◌, map}
-use Rattle.gopher_item.specs.Place.{lower_case}
+use Rattle.gopher_bytes.specs.Case.{lower_case}
 use Rattle.gopher_page.proofs.Tokens.{is_some-token}
 use Rattle.gopher_page.proofs.title.has_word.Goals as goal
 

@@ -1,5 +1,5 @@
 use Rattle.std.proofs.Common.{◌≡◌, length, map}
-use Rattle.gopher_item.specs.MenuLine.{trim_front}
+use Rattle.gopher_bytes.specs.Trim.{trim_front}
 use Rattle.gopher_page.specs.Page.{plain_byte}
 use Rattle.gopher_page.proofs.title.without_front.Given as goal
 

@@ -4,7 +4,7 @@ use Rattle.std.specs.List.{zip}
 use Rattle.gopher_segment.specs.Rows.{joined_rows}
 use Rattle.gopher_segment.specs.Groups.{rows_of_heads}
 use Rattle.gopher_segment.proofs.RowSearch.{word_at}
-use Rattle.gopher_segment.proofs.RunLemmas.{zip-append}
+use Rattle.gopher_bytes.proofs.Zips.{zip-append}
 use Rattle.gopher_segment.proofs.JoinLemmas.{word_of_head, all_joined}
 use Rattle.gopher_segment.proofs.joining.table_of.Goals as goal
 
@@ -14,7 +14,7 @@ loop-at-preserved c =
     let word : List ℕ = word_at rows c.loop-at.at in
     let postings : List (ℕ × ℕ) = c.take_word.new.runs.begun in
     let is : c.word.result.now ≡ word = c.word.ensures ∙ sym (word_of_head c.args.chains.now c.args.heads.now c.loop-at.at c.index-heads-at.result c.loop-at-test.true c.index-heads-at.is) in
-    let pushed : c.push.new.self ≡ c.loop-at.words ++ word ∷ [] = c.in_ok-push.ensures ∙ ap (λ w. c.loop-at.words ++ w ∷ []) is in
+    let pushed : c.push.new.self ≡ c.loop-at.words ++ word ∷ [] = c.in_ok-push.ensures.added ∙ ap (λ w. c.loop-at.words ++ w ∷ []) is in
     let ended : c.end_run.new.self.whole ≡ c.loop-at.runs.whole ++ postings ∷ [] = c.in_ok-end_run.ensures.whole ∙ ap (λ l. l ++ postings ∷ []) c.in_ok-at.ensures.whole in
     let so_far : List (List ℕ × List (ℕ × ℕ)) = zip c.loop-at.words c.loop-at.runs.whole in
     let left : List (List ℕ × List (ℕ × ℕ)) = joined_rows (drop c.in_ok-at.at rows) in

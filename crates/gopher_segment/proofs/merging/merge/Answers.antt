@@ -38,7 +38,7 @@ pub loop-first-preserved : goal.loop-first-preserved
 loop-first-preserved c =
     let word : List ℕ = c.in-Some.word in
     let lowest : AreFrom word c.loop-first.cursors × IsFirst word c.loop-first.cursors = lowest_first word c.loop-first.cursors (sym c.in-Some.ensures.word) in
-    let pushed : c.push.new.self ≡ c.loop-first.words ++ word ∷ [] = c.in_ok-push.ensures ∙ ap (λ w. c.loop-first.words ++ w ∷ []) c.word.ensures in
+    let pushed : c.push.new.self ≡ c.loop-first.words ++ word ∷ [] = c.in_ok-push.ensures.added ∙ ap (λ w. c.loop-first.words ++ w ∷ []) c.word.ensures in
     let before = before_first c.loop-first.words word c.loop-first.cursors c.loop-first.invariant.before lowest.1 in
     let run : c.take_runs.new.runs.begun ≡ flat_map (taken word) c.loop-first.cursors = c.in_ok-take_runs.ensures.begun ∙ ap (λ l. l ++ flat_map (taken word) c.loop-first.cursors) c.loop-first.invariant.ended in
     let grown : c.end_run.new.self.whole ≡ c.loop-first.runs.whole ++ c.take_runs.new.runs.begun ∷ [] = c.in_ok-end_run.ensures.whole ∙ ap (λ l. l ++ c.take_runs.new.runs.begun ∷ []) c.in_ok-take_runs.ensures.whole in

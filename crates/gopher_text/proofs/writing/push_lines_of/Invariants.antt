@@ -1,6 +1,6 @@
 use Rattle.std.proofs.Common.{◌≡◌, ◌++◌, length}
 use Rattle.std.specs.Io.{StartsWith}
-use Rattle.gopher_item.specs.Lines.{lines_of}
+use Rattle.gopher_bytes.specs.Lines.{lines_of}
 use Rattle.gopher_text.specs.Text.{text_bytes}
 use Rattle.gopher_text.proofs.writing.push_lines_of.Given as goal
 

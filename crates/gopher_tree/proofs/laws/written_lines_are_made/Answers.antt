@@ -1,5 +1,5 @@
 use Rattle.std.proofs.Common.{◌≡◌, Bool, true, false, ◌&&◌, not, is_some, Option, None, Some, if◌then◌else◌, refl, sym, ◌∙◌}
-use Rattle.gopher_item.specs.Bytes.{has_special}
+use Rattle.gopher_item.specs.Special.{has_special}
 use Rattle.gopher_item.specs.MenuLine.{is_bad_type}
 use Rattle.gopher_item.specs.Place.{is_host, is_selector}
 use Rattle.gopher_item.specs.declared.fault.ItemFault.{ItemFault}

@@ -1,5 +1,5 @@
 use Rattle.std.proofs.Common.{◌≡◌, ◌+◌, ◌≤◌, length}
-use Rattle.gopher_item.specs.Lines.{lines_of}
+use Rattle.gopher_bytes.specs.Lines.{lines_of}
 use Rattle.gopher_tree.specs.MenuFile.{bad_line_from, bad_line}
 use Rattle.gopher_tree.proofs.menu_file.bad_line.Given as goal
 

@@ -4,7 +4,7 @@ use Rattle.std.proofs.lemmas.Grind.{common_steps}
 use Rattle.gopher_conversation.specs.Talk.{Talk, is_known, known_line}
 use Rattle.gopher_conversation.specs.TalkOf.{talk_in}
 use Rattle.gopher_conversation.proofs.Talking.{heard_is}
-use Rattle.gopher_conversation.proofs.conversation.Conversation.hear.Goals.{in-Answering+in-Made-2, in-Answering+in-Kept-2, in-Gathering-2}
+use Rattle.gopher_conversation.proofs.conversation.Conversation.hear.Goals.{in-Answering+in-Ready+in-Made-2, in-Answering+in-Ready+in-Kept-2, in-Answering+in-Searching-2, in-Gathering-2}
 use Rattle.gopher_conversation.proofs.conversation.Conversation.hear.Goals as goal
 
 pub returns-then-is_known : goal.returns-then-is_known
@@ -17,4 +17,4 @@ returns-then-is_known c =
     subst (λ l. (n : ℕ) → talk_in l c.phase_of.result n ≡ known_line (first_line l)) c.deref-then-is_known.ensures.value c.phase_of.ensures.talk in
     let heard = heard_is inside.gathered.items c.args.piece.now items c.min.result inside.sent inside.phase c.phase_of.result c.args.self.now c.match-self-phase_of.self
     c.self.view_is c.in-Gathering.is grown known settled in
-    elim c.match-self-phase_of.branch [ in-Answering+in-Made-2 w ↦ inl (heard w.self-is) | in-Answering+in-Kept-2 w ↦ inl (heard w.self-is) | in-Gathering-2 w ↦ inl (heard w.self-is) ]
+    elim c.match-self-phase_of.branch [ in-Answering+in-Ready+in-Made-2 w ↦ inl (heard w.self-is) | in-Answering+in-Ready+in-Kept-2 w ↦ inl (heard w.self-is) | in-Answering+in-Searching-2 w ↦ inl (heard w.self-is) | in-Gathering-2 w ↦ inl (heard w.self-is) ]

@@ -17,7 +17,7 @@ returns-in-Some c =
     let parts : map arc_value (take count (drop start c.deref-in-Some.result.now)) ≡ take count (drop start loose) =
     ap (λ l. map arc_value (take count (drop start l))) c.deref-in-Some.ensures.value ∙ sym (take-map arc_value count (drop start c.self.inside.loose.items)) ∙ ap (take count) (sym (drop-map arc_value start c.self.inside.loose.items)) in
     let is : c.in_ok-due.due ≡ run_data (c.self.inside.settled + start) [] (take count (drop start loose)) = c.in_ok-due.ensures ∙ ap (run_data (c.self.inside.settled + start) []) parts in
-    subst (StandsIn c.in_ok-due.due) c.self.view_is (subst (λ run. StandsIn run (pages_of segments ++ loose)) (sym is) (loose_stands segments loose c.self.inside.settled start count c.self.invariant few))
+    subst (StandsIn c.in_ok-due.due) c.self.view_is (subst (λ run. StandsIn run (pages_of segments ++ loose)) (sym is) (loose_stands segments loose c.self.inside.settled start count c.self.invariant.0 few))
 
 pub of_segments-requires : goal.of_segments-requires
 of_segments-requires c =
@@ -28,11 +28,11 @@ of_segments-requires c =
     let first : c.pages_len-first.result ≡ length (pages_of (take start segments)) =
     counted_all (length (pages_of (take start segments))) c.pages_len-first.result
     (c.pages_len-first.ensures ∙ ap (λ l. min (length (pages_of l)) 18446744073709551615) (ap (λ l. map arc_value (take start l)) c.deref-4.ensures.value ∙ sym (take-map arc_value start c.self.inside.segments.items)))
-    (pages_at_most segments loose c.self.inside.settled start count c.self.invariant) in
+    (pages_at_most segments loose c.self.inside.settled start count c.self.invariant.0) in
     let parts : map arc_value (take count (drop start c.deref-5.result.now)) ≡ take count (drop start segments) =
     ap (λ l. map arc_value (take count (drop start l))) c.deref-5.ensures.value ∙ sym (take-map arc_value count (drop start c.self.inside.segments.items)) ∙ ap (take count) (sym (drop-map arc_value start c.self.inside.segments.items)) in
     subst (λ n. IsRun n (map arc_value (take count (drop start c.deref-5.result.now))) []) (sym first)
-    (subst (λ l. IsRun (length (pages_of (take start segments))) l []) (sym parts) (part_run segments loose c.self.inside.settled start count c.self.invariant))
+    (subst (λ l. IsRun (length (pages_of (take start segments))) l []) (sym parts) (part_run segments loose c.self.inside.settled start count c.self.invariant.0))
 
 pub returns : goal.returns
 returns c =
@@ -43,8 +43,8 @@ returns c =
     let first : c.pages_len-first.result ≡ length (pages_of (take start segments)) =
     counted_all (length (pages_of (take start segments))) c.pages_len-first.result
     (c.pages_len-first.ensures ∙ ap (λ l. min (length (pages_of l)) 18446744073709551615) (ap (λ l. map arc_value (take start l)) c.deref-4.ensures.value ∙ sym (take-map arc_value start c.self.inside.segments.items)))
-    (pages_at_most segments loose c.self.inside.settled start count c.self.invariant) in
+    (pages_at_most segments loose c.self.inside.settled start count c.self.invariant.0) in
     let parts : map arc_value (take count (drop start c.deref-5.result.now)) ≡ take count (drop start segments) =
     ap (λ l. map arc_value (take count (drop start l))) c.deref-5.ensures.value ∙ sym (take-map arc_value count (drop start c.self.inside.segments.items)) ∙ ap (take count) (sym (drop-map arc_value start c.self.inside.segments.items)) in
     let is : c.in_ok-due-2.due ≡ run_data (length (pages_of (take start segments))) (take count (drop start segments)) [] = c.in_ok-due-2.ensures ∙ (λ i. run_data (first i) (parts i) []) in
-    subst (StandsIn c.in_ok-due-2.due) c.self.view_is (subst (λ run. StandsIn run (pages_of segments ++ loose)) (sym is) (part_stands segments loose c.self.inside.settled start count c.self.invariant))
+    subst (StandsIn c.in_ok-due-2.due) c.self.view_is (subst (λ run. StandsIn run (pages_of segments ++ loose)) (sym is) (part_stands segments loose c.self.inside.settled start count c.self.invariant.0))

@@ -4,7 +4,7 @@ use Rattle.gopher_page.proofs.Packing.{length-unpack}
 use Rattle.gopher_page.proofs.counts.Counts.len.Goals as goal
 
 pub returns-clause-value : goal.returns-clause-value
-returns-clause-value c = c.len.ensures ∙ sym (length-unpack c.self.inside.bytes.items 0 c.self.inside.ends c.self.inside.counts c.self.invariant.same) ∙ ap length c.self.view_is
+returns-clause-value c = c.len.ensures ∙ sym (length-unpack c.self.inside.bytes.items c.self.inside.ends c.self.inside.counts c.self.invariant.same) ∙ ap length c.self.view_is
 
 pub returns-clause-counts : goal.returns-clause-counts
 returns-clause-counts c = subst AreCounts c.self.view_is c.self.invariant.sound

@@ -4,7 +4,8 @@ use Rattle.std.proofs.lemmas.List.Sums.{sum_by-cons}
 use Rattle.gopher_page.specs.Counts.{run_lengths}
 use Rattle.gopher_page.specs.Packed.{unpack}
 use Rattle.gopher_page.proofs.Lengths.{rises, sorted_ahead, are_counts, counted_in_order, left_size}
-use Rattle.gopher_page.proofs.Packing.{unpack_push, chain_push, end_push}
+use Rattle.gopher_bytes.proofs.PartLemmas.{packed_push}
+use Rattle.gopher_page.proofs.Packing.{unpack_push}
 use Rattle.gopher_page.proofs.counts.Counts.packed.Goals as goal
 
 pub loop-start-preserved : goal.loop-start-preserved
@@ -30,13 +31,12 @@ loop-start-preserved c =
     let later : sum_by length (drop next words) ≤ sum_by length (drop (start + 1) words) = left_size words (start + 1) next (omega (arith, c.end_of_run-end.ensures.after)) in
     record {
       packed =
-          (λ i. unpack (grown i) 0 (ended i) (counted i) ++ rest)
-          ∙ ap (λ l. l ++ rest) (unpack_push bytes word 0 ends counts end (next - start) c.loop-start.invariant.chain c.loop-start.invariant.end c.loop-start.invariant.same last)
-          ∙ append_assoc (unpack bytes 0 ends counts) ((word, next - start) ∷ []) rest
-          ∙ ap (λ l. unpack bytes 0 ends counts ++ l) (sym c.end_of_run-end.ensures.run) ∙ c.loop-start.invariant.packed;
+          (λ i. unpack (grown i) (ended i) (counted i) ++ rest)
+          ∙ ap (λ l. l ++ rest) (unpack_push bytes word ends counts end (next - start) c.loop-start.invariant.ends c.loop-start.invariant.same last)
+          ∙ append_assoc (unpack bytes ends counts) ((word, next - start) ∷ []) rest
+          ∙ ap (λ l. unpack bytes ends counts ++ l) (sym c.end_of_run-end.ensures.run) ∙ c.loop-start.invariant.packed;
       same = omega (arith, c.loop-start.invariant.same, ap length counted, ap length ended, length-append counts ((next - start) ∷ []), length-append ends (end ∷ []));
-      chain = rw (grown, ended) (chain_push (length bytes) (length (bytes ++ word)) 0 ends end c.loop-start.invariant.chain (omega arith) last);
-      end = rw (grown, ended) (end_push 0 ends end ∙ last);
+      ends = rw (grown, ended) (packed_push bytes word ends end c.loop-start.invariant.ends last);
       short = omega (arith, c.loop-start.invariant.short, before, later, size, long);
       within = c.end_of_run-end.ensures.within;
     }
@@ -46,10 +46,10 @@ invariant_of-result c =
     let words : List (List ℕ) = map (λ word. word.now) c.args.words.now in
     let size : length words ≡ length c.args.words.now = length-map c.args.words.now (λ word. word.now) in
     let none : drop c.loop-start.start words ≡ [] = drop_all c.loop-start.start words (omega (arith, c.loop-start-test.false)) in
-    let whole : unpack c.loop-start.bytes.items 0 c.loop-start.ends c.loop-start.counts ≡ run_lengths words = sym (append-nil _) ∙ ap (λ l. unpack c.loop-start.bytes.items 0 c.loop-start.ends c.loop-start.counts ++ run_lengths l) (sym none) ∙ c.loop-start.invariant.packed in
+    let whole : unpack c.loop-start.bytes.items c.loop-start.ends c.loop-start.counts ≡ run_lengths words = sym (append-nil _) ∙ ap (λ l. unpack c.loop-start.bytes.items c.loop-start.ends c.loop-start.counts ++ run_lengths l) (sym none) ∙ c.loop-start.invariant.packed in
     rw (c.shrink_to_fit.ensures.items, c.shrink_to_fit-2.ensures, c.shrink_to_fit-3.ensures)
     (record {
-      chain = c.loop-start.invariant.chain;
+      packed = c.loop-start.invariant.ends;
       same = c.loop-start.invariant.same;
       sound = rw whole (are_counts words (rises words (sorted_ahead c.args.words.now c.requires.sorted)) (omega (arith, c.requires.few)));
     })
@@ -59,6 +59,6 @@ returns c =
     let words : List (List ℕ) = map (λ word. word.now) c.args.words.now in
     let size : length words ≡ length c.args.words.now = length-map c.args.words.now (λ word. word.now) in
     let none : drop c.loop-start.start words ≡ [] = drop_all c.loop-start.start words (omega (arith, c.loop-start-test.false)) in
-    let whole : unpack c.loop-start.bytes.items 0 c.loop-start.ends c.loop-start.counts ≡ run_lengths words = sym (append-nil _) ∙ ap (λ l. unpack c.loop-start.bytes.items 0 c.loop-start.ends c.loop-start.counts ++ run_lengths l) (sym none) ∙ c.loop-start.invariant.packed in
-    (λ i. unpack (c.shrink_to_fit.ensures.items i) 0 (c.shrink_to_fit-2.ensures i) (c.shrink_to_fit-3.ensures i)) ∙ whole
+    let whole : unpack c.loop-start.bytes.items c.loop-start.ends c.loop-start.counts ≡ run_lengths words = sym (append-nil _) ∙ ap (λ l. unpack c.loop-start.bytes.items c.loop-start.ends c.loop-start.counts ++ run_lengths l) (sym none) ∙ c.loop-start.invariant.packed in
+    (λ i. unpack (c.shrink_to_fit.ensures.items i) (c.shrink_to_fit-2.ensures i) (c.shrink_to_fit-3.ensures i)) ∙ whole
     ∙ counted_in_order words words (rises words (sorted_ahead c.args.words.now c.requires.sorted)) (λ sought. refl)

@@ -1,5 +1,5 @@
 use Rattle.std.proofs.Common.{◌≡◌, ◌∷◌, [], map, Err, refl, rules}
-use Rattle.gopher_item.specs.Place.{lower_case}
+use Rattle.gopher_bytes.specs.Case.{lower_case}
 use Rattle.gopher_page.specs.Words.{tokens_of}
 use Rattle.gopher_page.specs.Query.{query_of, terms_of}
 use Rattle.gopher_page.proofs.Terms.{query_of-tokens}

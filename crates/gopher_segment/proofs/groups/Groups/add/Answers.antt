@@ -51,7 +51,7 @@ returns c = λ rows alike.
     let chains : List (List (ℕ × ℕ)) = c.self.inside.chains in
     let word : List ℕ = c.args.row.now.0 in
     let more : List (ℕ × ℕ) = c.args.row.now.1 in
-    let few : length chains < 4294967295 = omega (arith, c.if-len-ge-MOST_ITEMS.false, c.len.ensures) in
+    let few : length chains < 4294967295 = omega (arith, c.if-len-ge-MAX_PACKED.false, c.len.ensures) in
     let none : more ++ get_or chains 4294967295 [] ≡ more = ap (λ l. more ++ l) (get_or_past chains 4294967295 [] (omega (arith, few))) ∙ append-nil more in
     let added : c.add_to_chains-2.new.chains ≡ chains ++ more ∷ [] = c.in_ok-add_to_chains-2.ensures.added ∙ ap (λ l. chains ++ l ∷ []) none in
     let pushed : c.push.new.self.items ≡ heads ++ (word, length chains) ∷ [] =
@@ -72,7 +72,7 @@ returns-then-is_of c = λ rows alike.
     let list : ℕ = c.behind-self.inside.list in
     let more : List (ℕ × ℕ) = c.args.row.now.1 in
     let within : at < length heads = omega (arith, c.if-at-len.true, c.len-2.ensures, c.self.inside.heads.ok.0) in
-    let few : at < 2 ^ 32 - 1 = omega (arith, within, c.if-len-ge-MOST_ITEMS-2.false, c.len-else-len-ge-MOST_ITEMS.ensures, c.self.inside.heads.ok.0) in
+    let few : at < 2 ^ 32 - 1 = omega (arith, within, c.if-len-ge-MAX_PACKED-2.false, c.len-else-len-ge-MAX_PACKED.ensures, c.self.inside.heads.ok.0) in
     let is : get_or heads at d ≡ (word, list) = sym (c.behind-self.view_is ∙ c.index-then-is_of.ensures) in
     let again : (c.behind-self-then-is_of.inside.word, c.behind-self-then-is_of.inside.list) ≡ (word, list) =
     c.behind-self-then-is_of.view_is ∙ c.index_mut.ensures.value ∙ get_or_default heads at c.index_mut.result.now d within ∙ is

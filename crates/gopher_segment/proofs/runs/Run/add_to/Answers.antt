@@ -2,7 +2,8 @@ use Rattle.std.proofs.Common.{◌≡◌, ℕ, List, ◌+◌, ◌<◌, ◌≤◌,
 use Rattle.std.proofs.lemmas.List.{take_all}
 use Rattle.std.specs.List.{zip}
 use Rattle.gopher_segment.specs.Postings.{AreWithin, count_in}
-use Rattle.gopher_segment.proofs.RunLemmas.{length-zip, number_at}
+use Rattle.gopher_bytes.proofs.Zips.{length-zip}
+use Rattle.gopher_segment.proofs.RunLemmas.{number_at}
 use Rattle.gopher_segment.proofs.PostingLemmas.{run_step, count_in_part}
 use Rattle.gopher_segment.proofs.runs.Run.add_to.Goals as goal
 

@@ -2,7 +2,7 @@ use Rattle.std.proofs.Common.{◌≤◌, ◌-◌, length, take, drop, ap, ◌∙
 use Rattle.std.specs.List.{zip}
 use Rattle.gopher_segment.specs.Postings.{RunsData, one_run}
 use Rattle.gopher_segment.proofs.Between.{runs_between}
-use Rattle.gopher_segment.proofs.PartLemmas.{length-parts}
+use Rattle.gopher_bytes.proofs.PartLemmas.{length-parts}
 use Rattle.gopher_segment.proofs.runs.Runs.between.Goals as goal
 
 pub span_at-first-requires-clause-within : goal.span_at-first-requires-clause-within

@@ -1,7 +1,7 @@
 use Rattle.std.proofs.Common.{◌<◌, length, slice_get, sym, ap, ◌∙◌, arith}
 use Rattle.std.specs.List.{zip}
 use Rattle.gopher_segment.specs.Postings.{RunsData}
-use Rattle.gopher_segment.proofs.PartLemmas.{length-parts}
+use Rattle.gopher_bytes.proofs.PartLemmas.{length-parts}
 use Rattle.gopher_segment.proofs.RunLemmas.{run_at}
 use Rattle.gopher_segment.proofs.runs.Runs.get.Goals as goal
 

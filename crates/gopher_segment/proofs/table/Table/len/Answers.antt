@@ -1,5 +1,5 @@
 use Rattle.std.proofs.Common.{length, sym, ap, ◌∙◌}
-use Rattle.gopher_segment.proofs.RunLemmas.{length-zip}
+use Rattle.gopher_bytes.proofs.Zips.{length-zip}
 use Rattle.gopher_segment.proofs.table.Table.len.Goals as goal
 
 pub returns : goal.returns

@@ -1,6 +1,6 @@
 use Rattle.std.proofs.Common.{slice_get, length, sym, ap, ◌∙◌, arith}
 use Rattle.gopher_segment.specs.Rows.{runs_of_rows}
-use Rattle.gopher_segment.proofs.RunLemmas.{length-zip}
+use Rattle.gopher_bytes.proofs.Zips.{length-zip}
 use Rattle.gopher_segment.proofs.RowLemmas.{runs_of_zip}
 use Rattle.gopher_segment.proofs.table.Table.run.Goals as goal
 

@@ -6,7 +6,7 @@ use Rattle.gopher_segment.specs.Rows.{rows_count, runs_of_rows}
 use Rattle.gopher_segment.proofs.Between.{counts_between, within_between}
 use Rattle.gopher_segment.proofs.RowLemmas.{rows_count_le, runs_of_zip}
 use Rattle.gopher_segment.proofs.RowSearch.{word_at}
-use Rattle.gopher_segment.proofs.RunLemmas.{length-zip}
+use Rattle.gopher_bytes.proofs.Zips.{length-zip}
 use Rattle.gopher_segment.proofs.table.Table.spread.Goals as goal
 
 pub between-requires-clause-within : goal.between-requires-clause-within

@@ -1,6 +1,6 @@
 use Rattle.std.proofs.Common.{slice_get, length, sym, ap, ◌∙◌, arith}
 use Rattle.gopher_segment.specs.Rows.{words_of_rows}
-use Rattle.gopher_segment.proofs.RunLemmas.{length-zip}
+use Rattle.gopher_bytes.proofs.Zips.{length-zip}
 use Rattle.gopher_segment.proofs.RowLemmas.{words_of_zip}
 use Rattle.gopher_segment.proofs.table.Table.word.Goals as goal
 

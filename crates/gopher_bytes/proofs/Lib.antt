@@ -1,0 +1,5 @@
+pub mod Splits
+pub mod PartLemmas
+pub mod Zips
+pub mod Trims
+pub mod TrimSearches

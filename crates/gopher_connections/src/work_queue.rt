@@ -1,0 +1,53 @@
+//! Whose work is next.
+
+ghost use Rattle.std.specs.Prelude.{◌≡◌, ◌∷◌, ◌++◌, [], OnOk, OnErr};
+ghost use Rattle.gopher_connections.specs.WorkQueue.{first_key, without_key};
+
+use std::alloc::{AllocError, Global};
+use std::collections::VecDeque;
+
+/// The keys of connections that need work of the server's own, first in, first out.
+///
+/// Contracts see the keys as `keys.items`, the first one first.
+#[derive(Drop)]
+pub struct WorkQueue {
+    keys: VecDeque<usize>,
+}
+
+impl WorkQueue {
+    /// Makes an empty queue. Takes no memory.
+    pub fn new(alloc: Global) -> WorkQueue
+        ensures { result.keys.items ≡ [] }
+    {
+        WorkQueue {
+            keys: VecDeque::new(alloc),
+        }
+    }
+
+    /// Puts a key behind all others.
+    ///
+    /// # Errors
+    ///
+    /// Out of memory (90).
+    pub fn push(&mut self, key: usize) -> Result<(), AllocError>
+        ensures last { OnOk result (self.new.keys.items ≡ self.old.keys.items ++ key ∷ []) }
+        ensures refused { OnErr result (self.new.keys.items ≡ self.old.keys.items) }
+    {
+        self.keys.push_back(key)?;
+        Ok(())
+    }
+
+    /// Returns the first key. Takes no memory.
+    pub fn first(&self) -> Option<usize>
+        ensures { result ≡ first_key self.now.keys.items }
+    {
+        self.keys.front().copied()
+    }
+
+    /// Removes a key; the others keep their order. Takes no memory.
+    pub fn remove(&mut self, key: usize)
+        ensures { self.new.keys.items ≡ without_key key self.old.keys.items }
+    {
+        self.keys.retain(|other| *other != key);
+    }
+}

@@ -1,0 +1,216 @@
+//! The arguments of the program.
+
+use clap::{Arg, ArgAction, ArgMatches, Command, Error, value_parser};
+use gopher_item::NoMemory;
+use std::alloc::{AllocError, Global};
+use std::net::{IpAddr, Ipv6Addr, SocketAddr};
+
+// The version. Nothing else in the repository states it but CHANGELOG.md.
+const VERSION: &str = "0.1.0";
+
+// The greatest number of connections after which a server may end.
+const MAX_REQUESTS: u64 = 1_000_000;
+
+/// What the arguments ask for.
+#[derive(Drop)]
+pub enum Asked<'a> {
+    /// `replay`: replay a script.
+    Replay,
+    /// `serve`: serve a folder.
+    Serve(Serving<'a>),
+    /// `check`: check settings and their folder.
+    Check(Checking<'a>),
+    /// A text: of `--help`, of `--version`, or about bad arguments.
+    Told(Text),
+}
+
+/// The arguments of `check`.
+#[derive(Clone, Copy)]
+pub struct Checking<'a> {
+    /// The path of the settings.
+    pub settings: &'a str,
+    /// Whether to bind each address of the host for a moment.
+    pub listens: bool,
+}
+
+/// A text that is printed and ends the program.
+#[derive(Drop)]
+pub enum Text {
+    /// That of `--help` or `--version`.
+    Shown(String),
+    /// What is wrong with the arguments.
+    Refusal(String),
+}
+
+/// The arguments of `serve`.
+#[derive(Drop)]
+pub struct Serving<'a> {
+    /// The path of the settings.
+    pub settings: &'a str,
+    /// After how many connections the server ends; `None` if it never does.
+    pub requests: Option<u64>,
+    /// The path of the log; `None` if no request is logged.
+    pub log: Option<&'a str>,
+    /// Whether to print the crawl's sizes as it goes on.
+    pub progress: bool,
+    /// Where the server listens: IP addresses, each with or without a port, for example `192.0.2.1:70`
+    /// or `::`. If there are none, it listens at the addresses of the settings' host.
+    pub addresses: Vec<&'a str>,
+}
+
+fn log_argument<'a>(alloc: Global) -> Arg<'a> {
+    Arg::new(alloc, "log")
+        .long("log")
+        .value_name("FILE")
+        .action(ArgAction::Set)
+        .help("Append a line for each request to this file")
+}
+
+fn progress_argument<'a>(alloc: Global) -> Arg<'a> {
+    Arg::new(alloc, "progress")
+        .long("progress")
+        .action(ArgAction::SetTrue)
+        .help("Tell the crawl's sizes on standard error every ten seconds")
+}
+
+fn settings_argument<'a>(alloc: Global) -> Arg<'a> {
+    Arg::new(alloc, "SETTINGS")
+        .required(true)
+        .action(ArgAction::Set)
+        .help("The settings of the server and its crawl, a TOML file")
+}
+
+fn address_argument<'a>(alloc: Global) -> Arg<'a> {
+    Arg::new(alloc, "listen")
+        .long("listen")
+        .value_name("ADDRESS")
+        .action(ArgAction::Append)
+        .help("Listen at this IP address, with its port if it has one; may be repeated")
+}
+
+fn check_command<'a>(alloc: Global) -> Result<Command<'a>, AllocError> {
+    let listens = Arg::new(alloc, "listen")
+        .long("listen")
+        .action(ArgAction::SetTrue)
+        .help("Bind each address of the host for a moment, too");
+    Command::new(alloc, "check")
+        .about("Tell what is wrong with the settings and their folder, and where")
+        .arg(settings_argument(alloc))?
+        .arg(listens)
+}
+
+fn serve_command<'a>(alloc: Global) -> Result<Command<'a>, AllocError> {
+    let requests = Arg::new(alloc, "requests")
+        .long("requests")
+        .value_name("N")
+        .action(ArgAction::Set)
+        .value_parser(value_parser!(u64).range(0..=MAX_REQUESTS as i64))
+        .help("End after N connections, at most 1000000");
+    Command::new(alloc, "serve")
+        .about("Serve a folder, crawl the allowed hosts and answer searches")
+        .arg(settings_argument(alloc))?
+        .arg(address_argument(alloc))?
+        .arg(requests)?
+        .arg(log_argument(alloc))?
+        .arg(progress_argument(alloc))
+}
+
+fn program_command<'a>(alloc: Global) -> Result<Command<'a>, AllocError> {
+    let replay = Command::new(alloc, "replay").about(
+        "Replay the crawl of a script from standard input",
+    );
+    Command::new(alloc, "hole")
+        .about("A Gopher server with search over a crawl")
+        .version(VERSION)
+        .bin_name("hole")?
+        .no_binary_name(true)
+        .subcommand_required(true)
+        .subcommand(replay)?
+        .subcommand(check_command(alloc)?)?
+        .subcommand(serve_command(alloc)?)
+}
+
+// The text that clap prints instead of matching the arguments.
+fn shown(alloc: Global, error: &Error) -> Result<Text, NoMemory> {
+    let text = format!(in alloc; "{error}")?;
+    if error.use_stderr() {
+        Ok(Text::Refusal(text))
+    } else {
+        Ok(Text::Shown(text))
+    }
+}
+
+// The address that an argument names, without the brackets around one that has no port.
+fn address_of(argument: &str) -> Option<&str> {
+    if let Ok(address) = argument.parse::<SocketAddr>() {
+        return if address.port() == 0 {
+            None
+        } else {
+            Some(argument)
+        };
+    }
+    if argument.parse::<IpAddr>().is_ok() {
+        return Some(argument);
+    }
+    let inside = argument.strip_prefix('[')?.strip_suffix(']')?;
+    match inside.parse::<Ipv6Addr>() {
+        Ok(_) => Some(inside),
+        Err(_) => None,
+    }
+}
+
+// Says that an argument is no address.
+fn no_address<'a>(alloc: Global, argument: &str) -> Result<Asked<'a>, NoMemory> {
+    let text = format!(in alloc;
+        "error: invalid value '{argument}' for '--listen <ADDRESS>': it is no IP address, \
+         with a port or without one\n\nFor more information, try 'hole serve --help'.\n"
+    )?;
+    Ok(Asked::Told(Text::Refusal(text)))
+}
+
+// The arguments of `serve`, or the text about a bad one.
+fn read_serve<'a>(alloc: Global, serve: &ArgMatches<'a>) -> Result<Asked<'a>, NoMemory> {
+    let Some(settings) = serve.get_str("SETTINGS") else {
+        return Err(NoMemory);
+    };
+    let mut addresses = Vec::new(alloc);
+    for argument in serve.get_strs("listen").unwrap_or(&[]) {
+        match address_of(argument) {
+            Some(address) => addresses.push(address)?,
+            None => return no_address(alloc, argument),
+        }
+    }
+    Ok(Asked::Serve(Serving {
+        settings,
+        requests: serve.get_one::<u64>("requests"),
+        log: serve.get_str("log"),
+        progress: serve.get_flag("progress"),
+        addresses,
+    }))
+}
+
+/// Reads the arguments of the program, without its own name.
+///
+/// # Errors
+///
+/// `NoMemory` (90).
+pub fn read_arguments<'a>(alloc: Global, arguments: &'a [String]) -> Result<Asked<'a>, NoMemory> {
+    let Ok(command) = program_command(alloc) else {
+        return Err(NoMemory);
+    };
+    let matches = match command.try_get_matches_from(arguments) {
+        Ok(matches) => matches,
+        Err(error) => return Ok(Asked::Told(shown(alloc, &error)?)),
+    };
+    if let Some(check) = matches.subcommand_matches("check") {
+        let listens = check.get_flag("listen");
+        return match check.get_str("SETTINGS") {
+            Some(settings) => Ok(Asked::Check(Checking { settings, listens })),
+            None => Err(NoMemory),
+        };
+    }
+    match matches.subcommand_matches("serve") {
+        Some(serve) => read_serve(alloc, serve),
+        None => Ok(Asked::Replay),
+    }
+}

@@ -1,0 +1,12 @@
+use Rattle.std.proofs.Common.{◌≡◌, map}
+use Rattle.std.specs.Arc.{arc_value}
+use Rattle.gopher_index.specs.Best.{kept_hit}
+use Rattle.gopher_index.specs.Progress.{AddsPages}
+use Rattle.gopher_index.proofs.Steps.{adds_pages}
+use Rattle.gopher_index.proofs.Taking.{ok_from}
+use Rattle.gopher_index.proofs.progress.kept_with_pages.Goals as goal
+
+pub returns : goal.returns
+returns c = λ terms are.
+    ok_from c.kept.result (λ kept. map kept_hit kept.items ≡ c.take_pages_in.new.best.hits) (λ kept. AddsPages terms (map arc_value c.args.pages.now) c.args.kept.now kept.items)
+    (λ kept is. adds_pages terms (map arc_value c.args.pages.now) c.args.kept.now kept.items c.in_ok-best.best c.take_pages_in.new.best c.in_ok-best.ensures.least c.in_ok-best.ensures.hits (c.in_ok-take_pages_in.ensures terms are) is) c.kept.ensures

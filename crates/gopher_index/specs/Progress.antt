@@ -1,0 +1,51 @@
+-- How far a search has come.
+use Rattle.std.specs.Prelude.{ℕ, ◌≡◌, ◌<◌, ◌≤◌, ◌+◌, ◌-◌, ◌*◌, List, ◌++◌, length, map, take, slice_index_or}
+use Rattle.std.specs.Arc.{arc_value}
+use Rattle.std.specs.Global.{Global}
+use Rattle.std.specs.declared.sync.Arc.{Arc}
+use Rattle.gopher_page.specs.Page.{PageData}
+use Rattle.gopher_page.specs.Query.{TermData}
+use Rattle.gopher_index.specs.Best.{answer_from, kept_hit}
+use Rattle.gopher_index.specs.Joined.{AreBegun}
+use Rattle.gopher_index.specs.Plan.{IsPlan}
+use Rattle.gopher_index.specs.declared.best.Kept.{Kept}
+use Rattle.gopher_index.specs.declared.progress.Progress.{Progress}
+use Rattle.gopher_segment.specs.Segment.{pages_of}
+use Rattle.gopher_segment.specs.declared.segment.Segment.{Segment}
+
+-- the pages of a search: those of its segments, and the loose ones
+abbrev pub all_pages : Progress → List PageData
+all_pages progress = pages_of (map arc_value progress.segments.items) ++ map arc_value progress.loose.items
+
+-- those that it went through
+abbrev pub pages_done : Progress → List PageData
+pages_done progress = pages_of (map arc_value (take progress.segments_done progress.segments.items)) ++ map arc_value (take progress.loose_done progress.loose.items)
+
+-- how many steps come before its end at most: one for each group in each segment, one for the pages of each segment,
+-- and one for each loose page
+abbrev pub steps_left : Progress → ℕ
+steps_left progress =
+    ((length progress.segments.items - progress.segments_done) * (length progress.groups.items + 1) - progress.joined.groups)
+    + (length progress.loose.items - progress.loose_done)
+
+-- what was kept is the answer over the pages that it went through, and the cells say what the groups that were joined
+-- say of the segment that is under way
+pub record IsProgress (progress : Progress) : Type 0 where
+  pub plan : IsPlan progress.terms.items progress.groups.items
+  pub segments_within : progress.segments_done ≤ length progress.segments.items
+  pub loose_within : progress.loose_done ≤ length progress.loose.items
+  pub in_order : 0 < progress.loose_done → progress.segments_done ≡ length progress.segments.items
+  pub groups_within : progress.joined.groups ≤ length progress.groups.items
+  pub at_rest : progress.segments_done ≡ length progress.segments.items → progress.joined.groups ≡ 0
+  pub under_way : (segment : Arc Segment Global) → segment ≡ slice_index_or progress.segments.items progress.segments_done segment → AreBegun progress.groups.items (arc_value segment).pages progress.joined
+  pub best : map kept_hit progress.kept.items ≡ answer_from 0 (pages_done progress) progress.terms.items
+
+-- the same search, whatever it has come to
+pub record IsSameSearch (old new : Progress) : Type 0 where
+  pub is : IsProgress new
+  pub pages : all_pages new ≡ all_pages old
+  pub terms : new.terms.items ≡ old.terms.items
+
+-- the new are the best of the old and of these pages
+abbrev pub AddsPages : List TermData → List PageData → List Kept → List Kept → Type 0
+AddsPages terms pages old new = (before : List PageData) → map kept_hit old ≡ answer_from 0 before terms → map kept_hit new ≡ answer_from 0 (before ++ pages) terms

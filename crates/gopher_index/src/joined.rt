@@ -1,0 +1,219 @@
+//! What the groups of a query's terms say of the pages of a segment, some groups at a time.
+
+ghost use Rattle.std.specs.Prelude.{◌≡◌, ℕ, ◌+◌, ◌*◌, ◌^◌, ◌≤◌, ◌<◌, ◌∷◌, [], ◌++◌, List, length, map, max, replicate, MatchResult, IfOk, OnOk};
+ghost use Rattle.std.specs.List.{All};
+ghost use Rattle.gopher_index.specs.Cells.{zipped};
+ghost use Rattle.gopher_index.specs.Joined.{AreBegun, AreJoined};
+ghost use Rattle.gopher_index.specs.Plan.{AreGroupCells, is_match, verdict_by, wanted_in};
+ghost use Rattle.gopher_index.specs.declared.plan.Group.{Group};
+
+use crate::cells::spread_term;
+use crate::plan::{Group, higher};
+use gopher_item::NoMemory;
+use gopher_segment::{Segment, words_len};
+use std::alloc::Global;
+
+// How many cells and postings a step goes through, unless one group alone has more.
+const STEP: usize = 262_144;
+
+// From how many pages on the words of a segment aren't counted, because each step takes one prefix then
+// anyway.
+const MANY_PAGES: usize = 4_096;
+
+/// What the first groups of a query's terms say of the pages of a segment.
+///
+/// The memory serves segment after segment.
+#[derive(Debug, Drop)]
+pub(crate) struct Joined {
+    counts: Vec<u32>,
+    pub verdicts: Vec<u32>,
+    pub scores: Vec<u32>,
+    words: usize,
+    /// How many groups were joined. At 0, what it says is of no segment.
+    pub groups: usize,
+}
+
+// Takes in what the terms of a group say of each page, by how often it has their words.
+fn take_verdicts(group: &Group, verdicts: &mut [u32], counts: &[u32])
+    requires { length verdicts.old ≡ length counts.now }
+    ensures { verdicts.new ≡ zipped (λ verdict count.
+        max verdict (verdict_by group.now count)) verdicts.old counts.now }
+{
+    for (index, count) in counts.iter().enumerate() {
+        verdicts[index] = higher(verdicts[index], group.verdict(*count));
+    }
+}
+
+// Adds each count so many times.
+fn add_times(times: u32, scores: &mut [u32], counts: &[u32])
+    requires same { length scores.old ≡ length counts.now }
+    requires times { times ≤ 1024 }
+    requires room { All (λ score. score ≤ 2 ^ 31) scores.old }
+    requires few { All (λ count. count ≤ 1048576) counts.now }
+    ensures { scores.new ≡ zipped (λ score count. score + times * count) scores.old counts.now }
+{
+    for (index, count) in counts.iter().enumerate() {
+        scores[index] += times * *count;
+    }
+}
+
+// What the groups before this one say, and what it says itself; the counts are overwritten.
+fn join_group(
+    segment: &Segment,
+    group: &Group,
+    counts: &mut [u32],
+    verdicts: &mut [u32],
+    scores: &mut [u32],
+)
+    requires times { group.now.wanted ≤ 1024 }
+    requires counts { length counts.old ≡ length segment.now.pages }
+    requires verdicts { length verdicts.old ≡ length segment.now.pages }
+    requires scores { length scores.old ≡ length segment.now.pages }
+    requires room { All (λ score. score ≤ 2 ^ 31) scores.old }
+    ensures cells { (groups : List Group)
+        → AreGroupCells groups segment.now.pages verdicts.old scores.old
+        → AreGroupCells (groups ++ group.now ∷ []) segment.now.pages verdicts.new scores.new }
+    ensures few { (bound : ℕ) → All (λ score. score ≤ bound) scores.old
+        → All (λ score. score ≤ bound + 1048576 * group.now.wanted) scores.new }
+{
+    spread_term(segment, &group.term, counts);
+    take_verdicts(group, verdicts, counts);
+    add_times(group.wanted, scores, counts);
+}
+
+// What the groups before these say, and what these say themselves; the counts are overwritten.
+fn join_groups(
+    segment: &Segment,
+    groups: &[Group],
+    counts: &mut [u32],
+    verdicts: &mut [u32],
+    scores: &mut [u32],
+)
+    requires few { wanted_in groups.now ≤ 1024 }
+    requires counts { length counts.old ≡ length segment.now.pages }
+    requires verdicts { length verdicts.old ≡ length segment.now.pages }
+    requires scores { length scores.old ≡ length segment.now.pages }
+    requires room { All (λ score. score ≤ 2 ^ 30) scores.old }
+    ensures cells { (before : List Group)
+        → AreGroupCells before segment.now.pages verdicts.old scores.old
+        → AreGroupCells (before ++ groups.now) segment.now.pages verdicts.new scores.new }
+    ensures few { (bound : ℕ) → All (λ score. score ≤ bound) scores.old
+        → All (λ score. score ≤ bound + 1048576 * wanted_in groups.now) scores.new }
+{
+    for group in groups {
+        join_group(segment, group, counts, verdicts, scores);
+    }
+}
+
+// How many cells and postings a group goes through at most in a segment of so many pages and words.
+fn work_of(group: &Group, pages: usize, words: usize) -> usize {
+    if group.term.is_prefix() {
+        pages.saturating_add(words)
+    } else {
+        pages.saturating_mul(2)
+    }
+}
+
+// The first group that isn't joined in the same step as the one at `start`.
+fn step_end(groups: &[Group], start: usize, pages: usize, words: usize) -> usize
+    requires { start < length groups.now }
+    ensures forward { start < result }
+    ensures within { result ≤ length groups.now }
+{
+    let mut work = work_of(&groups[start], pages, words);
+    let mut end = start + 1;
+    while end < groups.len() {
+        work = work.saturating_add(work_of(&groups[end], pages, words));
+        if work > STEP {
+            break;
+        }
+        end += 1;
+    }
+    end
+}
+
+/// Whether each page matches, by what all groups say of it.
+pub(crate) fn truths_of(alloc: Global, verdicts: &[u32]) -> Result<Vec<bool>, NoMemory>
+    ensures { IfOk result (λ truths. truths.items ≡ map is_match verdicts.now) }
+{
+    let mut truths = Vec::with_capacity(alloc, verdicts.len())?;
+    for verdict in verdicts {
+        truths.push(*verdict % 2 == 1)?;
+    }
+    Ok(truths)
+}
+
+impl Joined {
+    /// No groups, and no memory yet.
+    pub fn new(alloc: Global) -> Joined
+        ensures { result.groups ≡ 0 }
+    {
+        Joined {
+            counts: Vec::new(alloc),
+            verdicts: Vec::new(alloc),
+            scores: Vec::new(alloc),
+            words: 0,
+            groups: 0,
+        }
+    }
+
+    // Cells of which none says anything yet.
+    fn clear(&mut self, size: usize) -> Result<(), NoMemory>
+        ensures groups { self.new.groups ≡ self.old.groups }
+        ensures counts { OnOk result (length self.new.counts.items ≡ size) }
+        ensures verdicts { OnOk result (self.new.verdicts.items ≡ replicate size 1) }
+        ensures scores { OnOk result (self.new.scores.items ≡ replicate size 0) }
+    {
+        self.counts.resize(size, 0)?;
+        self.verdicts.clear();
+        self.verdicts.resize(size, 1)?;
+        self.scores.clear();
+        self.scores.resize(size, 0)?;
+        Ok(())
+    }
+
+    // Begins a segment, unless some groups are joined in it.
+    fn begin(&mut self, segment: &Segment) -> Result<(), NoMemory>
+        ensures groups { self.new.groups ≡ self.old.groups }
+        ensures cells { MatchResult result (λ _. (groups : List Group)
+            → AreBegun groups segment.now.pages self.old → AreJoined groups segment.now.pages self.new)
+            (λ _. self.new.groups ≡ 0) }
+    {
+        if self.groups > 0 {
+            return Ok(());
+        }
+        let pages = segment.pages();
+        self.clear(pages.len())?;
+        self.words = if pages.len() < MANY_PAGES {
+            words_len(pages)
+        } else {
+            STEP
+        };
+        Ok(())
+    }
+
+    /// Joins some of the groups that aren't joined yet, one at least: no more than a step may take.
+    ///
+    /// After an error none is joined.
+    pub fn advance(&mut self, segment: &Segment, groups: &[Group]) -> Result<(), NoMemory>
+        requires few { wanted_in groups.now ≤ 1024 }
+        requires ahead { self.old.groups < length groups.now }
+        requires begun { AreBegun groups.now segment.now.pages self.old }
+        ensures cells { OnOk result (AreJoined groups.now segment.now.pages self.new) }
+        ensures groups { MatchResult result (λ _. self.old.groups < self.new.groups)
+            (λ _. (self.old.groups ≡ 0) × (self.new.groups ≡ 0)) }
+    {
+        self.begin(segment)?;
+        let start = self.groups;
+        let end = step_end(groups, start, segment.pages().len(), self.words);
+        let Joined {
+            counts,
+            verdicts,
+            scores,
+            ..
+        } = self;
+        join_groups(segment, &groups[start..end], counts, verdicts, scores);
+        self.groups = end;
+        Ok(())
+    }
+}

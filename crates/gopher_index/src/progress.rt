@@ -1,0 +1,237 @@
+//! How far a search has come: the pages and terms that it shares and owns, and the best of the pages that
+//! it went through.
+
+ghost use Rattle.std.specs.Prelude.{◌≡◌, ◌≤◌, ◌<◌, ◌++◌, ◌∷◌, [], None, Ok, List, length, map, IfOk, IfSome, OnOk};
+ghost use Rattle.std.specs.Arc.{arc_value};
+ghost use Rattle.gopher_page.specs.Query.{IsQuery, TermData};
+ghost use Rattle.gopher_index.specs.Answer.{answer_of};
+ghost use Rattle.gopher_index.specs.Best.{TakesIn};
+ghost use Rattle.gopher_index.specs.Cells.{AreCells};
+ghost use Rattle.gopher_index.specs.Plan.{AreGroups, wanted_in};
+ghost use Rattle.gopher_index.specs.Progress.{all_pages, steps_left, AddsPages, IsProgress, IsSameSearch};
+ghost use Rattle.gopher_segment.specs.Segment.{pages_of};
+
+use crate::best::{Best, Kept};
+use crate::hit::Hit;
+use crate::joined::{Joined, truths_of};
+use crate::plan::{Group, copied, groups_of, weigh};
+use crate::search::take_cells_in;
+use gopher_item::NoMemory;
+use gopher_page::{Page, Term};
+use gopher_segment::{Segment, shared};
+use std::alloc::Global;
+use std::sync::Arc;
+
+// How many loose pages a step takes in at most.
+const MOST_PAGES: usize = 8;
+
+// How many words they have at most, unless one alone has more.
+const MOST_WORDS: usize = 65_536;
+
+/// The pages and terms of a search, and how far it has come.
+///
+/// It goes through the segments in order, in each joins group after group and then takes in its pages,
+/// and then through the loose pages.
+#[derive(Debug, Drop)]
+pub(crate) struct Progress {
+    alloc: Global,
+    segments: Vec<Arc<Segment>>,
+    loose: Vec<Arc<Page>>,
+    terms: Vec<Term>,
+    groups: Vec<Group>,
+    kept: Vec<Kept>,
+    joined: Joined,
+    segments_done: usize,
+    loose_done: usize,
+}
+
+// The best of those that were kept and of the pages of a segment.
+fn kept_with_cells(
+    alloc: Global,
+    kept: &[Kept],
+    pages: &[Arc<Page>],
+    truths: &[bool],
+    scores: &[u32],
+) -> Result<Vec<Kept>, NoMemory>
+    requires truths { length truths.now ≡ length pages.now }
+    requires scores { length scores.now ≡ length pages.now }
+    ensures { (terms : List TermData)
+        → AreCells terms (map arc_value pages.now) truths.now scores.now
+        → IfOk result (λ new. AddsPages terms (map arc_value pages.now) kept.now new.items) }
+{
+    let mut best = Best::of(alloc, kept)?;
+    take_cells_in(pages, truths, scores, &mut best)?;
+    best.kept(alloc)
+}
+
+fn take_page_in<'a>(
+    page: &'a Arc<Page>,
+    groups: &[Group],
+    best: &mut Best<'a>,
+) -> Result<(), NoMemory>
+    requires { wanted_in groups.now ≤ 1024 }
+    ensures { (terms : List TermData) → AreGroups terms groups.now
+        → OnOk result (TakesIn terms (arc_value page.now ∷ []) best.old best.new) }
+{
+    let (truth, score) = weigh(groups, page);
+    if !truth {
+        return Ok(());
+    }
+    best.take_in(score, page)
+}
+
+fn take_pages_in<'a>(
+    pages: &'a [Arc<Page>],
+    groups: &[Group],
+    best: &mut Best<'a>,
+) -> Result<(), NoMemory>
+    requires { wanted_in groups.now ≤ 1024 }
+    ensures { (terms : List TermData) → AreGroups terms groups.now
+        → OnOk result (TakesIn terms (map arc_value pages.now) best.old best.new) }
+{
+    for page in pages {
+        take_page_in(page, groups, best)?;
+    }
+    Ok(())
+}
+
+// The best of those that were kept and of loose pages.
+fn kept_with_pages(
+    alloc: Global,
+    kept: &[Kept],
+    pages: &[Arc<Page>],
+    groups: &[Group],
+) -> Result<Vec<Kept>, NoMemory>
+    requires { wanted_in groups.now ≤ 1024 }
+    ensures { (terms : List TermData) → AreGroups terms groups.now
+        → IfOk result (λ new. AddsPages terms (map arc_value pages.now) kept.now new.items) }
+{
+    let mut best = Best::of(alloc, kept)?;
+    take_pages_in(pages, groups, &mut best)?;
+    best.kept(alloc)
+}
+
+// The first loose page that isn't taken in by the same step as the one at `start`.
+fn pages_end(loose: &[Arc<Page>], start: usize) -> usize
+    requires { start < length loose.now }
+    ensures forward { start < result }
+    ensures within { result ≤ length loose.now }
+{
+    let mut words = loose[start].counts().len();
+    let mut end = start + 1;
+    while end < loose.len() && end - start < MOST_PAGES {
+        words = words.saturating_add(loose[end].counts().len());
+        if words > MOST_WORDS {
+            break;
+        }
+        end += 1;
+    }
+    end
+}
+
+impl Progress {
+    /// The beginning of a search for the terms of a query.
+    pub fn new(
+        alloc: Global,
+        segments: &[Arc<Segment>],
+        loose: &[Arc<Page>],
+        terms: &[Term],
+    ) -> Result<Progress, NoMemory>
+        requires { IsQuery terms.now }
+        ensures is { IfOk result IsProgress }
+        ensures pages { IfOk result (λ progress. all_pages progress
+            ≡ pages_of (map arc_value segments.now) ++ map arc_value loose.now) }
+        ensures terms { IfOk result (λ progress. progress.terms.items ≡ terms.now) }
+    {
+        Ok(Progress {
+            alloc,
+            segments: shared(alloc, segments)?,
+            loose: shared(alloc, loose)?,
+            terms: copied(alloc, terms)?,
+            groups: groups_of(alloc, terms)?,
+            kept: Vec::new(alloc),
+            joined: Joined::new(alloc),
+            segments_done: 0,
+            loose_done: 0,
+        })
+    }
+
+    // Joins some groups in the segment that is under way.
+    fn join_groups(&mut self) -> Result<(), NoMemory>
+        requires is { IsProgress self.old }
+        requires segments { self.old.segments_done < length self.old.segments.items }
+        requires groups { self.old.joined.groups < length self.old.groups.items }
+        ensures same { IsSameSearch self.old self.new }
+        ensures fewer { OnOk result (steps_left self.new < steps_left self.old) }
+    {
+        let segment = &self.segments[self.segments_done];
+        self.joined.advance(segment, &self.groups)?;
+        Ok(())
+    }
+
+    // Takes in the pages of the segment that is under way, in which all groups were joined.
+    fn take_segment_in(&mut self) -> Result<(), NoMemory>
+        requires is { IsProgress self.old }
+        requires segments { self.old.segments_done < length self.old.segments.items }
+        requires groups { self.old.joined.groups ≡ length self.old.groups.items }
+        ensures same { IsSameSearch self.old self.new }
+        ensures fewer { OnOk result (steps_left self.new < steps_left self.old) }
+    {
+        let pages = self.segments[self.segments_done].pages();
+        let truths = truths_of(self.alloc, &self.joined.verdicts)?;
+        self.kept = kept_with_cells(self.alloc, &self.kept, pages, &truths, &self.joined.scores)?;
+        self.segments_done += 1;
+        self.joined.groups = 0;
+        Ok(())
+    }
+
+    // Takes in some loose pages.
+    fn take_loose_in(&mut self) -> Result<(), NoMemory>
+        requires is { IsProgress self.old }
+        requires segments { self.old.segments_done ≡ length self.old.segments.items }
+        requires loose { self.old.loose_done < length self.old.loose.items }
+        ensures same { IsSameSearch self.old self.new }
+        ensures fewer { OnOk result (steps_left self.new < steps_left self.old) }
+    {
+        let start = self.loose_done;
+        let end = pages_end(&self.loose, start);
+        let pages = &self.loose[start..end];
+        self.kept = kept_with_pages(self.alloc, &self.kept, pages, &self.groups)?;
+        self.loose_done = end;
+        Ok(())
+    }
+
+    // The hits of all pages.
+    fn hits(&self) -> Result<Vec<Hit>, NoMemory>
+        requires is { IsProgress self.now }
+        requires segments { self.now.segments_done ≡ length self.now.segments.items }
+        requires loose { self.now.loose_done ≡ length self.now.loose.items }
+        ensures { IfOk result (λ hits.
+            hits.items ≡ answer_of (all_pages self.now) self.now.terms.items) }
+    {
+        Best::of(self.alloc, &self.kept)?.hits(self.alloc)
+    }
+
+    /// Does a step: returns the hits once all pages were gone through.
+    pub fn step(&mut self) -> Result<Option<Vec<Hit>>, NoMemory>
+        requires { IsProgress self.old }
+        ensures same { IsSameSearch self.old self.new }
+        ensures found { IfOk result (λ found. IfSome found (λ hits.
+            hits.items ≡ answer_of (all_pages self.old) self.old.terms.items)) }
+        ensures fewer { result ≡ Ok None → steps_left self.new < steps_left self.old }
+    {
+        if self.segments_done < self.segments.len() {
+            if self.joined.groups < self.groups.len() {
+                self.join_groups()?;
+            } else {
+                self.take_segment_in()?;
+            }
+            return Ok(None);
+        }
+        if self.loose_done < self.loose.len() {
+            self.take_loose_in()?;
+            return Ok(None);
+        }
+        Ok(Some(self.hits()?))
+    }
+}

@@ -1,0 +1,86 @@
+//! Searches that are done in steps.
+
+ghost use Rattle.std.specs.Prelude.{◌≡◌, ◌++◌, ◌<◌, map, None, Ok, IfOk, IfSome};
+ghost use Rattle.std.specs.Arc.{arc_value};
+ghost use Rattle.gopher_page.specs.Query.{IsQuery};
+ghost use Rattle.gopher_index.specs.Answer.{answer_of};
+ghost use Rattle.gopher_segment.specs.Segment.{pages_of};
+
+use crate::hit::Hit;
+use crate::progress::Progress;
+use gopher_item::NoMemory;
+use gopher_page::{Page, Term};
+use gopher_segment::Segment;
+use std::alloc::Global;
+use std::marker::Model;
+use std::sync::Arc;
+
+/// A search that is done in steps, so that a thread can serve others in between.
+///
+/// It shares the pages that the index had at `Index::begin`. If the index changes meanwhile, the hits stay
+/// those of these pages.
+#[derive(Debug, Drop)]
+pub struct Search {
+    progress: Progress,
+}
+
+impl Model for Search {
+    ghost use Rattle.gopher_index.specs.Answer.{answer_of};
+    ghost use Rattle.gopher_index.specs.Progress.{all_pages, steps_left, IsProgress};
+    ghost use Rattle.gopher_index.specs.Search.{SearchData};
+
+    ghost Value = { SearchData };
+
+    ghost view = { λ s. record {
+      hits = answer_of (all_pages s.progress) s.progress.terms.items;
+      left = steps_left s.progress;
+    } };
+
+    ghost invariant = { λ s. IsProgress s.progress };
+}
+
+impl Search {
+    /// The search for the terms of a query among the pages of segments and loose pages behind them.
+    pub(crate) fn new(
+        alloc: Global,
+        segments: &[Arc<Segment>],
+        loose: &[Arc<Page>],
+        terms: &[Term],
+    ) -> Result<Search, NoMemory>
+        requires { IsQuery terms.now }
+        ensures { IfOk result (λ search. search.hits
+            ≡ answer_of (pages_of (map arc_value segments.now) ++ map arc_value loose.now)
+            terms.now) }
+    {
+        Ok(Search {
+            progress: Progress::new(alloc, segments, loose, terms)?,
+        })
+    }
+
+    /// Does one step. Returns the hits if no step is left, and `None` otherwise.
+    ///
+    /// A step takes at most as long as one term takes in one segment.
+    ///
+    /// # Errors
+    ///
+    /// - `NoMemory` (90): the step wasn't done, and can be tried again
+    pub fn step(&mut self) -> Result<Option<Vec<Hit>>, NoMemory>
+        ensures hits { self.new.hits ≡ self.old.hits }
+        ensures found { IfOk result (λ found. IfSome found (λ hits. hits.items ≡ self.old.hits)) }
+        ensures left { result ≡ Ok None → self.new.left < self.old.left }
+    {
+        self.progress.step()
+    }
+
+    /// Does all steps that are left.
+    pub(crate) fn finish(self) -> Result<Vec<Hit>, NoMemory>
+        ensures { IfOk result (λ hits. hits.items ≡ self.hits) }
+    {
+        let mut search = self;
+        loop {
+            if let Some(hits) = search.step()? {
+                return Ok(hits);
+            }
+        }
+    }
+}

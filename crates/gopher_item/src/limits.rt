@@ -1,0 +1,13 @@
+//! Limits of selectors, hosts, ports and request lines.
+
+/// The most bytes of a selector (RFC 1436, appendix: Selector).
+pub const MAX_SELECTOR: usize = 255;
+
+/// The most bytes of a host.
+pub const MAX_HOST: usize = 255;
+
+/// The largest port.
+pub const MAX_PORT: u32 = 65_535;
+
+/// The most bytes of a request line without its end.
+pub const MAX_LINE: usize = 1_024;

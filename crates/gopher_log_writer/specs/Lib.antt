@@ -1,0 +1,4 @@
+pub mod Batches
+pub mod Pending
+pub mod Rests
+pub mod Timing

@@ -1,0 +1,16 @@
+-- The menu of hits.
+use Rattle.std.specs.Prelude.{ℕ, List, map}
+use Rattle.std.specs.List.{flat_map}
+use Rattle.gopher_item.specs.MenuLine.{MenuLineData, menu_bytes, menu_line_bytes}
+use Rattle.gopher_index.specs.declared.hit.Hit.{Hit}
+
+-- a hit as a line of a menu: the type, title, selector, host and port of the page that was found
+abbrev pub hit_line : Hit → MenuLineData
+hit_line hit = record { kind = hit.place.kind; display = hit.title; selector = hit.place.selector; host = hit.place.host; port = hit.place.port }
+
+-- the lines of hits
+abbrev pub hit_lines : List Hit → List ℕ
+hit_lines hits = flat_map (λ hit. menu_line_bytes (hit_line hit)) hits
+
+abbrev pub hits_bytes : List Hit → List ℕ
+hits_bytes hits = menu_bytes (map hit_line hits)

@@ -1,9 +1,0 @@
-use Rattle.std.proofs.Common.{◌≡◌, suc, ◌-◌, ap, ◌∙◌, arith}
-use Rattle.gopher_segment.specs.Parts.{start_at}
-use Rattle.gopher_segment.proofs.PartLemmas.{start_at-suc}
-use Rattle.gopher_segment.proofs.parts.start_of.Goals as goal
-
-pub returns-else-index-eq0 : goal.returns-else-index-eq0
-returns-else-index-eq0 c =
-    let next : suc (c.args.index - 1) ≡ c.args.index = omega (arith, c.if-index-eq0.false) in
-    start_at-suc 0 c.args.ends.now (c.args.index - 1) 0 (omega (arith, c.requires, c.if-index-eq0.false)) ∙ ap (start_at 0 c.args.ends.now) next
