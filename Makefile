@@ -38,11 +38,12 @@ wrong-bodies:
 audit:
 	@tools/audit.py $(PROMISE)
 
-# Writes the parts of the documents that come from the sources: counts, the table of audits, pictures.
+# Writes the parts of the documents that come from the sources: counts, the table of audits, the list of files, pictures.
 .PHONY: documents
 documents:
 	tools/numbers_of_code.py --write
 	tools/audit.py --write
+	tools/list_files.py --write
 	tools/draw_crates.py
 	tools/draw_ratios.py
 

@@ -1,5 +1,6 @@
 #!/usr/bin/env python3
-"""Tests the documents: each command of make and each crate that they name exists, and the pictures are current.
+"""Tests the documents: each command of make and each crate that they name exists, and the pictures and the list of files are
+current.
 
 tools/check_links.py looks after links, pictures and paths.
 """
@@ -11,6 +12,7 @@ import unittest
 sys.path.insert(0, str(pathlib.Path(__file__).resolve().parent))
 import draw_crates
 import draw_ratios
+import list_files
 
 ROOT = pathlib.Path(__file__).resolve().parent.parent
 PAGES = [*sorted(ROOT.glob("*.md")), *sorted(ROOT.glob("docs/*.md"))]
@@ -34,6 +36,26 @@ class Documents(unittest.TestCase):
         for name, draw in draw_crates.PICTURES.items():
             self.assertEqual((ROOT / name).read_text(), draw(), f"run tools/draw_crates.py for {name}")
         self.assertEqual(draw_ratios.PICTURE.read_text(), draw_ratios.picture(draw_ratios.ratios()), "run tools/draw_ratios.py")
+
+    def test_the_list_of_files_is_current(self):
+        page = list_files.PAGE.read_text()
+        self.assertTrue(page == list_files.written(page), "run tools/list_files.py --write")
+
+    def test_each_file_says_what_it_holds(self):
+        for crate in list_files.crates():
+            for path in list_files.sources(crate):
+                self.assertRegex(list_files.about(path.read_text()), r"^[A-Z].*\.$", str(path))
+
+    def test_public_names_are_listed_with_their_types(self):
+        text = "\n".join(
+            [
+                "pub struct Queue<T> {", "    items: Vec<T>,", "}", "impl<T> Queue<T> {", "    pub fn push(&mut self, item: T) {", "    }",
+                "    fn hidden(&self) {", "    }", "}", "impl<T> Clone for Queue<T> {", "    fn clone(&self) -> Self {", "    }", "}",
+                "pub trait Answers<'a> {", "    fn answer(&mut self);", "}", "pub(crate) fn merged() {", "}", "fn private() {", "}",
+                "pub const MAX_LINE: usize = 1_024;",
+            ]
+        )
+        self.assertEqual(list_files.shown(text), "`Queue`: push; `Answers`: answer; merged; MAX_LINE")
 
 
 if __name__ == "__main__":
