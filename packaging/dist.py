@@ -1,7 +1,7 @@
 #!/usr/bin/env python3
 """Makes the packages of a version, with the sums of their bytes.
 
-    packaging/dist.py [--program FILE] [--out FOLDER] [--unproved] [--dirty]
+    packaging/dist.py [--program FILE] [--out FOLDER] [--unproved] [--unreleased] [--dirty]
 
 It writes three files to FOLDER (without --out, dist/):
 
@@ -17,6 +17,8 @@ The script refuses to pack:
 
 - a program without a stamp of its proved build. `make build` writes the stamp, FILE.stamp, and it ends in the program's sum.
   With --unproved the script packs such a program too, and VERSION ends in '~unproved'.
+- a program with changes that CHANGELOG.md lists as unreleased, since its version says nothing of them. With --unreleased it
+  packs it, and VERSION has '+unreleased' behind its number.
 - a tree with changes that aren't committed. With --dirty it packs it, and the commit in BUILD ends in '-dirty'.
 - a program that needs a newer C library than OLDEST_GLIBC.
 
@@ -41,7 +43,7 @@ ROOT = pathlib.Path(__file__).resolve().parent.parent
 PACKAGING = ROOT / "packaging"
 PROGRAM = ROOT / "crates/hole/out/hole"
 OLDEST_GLIBC = (2, 34)
-MARK = "~unproved"
+UNPROVED, UNRELEASED = "~unproved", "+unreleased"
 
 DOCUMENTS = ("packaging/README.md", "docs/OPERATING.md", "docs/SPECIFICATION.md")
 PAGES = (("man/hole.1", "man1"), ("man/hole.toml.5", "man5"))
@@ -72,11 +74,12 @@ def is_proved(program):
     return stamp.is_file() and stamp.read_text().strip().endswith(sum_of(program.read_bytes()))
 
 
-def version_of(program, proved):
+def number_of(program):
+    """The version that the program prints."""
     words = run(program, "--version").split()
     if len(words) != 2 or words[0] != "hole":
         raise Refused(f"{program} --version prints {' '.join(words)!r}, and not 'hole VERSION'")
-    return words[1] + ("" if proved else MARK)
+    return words[1]
 
 
 def needed_glibc(program):
@@ -96,14 +99,18 @@ def commit_of(dirty):
     return commit + ("-dirty" if changed else ""), int(when)
 
 
-def changes_of(version):
-    """The lines of CHANGELOG.md about a version."""
-    text = (ROOT / "CHANGELOG.md").read_text()
-    plain = version.removesuffix(MARK)
-    found = re.search(rf"(?ms)^## \[{re.escape(plain)}\] - \d{{4}}-\d\d-\d\d\n(.*?)(?=^## |^\[|\Z)", text)
-    if not found:
-        raise Refused(f"CHANGELOG.md has no section '## [{plain}] - DATE'")
-    return found[1].strip()
+def section_of(heading):
+    """The changes that CHANGELOG.md lists below a heading, or None."""
+    found = re.search(rf"(?ms)^## {heading}\n(.*?)(?=^## |^\[|\Z)", (ROOT / "CHANGELOG.md").read_text())
+    return found and found[1].strip()
+
+
+def changes_of(number):
+    """The changes of a version, and those that are unreleased."""
+    released = section_of(rf"\[{re.escape(number)}\] - \d{{4}}-\d\d-\d\d")
+    if released is None:
+        raise Refused(f"CHANGELOG.md has no section '## [{number}] - DATE'")
+    return released, section_of(r"\[Unreleased\]") or ""
 
 
 class Tree:
@@ -134,7 +141,7 @@ class Tree:
 class Release:
     """What all packages of a version have in common."""
 
-    def __init__(self, program, unproved, dirty):
+    def __init__(self, program, unproved, unreleased, dirty):
         self.program = program.read_bytes()
         self.proved = is_proved(program)
         if not self.proved and not unproved:
@@ -142,9 +149,16 @@ class Release:
                 f"{program} wasn't proved, or has changed since: it has no {program.name}.stamp that ends in its sum."
                 " 'make build' proves and builds it. (--unproved packs it all the same, and marks the version.)"
             )
-        self.version = version_of(program, self.proved)
+        number = number_of(program)
         self.commit, self.when = commit_of(dirty)
-        self.changes = changes_of(self.version)
+        released, later = changes_of(number)
+        if later and not unreleased:
+            raise Refused(
+                "CHANGELOG.md has unreleased changes: give them a version, and the program the same."
+                " (--unreleased packs it all the same, and marks the version.)"
+            )
+        self.changes = "\n".join(filter(None, [later, released]))
+        self.version = number + (UNRELEASED if later else "") + ("" if self.proved else UNPROVED)
         self.glibc = needed_glibc(program)
         if self.glibc > OLDEST_GLIBC:
             raise Refused(f"{program} needs the C library {self.glibc_text()}, newer than {'.'.join(map(str, OLDEST_GLIBC))}")
@@ -303,13 +317,14 @@ def main():
     words.add_argument("--program", type=pathlib.Path, default=PROGRAM, help="the program, crates/hole/out/hole without it")
     words.add_argument("--out", type=pathlib.Path, default=ROOT / "dist", help="where the packages go, dist/ without it")
     words.add_argument("--unproved", action="store_true", help="pack a program that was built without its proofs")
+    words.add_argument("--unreleased", action="store_true", help="pack a program with changes that no version has yet")
     words.add_argument("--dirty", action="store_true", help="pack a tree with changes that aren't committed")
     given = words.parse_args()
     os.umask(0o022)
     try:
         if not given.program.is_file():
             raise Refused(f"there is no {given.program}: 'make build' proves and builds it")
-        release = Release(given.program.resolve(), given.unproved, given.dirty)
+        release = Release(given.program.resolve(), given.unproved, given.unreleased, given.dirty)
         given.out.mkdir(parents=True, exist_ok=True)
         files = [make_tarball(release, given.out)]
         if shutil.which("dpkg-deb"):

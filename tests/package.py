@@ -4,8 +4,8 @@
     tests/package.py [PROGRAM]
 
 The package for Debian is installed, serves its first site by the installed settings, is removed, and is purged. lintian and
-systemd-analyze look at it, where they are installed. A program without a stamp of its proved build, and a tree with changes,
-are packed by the options that dist.py has for them. What can't be tried here is said in a line 'package: skipped: ..'; all of
+systemd-analyze look at it, if they are installed. A program without a stamp of its proved build, unreleased changes, and a tree
+with changes are packed by the options that dist.py has for them. What can't be tried here is said in a line 'package: skipped: ..'; all of
 it needs root, dpkg and chroot. The last line is 'package: N passed, M failed'. It takes half a minute.
 """
 import argparse
@@ -60,7 +60,7 @@ def options(program):
     stamp = program.with_name(program.name + ".stamp")
     is_proved = stamp.is_file() and stamp.read_text().strip().endswith(hashlib.sha256(program.read_bytes()).hexdigest())
     is_changed = run("git", "-C", ROOT, "status", "--porcelain").stdout != ""
-    return [*([] if is_proved else ["--unproved"]), *(["--dirty"] if is_changed else [])]
+    return ["--unreleased", *([] if is_proved else ["--unproved"]), *(["--dirty"] if is_changed else [])]
 
 
 def files_below(root):
@@ -76,6 +76,22 @@ def check_refusals(tally, program, folder):
         ran = dist("--program", copy, "--out", folder / "refused", "--dirty")
         tally.expect(f"{name}: is refused", (ran.returncode, "wasn't proved" in ran.stderr), (1, True))
     tally.expect("a refused program leaves no package", (folder / "refused").exists(), False)
+
+
+def check_unreleased(tally, program, folder):
+    """Changes that no version has yet aren't packed as the last version."""
+    clone = folder / "changed"
+    run("git", "clone", "--quiet", ROOT, clone)
+    script, log = clone / "packaging/dist.py", clone / "CHANGELOG.md"
+    shutil.copy(DIST, script)
+    changes = "## [Unreleased]\n\n### Added\n\n- Frogs.\n\n"
+    log.write_text(re.sub(r"(?ms)^## \[Unreleased\].*?(?=^## )", changes, log.read_text()))
+    words = ("--program", program, "--out", folder / "unreleased", "--unproved", "--dirty")
+    ran = dist(*words, script=script)
+    tally.expect("unreleased changes: are refused", (ran.returncode, "has unreleased changes" in ran.stderr), (1, True))
+    ran = dist(*words, "--unreleased", script=script)
+    marked = re.match(r"hole [\d.]+\+unreleased(?:~unproved)?\n", ran.stdout) is not None
+    tally.expect("unreleased changes: the version is marked", (ran.returncode, marked), (0, True))
 
 
 def check_same_bytes(tally, program, folder, out, words):
@@ -263,6 +279,7 @@ def main():
         folder.chmod(0o755)
         out, how = folder / "dist", options(program)
         check_refusals(tally, program, folder)
+        check_unreleased(tally, program, folder)
         ran = dist("--program", program, "--out", out, *how)
         tally.expect("it is packed", (ran.returncode, ran.stderr), (0, ""))
         if ran.returncode == 0:
