@@ -31,10 +31,10 @@ marker path { fill: #808080; stroke: none }
 WAY = [
     ("socket", "bytes come in, in pieces", None, "pieces"),
     ("server thread", "polls its connections", ("gopher_server", "serve"), "a ready stream"),
-    ("conversation", "finds the first line", ("gopher_conversation", "advance"), "a request line"),
+    ("conversation", "finds the first line", ("gopher_conversation", "converse"), "a request line"),
     ("answer", "makes the reply to a line", ("gopher_serve", "answer_kept"), "a query"),
-    ("snapshot", "takes the newest published record", ("gopher_crew", "Pass::search"), "a query"),
-    ("index", "finds the first 50 hits", ("gopher_index", "Index::search"), ""),
+    ("snapshot", "takes the newest published record", ("gopher_crew", "Pass::begin"), "a query"),
+    ("index", "finds the first 50 hits", ("gopher_index", "Index::begin"), ""),
 ]
 BESIDE = ("kept replies", "texts and menus", ("gopher_replies", "Replies::reply"))
 
@@ -193,7 +193,8 @@ def answer_picture():
             parts.append(line(left + 110, y + 48, left + 110, y + 83))
             parts.append(line(left + width - 110, y + 84, left + width - 110, y + 49))
             parts.append(f'<text class="note right" x="{left + 96}" y="{y + 70}">{escape(handed)}</text>')
-    backs = ["a prefix of the reply", "bytes to send", "the reply", "hits", "hits"]
+    search = "hits, or a search that finds them in steps"
+    backs = ["a prefix of the reply", "bytes to send", "the reply, or a search that makes it in steps", search, search]
     for number, back in enumerate(backs):
         parts.append(f'<text class="note left" x="{left + width - 96}" y="{MARGIN + number * 84 + 70}">{back}</text>')
     title, note, where = BESIDE

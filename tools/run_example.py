@@ -54,7 +54,7 @@ def hints(host, port, settings):
     return (
         f"It serves at {host}, port {port}. Ask it from another terminal:\n\n"
         f"    curl gopher://{place}/\n{text}"
-        f"    printf '/search\\tfrog\\r\\n' | nc {host} {port}\n\n"
+        f"    curl 'gopher://{place}/7/search%09frog'\n\n"
         "Ctrl-C ends it."
     )
 

@@ -19,6 +19,18 @@ def rows(text, first):
     return [[cell.strip() for cell in line.strip("|").split("|")] for line in table.splitlines()]
 
 
+def ends_programs():
+    """The numbers of section 12 with which a program ends that doesn't replay a script."""
+    numbers = [row[0] for row in rows(section("12. Numbers"), "number")]
+    return [number for number in numbers if int(number) >= 20 and number not in ("40", "52", "53")]
+
+
+def spans(text):
+    """The numbers that a line like '10 to 13' or '20, 21, 22' names."""
+    found = [range(int(first), int(last or first) + 1) for first, last in re.findall(r"(\d+)(?: to (\d+))?", text)]
+    return {str(number) for span in found for number in span}
+
+
 def sources(crate):
     return "\n".join(path.read_text() for path in sorted((ROOT / "crates" / crate / "src").glob("**/*.rt")))
 
@@ -63,10 +75,20 @@ class Specification(unittest.TestCase):
 
     def test_each_fault_that_ends_a_program_has_a_remedy_in_operating(self):
         operating = (ROOT / "docs/OPERATING.md").read_text()
-        numbers = [row[0] for row in rows(section("12. Numbers"), "number")]
-        for number in numbers:
-            if int(number) >= 20 and number not in ("40", "52", "53"):
-                self.assertRegex(operating, rf"`(?:hole: )?{number}\b", number)
+        for number in ends_programs():
+            self.assertRegex(operating, rf"`(?:hole: )?{number}\b", number)
+
+    def test_the_manual_has_each_fault_that_ends_a_program(self):
+        diagnostics = (ROOT / "man/hole.1").read_text().split(".SH DIAGNOSTICS")[1].split("\n.SH")[0]
+        told = set().union(*map(spans, re.findall(r"(?m)^\.TP\n\.B (.*)$", diagnostics)))
+        # settings have 33 for what would be 51 and 54
+        self.assertLessEqual(set(ends_programs()) - {"51", "54"}, told)
+        self.assertLessEqual(told, {row[0] for row in rows(section("12. Numbers"), "number")})
+
+    def test_limits_in_the_manual_and_in_operating_are_those_of_the_specification(self):
+        for name in ("man/hole.1", "man/hole.toml.5", "docs/OPERATING.md"):
+            for limit in re.findall(r"over (\d[\d,]+\d) +bytes", re.sub(r"\s+", " ", (ROOT / name).read_text())):
+                self.assertRegex(PAGE, rf"\b{limit}\b", f"{name}: {limit}")
 
     def test_headings_are_in_the_table_of_contents(self):
         contents = re.findall(r"\[([^\]]+)\]\(#", PAGE[: PAGE.index("\n## ")])
