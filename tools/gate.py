@@ -89,6 +89,7 @@ def parts():
         Part("links", SCRIPTS, ("tools/check_links.py",), is_quick=True),
         *(Part(it.stem, SCRIPTS, (f"tools/{it.name}",), is_quick=True) for it in scripts),
         program_part("program.sh"),
+        program_part("sessions.py"),
         program_part("serving.py"),
         program_part("replays.py", unproved=("--scripts", "200", "--pages", "257")),
         program_part("requests.py", "--lines", "500"),
