@@ -53,10 +53,13 @@ documents:
 clients: crates/hole/out/hole
 	tests/clients.py
 
-# Seconds and megabytes a second, on scripts and files that bench/ makes.
+# Seconds and megabytes a second, on scripts and files that bench/ makes, and the tables of docs/TIMINGS.md that follow.
+# make bench OUTPUT=FILE keeps what it printed; bench/table.py --write FILE then puts the tables into the document.
+OUTPUT =
+
 .PHONY: bench
 bench:
-	bench/run.sh
+	bench/run.sh $(OUTPUT)
 
 # Installs the program that `make build` left, its pages of the manual, its documents and examples, and its unit for systemd,
 # under PREFIX, below DESTDIR where it is given. Nothing is built.

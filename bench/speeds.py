@@ -5,8 +5,8 @@
 
 takes the built programs. For each kind of request the two servers are asked in turn, ROUNDS times, by 16 clients, and the
 medians are printed: requests a second, megabytes a second for the long text, and microseconds of the server's processor
-time a request, each with the quotient to the C server's. Then the same for small menus with silent clients beside them
-(the C server without any), and searches a second by 8 clients while a crawl writes.
+time a request, each with the quotient to the C server's. Then the same for small menus by one client, and with silent clients
+beside the 16 (the C server without any), and searches a second by 8 clients while a crawl writes.
 """
 import os
 import pathlib
@@ -109,9 +109,9 @@ def main(hole, plain_server, clients):
                     reply = ask(port, selector)
                     table.write(b"%s %d\n" % (selector.encode(), len(reply)) + reply)
             with Server([plain_server, str(plain_port), str(THREADS), f"{room}/table"]) as plain:
-                both = lambda requests, silent, selectors: (
-                    timed(clients, ours, port, requests, silent, selectors),
-                    timed(clients, plain, plain_port, requests, 0, selectors),
+                both = lambda requests, silent, selectors, number=CLIENTS: (
+                    timed(clients, ours, port, requests, silent, selectors, number),
+                    timed(clients, plain, plain_port, requests, 0, selectors, number),
                 )
                 for name, selectors in lists.items():
                     pathlib.Path(f"{room}/list").write_text("\n".join(selectors) + "\n")
@@ -122,6 +122,9 @@ def main(hole, plain_server, clients):
                         compare(f"{name}, MB a second", rounds, 1, "at least 0.90")
                     compare(f"{name}, processor microseconds a request", rounds, 2, "at most 1.25")
                 pathlib.Path(f"{room}/list").write_text("/\n")
+                rounds = [both(5_000, 0, f"{room}/list", 1) for _ in range(ROUNDS)]
+                compare("small menu by one client, requests a second", rounds, 0, "at least 0.90")
+                compare("small menu by one client, processor microseconds a request", rounds, 2, "at most 1.50")
                 for silent in (100, 1_000):
                     rounds = [both(20_000, silent, f"{room}/list") for _ in range(ROUNDS)]
                     compare(f"small menu beside {silent} silent clients, requests a second", rounds, 0, "at least 0.75")

@@ -5,7 +5,8 @@
     tools/numbers_of_code.py --write    puts them into README.md: the table between its marks, the numbers in its text, and the version
 
 The product is the program and the libraries below it: crates of tests, timings and examples don't count. A line counts
-unless it is empty or a comment. Lines are rounded to hundreds, definitions to tens.
+unless it is empty or a comment. Lines are rounded to hundreds, definitions and functions to tens. A function has a contract if
+there is a clause between its signature and its body; that of a trait's function is counted with the trait alone.
 """
 import pathlib
 import re
@@ -19,6 +20,9 @@ MARKS = re.compile(r"(?s)(<!-- numbers: tools/numbers_of_code.py -->\n).*?(<!-- 
 BESIDE = ("test_", "bench_", "example_")
 DEFINITION = re.compile(r"(?m)^(?:abbrev|unfoldable|(?:pub )?record|(?:pub )?data) ")
 FUNCTION = re.compile(r"(?m)^ *(?:pub(?:\(\w+\))? )?(?:const )?fn \w")
+# a function up to the brace that opens its body
+HEAD = re.compile(r"(?ms)^( *)(?:pub(?:\(\w+\))? )?(?:const )?fn \w.*?(?:^\1\{$|\{\}?$|;$|\}$)")
+IN_HEAD = re.compile(r"(?m)^\s*(?:requires|ensures)\b")
 CLAUSE = re.compile(r"^\s*(?:requires|ensures|ghost|#\[tactic)\b")
 
 
@@ -53,6 +57,7 @@ def counted():
     return {
         "crates": len(crates()),
         "functions": sum(len(FUNCTION.findall(text)) for text in sources),
+        "functions with a contract": sum(bool(IN_HEAD.search(head[0])) for text in sources for head in HEAD.finditer(text)),
         "lines of Rust": sum(len(without_clauses(text)) for text in sources),
         "lines of contracts": sum(len(lines_of(text)) - len(without_clauses(text)) for text in sources),
         "definitions": sum(len(DEFINITION.findall(text)) for text in specs),
@@ -63,7 +68,7 @@ def counted():
 
 
 def rounded(name, count):
-    step = 100 if name.startswith("lines") else 10 if name in ("definitions", "functions") else 1
+    step = 100 if name.startswith("lines") else 10 if name.startswith(("definitions", "functions")) else 1
     return (count + step // 2) // step * step
 
 

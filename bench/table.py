@@ -1,0 +1,104 @@
+#!/usr/bin/env python3
+"""Makes the tables of docs/TIMINGS.md that compare with plain C from what `make bench` printed.
+
+    bench/table.py OUTPUT            prints them
+    bench/table.py --write OUTPUT    puts them into docs/TIMINGS.md, with the day and the machine, and draws docs/ratios.svg anew
+
+OUTPUT is a file. A ratio over 1 means that Hole is faster, or uses less. Searches are the geometric mean over the queries.
+The table of other servers keeps the rows of those that weren't measured.
+"""
+import math
+import os
+import pathlib
+import platform
+import re
+import subprocess
+import sys
+import time
+
+ROOT = pathlib.Path(__file__).resolve().parent.parent
+PAGE = ROOT / "docs/TIMINGS.md"
+# how the output names a kind of request, and how the table does; the unit of its rate
+SERVED = (
+    ("small menu", "small menus", "requests"),
+    ("small menu by one client", "small menus, one client", "requests"),
+    ("menu of 200 lines", "menus of 200 lines", "requests"),
+    ("300 texts", "300 texts in turn", "requests"),
+    ("text of 1 MB", "texts of 1 MB", "MB"),
+)
+
+
+def number(text, pattern):
+    """The number that a pattern finds first."""
+    found = re.search(pattern, text)
+    if not found:
+        raise SystemExit(f"the output has no line like {pattern!r}")
+    return float(found[1].replace(",", ""))
+
+
+def served(text):
+    """The rows of requests to the server."""
+    for name, shown, unit in SERVED:
+        rate = number(text, rf"(?m)^{name}, {unit} a second: .*, quotient ([\d.]+)")
+        processor = number(text, rf"(?m)^{name}, processor microseconds a request: .*, quotient ([\d.]+)")
+        yield shown, "bytes a second" if unit == "MB" else "requests a second", rate, 1 / processor
+
+
+def searched(text):
+    """The rows of searches and of making and adding pages. The C program's packing counts as adding."""
+    ours, plain = text[: text.index("the plain C program:")], text[text.index("the plain C program:") :]
+    queries = re.findall(r"(?m)^(.*): (\d+) us, \d+ hits, \d+ the sum of their scores$", ours)
+    ratios = [number(plain, rf"(?m)^{re.escape(name)}: (\d+) us, ") / float(us) for name, us in queries if float(us)]
+    yield "searches of 65,536 pages", "searches a second", math.exp(sum(map(math.log, ratios)) / len(ratios)), None
+    made, added = (number(ours, rf"(?m)^65536 pages: {words}") for words in (r"(\d+) ns", r"\d+ ns a page to make, (\d+) "))
+    making, adding, packing = (number(plain, rf"(?m)^{name}: ([\d.]+) us a page") for name in ("making", "adding", "packing"))
+    yield "making pages", "pages a second", 1000 * making / made, None
+    yield "adding pages to the index", "pages a second", 1000 * (adding + packing) / added, None
+
+
+def table(text):
+    """The table of ratios to plain C."""
+    menus = number(text, r"(?m)^menu: read at (\d+) MB/s") / number(text, r"(?m)^split in plain C: (\d+) MB/s")
+    rows = [*served(text), *searched(text), ("reading menus", "bytes a second", menus, None)]
+    head = ["| measured | unit | rate, Hole / C | processor time, C / Hole |", "|---|---|---|---|"]
+    shown = [f"| {name} | {unit} | {rate:.2f} | {'' if spent is None else f'{spent:.2f} '}|" for name, unit, rate, spent in rows]
+    return "\n".join(head + shown) + "\n"
+
+
+def peers(text, page):
+    """The table of other servers."""
+    rows = dict(re.findall(r"(?m)^\| (\w+) \| ([\d.]+) \|$", re.search(r"(?s)<!-- peers: .*?<!-- end -->", page)[0]))
+    rows |= {name: f"{float(rate):.3f}" for name, rate in re.findall(r"(?m)^small menus of (?!Hole)(\w+): .*, quotient ([\d.]+)$", text)}
+    return "\n".join(["| server | rate / C |", "|---|---|", *(f"| {name} | {rate} |" for name, rate in rows.items())]) + "\n"
+
+
+def told():
+    """When and on what it was measured."""
+    processor = re.search(r"(?m)^model name\s*: (.*)$", pathlib.Path("/proc/cpuinfo").read_text())
+    system = f"{platform.system()} {platform.release()}"
+    commit = subprocess.run(["git", "-C", ROOT, "describe", "--always", "--dirty"], capture_output=True, text=True).stdout.strip()
+    return f"{time.strftime('%-d %B %Y')}, {processor[1] if processor else 'x86-64'}, {os.cpu_count()} cores, {system}, commit {commit}"
+
+
+def written(page, text):
+    """The page with the tables of this output."""
+    mark = lambda name: re.compile(rf"(?s)(<!-- {name}: tools/draw_ratios.py -->\n).*?(<!-- end -->)")
+    page = mark("ratios").sub(lambda found: found[1] + table(text) + found[2], page)
+    page = mark("peers").sub(lambda found: found[1] + peers(text, page) + found[2], page)
+    return re.sub(r"(?m)(<!-- measured: bench/table.py -->).*$", lambda found: f"{found[1]} {told()}", page)
+
+
+def main(words):
+    if len(words) not in (1, 2) or words[:-1] not in ([], ["--write"]):
+        print(__doc__)
+        return 2
+    text, page = pathlib.Path(words[-1]).read_text(), PAGE.read_text()
+    if words[0] == "--write":
+        PAGE.write_text(written(page, text))
+        return subprocess.run([ROOT / "tools/draw_ratios.py"]).returncode
+    print(f"{told()}\n\n{table(text)}\n{peers(text, page)}", end="")
+    return 0
+
+
+if __name__ == "__main__":
+    sys.exit(main(sys.argv[1:]))

@@ -1,0 +1,78 @@
+#!/usr/bin/env python3
+"""Tests bench/table.py: the tables that it makes of what `make bench` prints, and that the programs of bench/ still print so."""
+import pathlib
+import re
+import sys
+import unittest
+
+ROOT = pathlib.Path(__file__).resolve().parent.parent
+sys.path.insert(0, str(ROOT / "bench"))
+import table
+
+SERVED = """{0}, {1} a second: 20,000 (C 10,000), quotient 2.00, goal at least 0.90
+{0}, processor microseconds a request: 10 (C 20), quotient 0.50, goal at most 1.25
+"""
+OUTPUT = (
+    "menu: read at 300 MB/s, written at 747 MB/s\n"
+    "split in plain C: 600 MB/s\n"
+    + "".join(SERVED.format(name, unit) for name, _, unit in table.SERVED)
+    + """65536 pages: 40000 ns a page to make, 50000 to claim and add, 2990 bytes a page with its postings
+moon: 50 us, 50 hits, 100 the sum of their scores
+moon and sun: 50 us, 50 hits, 100 the sum of their scores
+16384 pages: 1 ns a page to make, 2 to claim and add, 3 bytes a page with its postings
+the plain C program:
+65536 pages
+making: 40.0 us a page
+adding: 20.0 us a page
+packing: 5.0 us a page, once
+moon: 25 us, 50 hits, scores 100
+moon and sun: 100 us, 50 hits, scores 100
+small menus of Hole: 10,000 a second (C 10,000), quotient 1.0000
+small menus of gophernicus: 400 a second (C 10,000), quotient 0.0400
+"""
+)
+
+
+class Timings(unittest.TestCase):
+    def test_the_table_has_what_was_printed(self):
+        rows = dict(re.findall(r"(?m)^\| ([^|]+) \| [^|]+ \| ([\d.]+ \|(?: [\d.]+)? \|)$", table.table(OUTPUT)))
+        self.assertEqual(rows["small menus"], "2.00 | 2.00 |")
+        self.assertEqual(rows["searches of 65,536 pages"], "1.00 | |")
+        self.assertEqual((rows["making pages"], rows["adding pages to the index"]), ("1.00 | |", "0.50 | |"))
+        self.assertEqual(rows["reading menus"], "0.50 | |")
+
+    def test_the_page_has_rows_of_the_same_names(self):
+        page = table.PAGE.read_text()
+        names = lambda text: re.findall(r"(?m)^\| ([^|]+) \| [^|]+ \| [\d.]+ \|", text)
+        stated = re.search(r"(?s)<!-- ratios: .*?<!-- end -->", page)[0]
+        self.assertEqual(names(stated), names(table.table(OUTPUT)))
+        self.assertIn("<!-- measured: bench/table.py -->", page)
+
+    def test_writing_puts_the_tables_and_the_day_into_the_page(self):
+        page = table.written(table.PAGE.read_text(), OUTPUT)
+        self.assertIn("| small menus | requests a second | 2.00 | 2.00 |\n", page)
+        self.assertIn("| gophernicus | 0.040 |\n| pygopherd | ", page)
+        self.assertRegex(page, r"<!-- measured: bench/table.py --> \d+ \w+ \d{4}, .*, commit \w+")
+
+    def test_a_missing_line_is_told(self):
+        with self.assertRaisesRegex(SystemExit, "the output has no line like"):
+            table.table(OUTPUT.replace("menu of 200 lines", "menu of 100 lines"))
+
+    def test_the_programs_print_such_lines(self):
+        printed = {
+            "crates/bench_measure/src/formats.rt": ['"{what}: read at {read} MB/s, written at {written} MB/s"'],
+            "crates/bench_measure/src/searches.rt": [
+                '"{} pages: {made} ns a page to make, {added} to claim and add, ', '"{text}: {} us, {hits} hits, {scores} the sum of their scores"',
+            ],
+            "bench/splits.c": ['"split in plain C: %.0f MB/s'],
+            "bench/postings.c": ["making: %.1f us a page", "adding: %.1f us a page", "packing: %.1f us a page", '"%s: %.0f us, %zu hits'],
+            "bench/speeds.py": [f'"{name}, requests a second"' for name, _, unit in table.SERVED if "one client" in name],
+            "bench/peers.py": ['"small menus of {name}: {rate:,.0f} a second (C '],
+        }
+        for file, formats in printed.items():
+            for words in formats:
+                self.assertIn(words, (ROOT / file).read_text(), file)
+
+
+if __name__ == "__main__":
+    unittest.main()
