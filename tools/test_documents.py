@@ -1,6 +1,6 @@
 #!/usr/bin/env python3
-"""Tests the documents: each command of make and each crate that they name exists, and the pictures and the list of files are
-current.
+"""Tests the documents: each command of make and each crate that they name exists, the pictures and the list of files are
+current, and words that readers stumbled over stay away.
 
 tools/check_links.py looks after links, pictures and paths.
 """
@@ -16,6 +16,8 @@ import list_files
 
 ROOT = pathlib.Path(__file__).resolve().parent.parent
 PAGES = [*sorted(ROOT.glob("*.md")), *sorted(ROOT.glob("docs/*.md"))]
+# words of an older dialect, each with a plain one: out of memory, if, as many, fails with 90
+AVOIDED = re.compile(r"(?i)\b(?:want of memory|whoever|so many|answers 90|refused only where)\b")
 
 
 class Documents(unittest.TestCase):
@@ -31,6 +33,10 @@ class Documents(unittest.TestCase):
             for name in re.findall(r"\b((?:gopher|test|bench|example)_[a-z_]+)\b", page.read_text()):
                 known = (ROOT / "crates" / name).is_dir() or [*ROOT.glob(f"t*/{name}*")]
                 self.assertTrue(known, f"{page.name}: {name}")
+
+    def test_avoided_words_stay_away(self):
+        for page in [*PAGES, *sorted(ROOT.glob("man/*")), *sorted(ROOT.glob("packaging/*.md"))]:
+            self.assertEqual(AVOIDED.findall(page.read_text()), [], page.name)
 
     def test_the_pictures_are_current(self):
         for name, draw in draw_crates.PICTURES.items():
