@@ -5,8 +5,8 @@
 
 Without SETTINGS it serves examples/site by examples/hole.toml. A relative root in them starts at the working directory.
 
-Without --program it runs the one that `make build` has left, or else builds one without its proofs, by `rt try`. The server ends with this
-script, whatever ends the script: a guard in a session of its own waits for that.
+Without --program it runs the one that `make build` has left, if no source is younger, or else builds one without its proofs, by
+`rt try`. The server ends with this script, whatever ends the script: a guard in a session of its own waits for that.
 """
 import argparse
 import os
@@ -19,7 +19,7 @@ import tempfile
 import time
 import tomllib
 
-from unproved import PROVED, ROOT, is_up
+from unproved import PROVED, ROOT, is_up, is_up_to_date
 from unproved import command as unproved_command
 
 ENDING = (signal.SIGTERM, signal.SIGHUP)
@@ -36,7 +36,7 @@ if not sys.stdin.read():
 
 def command(program, settings):
     """What starts the server, and where."""
-    if os.access(program, os.X_OK):
+    if os.access(program, os.X_OK) and (program != PROVED or is_up_to_date()):
         return [str(program), "serve", settings], ROOT
     return unproved_command("serve", settings), ROOT / "crates/hole"
 
@@ -101,7 +101,7 @@ def main():
         place = pathlib.Path(folder) / "hole.toml"
         place.write_text(with_whole_root(text, root if given else ROOT / root))
         start, where = command(program, str(place))
-        print("Starting:", " ".join(start[:2]), ".. (without a proved program this takes 2 minutes)", flush=True)
+        print("Starting:", " ".join(start[:2]), ".. (without a proved program of these sources this takes 2 minutes)", flush=True)
         return serve(start, where, host, port, hints(host, port, given))
 
 
