@@ -1,10 +1,10 @@
 -- Merged runs that wait until the pages before them are in segments.
-use Rattle.std.proofs.Common.{◌≡◌, ℕ, ◌+◌, ◌-◌, ◌<◌, ◌≤◌, List, [], ◌∷◌, ◌++◌, length, get_or, set, map, sym, ap, subst, ◌∙◌, append_assoc, arith}
+use Rattle.std.proofs.Common.{◌≡◌, ℕ, ◌+◌, ◌-◌, ◌<◌, List, [], ◌∷◌, ◌++◌, length, get_or, set, map, sym, ap, subst, ◌∙◌, append_assoc, arith}
 use Rattle.std.proofs.lemmas.List.Elements.{All-weaker, All-take, All-set, All-get_or}
 use Rattle.std.proofs.lemmas.List.{map_push, length_push, length-append}
 use Rattle.std.specs.Arc.{arc_value}
 use Rattle.std.specs.Global.{Global}
-use Rattle.std.specs.List.{All, swap_remove}
+use Rattle.std.specs.List.{swap_remove}
 use Rattle.std.specs.declared.sync.Arc.{Arc}
 use Rattle.gopher_page.specs.Page.{PageData}
 use Rattle.gopher_page.specs.declared.page.Page.{Page}

@@ -7,12 +7,13 @@ pub mod Zipping
 pub mod CellLemmas
 pub mod Unwanted
 pub mod Taking
+pub mod TieLemmas
 pub mod LeastLemmas
 pub mod Ends
 pub mod Found
 pub mod Segments
 pub mod Blocks
-pub mod OneTermLemmas
+pub mod PostingLemmas
 pub mod NextPages
 pub mod Walking
 pub mod WordSegments

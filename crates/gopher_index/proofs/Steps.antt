@@ -1,5 +1,5 @@
 -- What the steps of a search do to the pages that it went through, and to the number of those that are left.
-use Rattle.std.proofs.Common.{◌≡◌, ℕ, zero, suc, ◌+◌, ◌-◌, ◌*◌, ◌<◌, ◌≤◌, List, [], ◌++◌, length, map, take, drop, get_or, refl, sym, ap, ◌∙◌, arith}
+use Rattle.std.proofs.Common.{◌≡◌, ℕ, zero, suc, ◌+◌, ◌-◌, ◌*◌, ◌<◌, ◌≤◌, List, ◌++◌, length, map, take, drop, get_or, refl, sym, ap, ◌∙◌, arith}
 use Rattle.std.proofs.lemmas.List.{append-nil, append_assoc, take_all}
 use Rattle.gopher_page.specs.Page.{PageData}
 use Rattle.gopher_page.specs.Query.{TermData}
@@ -15,6 +15,7 @@ use Rattle.gopher_index.proofs.Segments.{pages-next}
 times_more : (n m : ℕ) → (n + 1) * m ≡ n * m + m
 times_more n m = grind arith
 
+-- `groups` is the most groups that there can be
 module _ (segments done groups : ℕ) (ahead : done < segments) where
   one_less : (segments - done) * (groups + 1) ≡ (segments - (done + 1)) * (groups + 1) + (groups + 1)
   one_less =
@@ -22,16 +23,20 @@ module _ (segments done groups : ℕ) (ahead : done < segments) where
       ap (λ n. n * (groups + 1)) apart ∙ times_more (segments - (done + 1)) (groups + 1)
 
   -- the pages of a segment
-  pub segment_fewer : (joined loose : ℕ) → joined ≡ groups → ((segments - (done + 1)) * (groups + 1) - 0) + loose < ((segments - done) * (groups + 1) - joined) + loose
-  segment_fewer joined loose all = omega (arith, one_less, all)
+  pub segment_fewer : (joined loose plan : ℕ) → joined ≤ groups → ((segments - (done + 1)) * (groups + 1) - 0) + loose + plan < ((segments - done) * (groups + 1) - joined) + loose + plan
+  segment_fewer joined loose plan all = omega (arith, one_less, all)
 
   -- some of its groups
-  pub groups_fewer : (old new loose : ℕ) → old < new → new ≤ groups → ((segments - done) * (groups + 1) - new) + loose < ((segments - done) * (groups + 1) - old) + loose
-  groups_fewer old new loose forward within = omega (arith, one_less, forward, within)
+  pub groups_fewer : (old new loose plan : ℕ) → old < new → new ≤ groups → ((segments - done) * (groups + 1) - new) + loose + plan < ((segments - done) * (groups + 1) - old) + loose + plan
+  groups_fewer old new loose plan forward within = omega (arith, one_less, forward, within)
 
 -- some loose pages
-pub loose_fewer : (before loose old new : ℕ) → old < new → new ≤ loose → before + (loose - new) < before + (loose - old)
-loose_fewer before loose old new forward within = omega (arith, forward, within)
+pub loose_fewer : (before loose old new plan : ℕ) → old < new → new ≤ loose → before + (loose - new) + plan < before + (loose - old) + plan
+loose_fewer before loose old new plan forward within = omega (arith, forward, within)
+
+-- the groups of the terms
+pub plan_fewer : (before old new : ℕ) → old ≡ 0 → 0 < new → before + (1 - new) < before + (1 - old)
+plan_fewer before old new none some = omega (arith, none, some)
 
 -- no loose page is taken in before the last segment
 pub none_loose : (loose done segments : ℕ) → (0 < loose → done ≡ segments) → done < segments → loose ≡ 0

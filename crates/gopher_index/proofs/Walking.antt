@@ -11,10 +11,10 @@ use Rattle.gopher_page.specs.Query.{TermData, count_of_term}
 use Rattle.gopher_page.specs.declared.query.Operator.TheVariants.{And}
 use Rattle.gopher_index.specs.Best.{BestData, lowest_score, TakesIn}
 use Rattle.gopher_index.specs.Cells.{term_counts}
-use Rattle.gopher_index.specs.OneTerm.{is_again, Walk}
+use Rattle.gopher_index.specs.ByPostings.{is_again, Walk}
 use Rattle.gopher_segment.specs.Postings.{run_of}
 use Rattle.gopher_index.proofs.Blocks.{neither_left, neither_right}
-use Rattle.gopher_index.proofs.OneTermLemmas.{one_matches, one_scores}
+use Rattle.gopher_index.proofs.PostingLemmas.{one_matches, one_scores}
 use Rattle.gopher_segment.proofs.Pieces.{run_within}
 use Rattle.gopher_index.proofs.NextPages.{HaveNone, NextPage, next_page_of, none_left}
 use Rattle.gopher_index.proofs.Taking.{takes_none, takes_both, takes_below, takes_unmatched}
@@ -208,11 +208,10 @@ slice_get-middle : {X : Type 0} (before : List X) (x : X) (after : List X) → s
 slice_get-middle [] x after = refl
 slice_get-middle (y ∷ before) x after = slice_get-middle before x after
 
-pub page_read : (pages before after : List PageData) (page read : PageData) (number first : ℕ) → pages ≡ before ++ page ∷ after → number ≡ first + length before → slice_get pages (number - first) ≡ Some read → page ≡ read
-page_read pages before after page read number first whole is found =
+pub page_found : (pages before after : List PageData) (page : PageData) (number first : ℕ) → pages ≡ before ++ page ∷ after → number ≡ first + length before → slice_get pages (number - first) ≡ Some page
+page_found pages before after page number first whole is =
     let offset : number - first ≡ length before = omega arith in
-    let there : Some page ≡ Some read = sym (slice_get-middle before page after) ∙ (λ i. slice_get (sym whole i) (sym offset i)) ∙ found in
-    cc
+    (λ i. slice_get (whole i) (offset i)) ∙ slice_get-middle before page after
 
 -- counts of which none reaches the lowest
 pub counts_below : (lowest : ℕ) (counts : List ℕ) (start size : ℕ) → list_any (λ count. nat_le lowest count) (take size (drop start counts)) ≡ false → (k : ℕ) → k < size → start + k < length counts → get_or counts (start + k) 0 < lowest

@@ -1,6 +1,6 @@
 -- The postings of a word, segment by segment.
 use Rattle.std.proofs.Common.{◌≡◌, ℕ, zero, suc, ◌<◌, List, [], ◌∷◌, ◌++◌, length, get_or, map, refl, sym, ap, arith}
-use Rattle.gopher_index.specs.OneTerm.{ArePostingsIn, ArePostings}
+use Rattle.gopher_index.specs.ByPostings.{ArePostingsIn, ArePostings}
 use Rattle.gopher_segment.specs.Segment.{SegmentData}
 use Rattle.gopher_segment.specs.declared.postings.Postings.{Postings}
 

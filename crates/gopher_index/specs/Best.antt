@@ -1,5 +1,5 @@
 -- The best of the candidates of a search.
-use Rattle.std.specs.Prelude.{◌≡◌, ℕ, Bool, false, ◌||◌, ◌==◌, nat_le, max, List, ◌++◌, length, map, take, filter, slice_get}
+use Rattle.std.specs.Prelude.{◌≡◌, ℕ, Bool, false, ◌||◌, ◌==◌, nat_le, max, List, [], ◌∷◌, ◌++◌, length, map, take, filter, slice_get}
 use Rattle.std.specs.Arc.{arc_value}
 use Rattle.std.specs.BTreeSet.{insert_key}
 use Rattle.std.specs.List.Sorted.{IsStrictlySortedBy}
@@ -69,6 +69,15 @@ is_whole best = (best.least == 0) || nat_le 50 (length best.hits)
 -- answered, and in any case the least
 abbrev pub lowest_score : BestData → ℕ
 lowest_score best = max best.least (option_map_or (λ last. last.score) (slice_get best.hits 49) 0)
+
+-- whether a hit comes behind the 50th of the best
+abbrev pub is_beyond : Hit → BestData → Bool
+is_beyond hit best = option_map_or (λ last. is_gt (rank_cmp hit last)) (slice_get best.hits 49) false
+
+-- where the old are the best of some hits, the new are the best of those and this one behind them
+pub record TakesHit (hit : Hit) (old new : BestData) : Type 0 where
+  pub least : new.least ≡ old.least
+  pub hits : (hits : List Hit) → old.hits ≡ take 50 (ranked (filter (reaches old.least) hits)) → new.hits ≡ take 50 (ranked (filter (reaches old.least) (hits ++ hit ∷ [])))
 
 -- where the old are the answer over some pages, the new are the answer over those and these behind them
 pub record TakesIn (terms : List TermData) (pages : List PageData) (old new : BestData) : Type 0 where

@@ -3,9 +3,10 @@ pub mod Index
 pub mod Answer
 pub mod Best
 pub mod Cells
-pub mod OneTerm
+pub mod ByPostings
 pub mod Plan
 pub mod Search
+pub mod Ties
 pub mod Begun
 pub mod Joined
 pub mod Progress

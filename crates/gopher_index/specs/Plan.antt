@@ -48,11 +48,12 @@ pub record AreGroups (terms : List TermData) (groups : List Group) : Type 0 wher
   pub highest : (counts : List (List ℕ × ℕ)) → verdict groups counts ≤ 2 * length terms + 1
   pub few : wanted_in groups ≤ length terms
 
--- the terms of a query, and their groups, of which there is one at least
+-- the groups of a query's terms: one at least, and no more than there are terms
 pub record IsPlan (terms : List TermData) (groups : List Group) : Type 0 where
   pub query : IsQuery terms
   pub groups_are : AreGroups terms groups
   pub some : 0 < length groups
+  pub most : length groups ≤ length terms
 
 -- a group with one term more
 pub record Joins (term : TermData) (number : ℕ) (old new : Group) : Type 0 where

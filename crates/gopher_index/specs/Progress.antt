@@ -4,7 +4,7 @@ use Rattle.std.specs.Arc.{arc_value}
 use Rattle.std.specs.Global.{Global}
 use Rattle.std.specs.declared.sync.Arc.{Arc}
 use Rattle.gopher_page.specs.Page.{PageData}
-use Rattle.gopher_page.specs.Query.{TermData}
+use Rattle.gopher_page.specs.Query.{TermData, IsQuery}
 use Rattle.gopher_index.specs.Best.{answer_from, kept_hit}
 use Rattle.gopher_index.specs.Joined.{AreBegun}
 use Rattle.gopher_index.specs.Plan.{IsPlan}
@@ -21,17 +21,19 @@ all_pages progress = pages_of (map arc_value progress.segments.items) ++ map arc
 abbrev pub pages_done : Progress → List PageData
 pages_done progress = pages_of (map arc_value (take progress.segments_done progress.segments.items)) ++ map arc_value (take progress.loose_done progress.loose.items)
 
--- how many steps come before its end at most: one for each group in each segment, one for the pages of each segment,
--- and one for each loose page
+-- how many steps come before its end at most: one for each term in each segment, one for the pages of each segment,
+-- one for each loose page, and one that groups the terms
 abbrev pub steps_left : Progress → ℕ
 steps_left progress =
-    ((length progress.segments.items - progress.segments_done) * (length progress.groups.items + 1) - progress.joined.groups)
+    ((length progress.segments.items - progress.segments_done) * (length progress.terms.items + 1) - progress.joined.groups)
     + (length progress.loose.items - progress.loose_done)
+    + (1 - length progress.groups.items)
 
 -- what was kept is the answer over the pages that it went through, and the cells say what the groups that were joined
 -- say of the segment that is under way
 pub record IsProgress (progress : Progress) : Type 0 where
-  pub plan : IsPlan progress.terms.items progress.groups.items
+  pub query : IsQuery progress.terms.items
+  pub plan : 0 < length progress.groups.items → IsPlan progress.terms.items progress.groups.items
   pub segments_within : progress.segments_done ≤ length progress.segments.items
   pub loose_within : progress.loose_done ≤ length progress.loose.items
   pub in_order : 0 < progress.loose_done → progress.segments_done ≡ length progress.segments.items

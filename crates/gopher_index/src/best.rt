@@ -4,7 +4,7 @@ ghost use Rattle.std.specs.Prelude.{◌≡◌, ℕ, ◌<◌, ◌≤◌, true, fa
 ghost use Rattle.std.specs.Arc.{arc_value};
 ghost use Rattle.gopher_index.specs.Answer.{ranked};
 ghost use Rattle.gopher_index.specs.declared.hit.Hit.{Hit};
-ghost use Rattle.gopher_index.specs.Best.{kept_hit, ranked_hit, hit_with, rank_of, is_behind_at, is_equal_at, AreRanked, Inserts, is_whole, lowest_score, reaches};
+ghost use Rattle.gopher_index.specs.Best.{kept_hit, ranked_hit, hit_with, rank_of, is_behind_at, is_equal_at, is_beyond, AreRanked, Inserts, is_whole, lowest_score, reaches};
 
 use crate::hit::Hit;
 use gopher_item::{ByteString, NoMemory};
@@ -96,7 +96,7 @@ fn put<'a>(best: &mut Vec<Ranked<'a>>, candidate: Ranked<'a>) -> Result<(), NoMe
 }
 
 // Inserts a candidate into the first 50 of the hits so far and drops what is no longer among them.
-fn take_ranked_in<'a>(best: &mut Vec<Ranked<'a>>, candidate: Ranked<'a>) -> Result<(), NoMemory>
+fn insert_candidate<'a>(best: &mut Vec<Ranked<'a>>, candidate: Ranked<'a>) -> Result<(), NoMemory>
     ensures { (hits : List Hit) → map ranked_hit best.old.items ≡ take 50 (ranked hits)
         → OnOk result (map ranked_hit best.new.items
         ≡ take 50 (ranked (hits ++ ranked_hit candidate.entry ∷ []))) }
@@ -205,6 +205,13 @@ impl<'a> Best<'a> {
         self.least == 0 || self.ranked.len() >= MOST_HITS
     }
 
+    /// Returns whether a page with this score ranks after 50 of the hits.
+    pub fn rejects(&self, score: u64, page: &Arc<Page>) -> bool
+        ensures { result ≡ is_beyond (hit_with score (arc_value page.now)) self.now }
+    {
+        is_behind(&self.ranked, MOST_HITS - 1, &Ranked { score, page })
+    }
+
     /// Returns the lowest score with which a page can still get among the best.
     pub fn lowest_score(&self) -> u64
         ensures { result ≡ lowest_score self.now }
@@ -214,7 +221,7 @@ impl<'a> Best<'a> {
     }
 
     /// Inserts a page with its score, unless the score is below the least.
-    pub fn take_in(&mut self, score: u64, page: &'a Arc<Page>) -> Result<(), NoMemory>
+    pub fn insert(&mut self, score: u64, page: &'a Arc<Page>) -> Result<(), NoMemory>
         ensures least { self.new.least ≡ self.old.least }
         ensures hits { (hits : List Hit) → self.old.hits
             ≡ take 50 (ranked (filter (reaches self.old.least) hits)) → OnOk result (self.new.hits
@@ -224,7 +231,7 @@ impl<'a> Best<'a> {
         if score < self.least {
             return Ok(());
         }
-        take_ranked_in(&mut self.ranked, Ranked { score, page })
+        insert_candidate(&mut self.ranked, Ranked { score, page })
     }
 
     /// Returns the hits.

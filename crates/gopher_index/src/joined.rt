@@ -34,7 +34,7 @@ pub(crate) struct Joined {
 }
 
 // Takes in what the terms of a group say of each page, by how often it has their words.
-fn take_verdicts(group: &Group, verdicts: &mut [u32], counts: &[u32])
+fn raise_verdicts(group: &Group, verdicts: &mut [u32], counts: &[u32])
     requires { length verdicts.old ≡ length counts.now }
     ensures { verdicts.new ≡ zipped (λ verdict count.
         max verdict (verdict_by group.now count)) verdicts.old counts.now }
@@ -77,7 +77,7 @@ fn join_group(
         → All (λ score. score ≤ bound + 1048576 * group.now.wanted) scores.new }
 {
     spread_term(segment, &group.term, counts);
-    take_verdicts(group, verdicts, counts);
+    raise_verdicts(group, verdicts, counts);
     add_times(group.wanted, scores, counts);
 }
 

@@ -19,20 +19,22 @@
 //! `Index::begin` runs a short search to its end (`search`): one of at most four terms whose prefixes
 //! go through at most 16,777,216 postings together. It goes through the segments in order. For several
 //! terms it spreads the counts of each term over an array with one element for each page, joins them
-//! to the matches so far, and adds them to the scores (`cells`). A word behind `not` only removes
-//! pages. For a single word it goes through the posting list and skips blocks of 64 postings that
-//! can't reach the best 50 (`one_term`). Pages that reach the lowest of the best scores are inserted
-//! among them (`best`). Loose pages are searched by their own counts.
+//! to the matches so far, and adds them to the scores (`cells`, `by_cells`). A word behind `not` only
+//! removes pages. For a single word it goes through the posting list and skips blocks of 64 postings
+//! that can't reach the best 50 (`by_postings`). Pages that reach the lowest of the best scores are
+//! inserted among them (`best`). If a page of that score isn't among them, no page of the segment with
+//! that score and a later place is, and the ranks of places in the segment say which these are (`ties`).
+//! So most pages of one score are never read. Loose pages are searched by their own counts (`loose`).
 //!
 //! To skip more, a short search first guesses a score that 50 pages reach (`likely`). If fewer than 50
 //! hits reach it, the search runs again without a guess. No contract depends on the guess.
 //!
-//! Any other search becomes a `Search`, which shares the pages and goes on in steps (`progress`). Equal
-//! terms form groups (`plan`). A step does one of three things. It joins groups to the matches and
-//! scores of one segment's pages, spreading the counts of each group once (`joined`). Or it inserts the
-//! pages of a segment that match among the best. Or it inserts up to eight loose pages. A step that
-//! joins groups goes through at most 262,144 cells and postings, or those of one group if that has
-//! more: at most all postings of one segment.
+//! Any other search becomes a `Search`, which shares the pages and goes on in steps (`progress`). Its
+//! first step groups equal terms (`plan`). Each further step does one of three things. It joins groups
+//! to the matches and scores of one segment's pages, spreading the counts of each group once (`joined`).
+//! Or it inserts the pages of a segment that match among the best. Or it inserts up to eight loose
+//! pages. A step that joins groups goes through at most 262,144 cells and postings, or those of one
+//! group if that has more: at most all postings of one segment.
 //!
 //! # Errors
 //!
@@ -41,6 +43,8 @@
 
 mod begun;
 mod best;
+mod by_cells;
+mod by_postings;
 mod cells;
 mod due;
 mod hit;
@@ -48,14 +52,15 @@ mod index;
 mod installing;
 mod joined;
 mod likely;
+mod loose;
 mod merging;
 mod occurrences;
-mod one_term;
 mod picking;
 mod plan;
 mod progress;
 mod search;
 mod searching;
+mod ties;
 
 pub use begun::Begun;
 pub use due::Due;

@@ -90,6 +90,7 @@ fn find(groups: &[Group], term: &Term) -> Option<usize>
 fn index_of(groups: &mut Vec<Group>, term: &Term) -> Result<usize, NoMemory>
     ensures found { IfOk result (IsGroupOf term.now groups.new.items) }
     ensures same { OnOk result (SayAlike groups.old.items groups.new.items) }
+    ensures most { OnOk result (length groups.new.items ≤ length groups.old.items + 1) }
 {
     if let Some(index) = find(groups, term) {
         return Ok(index);
@@ -110,6 +111,7 @@ fn add_term(groups: &mut Vec<Group>, term: &Term, number: usize) -> Result<(), N
     requires few { wanted_in groups.old.items ≤ number }
     ensures adds { OnOk result (AddsTerm term.now number groups.old.items groups.new.items) }
     ensures some { OnOk result (0 < length groups.new.items) }
+    ensures most { OnOk result (length groups.new.items ≤ length groups.old.items + 1) }
 {
     let index = index_of(groups, term)?;
     groups[index].join(term, number);
@@ -140,7 +142,7 @@ pub(crate) fn copied(alloc: Global, terms: &[Term]) -> Result<Vec<Term>, NoMemor
 }
 
 /// Returns whether a page matches, and its score, from the groups of a query's terms.
-pub(crate) fn weigh(groups: &[Group], page: &Page) -> (bool, u64)
+pub(crate) fn weigh_by_groups(groups: &[Group], page: &Page) -> (bool, u64)
     requires { wanted_in groups.now ≤ 1024 }
     ensures truth { result.0 ≡ is_match (verdict groups.now page.now.counts) }
     ensures score { result.1 ≡ total groups.now page.now.counts }

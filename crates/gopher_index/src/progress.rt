@@ -12,10 +12,11 @@ ghost use Rattle.gopher_index.specs.Progress.{all_pages, steps_left, AddsPages, 
 ghost use Rattle.gopher_segment.specs.Segment.{pages_of};
 
 use crate::best::{Best, Kept};
+use crate::by_cells::rank_cells;
 use crate::hit::Hit;
 use crate::joined::{Joined, truths_of};
-use crate::plan::{Group, copied, groups_of, weigh};
-use crate::search::take_cells_in;
+use crate::loose::rank_pages_by_groups;
+use crate::plan::{Group, copied, groups_of};
 use gopher_item::NoMemory;
 use gopher_page::{Page, Term};
 use gopher_segment::{Segment, shared};
@@ -30,8 +31,9 @@ const MOST_WORDS: usize = 65_536;
 
 /// The pages and terms of a search, and how far it has come.
 ///
-/// It goes through the segments in order, in each joins group after group and then takes in its pages,
-/// and then through the loose pages.
+/// It groups the terms in its first step, because that takes time that grows with the square of their
+/// number, and a caller that only begins a search doesn't wait for it. Then it goes through the segments
+/// in order, in each joins group after group and then ranks its pages, and then through the loose pages.
 #[derive(Debug, Drop)]
 pub(crate) struct Progress {
     alloc: Global,
@@ -60,39 +62,8 @@ fn kept_with_cells(
         → IfOk result (λ new. AddsPages terms (map arc_value pages.now) kept.now new.items) }
 {
     let mut best = Best::of(alloc, kept)?;
-    take_cells_in(pages, truths, scores, &mut best)?;
+    rank_cells(pages, truths, scores, &mut best)?;
     best.kept(alloc)
-}
-
-fn take_page_in<'a>(
-    page: &'a Arc<Page>,
-    groups: &[Group],
-    best: &mut Best<'a>,
-) -> Result<(), NoMemory>
-    requires { wanted_in groups.now ≤ 1024 }
-    ensures { (terms : List TermData) → AreGroups terms groups.now
-        → OnOk result (TakesIn terms (arc_value page.now ∷ []) best.old best.new) }
-{
-    let (truth, score) = weigh(groups, page);
-    if !truth {
-        return Ok(());
-    }
-    best.take_in(score, page)
-}
-
-fn take_pages_in<'a>(
-    pages: &'a [Arc<Page>],
-    groups: &[Group],
-    best: &mut Best<'a>,
-) -> Result<(), NoMemory>
-    requires { wanted_in groups.now ≤ 1024 }
-    ensures { (terms : List TermData) → AreGroups terms groups.now
-        → OnOk result (TakesIn terms (map arc_value pages.now) best.old best.new) }
-{
-    for page in pages {
-        take_page_in(page, groups, best)?;
-    }
-    Ok(())
 }
 
 // The best of those that were kept and of loose pages.
@@ -107,7 +78,7 @@ fn kept_with_pages(
         → IfOk result (λ new. AddsPages terms (map arc_value pages.now) kept.now new.items) }
 {
     let mut best = Best::of(alloc, kept)?;
-    take_pages_in(pages, groups, &mut best)?;
+    rank_pages_by_groups(pages, groups, &mut best)?;
     best.kept(alloc)
 }
 
@@ -148,12 +119,23 @@ impl Progress {
             segments: shared(alloc, segments)?,
             loose: shared(alloc, loose)?,
             terms: copied(alloc, terms)?,
-            groups: groups_of(alloc, terms)?,
+            groups: Vec::new(alloc),
             kept: Vec::new(alloc),
             joined: Joined::new(alloc),
             segments_done: 0,
             loose_done: 0,
         })
+    }
+
+    // Groups the terms.
+    fn plan(&mut self) -> Result<(), NoMemory>
+        requires is { IsProgress self.old }
+        requires none { length self.old.groups.items ≡ 0 }
+        ensures same { IsSameSearch self.old self.new }
+        ensures fewer { OnOk result (steps_left self.new < steps_left self.old) }
+    {
+        self.groups = groups_of(self.alloc, &self.terms)?;
+        Ok(())
     }
 
     // Joins some groups in the segment that is under way.
@@ -170,9 +152,10 @@ impl Progress {
     }
 
     // Takes in the pages of the segment that is under way, in which all groups were joined.
-    fn take_segment_in(&mut self) -> Result<(), NoMemory>
+    fn rank_joined_segment(&mut self) -> Result<(), NoMemory>
         requires is { IsProgress self.old }
         requires segments { self.old.segments_done < length self.old.segments.items }
+        requires planned { 0 < length self.old.groups.items }
         requires groups { self.old.joined.groups ≡ length self.old.groups.items }
         ensures same { IsSameSearch self.old self.new }
         ensures fewer { OnOk result (steps_left self.new < steps_left self.old) }
@@ -186,9 +169,10 @@ impl Progress {
     }
 
     // Takes in some loose pages.
-    fn take_loose_in(&mut self) -> Result<(), NoMemory>
+    fn rank_next_loose(&mut self) -> Result<(), NoMemory>
         requires is { IsProgress self.old }
         requires segments { self.old.segments_done ≡ length self.old.segments.items }
+        requires planned { 0 < length self.old.groups.items }
         requires loose { self.old.loose_done < length self.old.loose.items }
         ensures same { IsSameSearch self.old self.new }
         ensures fewer { OnOk result (steps_left self.new < steps_left self.old) }
@@ -220,16 +204,20 @@ impl Progress {
             hits.items ≡ answer_of (all_pages self.old) self.old.terms.items)) }
         ensures fewer { result ≡ Ok None → steps_left self.new < steps_left self.old }
     {
+        if self.groups.is_empty() {
+            self.plan()?;
+            return Ok(None);
+        }
         if self.segments_done < self.segments.len() {
             if self.joined.groups < self.groups.len() {
                 self.join_groups()?;
             } else {
-                self.take_segment_in()?;
+                self.rank_joined_segment()?;
             }
             return Ok(None);
         }
         if self.loose_done < self.loose.len() {
-            self.take_loose_in()?;
+            self.rank_next_loose()?;
             return Ok(None);
         }
         Ok(Some(self.hits()?))

@@ -59,7 +59,9 @@ impl Search {
 
     /// Does one step. Returns the hits if no step is left, and `None` otherwise.
     ///
-    /// A step takes at most as long as one term takes in one segment.
+    /// The first step groups equal terms. Each further step goes through at most 262,144 cells and
+    /// postings, or those of one group of terms in one segment if that has more. Or it inserts the
+    /// matching pages of one segment, or up to eight loose pages, among the best.
     ///
     /// # Errors
     ///

@@ -13,3 +13,4 @@ mod SegmentLemmas
 pub mod Pieces
 mod WordPostings
 mod Between
+mod RankLemmas

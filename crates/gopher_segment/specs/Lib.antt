@@ -4,3 +4,4 @@ pub mod Postings
 pub mod Rows
 pub mod Segment
 pub mod SegmentRows
+pub mod Ranks

@@ -20,6 +20,7 @@ mod head;
 mod joining;
 mod merging;
 mod postings;
+mod ranks;
 mod row;
 mod runs;
 mod segment;

@@ -5,6 +5,7 @@ ghost use Rattle.std.specs.Arc.{arc_value};
 ghost use Rattle.std.specs.List.{All, zip};
 ghost use Rattle.gopher_page.specs.Counts.{count_meant};
 ghost use Rattle.gopher_segment.specs.Postings.{run_of};
+ghost use Rattle.gopher_segment.specs.Ranks.{AreRanks};
 ghost use Rattle.gopher_segment.specs.Segment.{pages_of, meant_counts};
 ghost use Rattle.gopher_segment.specs.SegmentRows.{AreSmall, AreRowsOf, AreConsecutive, AreTablesOf};
 
@@ -12,6 +13,7 @@ use crate::gathering::rows_of;
 use crate::joining::join;
 use crate::merging::{Cursor, merge};
 use crate::postings::Postings;
+use crate::ranks::ranks_of;
 use crate::sharing::{share, shared};
 use crate::table::Table;
 use gopher_bytes::NoMemory;
@@ -27,6 +29,7 @@ use std::sync::Arc;
 pub struct Segment {
     first: usize,
     pages: Vec<Arc<Page>>,
+    ranks: Vec<u16>,
     table: Table,
 }
 
@@ -37,18 +40,20 @@ impl Model for Segment {
 
     ghost Value = { SegmentData };
 
+    ghost use Rattle.gopher_segment.specs.Ranks.{AreRanks};
     ghost use Rattle.gopher_segment.specs.SegmentRows.{IsSegment};
 
     ghost view = { λ s. record { first = s.first; pages = map arc_value s.pages.items } };
 
-    ghost invariant = { λ s. IsSegment s.first (map arc_value s.pages.items) s.table };
+    ghost invariant = { λ s. IsSegment s.first (map arc_value s.pages.items) s.table
+        × AreRanks (map arc_value s.pages.items) s.ranks.items };
 }
 
 impl Segment {
     /// Makes the segment of `pages`. The first page has the number `first`.
     ///
     /// While it runs it allocates up to 108 bytes for each distinct word of each page, and 65,536
-    /// bytes more.
+    /// bytes more. Behind that it sorts the places of the pages, with up to 34 bytes for each.
     pub fn of_pages(alloc: Global, first: usize, pages: &[Arc<Page>]) -> Result<Segment, NoMemory>
         requires { first + length pages.now ≤ 65536 }
         ensures first { IfOk result (λ segment. segment.first ≡ first) }
@@ -57,9 +62,11 @@ impl Segment {
         let rows = rows_of(alloc, first, pages)?;
         let table = join(alloc, &rows)?;
         let pages = shared(alloc, pages)?;
+        let ranks = ranks_of(alloc, &pages)?;
         Ok(Segment {
             first,
             pages,
+            ranks,
             table,
         })
     }
@@ -78,9 +85,11 @@ impl Segment {
         let mut cursors = cursors_of(alloc, segments)?;
         let table = merge(alloc, &mut cursors)?;
         let pages = shared_pages(alloc, segments)?;
+        let ranks = ranks_of(alloc, &pages)?;
         Ok(Segment {
             first,
             pages,
+            ranks,
             table,
         })
     }
@@ -92,6 +101,14 @@ impl Segment {
     {
         let _table = &self.table;
         &self.pages
+    }
+
+    /// Returns the ranks of the pages in place order. Pages of one place may have different ranks.
+    pub fn ranks(&self) -> &[u16]
+        ensures { AreRanks self.now.pages result.now }
+    {
+        let _pages = &self.pages;
+        &self.ranks
     }
 
     /// Returns the table of the words.

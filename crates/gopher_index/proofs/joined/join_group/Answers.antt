@@ -5,8 +5,8 @@ use Rattle.gopher_index.proofs.joined.join_group.Goals as goal
 
 pub returns-clause-cells : goal.returns-clause-cells
 returns-clause-cells c = λ groups cells.
-    one_group groups c.args.group.now c.args.segment.now.pages c.spread_term.new.counts c.spread_term.ensures.counts c.args.verdicts.now c.take_verdicts.new.verdicts c.args.scores.now c.add_times.new.scores
-    c.take_verdicts.ensures c.add_times.ensures cells
+    one_group groups c.args.group.now c.args.segment.now.pages c.spread_term.new.counts c.spread_term.ensures.counts c.args.verdicts.now c.raise_verdicts.new.verdicts c.args.scores.now c.add_times.new.scores
+    c.raise_verdicts.ensures c.add_times.ensures cells
 
 pub returns-clause-few : goal.returns-clause-few
 returns-clause-few c = λ bound few.

@@ -1,6 +1,5 @@
 use Rattle.std.proofs.Common.{◌<◌, length, map, subst, sym}
 use Rattle.std.specs.Arc.{arc_value}
-use Rattle.gopher_page.specs.Page.{PageData}
 use Rattle.gopher_segment.specs.Segment.{pages_of}
 use Rattle.gopher_index.proofs.EarlyRuns.{all_stand_pushed, pushed_index}
 use Rattle.gopher_index.proofs.index.Index.push.Goals as goal

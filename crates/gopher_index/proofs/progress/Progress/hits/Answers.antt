@@ -1,8 +1,8 @@
-use Rattle.std.proofs.Common.{◌≡◌, List, ◌++◌, map, ap, ◌∙◌}
+use Rattle.std.proofs.Common.{◌≡◌, map, ap, ◌∙◌}
 use Rattle.std.specs.Arc.{arc_value}
 use Rattle.gopher_index.specs.Answer.{answer_of}
 use Rattle.gopher_index.specs.Best.{answer_from, kept_hit}
-use Rattle.gopher_index.specs.Progress.{all_pages, pages_done}
+use Rattle.gopher_index.specs.Progress.{all_pages}
 use Rattle.gopher_index.proofs.LeastLemmas.{answer_from_0}
 use Rattle.gopher_index.proofs.Steps.{all_taken}
 use Rattle.gopher_index.proofs.Taking.{ok_from}

@@ -1,6 +1,8 @@
-use Rattle.std.proofs.Common.{false, ap, sym, subst, ◌∙◌}
+use Rattle.std.proofs.Common.{false, map, ap, sym, subst, ◌∙◌}
+use Rattle.std.specs.Arc.{arc_value}
 use Rattle.std.specs.List.{flat_map}
 use Rattle.gopher_segment.specs.Postings.{run_of}
+use Rattle.gopher_segment.specs.Ranks.{AreRanks}
 use Rattle.gopher_segment.specs.Rows.{AreAllInOrder, tables_count, postings_of}
 use Rattle.gopher_segment.specs.Segment.{meant_counts}
 use Rattle.gopher_segment.specs.SegmentRows.{count_at}
@@ -11,21 +13,24 @@ pub merge-requires : goal.merge-requires
 merge-requires c = subst AreAllInOrder (sym c.deref_mut.ensures.value) (tables_order _ _ c.in_ok-cursors.ensures)
 
 pub invariant_of-result : goal.invariant_of-result
-invariant_of-result c = record {
-  table = record {
-    order = c.in_ok-table.ensures.order;
-    tell = record {
-      counts = λ test number.
-          c.in_ok-table.ensures.counts test number
-          ∙ ap (tables_count test number) c.deref_mut.ensures.value
-          ∙ tables_counts test number c.args.first _ _ c.requires c.in_ok-cursors.ensures
-          ∙ ap (count_at test number c.args.first) (sym c.in_ok-pages.ensures.pages);
-      runs = λ word.
-          c.in_ok-table.ensures.runs word
-          ∙ ap (flat_map (postings_of word)) c.deref_mut.ensures.value
-          ∙ tables_runs word c.args.first _ _ c.requires c.in_ok-cursors.ensures
-          ∙ ap (λ pages. run_of c.args.first (meant_counts false word pages)) (sym c.in_ok-pages.ensures.pages);
+invariant_of-result c = (
+  record {
+    table = record {
+      order = c.in_ok-table.ensures.order;
+      tell = record {
+        counts = λ test number.
+            c.in_ok-table.ensures.counts test number
+            ∙ ap (tables_count test number) c.deref_mut.ensures.value
+            ∙ tables_counts test number c.args.first _ _ c.requires c.in_ok-cursors.ensures
+            ∙ ap (count_at test number c.args.first) (sym c.in_ok-pages.ensures.pages);
+        runs = λ word.
+            c.in_ok-table.ensures.runs word
+            ∙ ap (flat_map (postings_of word)) c.deref_mut.ensures.value
+            ∙ tables_runs word c.args.first _ _ c.requires c.in_ok-cursors.ensures
+            ∙ ap (λ pages. run_of c.args.first (meant_counts false word pages)) (sym c.in_ok-pages.ensures.pages);
+      };
     };
-  };
-  small = c.in_ok-pages.ensures.small;
-}
+    small = c.in_ok-pages.ensures.small;
+  },
+  subst (λ l. AreRanks (map arc_value l) c.in_ok-ranks.ranks.items) c.deref.ensures.value c.in_ok-ranks.ensures,
+)

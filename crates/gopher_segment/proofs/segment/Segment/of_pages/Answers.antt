@@ -1,5 +1,6 @@
 use Rattle.std.proofs.Common.{map, sym, subst}
 use Rattle.std.specs.Arc.{arc_value}
+use Rattle.gopher_segment.specs.Ranks.{AreRanks}
 use Rattle.gopher_segment.specs.Rows.{TellAlike}
 use Rattle.gopher_segment.specs.SegmentRows.{AreRowsOf, AreSmall}
 use Rattle.gopher_segment.proofs.SegmentLemmas.{rows_of_both}
@@ -7,9 +8,11 @@ use Rattle.gopher_segment.proofs.segment.Segment.of_pages.Goals as goal
 
 pub invariant_of-result : goal.invariant_of-result
 invariant_of-result c =
-    let pages = map arc_value c.args.pages.now in
-    record {
-      table = subst (λ l. AreRowsOf c.args.first l c.in_ok-table.table) (sym c.in_ok-pages.ensures)
-          (rows_of_both c.args.first pages c.in_ok-rows.rows.items c.in_ok-table.table c.in_ok-rows.ensures.tell c.in_ok-table.ensures.order (subst (λ rows. TellAlike rows c.in_ok-table.table) c.deref.ensures.value c.in_ok-table.ensures.alike));
-      small = subst AreSmall (sym c.in_ok-pages.ensures) c.in_ok-rows.ensures.small;
-    }
+    let pages = map arc_value c.args.pages.now in (
+      record {
+        table = subst (λ l. AreRowsOf c.args.first l c.in_ok-table.table) (sym c.in_ok-pages.ensures)
+            (rows_of_both c.args.first pages c.in_ok-rows.rows.items c.in_ok-table.table c.in_ok-rows.ensures.tell c.in_ok-table.ensures.order (subst (λ rows. TellAlike rows c.in_ok-table.table) c.deref.ensures.value c.in_ok-table.ensures.alike));
+        small = subst AreSmall (sym c.in_ok-pages.ensures) c.in_ok-rows.ensures.small;
+      },
+      subst (λ l. AreRanks (map arc_value l) c.in_ok-ranks.ranks.items) c.deref-2.ensures.value c.in_ok-ranks.ensures,
+    )

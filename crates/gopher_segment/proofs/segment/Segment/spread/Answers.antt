@@ -39,13 +39,13 @@ pub spread-requires-clause-within : goal.spread-requires-clause-within
 spread-requires-clause-within c = λ word.
     let cells : length c.args.cells.now ≡ length c.args.self.now.pages = ap length c.requires ∙ length-replicate {A = ℕ} (length c.args.self.now.pages) 0 in
     let pages = ap (λ (s : SegmentData). length s.pages) c.self.view_is in
-    within_cells c.self.inside.first _ c.self.inside.table c.self.invariant (length c.args.cells.now) (cells ∙ sym pages) word
+    within_cells c.self.inside.first _ c.self.inside.table c.self.invariant.0 (length c.args.cells.now) (cells ∙ sym pages) word
 
 pub spread-requires-clause-fits : goal.spread-requires-clause-fits
 spread-requires-clause-fits c = λ k within.
     let none : get_or c.args.cells.now k 0 ≡ 0 = zero_at c.args.cells.now (length c.args.self.now.pages) k c.requires within in
-    let counted = c.self.invariant.table.tell.counts (λ word. true) (c.self.inside.first + k) in
-    omega (arith, none, counted, count_at_few (λ word. true) (c.self.inside.first + k) c.self.inside.first _ c.self.invariant.small)
+    let counted = c.self.invariant.0.table.tell.counts (λ word. true) (c.self.inside.first + k) in
+    omega (arith, none, counted, count_at_few (λ word. true) (c.self.inside.first + k) c.self.inside.first _ c.self.invariant.0.small)
 
 pub returns-clause-counts : goal.returns-clause-counts
 unfolding count_meant
@@ -53,7 +53,7 @@ returns-clause-counts c =
     let old : length c.args.cells.now ≡ length c.args.self.now.pages = ap length c.requires ∙ length-replicate {A = ℕ} (length c.args.self.now.pages) 0 in
     let pages = ap (λ (s : SegmentData). s.pages) c.self.view_is in
     let same = ap length pages in
-    cells_are c.self.inside.first _ c.self.inside.table (is_meant c.args.is_prefix c.args.sought.now) c.spread.new.cells c.self.invariant (omega (arith, old, same))
+    cells_are c.self.inside.first _ c.self.inside.table (is_meant c.args.is_prefix c.args.sought.now) c.spread.new.cells c.self.invariant.0 (omega (arith, old, same))
     (λ k within.
     let inside : k < length c.args.cells.now = omega arith in
     c.spread.ensures k inside ∙ omega (arith, zero_at c.args.cells.now (length c.args.self.now.pages) k c.requires inside))
@@ -61,7 +61,7 @@ returns-clause-counts c =
 
 pub returns-clause-few : goal.returns-clause-few
 returns-clause-few c =
-    cells_few c.self.inside.first _ c.self.inside.table (is_meant c.args.is_prefix c.args.sought.now) c.spread.new.cells c.self.invariant
+    cells_few c.self.inside.first _ c.self.inside.table (is_meant c.args.is_prefix c.args.sought.now) c.spread.new.cells c.self.invariant.0
     (λ k within.
     let inside : k < length c.args.cells.now = omega arith in
     c.spread.ensures k inside ∙ omega (arith, zero_at c.args.cells.now (length c.args.self.now.pages) k c.requires inside))

@@ -1,0 +1,23 @@
+use Rattle.std.proofs.Common.{◌≡◌, refl, subst, arith}
+use Rattle.gopher_index.specs.Plan.{IsPlan}
+use Rattle.gopher_index.proofs.progress.Progress.plan.Goals as goal
+
+pub returns-clause-same : goal.returns-clause-same
+returns-clause-same c =
+    let old = c.args.self.now in
+    let none : old.joined.groups ≡ 0 = omega (arith, c.requires.is.groups_within, c.requires.none) in
+    record {
+      is = record {
+        query = c.requires.is.query;
+        plan = λ more. subst (λ terms. IsPlan terms c.in_ok-self.field-0.items) c.deref.ensures.value c.in_ok-self.ensures;
+        segments_within = c.requires.is.segments_within;
+        loose_within = c.requires.is.loose_within;
+        in_order = c.requires.is.in_order;
+        groups_within = omega (arith, none);
+        at_rest = c.requires.is.at_rest;
+        under_way = λ segment at more. absurd (omega (arith, more, none));
+        best = c.requires.is.best;
+      };
+      pages = refl;
+      terms = refl;
+    }

@@ -1,0 +1,164 @@
+//! Searching segments for several terms or a prefix: the pages of each segment are ranked by cells.
+
+ghost use Rattle.std.specs.Prelude.{None, ◌≡◌, ◌≤◌, false, List, length, map, nat_le, IfOk, OnOk};
+ghost use Rattle.std.specs.Arc.{arc_value};
+ghost use Rattle.std.specs.List.{list_any};
+ghost use Rattle.gopher_page.specs.Query.{TermData};
+ghost use Rattle.gopher_index.specs.Best.{IsBestOf, TakesIn};
+ghost use Rattle.gopher_index.specs.Cells.{AreCells};
+ghost use Rattle.gopher_segment.specs.Segment.{pages_of};
+
+use crate::best::Best;
+use crate::cells::Cells;
+use crate::likely::likely_hits;
+use gopher_item::NoMemory;
+use gopher_page::{Page, Term};
+use gopher_segment::{Segment, pages_len};
+use std::alloc::Global;
+use std::sync::Arc;
+
+// The number of pages that are skipped at once if none of them can get among the best.
+const BLOCK: usize = 64;
+
+// Returns whether a score reaches `lowest`.
+fn any_reaches(scores: &[u32], lowest: u32) -> bool
+    ensures { result ≡ list_any (λ score. nat_le lowest score) scores.now }
+{
+    let mut is_reached = false;
+    for score in scores {
+        is_reached |= *score >= lowest;
+    }
+    is_reached
+}
+
+// Inserts the pages that match into the best. A page is read only if its score is high enough.
+fn rank_block<'a>(
+    pages: &'a [Arc<Page>],
+    truths: &[bool],
+    scores: &[u32],
+    best: &mut Best<'a>,
+) -> Result<(), NoMemory>
+    requires truths { length truths.now ≡ length pages.now }
+    requires scores { length scores.now ≡ length pages.now }
+    ensures { (terms : List TermData)
+        → AreCells terms (map arc_value pages.now) truths.now scores.now
+        → OnOk result (TakesIn terms (map arc_value pages.now) best.old best.new) }
+{
+    let mut lowest = best.lowest_score();
+    for (index, page) in pages.iter().enumerate() {
+        let score = u64::from(scores[index]);
+        if score >= lowest && truths[index] {
+            best.insert(score, page)?;
+            lowest = best.lowest_score();
+        }
+    }
+    Ok(())
+}
+
+/// Inserts the pages that match into the best. Skips blocks without a score that is high enough.
+pub(crate) fn rank_cells<'a>(
+    pages: &'a [Arc<Page>],
+    truths: &[bool],
+    scores: &[u32],
+    best: &mut Best<'a>,
+) -> Result<(), NoMemory>
+    requires truths { length truths.now ≡ length pages.now }
+    requires scores { length scores.now ≡ length pages.now }
+    ensures { (terms : List TermData)
+        → AreCells terms (map arc_value pages.now) truths.now scores.now
+        → OnOk result (TakesIn terms (map arc_value pages.now) best.old best.new) }
+{
+    let mut start = 0;
+    while start < pages.len() {
+        let end = pages.len().min(start + BLOCK);
+        let lowest = best.lowest_score().min(u64::from(u32::MAX)) as u32;
+        if any_reaches(&scores[start..end], lowest) {
+            rank_block(
+                &pages[start..end],
+                &truths[start..end],
+                &scores[start..end],
+                best,
+            )?;
+        }
+        start = end;
+    }
+    Ok(())
+}
+
+fn rank_segment<'a>(
+    segment: &'a Segment,
+    terms: &[Term],
+    cells: &mut Cells,
+    best: &mut Best<'a>,
+) -> Result<(), NoMemory>
+    requires { length terms.now ≤ 1024 }
+    ensures { OnOk result (TakesIn terms.now segment.now.pages best.old best.new) }
+{
+    cells.fill(segment, terms)?;
+    rank_cells(segment.pages(), &cells.truths, &cells.scores, best)
+}
+
+fn rank_segments<'a>(
+    segments: &'a [Arc<Segment>],
+    terms: &[Term],
+    cells: &mut Cells,
+    best: &mut Best<'a>,
+) -> Result<(), NoMemory>
+    requires { length terms.now ≤ 1024 }
+    ensures { OnOk result
+        (TakesIn terms.now (pages_of (map arc_value segments.now)) best.old best.new) }
+{
+    for segment in segments {
+        rank_segment(segment, terms, cells, best)?;
+    }
+    Ok(())
+}
+
+// Returns the best of the first segment. If `wanted` is given, the least score is a guess of what so
+// many pages reach.
+fn best_of_first<'a>(
+    alloc: Global,
+    segment: &'a Segment,
+    terms: &[Term],
+    cells: &mut Cells,
+    wanted: Option<usize>,
+) -> Result<Best<'a>, NoMemory>
+    requires { length terms.now ≤ 1024 }
+    ensures best { IfOk result (λ best. IsBestOf terms.now segment.now.pages best) }
+    ensures plain { wanted ≡ None → IfOk result (λ best. best.least ≡ 0) }
+{
+    cells.fill(segment, terms)?;
+    let least = match wanted {
+        Some(wanted) => cells.likely_score(wanted),
+        None => 0,
+    };
+    let mut best = Best::new(alloc, least)?;
+    rank_cells(segment.pages(), &cells.truths, &cells.scores, &mut best)?;
+    Ok(best)
+}
+
+/// Returns the best of segments through cells.
+pub(crate) fn best_of_terms<'a>(
+    alloc: Global,
+    segments: &'a [Arc<Segment>],
+    terms: &[Term],
+    is_guessed: bool,
+) -> Result<Best<'a>, NoMemory>
+    requires { length terms.now ≤ 1024 }
+    ensures best { IfOk result (λ best.
+        IsBestOf terms.now (pages_of (map arc_value segments.now)) best) }
+    ensures plain { is_guessed ≡ false → IfOk result (λ best. best.least ≡ 0) }
+{
+    let Some((first, rest)) = segments.split_first() else {
+        return Best::new(alloc, 0);
+    };
+    let mut cells = Cells::new(alloc);
+    let wanted = if is_guessed {
+        Some(likely_hits(first.pages().len(), pages_len(segments)))
+    } else {
+        None
+    };
+    let mut best = best_of_first(alloc, first, terms, &mut cells, wanted)?;
+    rank_segments(rest, terms, &mut cells, &mut best)?;
+    Ok(best)
+}

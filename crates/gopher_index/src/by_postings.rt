@@ -1,0 +1,205 @@
+//! Searching segments for a single word, through its posting list in each.
+
+ghost use Rattle.std.specs.Prelude.{◌≡◌, ◌<◌, ◌≤◌, ◌∷◌, [], false, List, Some, length, map, min, nat_le, slice_get, IfOk, OnOk};
+ghost use Rattle.std.specs.Arc.{arc_value};
+ghost use Rattle.std.specs.List.{list_any};
+ghost use Rattle.gopher_page.specs.Page.{PageData};
+ghost use Rattle.gopher_page.specs.Query.{count_of_term};
+ghost use Rattle.gopher_page.specs.declared.query.Operator.TheVariants.{And};
+ghost use Rattle.gopher_index.specs.Best.{BestData, IsBestOf, TakesIn};
+ghost use Rattle.gopher_index.specs.ByPostings.{is_again, ArePostings, ArePostingsIn, ArePostingsOf, Walk};
+ghost use Rattle.gopher_index.specs.Ties.{AreTies};
+ghost use Rattle.gopher_segment.specs.Segment.{pages_of};
+
+use crate::best::Best;
+use crate::likely::likely_score;
+use crate::ties::Ties;
+use gopher_item::NoMemory;
+use gopher_page::{Page, Term};
+use gopher_segment::{Postings, Segment};
+use std::alloc::Global;
+use std::sync::Arc;
+
+// The number of postings that are skipped at once if none of them can get among the best.
+const BLOCK: usize = 64;
+
+fn any_from(counts: &[u8], lowest: u8) -> bool
+    ensures { result ≡ list_any (λ count. nat_le lowest count) counts.now }
+{
+    let mut is_reached = false;
+    for count in counts {
+        is_reached |= *count >= lowest;
+    }
+    is_reached
+}
+
+// Returns whether a posting belongs to the same page as the one before it.
+fn is_again(numbers: &[u16], index: usize) -> bool
+    requires { index < length numbers.now }
+    ensures { result ≡ is_again numbers.now index }
+{
+    if index == 0 {
+        return false;
+    }
+    numbers[index - 1] == numbers[index]
+}
+
+// Returns how often the word occurs in a page. `count` is that of its first posting: if it is 255, the
+// page may have further postings.
+fn whole_count(page: &Page, term: &Term, count: u8) -> u32
+    ensures { count ≡ min (count_of_term page.now.counts term.now) 255
+        → result ≡ count_of_term page.now.counts term.now }
+{
+    if count < u8::MAX {
+        return u32::from(count);
+    }
+    term.count_in(page)
+}
+
+// Inserts a page into the best. `count` is that of its first posting.
+fn insert_posting<'a>(
+    ties: &mut Ties<'a>,
+    index: usize,
+    term: &Term,
+    count: u8,
+    best: &mut Best<'a>,
+) -> Result<(), NoMemory>
+    requires and { term.now.operator ≡ And }
+    requires within { index < length ties.old.pages.now }
+    requires ties { AreTies ties.old best.old }
+    ensures same { ties.new.pages ≡ ties.old.pages }
+    ensures ties { OnOk result (AreTies ties.new best.new) }
+    ensures takes { (page : PageData)
+        → slice_get (map arc_value ties.old.pages.now) index ≡ Some page
+        → 0 < count → count ≡ min (count_of_term page.counts term.now) 255
+        → OnOk result (TakesIn (term.now ∷ []) (page ∷ []) best.old best.new) }
+{
+    let score = u64::from(whole_count(ties.page(index), term, count));
+    ties.insert(index, score, best)
+}
+
+// Inserts the pages whose first postings are between `start` and `end`.
+fn insert_postings<'a>(
+    ties: &mut Ties<'a>,
+    term: &Term,
+    postings: &Postings,
+    start: usize,
+    end: usize,
+    best: &mut Best<'a>,
+) -> Result<(), NoMemory>
+    requires and { term.now.operator ≡ And }
+    requires beside { length postings.now.counts.now ≡ length postings.now.numbers.now }
+    requires run { ArePostingsOf term.now (map arc_value ties.old.pages.now) postings.now }
+    requires ties { AreTies ties.old best.old }
+    requires forward { start ≤ end }
+    requires within { end ≤ length postings.now.numbers.now }
+    ensures same { ties.new.pages ≡ ties.old.pages }
+    ensures ties { OnOk result (AreTies ties.new best.new) }
+    ensures walk { (old : BestData)
+        → Walk term.now postings.now.first (map arc_value ties.old.pages.now)
+        postings.now.numbers.now postings.now.counts.now old best.old start
+        → OnOk result (Walk term.now postings.now.first (map arc_value ties.old.pages.now)
+        postings.now.numbers.now postings.now.counts.now old best.new end) }
+{
+    for index in start..end {
+        if !is_again(postings.numbers, index) {
+            let page = usize::from(postings.numbers[index]) - postings.first;
+            insert_posting(ties, page, term, postings.counts[index], best)?;
+        }
+    }
+    Ok(())
+}
+
+// Inserts the pages of a posting list into the best. Skips blocks without a count that is high enough.
+fn rank_postings<'a>(
+    segment: &'a Segment,
+    term: &Term,
+    postings: &Postings,
+    best: &mut Best<'a>,
+) -> Result<(), NoMemory>
+    requires and { term.now.operator ≡ And }
+    requires beside { length postings.now.counts.now ≡ length postings.now.numbers.now }
+    requires run { ArePostingsOf term.now segment.now.pages postings.now }
+    ensures { OnOk result (TakesIn (term.now ∷ []) segment.now.pages best.old best.new) }
+{
+    let mut ties = Ties::new(segment);
+    let mut start = 0;
+    while start < postings.numbers.len() {
+        let end = postings.numbers.len().min(start + BLOCK);
+        let lowest = best.lowest_score().min(255) as u8;
+        if any_from(&postings.counts[start..end], lowest) {
+            insert_postings(&mut ties, term, postings, start, end, best)?;
+        }
+        start = end;
+    }
+    Ok(())
+}
+
+// Returns the posting list of a word in each segment.
+fn postings_of<'a>(
+    alloc: Global,
+    segments: &'a [Arc<Segment>],
+    word: &[u8],
+) -> Result<Vec<Postings<'a>>, NoMemory>
+    ensures { IfOk result (λ found. ArePostings word.now (map arc_value segments.now) found.items) }
+{
+    let mut found = Vec::with_capacity(alloc, segments.len())?;
+    for segment in segments {
+        found.push(segment.postings(word))?;
+    }
+    Ok(found)
+}
+
+// Inserts the pages of a segment that contain a word, the query's only term, into the best.
+fn rank_word_in_segment<'a>(
+    segment: &'a Segment,
+    term: &Term,
+    postings: &Postings,
+    best: &mut Best<'a>,
+) -> Result<(), NoMemory>
+    requires and { term.now.operator ≡ And }
+    requires word { term.now.is_prefix ≡ false }
+    requires postings { ArePostingsIn term.now.word segment.now postings.now }
+    ensures { OnOk result (TakesIn (term.now ∷ []) segment.now.pages best.old best.new) }
+{
+    rank_postings(segment, term, postings, best)
+}
+
+// Inserts the pages of segments that contain a word, the query's only term, into the best.
+fn rank_word<'a>(
+    segments: &'a [Arc<Segment>],
+    term: &Term,
+    found: &[Postings],
+    best: &mut Best<'a>,
+) -> Result<(), NoMemory>
+    requires and { term.now.operator ≡ And }
+    requires word { term.now.is_prefix ≡ false }
+    requires found { ArePostings term.now.word (map arc_value segments.now) found.now }
+    ensures { OnOk result (TakesIn (term.now ∷ [])
+        (pages_of (map arc_value segments.now)) best.old best.new) }
+{
+    for (index, segment) in segments.iter().enumerate() {
+        rank_word_in_segment(segment, term, &found[index], best)?;
+    }
+    Ok(())
+}
+
+/// Returns the best of segments through the posting lists of a word, the query's only term.
+pub(crate) fn best_of_word<'a>(
+    alloc: Global,
+    segments: &'a [Arc<Segment>],
+    term: &Term,
+    is_guessed: bool,
+) -> Result<Best<'a>, NoMemory>
+    requires and { term.now.operator ≡ And }
+    requires word { term.now.is_prefix ≡ false }
+    ensures best { IfOk result (λ best.
+        IsBestOf (term.now ∷ []) (pages_of (map arc_value segments.now)) best) }
+    ensures plain { is_guessed ≡ false → IfOk result (λ best. best.least ≡ 0) }
+{
+    let found = postings_of(alloc, segments, term.word())?;
+    let least = if is_guessed { likely_score(&found) } else { 0 };
+    let mut best = Best::new(alloc, least)?;
+    rank_word(segments, term, &found, &mut best)?;
+    Ok(best)
+}

@@ -1,0 +1,110 @@
+//! The ranks of pages in place order, by which searches compare the places of a segment's pages.
+
+ghost use Rattle.std.specs.Prelude.{◌≡◌, ℕ, ◌<◌, Some, length, map, refl, slice_index_or, IfOk};
+ghost use Rattle.std.specs.Arc.{arc_value};
+ghost use Rattle.std.specs.Cmp;
+ghost use Rattle.gopher_item.specs.Laws.{same_place_equiv, place_cmp_total, same_place_ties};
+ghost use Rattle.gopher_item.specs.Place.{PlaceData, place_cmp, same_place};
+ghost use Rattle.gopher_segment.specs.Ranks.{AreNumbered, AreRanks, AreScattered};
+
+use gopher_bytes::NoMemory;
+use gopher_item::Place;
+use gopher_page::Page;
+use std::alloc::Global;
+use std::cmp::Ordering;
+use std::marker::Model;
+use std::sync::Arc;
+
+/// The place of a page, and the page's index. They are ordered by their places alone.
+#[derive(Debug, Drop)]
+struct Placed<'a> {
+    place: &'a Place,
+    index: usize,
+}
+
+impl<'a> Model for Placed<'a> {
+    ghost use Rattle.std.specs.Prelude.{ℕ};
+    ghost use Rattle.gopher_item.specs.Place.{PlaceData};
+
+    ghost Value = { PlaceData × ℕ };
+
+    ghost view = { λ p. (p.place.now, p.index) };
+}
+
+impl<'a> PartialEq for Placed<'a> {
+    ghost eq = { λ x y. same_place x.0 y.0 };
+
+    ghost laws = { Cmp.on_per (λ placed. placed.0)
+        (Cmp.partial_equiv_from_equiv same_place_equiv) };
+
+    fn eq(&self, other: &Placed<'a>) -> bool {
+        *self.place == *other.place
+    }
+}
+
+impl<'a> Eq for Placed<'a> {
+    ghost laws = { Cmp.on_equiv (λ placed. placed.0) same_place_equiv };
+}
+
+impl<'a> PartialOrd for Placed<'a> {
+    ghost partial_cmp = { λ x y. Some (place_cmp x.0 y.0) };
+
+    ghost laws = { Cmp.on_po (λ placed. placed.0)
+        (Cmp.partial_order_from_own_ties (Cmp.partial_order_from_total place_cmp_total)
+        same_place_ties) };
+
+    fn partial_cmp(&self, other: &Placed<'a>) -> Option<Ordering> {
+        Some(self.cmp(other))
+    }
+}
+
+impl<'a> Ord for Placed<'a> {
+    ghost cmp = { λ x y. place_cmp x.0 y.0 };
+
+    ghost total = { Cmp.on_total (λ placed. placed.0) place_cmp_total };
+
+    ghost matches_partial_cmp = { λ x y. refl };
+
+    ghost matches_eq = { λ x y. same_place_ties x.0 y.0 };
+
+    fn cmp(&self, other: &Placed<'a>) -> Ordering {
+        self.place.cmp(other.place)
+    }
+}
+
+// The places of pages, with the index of each page.
+fn placed_of<'a>(alloc: Global, pages: &'a [Arc<Page>]) -> Result<Vec<Placed<'a>>, NoMemory>
+    ensures { IfOk result (λ placed. AreNumbered (map arc_value pages.now) placed.items) }
+{
+    let mut placed = Vec::with_capacity(alloc, pages.len())?;
+    for (index, page) in pages.iter().enumerate() {
+        placed.push(Placed {
+            place: page.place(),
+            index,
+        })?;
+    }
+    Ok(placed)
+}
+
+// The position of each index in a list of places. Positions from 65,535 on count as that.
+fn positions(alloc: Global, sorted: &[Placed<'_>]) -> Result<Vec<u16>, NoMemory>
+    requires { (k : ℕ) (e : PlaceData × ℕ) → k < length sorted.now
+        → (slice_index_or sorted.now k e).1 < length sorted.now }
+    ensures { IfOk result (λ ranks. AreScattered sorted.now ranks.items) }
+{
+    let mut ranks = vec![in alloc; 0; sorted.len()]?;
+    for (position, placed) in sorted.iter().enumerate() {
+        ranks[placed.index] = position.min(65_535) as u16;
+    }
+    Ok(ranks)
+}
+
+/// Returns the rank of each page in place order: of two pages, the one with the higher rank doesn't
+/// come first.
+pub(crate) fn ranks_of(alloc: Global, pages: &[Arc<Page>]) -> Result<Vec<u16>, NoMemory>
+    ensures { IfOk result (λ ranks. AreRanks (map arc_value pages.now) ranks.items) }
+{
+    let mut sorted = placed_of(alloc, pages)?;
+    sorted.sort()?;
+    positions(alloc, &sorted)
+}
