@@ -1,10 +1,12 @@
 #!/usr/bin/env python3
-"""Has the built program check sites that are sound and sites with each fault that settings or a folder can have, and compares
-what it tells with docs/SPECIFICATION.md, and its status and line on standard error with those of `hole serve`.
+"""Tests `hole check` on sites without a fault, and on sites with each fault that settings or a folder can have.
+
+It compares the report with docs/SPECIFICATION.md, appendix A, and the exit status and the line on standard error with those of
+`hole serve`.
 
     tests/check.py [PROGRAM]
 
-Where root runs it, the program checks what may not be read as `nobody`. The last line is 'check: N passed, M failed'.
+If root runs it, the program checks unreadable files as `nobody`. The last line is 'check: N passed, M failed'.
 """
 import argparse
 import os
@@ -20,39 +22,48 @@ from server import PROGRAM, WAIT, Tally, free_port
 NOBODY = 65_534
 LARGEST_FILE, MOST_BYTES, MOST_NODES, MOST_SETTINGS = 16_777_216, 67_108_864, 4_096, 1_048_576
 
-# The cause and the remedy of each number, and of 26 by what stands in the way.
-BAD_NAME = ("a name on this path holds a TAB, CR or LF, or a folder is named .menu", "rename it")
-RESERVED = ("the name search in the root is kept for the search", "rename it")
-LONG = ("the path from the root has over 254 bytes", "shorten its names, or take away a link to a folder above it")
+# The cause and the remedy of each number; 26 has several.
+BAD_NAME = ("a name in this path contains a TAB, CR or LF, or a folder is named .menu", "rename the file or folder")
+RESERVED = ("the name search is reserved in the root, because /search is the server's search", "rename the file or folder")
+LONG = (
+    "the path from the root has over 254 bytes",
+    "use shorter names, or remove a symbolic link that points to a folder above it",
+)
 TOO_BIG = (
-    "a file has over 16777216 bytes, or all have over 67108864, or files and folders are over 4096",
-    "serve less, or take away a link to a folder above it",
+    "this file has over 16777216 bytes, or the site has over 67108864 bytes or over 4096 files and folders",
+    "serve fewer or smaller files, or remove a symbolic link that points to a folder above it",
 )
 BAD_LINE = (
-    "this line has none of the forms of a menu file",
-    "write text alone, or type and name, selector, and perhaps host and port, between single TABs",
+    "this isn't a valid line of a menu file",
+    "write text without TABs, or type and name, TAB, selector, and for another server TAB, host, TAB, port",
 )
-NOT_UTF8 = ("a name in this folder is not UTF-8", "rename it: ls -b shows its bytes")
-DENIED = ("the right to read this is missing", "let the server's user read it, and enter the folders above it")
-MISSING = ("nothing is there", "make the folder, or correct root in the settings")
-NOT_FOLDER = ("a folder is wanted, and this is none", "correct root in the settings")
-LOOP = ("links lead to one another without an end", "take the link away")
-NOT_TOML = ("the settings are not TOML", "mend this line: texts stand in quotation marks")
-TWICE = ("the key on this line was given before", "take one of the two lines away")
-NO_KEY = ("the key is missing, or one that its tables need", "add it: hole.toml(5) tells the keys")
+NOT_UTF8 = ("a name in this folder isn't UTF-8", "rename it; ls -b shows its bytes")
+DENIED = ("permission to read this is missing", "give the server's user permission to read it, and to enter the folders above it")
+MISSING = ("no file or folder exists at this path", "create the folder, or correct root in the settings")
+NOT_FOLDER = ("this isn't a folder", "correct root in the settings")
+LOOP = ("symbolic links form a loop", "remove the link")
+NOT_TOML = ("the settings aren't valid TOML", "correct this line; strings need quotation marks")
+TWICE = ("this line repeats an earlier key or table", "remove one of the two lines")
+NO_KEY = ("this key is missing, or one of its tables lacks a required key", "add it; hole.toml(5) describes the keys")
 WRONG_KIND = (
-    "the value is of another kind, or one in its tables",
-    "texts stand in quotation marks, numbers in none, and tables begin with [[seeds]], [[allow]] or [[deny]]",
+    "this key's value has the wrong type, or a value in one of its tables has",
+    "put strings in quotation marks, write integers without, and begin tables with [[seeds]], [[allow]] or [[deny]]",
 )
-OUT_OF_RANGE = ("the value is out of range, or one in its tables", "hole.toml(5) tells the ranges")
-UNKNOWN = ("the key is not known, or one in its tables", "correct its spelling; the server's own keys stand before the first [[")
+OUT_OF_RANGE = ("this key's value is out of range, or a value in one of its tables is", "use a value that hole.toml(5) allows")
+UNKNOWN = (
+    "this key is unknown, or a key in one of its tables is",
+    "correct its spelling; the server's own keys come before the first [[",
+)
 OUTSIDE = (
-    "no rule of allow covers this seed, or a rule of deny does",
-    "add a rule with its host, its port and a beginning of its selector, or take the seed away",
+    "no allow rule covers this seed, or a deny rule does",
+    "add an allow rule with its host, its port and a prefix of its selector, change the deny rule, or remove the seed",
 )
-UNREADABLE = ("the settings cannot be read, have over 1048576 bytes, or are not UTF-8", "correct the path, its rights or the text")
+UNREADABLE = (
+    "the settings can't be read, have over 1048576 bytes, or aren't UTF-8",
+    "correct the path, the permissions or the text",
+)
 
-# A sound site's settings, with what is told of them.
+# The settings of a site without a fault, and their report.
 WORKED = """host = "localhost"
 port = 7070
 root = "ROOT"
@@ -67,7 +78,7 @@ host = "localhost"
 port = 7070
 prefix = "/private"
 """
-WORKED_TOLD = [
+WORKED_REPORT = [
     "address: localhost 7070", "root: ROOT", "files: 0", "menu files: 0", "bytes: 0", "seed: 1 localhost 7070 ",
     "may visit: localhost 7070 ", "may not visit: localhost 7070 /private", "sound",
 ]
@@ -93,8 +104,8 @@ prefix = "/private"
 """
 
 
-def told(number, path, words, *details):
-    """The lines that are told of a fault."""
+def report(number, path, words, *details):
+    """The report of a fault."""
     lines = [f"fault: {number}", f"path: {path}", *details, f"cause: {words[0]}", f"remedy: {words[1]}"]
     return "".join(line + "\n" for line in lines).encode()
 
@@ -122,12 +133,12 @@ class Checked:
         return ran.stdout, ran.stderr, ran.returncode
 
     def check(self):
-        """What is told, without the addresses of the host, which are the system's (tests/listen.py)."""
+        """The report, standard error and status, without the addresses of the host (tests/listen.py)."""
         output, error, status = self.run("check", str(self.settings))
         return b"".join(line for line in output.splitlines(True) if not line.startswith(b"resolves to")), error, status
 
     def serve(self):
-        """How a server ends that takes no connection: its line on standard error, and its status."""
+        """Standard error and status of a server that ends before the first connection."""
         return self.run("serve", str(self.settings), "--requests", "0")[1:]
 
 
@@ -136,7 +147,7 @@ def put(path, content=b""):
 
 
 def say(text):
-    """Settings of this text, in which ROOT stands for the folder."""
+    """Settings of this text; ROOT becomes the path of the folder."""
     return lambda site: site.write(text.replace("ROOT", str(site.root)))
 
 
@@ -145,7 +156,7 @@ def more(text):
 
 
 def put_sparse(*sizes):
-    """Files of so many bytes, which take no room."""
+    """Sparse files of these sizes in bytes."""
     def lay_out(site):
         for number, size in enumerate(sizes):
             site.add(b"%d.gif" % number)
@@ -170,7 +181,7 @@ def put_link(name, target):
 
 
 def put_closed(name, content=None):
-    """A folder that nobody may list, or a file that nobody may read."""
+    """A folder that may not be listed, or a file that may not be read."""
     def lay_out(site):
         place = site.root / name
         site.add(b"open.txt")
@@ -180,82 +191,89 @@ def put_closed(name, content=None):
 
 
 def put_unenterable(site):
-    """A folder whose names may be read, and what they lead to may not."""
+    """A folder that may be listed but not entered."""
     site.add(b"locked/a.txt")
     (site.root / "locked").chmod(stat.S_IRUSR | stat.S_IRGRP | stat.S_IROTH)
 
 
-# What lays out a fault, its line on standard error, and what is told of it: FILE stands for the settings, ROOT for the folder.
+# How to make each fault, its line on standard error, and its report. FILE is the path of the settings, ROOT that of the folder.
 HEAD = 'host = "127.0.0.1"\n'
 FAULTS = {
-    "a name with a TAB": (put(b"docs/a\tb.txt"), "20 file 0", told(20, "ROOT/docs/a\\tb.txt", BAD_NAME)),
-    "a name with an LF": (put(b"z\n"), "20 file 0", told(20, "ROOT/z\\n", BAD_NAME)),
-    "a name with a CR": (put(b"a\r/z"), "20 file 0", told(20, "ROOT/a\\r/z", BAD_NAME)),
-    "a name with a TAB, a backslash and an ESC": (put(b"\t\\\x1b"), "20 file 0", told(20, "ROOT/\\t\\\\\\?", BAD_NAME)),
-    "a folder that is named .menu": (put(b".menu/a"), "20 file 0", told(20, "ROOT/.menu/a", BAD_NAME)),
-    "a file search in the root": (put(b"search"), "21 file 0", told(21, "ROOT/search", RESERVED)),
-    "a folder search in the root": (put(b"search/a"), "21 file 0", told(21, "ROOT/search/a", RESERVED)),
-    "a path of 255 bytes": (put(b"a" * 127 + b"/" + b"b" * 127), "22 file 0", told(22, f"ROOT/{'a' * 127}/{'b' * 127}", LONG)),
-    "a folder's path of 255 bytes": (put_deep, "22 file 0", told(22, f"ROOT/{'a' * 127}/{'b' * 127}", LONG)),
-    "a file that is too large": (put_sparse(1, LARGEST_FILE + 1), "23 file 1", told(23, "ROOT/1.gif", TOO_BIG)),
+    "a name with a TAB": (put(b"docs/a\tb.txt"), "20 file 0", report(20, "ROOT/docs/a\\tb.txt", BAD_NAME)),
+    "a name with an LF": (put(b"z\n"), "20 file 0", report(20, "ROOT/z\\n", BAD_NAME)),
+    "a name with a CR": (put(b"a\r/z"), "20 file 0", report(20, "ROOT/a\\r/z", BAD_NAME)),
+    "a name with a TAB, a backslash and an ESC": (put(b"\t\\\x1b"), "20 file 0", report(20, "ROOT/\\t\\\\\\?", BAD_NAME)),
+    "a folder that is named .menu": (put(b".menu/a"), "20 file 0", report(20, "ROOT/.menu/a", BAD_NAME)),
+    "a file search in the root": (put(b"search"), "21 file 0", report(21, "ROOT/search", RESERVED)),
+    "a folder search in the root": (put(b"search/a"), "21 file 0", report(21, "ROOT/search/a", RESERVED)),
+    "a path of 255 bytes": (put(b"a" * 127 + b"/" + b"b" * 127), "22 file 0", report(22, f"ROOT/{'a' * 127}/{'b' * 127}", LONG)),
+    "a folder's path of 255 bytes": (put_deep, "22 file 0", report(22, f"ROOT/{'a' * 127}/{'b' * 127}", LONG)),
+    "a file that is too large": (put_sparse(1, LARGEST_FILE + 1), "23 file 1", report(23, "ROOT/1.gif", TOO_BIG)),
     "files that are too large together": (
-        put_sparse(*[LARGEST_FILE] * (MOST_BYTES // LARGEST_FILE), 1), "23 file 4", told(23, "ROOT/4.gif", TOO_BIG)
+        put_sparse(*[LARGEST_FILE] * (MOST_BYTES // LARGEST_FILE), 1), "23 file 4", report(23, "ROOT/4.gif", TOO_BIG)
     ),
-    "too many folders": (put_folders(MOST_NODES), "23 file 0", told(23, f"ROOT/{MOST_NODES - 1:04}", TOO_BIG)),
-    "a bad line": (put(b"docs/.menu", b"text\n\n1a\tb\tc\n"), "24 file 0 line 3", told(24, "ROOT/docs/.menu", BAD_LINE, "line: 3")),
-    "a port that is none": (put(b".menu", b"1a\tb\tc\t70000\n"), "24 file 0 line 1", told(24, "ROOT/.menu", BAD_LINE, "line: 1")),
+    "too many folders": (put_folders(MOST_NODES), "23 file 0", report(23, f"ROOT/{MOST_NODES - 1:04}", TOO_BIG)),
+    "a bad line": (
+        put(b"docs/.menu", b"text\n\n1a\tb\tc\n"), "24 file 0 line 3", report(24, "ROOT/docs/.menu", BAD_LINE, "line: 3")
+    ),
+    "a port that is none": (
+        put(b".menu", b"1a\tb\tc\t70000\n"), "24 file 0 line 1", report(24, "ROOT/.menu", BAD_LINE, "line: 1")
+    ),
     "the second of three files": (
-        lambda site: [site.add(path) for path in (b"a", b"b\t", b"c")], "20 file 1", told(20, "ROOT/b\\t", BAD_NAME)
+        lambda site: [site.add(path) for path in (b"a", b"b\t", b"c")], "20 file 1", report(20, "ROOT/b\\t", BAD_NAME)
     ),
     "the first of two faults": (
-        lambda site: [put(b"b/.menu", b"\t\n")(site), put(b"a\t")(site)], "20 file 0", told(20, "ROOT/a\\t", BAD_NAME)
+        lambda site: [put(b"b/.menu", b"\t\n")(site), put(b"a\t")(site)], "20 file 0", report(20, "ROOT/a\\t", BAD_NAME)
     ),
-    "a name that isn't UTF-8": (put(b"docs/caf\xe9.txt"), "26", told(26, "ROOT/docs", NOT_UTF8)),
-    "a hidden name that isn't UTF-8": (put(b".\xff"), "26", told(26, "ROOT/", NOT_UTF8)),
-    "a link to itself": (put_link("a", "a"), "26", told(26, "ROOT/a", LOOP)),
-    "a root that isn't there": (say(HEAD + 'root = "ROOT/x"\n'), "26", told(26, "ROOT/x/", MISSING)),
+    "a name that isn't UTF-8": (put(b"docs/caf\xe9.txt"), "26", report(26, "ROOT/docs", NOT_UTF8)),
+    "a hidden name that isn't UTF-8": (put(b".\xff"), "26", report(26, "ROOT/", NOT_UTF8)),
+    "a link to itself": (put_link("a", "a"), "26", report(26, "ROOT/a", LOOP)),
+    "a root that isn't there": (say(HEAD + 'root = "ROOT/x"\n'), "26", report(26, "ROOT/x/", MISSING)),
     "a root that is a file": (
-        lambda site: [site.add(b"x"), say(HEAD + 'root = "ROOT/x"\n')(site)], "26", told(26, "ROOT/x/", NOT_FOLDER)
+        lambda site: [site.add(b"x"), say(HEAD + 'root = "ROOT/x"\n')(site)], "26", report(26, "ROOT/x/", NOT_FOLDER)
     ),
-    "no TOML": (say(HEAD + "\nroot = ROOT\n"), "30", told(30, "FILE", NOT_TOML, "line: 3")),
-    "a key twice": (more("port = 71\n"), "30", told(30, "FILE", TWICE, "line: 4", "key: port")),
-    "a table twice": (more('[[allow]]\nhost = "a"\n[allow]\n'), "30", told(30, "FILE", TWICE, "line: 6", "key: [allow]")),
-    "no host": (say('root = "ROOT"\n'), "31 host", told(31, "FILE", NO_KEY, "key: host")),
-    "no root": (say(HEAD), "31 root", told(31, "FILE", NO_KEY, "key: root")),
-    "a seed without a host": (more('[[seeds]]\nselector = "/"\n'), "31 seeds", told(31, "FILE", NO_KEY, "key: seeds")),
-    "a port that is a text": (say(HEAD + 'port = "70"\nroot = "ROOT"\n'), "32 port", told(32, "FILE", WRONG_KIND, "key: port")),
-    "seeds that are a table": (more('[seeds]\nhost = "a"\n'), "32 seeds", told(32, "FILE", WRONG_KIND, "key: seeds")),
-    "a port out of range": (say(HEAD + 'port = 65536\nroot = "ROOT"\n'), "33 port", told(33, "FILE", OUT_OF_RANGE, "key: port")),
-    "no workers": (more("workers = 0\n"), "33 workers", told(33, "FILE", OUT_OF_RANGE, "key: workers")),
-    "a key that isn't known": (more("prot = 70\n"), "34", told(34, "FILE", UNKNOWN, "key: prot")),
+    "no TOML": (say(HEAD + "\nroot = ROOT\n"), "30", report(30, "FILE", NOT_TOML, "line: 3")),
+    "a key twice": (more("port = 71\n"), "30", report(30, "FILE", TWICE, "line: 4", "key: port")),
+    "a table twice": (more('[[allow]]\nhost = "a"\n[allow]\n'), "30", report(30, "FILE", TWICE, "line: 6", "key: [allow]")),
+    "no host": (say('root = "ROOT"\n'), "31 host", report(31, "FILE", NO_KEY, "key: host")),
+    "no root": (say(HEAD), "31 root", report(31, "FILE", NO_KEY, "key: root")),
+    "a seed without a host": (more('[[seeds]]\nselector = "/"\n'), "31 seeds", report(31, "FILE", NO_KEY, "key: seeds")),
+    "a port that is a text": (say(HEAD + 'port = "70"\nroot = "ROOT"\n'), "32 port", report(32, "FILE", WRONG_KIND, "key: port")),
+    "seeds that are a table": (more('[seeds]\nhost = "a"\n'), "32 seeds", report(32, "FILE", WRONG_KIND, "key: seeds")),
+    "a port out of range": (
+        say(HEAD + 'port = 65536\nroot = "ROOT"\n'), "33 port", report(33, "FILE", OUT_OF_RANGE, "key: port")
+    ),
+    "no workers": (more("workers = 0\n"), "33 workers", report(33, "FILE", OUT_OF_RANGE, "key: workers")),
+    "a key that isn't known": (more("prot = 70\n"), "34", report(34, "FILE", UNKNOWN, "key: prot")),
     "two keys that aren't known, one with a TAB": (
-        more('zebra = 1\n"a\\tb" = 2\n[[deny]]\nhosts = 1\n'), "34", told(34, "FILE", UNKNOWN, "key: a\\tb")
+        more('zebra = 1\n"a\\tb" = 2\n[[deny]]\nhosts = 1\n'), "34", report(34, "FILE", UNKNOWN, "key: a\\tb")
     ),
-    "a key behind a seed": (more('[[seeds]]\nhost = "a"\nthreads = 1\n'), "34", told(34, "FILE", UNKNOWN, "key: seeds")),
-    "a key of a rule": (more('[[deny]]\nhost = "a"\nselector = "/"\n'), "34", told(34, "FILE", UNKNOWN, "key: deny")),
-    "a seed that isn't allowed": (more('[[seeds]]\nhost = "a"\n'), "50 seed 0", told(50, "FILE", OUTSIDE, "seed: 0")),
+    "a key behind a seed": (more('[[seeds]]\nhost = "a"\nthreads = 1\n'), "34", report(34, "FILE", UNKNOWN, "key: seeds")),
+    "a key of a rule": (more('[[deny]]\nhost = "a"\nselector = "/"\n'), "34", report(34, "FILE", UNKNOWN, "key: deny")),
+    "a seed that isn't allowed": (more('[[seeds]]\nhost = "a"\n'), "50 seed 0", report(50, "FILE", OUTSIDE, "seed: 0")),
     "a second seed that is denied": (
         more(RULES + 'port = 7070\n[[deny]]\nhost = "localhost"\nport = 7070\nprefix = "/a"\n'),
-        "50 seed 1", told(50, "FILE", OUTSIDE, "seed: 1"),
+        "50 seed 1", report(50, "FILE", OUTSIDE, "seed: 1"),
     ),
     "a folder's fault before a seed's": (
-        lambda site: [more('[[seeds]]\nhost = "a"\n')(site), put(b"search")(site)], "21 file 0", told(21, "ROOT/search", RESERVED)
+        lambda site: [more('[[seeds]]\nhost = "a"\n')(site), put(b"search")(site)], "21 file 0",
+        report(21, "ROOT/search", RESERVED),
     ),
-    "settings that aren't UTF-8": (lambda site: site.write(b"host = '\xff'\n"), "80", told(80, "FILE", UNREADABLE)),
-    "settings that are too large": (lambda site: site.write("#" * (MOST_SETTINGS + 1)), "80", told(80, "FILE", UNREADABLE)),
-    "no settings": (lambda site: site.settings.unlink(), "80", told(80, "FILE", UNREADABLE)),
+    "settings that aren't UTF-8": (lambda site: site.write(b"host = '\xff'\n"), "80", report(80, "FILE", UNREADABLE)),
+    "settings that are too large": (lambda site: site.write("#" * (MOST_SETTINGS + 1)), "80", report(80, "FILE", UNREADABLE)),
+    "no settings": (lambda site: site.settings.unlink(), "80", report(80, "FILE", UNREADABLE)),
     "settings that are a folder": (
-        lambda site: [site.settings.unlink(), site.settings.mkdir()], "80", told(80, "FILE", UNREADABLE)
+        lambda site: [site.settings.unlink(), site.settings.mkdir()], "80", report(80, "FILE", UNREADABLE)
     ),
 }
 FAULTS |= {
     "the fourth file, behind a menu file": (
         lambda site: [site.add(path) for path in (b"a/.menu", b"a/x", b"a.txt", b"b\tc")], "20 file 3",
-        told(20, "ROOT/b\\tc", BAD_NAME),
+        report(20, "ROOT/b\\tc", BAD_NAME),
     ),
-    "a link to its own folder": (put_link("a", "."), "22 file 0", told(22, "ROOT/" + "/".join("a" * 128), LONG)),
+    "a link to its own folder": (put_link("a", "."), "22 file 0", report(22, "ROOT/" + "/".join("a" * 128), LONG)),
 }
-# Settings, some on lines of their own, with the line of their fault.
+# Settings, and the line of their fault.
 SETTINGS = {
     "host =": "30",
     "port = 70": "31 host",
@@ -273,7 +291,7 @@ SETTINGS = {
     'host = "h"\nroot = ""': "33 root",
     'tries = 9\n[[deny]]\nhost = "h"\nselector = ""': "34",
 }
-# The same behind a host and a root.
+# The same after lines with a host and a root.
 MORE_SETTINGS = {
     "seeds = {}": "32 seeds",
     'seeds = [{ host = "h" }, { host = "h", type = "2" }]': "33 seeds",
@@ -290,16 +308,16 @@ MORE_SETTINGS = {
     'tries = "1"': "32 tries",
     '[[allow]]\nhost = "h"\n' * 257: "33 allow",
 }
-# Lines that a menu file may not have, and some that it may.
+# Invalid and valid lines of a menu file.
 BAD_LINES = [
     b"0x\ta\tb", b"0x\ta\tb\t70x", b"0x\ta\tb\t65536", b"0x\ta\tb\t", b"0x\ta\tb\t70\t+", b"0x\ta\tb c\t70", b"0x\ta\t\t70",
     b"x\0", b"x\r", b"0x\ta\0", b"0x\ra\tb", b".x\ta", b" x\ta", b"\ta", b"0x\t" + b"a" * 256,
 ]
 GOOD_LINES = [b"0x\t" + b"a" * 255, b".", b".\r\n", b"\n", b"0x\ta\t b \t 70 ", b"0x\ta\tb\t0\n"]
 CLOSED = {
-    "a folder that may not be listed": (put_closed("shut"), "26", told(26, "ROOT/shut", DENIED)),
-    "a file that may not be read": (put_closed("shut.txt", b"a\n"), "26", told(26, "ROOT/shut.txt", DENIED)),
-    "a folder that may not be entered": (put_unenterable, "26", told(26, "ROOT/locked/a.txt", DENIED)),
+    "a folder that may not be listed": (put_closed("shut"), "26", report(26, "ROOT/shut", DENIED)),
+    "a file that may not be read": (put_closed("shut.txt", b"a\n"), "26", report(26, "ROOT/shut.txt", DENIED)),
+    "a folder that may not be entered": (put_unenterable, "26", report(26, "ROOT/locked/a.txt", DENIED)),
 }
 
 
@@ -311,21 +329,21 @@ def check_faults(tally, program, faults, user=None):
             site = Checked(pathlib.Path(place), program, user)
             lay_out(site)
             wanted = words.replace(b"ROOT", os.fsencode(site.root)).replace(b"FILE", os.fsencode(site.settings))
-            tally.expect(f"{name}: is told", site.check(), (wanted, f"hole: {line}\n".encode(), 1))
-            tally.expect(f"{name}: ends a server so", site.serve(), (f"hole: {line}\n".encode(), 1))
+            tally.expect(f"{name}: report", site.check(), (wanted, f"hole: {line}\n".encode(), 1))
+            tally.expect(f"{name}: end of a server", site.serve(), (f"hole: {line}\n".encode(), 1))
             for shut in site.root.rglob("*"):
                 if not shut.is_symlink():
                     shut.chmod(0o755)
 
 
 def check_lines(tally, program):
-    """Settings by the line of their fault, and lines of menu files."""
+    """Checks settings with a fault, and lines of menu files."""
     with tempfile.TemporaryDirectory() as place:
         site = Checked(pathlib.Path(place), program)
         behind = {f'host = "h"\nroot = "{site.root}"\n{text}': line for text, line in MORE_SETTINGS.items()}
         for text, line in (SETTINGS | behind).items():
             site.write(text + "\n")
-            tally.expect(f"{text[:80]!r}: ends a server so", site.serve(), (f"hole: {line}\n".encode(), 1))
+            tally.expect(f"{text[:80]!r}: end of a server", site.serve(), (f"hole: {line}\n".encode(), 1))
         site.write(f'host = "h"\nroot = "{site.root}"\n' + '[[allow]]\nhost = "h"\n' * 256)
         tally.expect("256 rules", site.check()[1:], (b"", 0))
         for line in BAD_LINES:
@@ -337,7 +355,7 @@ def check_lines(tally, program):
 
 
 def check_limits(tally, program):
-    """Folders that are as large as they may be, and one file more."""
+    """Checks folders at their limits, and with one file more."""
     with tempfile.TemporaryDirectory() as place:
         site = Checked(pathlib.Path(place), program)
         put_folders(MOST_NODES - 2)(site)
@@ -358,20 +376,21 @@ def check_limits(tally, program):
 
 
 def check_sound(tally, program):
-    """Checks sound sites."""
+    """Checks sites without a fault."""
     with tempfile.TemporaryDirectory() as place:
         site = Checked(pathlib.Path(place), program)
         empty = f"settings: {site.settings}\naddress: LocalHost 70\nroot: {site.root}\nfiles: 0\nmenu files: 0\nbytes: 0\nsound\n"
         say('host = "LocalHost"\nroot = "ROOT"\n')(site)
         tally.expect("an empty site", site.check(), (empty.encode(), b"", 0))
         say(WORKED)(site)
-        worked = f"settings: {site.settings}\n" + "".join(line.replace("ROOT", str(site.root)) + "\n" for line in WORKED_TOLD)
+        worked = f"settings: {site.settings}\n" + "".join(line.replace("ROOT", str(site.root)) + "\n" for line in WORKED_REPORT)
         tally.expect("worked settings", site.check(), (worked.encode(), b"", 0))
         say('host = "LocalHost"\nport = 7070\nroot = "ROOT"\n' + RULES)(site)
         for path, content in {b".menu": b"Welcome\n", b"a/.menu": b"", b"a/b.txt": b"12345", b"a/.hidden": b"no"}.items():
             site.add(path, content)
         lines = [
-            f"settings: {site.settings}", "address: LocalHost 7070", f"root: {site.root}", "files: 3", "menu files: 2", "bytes: 13",
+            f"settings: {site.settings}", "address: LocalHost 7070", f"root: {site.root}", "files: 3", "menu files: 2",
+            "bytes: 13",
             "seed: 1 localhost 7070 ", "seed: 0 localhost 7070 /a\\\\b", "may visit: localhost 7070 ",
             "may not visit: localhost 70 /private", "sound",
         ]
@@ -379,14 +398,14 @@ def check_sound(tally, program):
         tally.expect("the same again", site.check()[2], 0)
 
 
-def check_words(tally, program):
-    """Words that are none of the program's, and an output that can't be written."""
+def check_arguments(tally, program):
+    """Checks bad arguments, and an output that can't be written."""
     with tempfile.TemporaryDirectory() as place:
         site = Checked(pathlib.Path(place), program)
         for words in (["check"], ["check", str(site.settings), "more"], ["check", str(site.settings), "--requests", "1"]):
             output, error, status = site.run(*words)
-            tally.expect(f"{len(words)} words: are refused", (output, bool(error), status), (b"", True, 2))
-        tally.expect("check is among the words that --help tells", b"\n  check " in site.run("--help")[0], True)
+            tally.expect(f"{len(words)} arguments: refused", (output, bool(error), status), (b"", True, 2))
+        tally.expect("--help lists check", b"\n  check " in site.run("--help")[0], True)
         with open("/dev/full", "wb") as full:
             how = {"stdout": full, "stderr": subprocess.PIPE, "timeout": WAIT}
             sound = subprocess.run([str(program), "check", str(site.settings)], **how)
@@ -397,7 +416,7 @@ def check_words(tally, program):
 
 
 def check_closed(tally, program):
-    """Checks what may not be read; where root runs this, by a copy of the program that nobody may run."""
+    """Checks unreadable files and folders; if root runs this, with a copy of the program that runs as `nobody`."""
     if os.geteuid():
         check_faults(tally, program, CLOSED)
         return
@@ -418,7 +437,7 @@ def main():
     check_lines(tally, program)
     check_limits(tally, program)
     check_closed(tally, program)
-    check_words(tally, program)
+    check_arguments(tally, program)
     return tally.status()
 
 

@@ -2,6 +2,7 @@
 """Tests docs/SPECIFICATION.md: what its tables say of settings, faults and remedies is what the sources and the manual say."""
 import pathlib
 import re
+import tomllib
 import unittest
 
 ROOT = pathlib.Path(__file__).resolve().parent.parent
@@ -35,16 +36,28 @@ def sources(crate):
     return "\n".join(path.read_text() for path in sorted((ROOT / "crates" / crate / "src").glob("**/*.rt")))
 
 
+def number(word):
+    """The value of a number in the sources, or of a named limit."""
+    limits = dict(re.findall(r"const (MAX_\w+): \w+ = ([\d_]+);", sources("gopher_item") + sources("gopher_scope")))
+    return int(limits.get(word, word))
+
+
+def ranges():
+    """The integer settings, each with its least and its greatest value."""
+    stated = rows(section("10. Settings"), "key")
+    return {key.strip("`"): tuple(map(int, span.split(" to "))) for key, kind, _, span in stated if kind == "integer"}
+
+
 class Specification(unittest.TestCase):
     def test_settings_are_those_of_the_code(self):
-        code = re.findall(r'Key::\w+ => (\w+)\("(\w+)"(?:, ([\d_]+), ([\d_]+))?', sources("gopher_scope"))
+        code = re.findall(r'Key::\w+ => (\w+)\("(\w+)"(?:, ([\w_]+), ([\w_]+))?', sources("gopher_scope"))
         kinds = {"text": "string", "integer": "integer", "tables": "array of tables"}
         stated = rows(section("10. Settings"), "key")
         self.assertEqual([row[0].strip("`") for row in stated], [name for _, name, _, _ in code])
         for (key, kind, absent, span), (form, _, default, most) in zip(stated, code):
             self.assertEqual(kind, kinds[form], key)
             if form == "integer":
-                self.assertEqual((absent, span), (f"{int(default)}", f"1 to {int(most)}"), key)
+                self.assertEqual((absent, span), (f"{number(default)}", f"1 to {number(most)}"), key)
 
     def test_settings_are_those_of_the_manual(self):
         manual = (ROOT / "man/hole.toml.5").read_text()
@@ -60,10 +73,29 @@ class Specification(unittest.TestCase):
             else:
                 self.assertIn("A string, required", words)
 
-    def test_example_settings_use_known_keys(self):
-        known = {row[0].strip("`") for row in rows(section("10. Settings"), "key")}
-        example = (ROOT / "examples/hole.toml").read_text().split("[[")[0]
-        self.assertLessEqual(set(re.findall(r"(?m)^(\w+) =", example)), known)
+    def test_settings_are_those_of_the_definitions(self):
+        limits = (ROOT / "crates/gopher_scope/specs/Settings.antt").read_text()
+        integers = {row[0].strip("`"): (row[2], row[3]) for row in rows(section("10. Settings"), "key") if row[1] == "integer"}
+        most = dict(re.findall(r"pub (\w+) : IsUpTo (\d+)", limits))
+        self.assertEqual({key: f"1 to {value}" for key, value in most.items()}, {key: row[1] for key, row in integers.items()})
+        absent = dict(re.findall(r'IsNumberAt table \(codes "(\w+)"\) (\d+)', limits))
+        self.assertEqual(absent, {key: row[0] for key, row in integers.items()})
+
+    def test_example_settings_are_valid(self):
+        kinds = {row[0].strip("`"): row[1] for row in rows(section("10. Settings"), "key")}
+        types = {"string": str, "integer": int, "array of tables": list}
+        inner = re.findall(r"A table of `(\w+)`(?: or `(\w+)`)? has (.*?)\. (?=A table|Their)", section("10. Settings"))
+        fields = {array: set(re.findall(r"`(\w+)` \(", words)) for *arrays, words in inner for array in arrays if array}
+        self.assertEqual(set(fields), {key for key, kind in kinds.items() if kind == "array of tables"})
+        page = re.search(r"(?s)```toml\n(.*?)```", section("10. Settings"))[1]
+        files = (ROOT / "examples/hole.toml", ROOT / "packaging/debian/hole.toml")
+        for text in (*(file.read_text() for file in files), page):
+            for key, value in tomllib.loads(text).items():
+                self.assertIs(type(value), types[kinds[key]], key)
+                if key in ranges():
+                    self.assertTrue(ranges()[key][0] <= value <= ranges()[key][1], key)
+                for table in value if isinstance(value, list) else ():
+                    self.assertLessEqual(set(table), fields[key], key)
 
     def test_causes_and_remedies_are_those_that_a_check_prints(self):
         printed = set(re.findall(r'=>\s*\{?\s*"([^"]+)"', sources("gopher_check")))

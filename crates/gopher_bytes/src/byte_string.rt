@@ -1,4 +1,4 @@
-//! An owned string of bytes, which contracts see as the list of its bytes.
+//! `ByteString`: an owned string of bytes, which contracts see as the list of its bytes.
 
 ghost use Rattle.std.specs.Prelude.{◌≡◌, ◌==◌, ℕ, List, [], ◌∷◌, ◌++◌, length, map, nat_eq, Some, IfOk, refl};
 ghost use Rattle.std.specs.Ordering.{nat_cmp};

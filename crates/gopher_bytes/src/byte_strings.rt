@@ -1,4 +1,4 @@
-//! A packed list of byte strings.
+//! `ByteStrings`: a packed list of byte strings.
 
 ghost use Rattle.std.specs.Prelude.{◌≡◌, ◌<◌, ◌==◌, Some, [], ◌∷◌, ◌++◌, length, slice_get, sum_by, IfOk, OnErr, OnOk};
 

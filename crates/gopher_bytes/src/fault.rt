@@ -1,4 +1,4 @@
-//! The error of a call that allocates, with its number.
+//! `NoMemory`: the error of a call that allocates, with its number.
 
 ghost use Rattle.std.specs.Prelude.{◌≡◌};
 

@@ -1,4 +1,4 @@
-//! The lines of bytes.
+//! The lines of bytes: `lines`, `first_line`.
 
 ghost use Rattle.std.specs.Prelude.{◌≡◌, ◌<◌, false, [], ◌∷◌, ◌++◌, length, map, IfOk, IfSome, MatchOption};
 ghost use Rattle.std.specs.Io.BufRead.{drop_through};

@@ -1,4 +1,4 @@
-//! Numbers written in ASCII digits.
+//! Reading numbers written in ASCII digits: `read_number`.
 
 ghost use Rattle.std.specs.Prelude.{◌≡◌, ◌≤◌, None, Some, nat_le, IfSome, if◌then◌else◌, IsTrue};
 ghost use Rattle.std.specs.List.{list_all};

@@ -1,4 +1,5 @@
-//! The ranges of lists whose items are packed in one list, from the end of each.
+//! The ranges of lists whose items are packed in one list, from the end of each: `range_at`,
+//! `span_at`.
 
 ghost use Rattle.std.specs.Prelude.{◌≡◌, ℕ, ◌<◌, ◌≤◌, length, slice_index};
 ghost use Rattle.gopher_bytes.specs.Parts.{AreEnds, start_at};

@@ -1,4 +1,4 @@
-//! Cutting bytes at a delimiter.
+//! Cutting bytes at the first delimiter: `split_once`.
 
 ghost use Rattle.std.specs.Prelude.{◌≡◌, ◌<◌, false, [], ◌∷◌, ◌++◌, length, IfSome, MatchOption};
 ghost use Rattle.std.specs.Io.BufRead.{drop_through};

@@ -1,4 +1,4 @@
-//! Spaces at the ends of a field.
+//! Removing the spaces at both ends of a field: `trim_spaces`.
 
 ghost use Rattle.std.specs.Prelude.{◌≡◌, reverse};
 ghost use Rattle.gopher_bytes.specs.Trim.{trim_front, trim_spaces};

@@ -20,8 +20,7 @@ site_fault_code (fault.SeedOutOfScope seed) = 50
 site_fault_code fault.SettingsUnreadable = 80
 site_fault_code fault.KeyTwice = settings_fault_code settings_fault.NotToml
 
--- the reason why a file or folder can't be read
--- the obstacle of an error of the system
+-- the reason why a file or folder can't be read, by the kind of the system's error
 abbrev pub obstacle_of : ErrorKind → Obstacle
 obstacle_of kind.InvalidFilename = obstacle.NotUtf8
 obstacle_of kind.PermissionDenied = obstacle.Denied
@@ -31,69 +30,85 @@ obstacle_of kind.FilesystemLoop = obstacle.Loop
 obstacle_of _ = obstacle.Other
 
 abbrev pub obstacle_cause : Obstacle → List ℕ
-obstacle_cause obstacle.NotUtf8 = codes "a name in this folder is not UTF-8"
-obstacle_cause obstacle.Denied = codes "the right to read this is missing"
-obstacle_cause obstacle.Missing = codes "nothing is there"
-obstacle_cause obstacle.NotFolder = codes "a folder is wanted, and this is none"
-obstacle_cause obstacle.Loop = codes "links lead to one another without an end"
-obstacle_cause obstacle.Other = codes "the system could not read it"
+obstacle_cause obstacle.NotUtf8 = codes "a name in this folder isn't UTF-8"
+obstacle_cause obstacle.Denied = codes "permission to read this is missing"
+obstacle_cause obstacle.Missing = codes "no file or folder exists at this path"
+obstacle_cause obstacle.NotFolder = codes "this isn't a folder"
+obstacle_cause obstacle.Loop = codes "symbolic links form a loop"
+obstacle_cause obstacle.Other = codes "the system couldn't read this"
 
 abbrev pub obstacle_remedy : Obstacle → List ℕ
-obstacle_remedy obstacle.NotUtf8 = codes "rename it: ls -b shows its bytes"
-obstacle_remedy obstacle.Denied = codes "let the server's user read it, and enter the folders above it"
-obstacle_remedy obstacle.Missing = codes "make the folder, or correct root in the settings"
+obstacle_remedy obstacle.NotUtf8 = codes "rename it; ls -b shows its bytes"
+obstacle_remedy obstacle.Denied =
+    codes "give the server's user permission to read it, and to enter the folders above it"
+obstacle_remedy obstacle.Missing = codes "create the folder, or correct root in the settings"
 obstacle_remedy obstacle.NotFolder = codes "correct root in the settings"
-obstacle_remedy obstacle.Loop = codes "take the link away"
-obstacle_remedy obstacle.Other = codes "try to read it as the server's user"
+obstacle_remedy obstacle.Loop = codes "remove the link"
+obstacle_remedy obstacle.Other = codes "read it as the server's user to see the reason"
 
 abbrev pub tree_cause : TreeFault → Obstacle → List ℕ
-tree_cause (tree_fault.BadName file) how = codes "a name on this path holds a TAB, CR or LF, or a folder is named .menu"
-tree_cause (tree_fault.Reserved file) how = codes "the name search in the root is kept for the search"
+tree_cause (tree_fault.BadName file) how =
+    codes "a name in this path contains a TAB, CR or LF, or a folder is named .menu"
+tree_cause (tree_fault.Reserved file) how =
+    codes "the name search is reserved in the root, because /search is the server's search"
 tree_cause (tree_fault.LongSelector file) how = codes "the path from the root has over 254 bytes"
-tree_cause (tree_fault.TooBig file) how = codes "a file has over 16777216 bytes, or all have over 67108864, or files and folders are over 4096"
-tree_cause (tree_fault.BadMenuLine file line) how = codes "this line has none of the forms of a menu file"
-tree_cause (tree_fault.Twice file) how = codes "the path is there already"
+tree_cause (tree_fault.TooBig file) how =
+    codes "this file has over 16777216 bytes, or the site has over 67108864 bytes or over 4096 files and folders"
+tree_cause (tree_fault.BadMenuLine file line) how = codes "this isn't a valid line of a menu file"
+tree_cause (tree_fault.Twice file) how = codes "another file has the same path"
 tree_cause (tree_fault.Unreadable file) how = obstacle_cause how
-tree_cause tree_fault.NoMemory how = codes "memory was refused"
+tree_cause tree_fault.NoMemory how = codes "out of memory"
 
 abbrev pub tree_remedy : TreeFault → Obstacle → List ℕ
-tree_remedy (tree_fault.BadName file) how = codes "rename it"
-tree_remedy (tree_fault.Reserved file) how = codes "rename it"
-tree_remedy (tree_fault.LongSelector file) how = codes "shorten its names, or take away a link to a folder above it"
-tree_remedy (tree_fault.TooBig file) how = codes "serve less, or take away a link to a folder above it"
-tree_remedy (tree_fault.BadMenuLine file line) how = codes "write text alone, or type and name, selector, and perhaps host and port, between single TABs"
-tree_remedy (tree_fault.Twice file) how = codes "take one of the two away"
+tree_remedy (tree_fault.BadName file) how = codes "rename the file or folder"
+tree_remedy (tree_fault.Reserved file) how = codes "rename the file or folder"
+tree_remedy (tree_fault.LongSelector file) how =
+    codes "use shorter names, or remove a symbolic link that points to a folder above it"
+tree_remedy (tree_fault.TooBig file) how =
+    codes "serve fewer or smaller files, or remove a symbolic link that points to a folder above it"
+tree_remedy (tree_fault.BadMenuLine file line) how =
+    codes "write text without TABs, or type and name, TAB, selector, and for another server TAB, host, TAB, port"
+tree_remedy (tree_fault.Twice file) how = codes "remove one of the two"
 tree_remedy (tree_fault.Unreadable file) how = obstacle_remedy how
-tree_remedy tree_fault.NoMemory how = codes "give the program more memory, or serve less"
+tree_remedy tree_fault.NoMemory how =
+    codes "give the program more memory, or serve fewer or smaller files"
 
 abbrev pub settings_cause : SettingsFault → List ℕ
-settings_cause settings_fault.NotToml = codes "the settings are not TOML"
-settings_cause (settings_fault.Missing key) = codes "the key is missing, or one that its tables need"
-settings_cause (settings_fault.WrongKind key) = codes "the value is of another kind, or one in its tables"
-settings_cause (settings_fault.OutOfRange key) = codes "the value is out of range, or one in its tables"
-settings_cause settings_fault.UnknownKey = codes "the key is not known, or one in its tables"
-settings_cause settings_fault.NoMemory = codes "memory was refused"
+settings_cause settings_fault.NotToml = codes "the settings aren't valid TOML"
+settings_cause (settings_fault.Missing key) =
+    codes "this key is missing, or one of its tables lacks a required key"
+settings_cause (settings_fault.WrongKind key) =
+    codes "this key's value has the wrong type, or a value in one of its tables has"
+settings_cause (settings_fault.OutOfRange key) =
+    codes "this key's value is out of range, or a value in one of its tables is"
+settings_cause settings_fault.UnknownKey =
+    codes "this key is unknown, or a key in one of its tables is"
+settings_cause settings_fault.NoMemory = codes "out of memory"
 
 abbrev pub settings_remedy : SettingsFault → List ℕ
-settings_remedy settings_fault.NotToml = codes "mend this line: texts stand in quotation marks"
-settings_remedy (settings_fault.Missing key) = codes "add it: hole.toml(5) tells the keys"
-settings_remedy (settings_fault.WrongKind key) = codes "texts stand in quotation marks, numbers in none, and tables begin with [[seeds]], [[allow]] or [[deny]]"
-settings_remedy (settings_fault.OutOfRange key) = codes "hole.toml(5) tells the ranges"
-settings_remedy settings_fault.UnknownKey = codes "correct its spelling; the server's own keys stand before the first [["
+settings_remedy settings_fault.NotToml = codes "correct this line; strings need quotation marks"
+settings_remedy (settings_fault.Missing key) = codes "add it; hole.toml(5) describes the keys"
+settings_remedy (settings_fault.WrongKind key) =
+    codes "put strings in quotation marks, write integers without, and begin tables with [[seeds]], [[allow]] or [[deny]]"
+settings_remedy (settings_fault.OutOfRange key) = codes "use a value that hole.toml(5) allows"
+settings_remedy settings_fault.UnknownKey =
+    codes "correct its spelling; the server's own keys come before the first [["
 settings_remedy settings_fault.NoMemory = codes "give the program more memory"
 
 -- the cause in words
 abbrev pub cause : SiteFault → List ℕ
 cause (fault.Settings why) = settings_cause why
 cause (fault.Tree why how) = tree_cause why how
-cause (fault.SeedOutOfScope seed) = codes "no rule of allow covers this seed, or a rule of deny does"
-cause fault.SettingsUnreadable = codes "the settings cannot be read, have over 1048576 bytes, or are not UTF-8"
-cause fault.KeyTwice = codes "the key on this line was given before"
+cause (fault.SeedOutOfScope seed) = codes "no allow rule covers this seed, or a deny rule does"
+cause fault.SettingsUnreadable =
+    codes "the settings can't be read, have over 1048576 bytes, or aren't UTF-8"
+cause fault.KeyTwice = codes "this line repeats an earlier key or table"
 
 -- the remedy in words
 abbrev pub remedy : SiteFault → List ℕ
 remedy (fault.Settings why) = settings_remedy why
 remedy (fault.Tree why how) = tree_remedy why how
-remedy (fault.SeedOutOfScope seed) = codes "add a rule with its host, its port and a beginning of its selector, or take the seed away"
-remedy fault.SettingsUnreadable = codes "correct the path, its rights or the text"
-remedy fault.KeyTwice = codes "take one of the two lines away"
+remedy (fault.SeedOutOfScope seed) =
+    codes "add an allow rule with its host, its port and a prefix of its selector, change the deny rule, or remove the seed"
+remedy fault.SettingsUnreadable = codes "correct the path, the permissions or the text"
+remedy fault.KeyTwice = codes "remove one of the two lines"

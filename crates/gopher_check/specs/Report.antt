@@ -46,29 +46,32 @@ abbrev pub line_detail : Option ℕ → List ℕ
 line_detail None = []
 line_detail (Some line) = number_line (codes "line: ") line
 
--- the report of a fault of the file or folder at a path, or of a line in it; `unknown` is a key that
--- isn't known, or is given twice
+-- the report of a fault of the file or folder at a path, or of a line in it; `unknown` is a key
+-- that isn't known, or is given twice
 abbrev pub fault_report : SiteFault → List ℕ → Option ℕ → List ℕ → List ℕ
 fault_report why path line unknown =
-    number_line (codes "fault: ") (site_fault_code why) ++ words_line (codes "path: ") path ++ line_detail line ++ detail why unknown
+    number_line (codes "fault: ") (site_fault_code why) ++ words_line (codes "path: ") path
+    ++ line_detail line ++ detail why unknown
     ++ words_line (codes "cause: ") (cause why) ++ words_line (codes "remedy: ") (remedy why)
 
 -- the line of a menu file that a fault names
-abbrev pub menu_line_of : TreeFault → Option ℕ
-menu_line_of (tree_fault.BadMenuLine file line) = Some line
-menu_line_of why = None
+abbrev pub line_of_fault : TreeFault → Option ℕ
+line_of_fault (tree_fault.BadMenuLine file line) = Some line
+line_of_fault why = None
 
 -- the path of a file or folder of the tree, after the root's own path
 abbrev pub path_below : List ℕ → List ℕ → List ℕ
 path_below root path = root ++ 47 ∷ path
 
 abbrev pub address_lines : HomeData → List ℕ → List ℕ
-address_lines home root = codes "address: " ++ server_words home.host home.port ++ 10 ∷ words_line (codes "root: ") root
+address_lines home root =
+    codes "address: " ++ server_words home.host home.port ++ 10 ∷ words_line (codes "root: ") root
 
 -- the numbers of files, menu files and bytes
 abbrev pub size_lines : List File → List ℕ
 size_lines files =
-    number_line (codes "files: ") (length files) ++ number_line (codes "menu files: ") (count_by (λ file. is_menu_path file.0) files)
+    number_line (codes "files: ") (length files)
+    ++ number_line (codes "menu files: ") (count_by (λ file. is_menu_path file.0) files)
     ++ number_line (codes "bytes: ") (total_bytes files)
 
 abbrev pub seed_line : PlaceData → List ℕ
@@ -81,8 +84,10 @@ rule_line front rule = front ++ address_rest rule.host rule.port rule.prefix
 -- and rules of its crawl
 abbrev pub site_report : List ℕ → SettingsData → List File → List ℕ
 site_report path settings files =
-    words_line (codes "settings: ") path ++ address_lines settings.home settings.root ++ size_lines files
-    ++ flat_map seed_line settings.seeds ++ flat_map (rule_line (codes "may visit: ")) settings.scope.allow
+    words_line (codes "settings: ") path ++ address_lines settings.home settings.root
+    ++ size_lines files
+    ++ flat_map seed_line settings.seeds
+    ++ flat_map (rule_line (codes "may visit: ")) settings.scope.allow
     ++ flat_map (rule_line (codes "may not visit: ")) settings.scope.deny ++ codes "sound\n"
 
 -- the index of the first seed that the scope doesn't allow
@@ -92,14 +97,19 @@ seed_outside scope seeds = position (λ seed. not (allows scope seed)) seeds
 -- the report on settings and a folder
 abbrev pub TellsSite : List ℕ → SettingsData → List ℕ → Option SiteFault → Type 0
 TellsSite path settings words None =
-    (files : List File) × (files_fault files ≡ None) × (seed_outside settings.scope settings.seeds ≡ None) × (words ≡ site_report path settings files)
+    (files : List File) × (files_fault files ≡ None)
+    × (seed_outside settings.scope settings.seeds ≡ None)
+    × (words ≡ site_report path settings files)
 TellsSite path settings words (Some (fault.Tree why how)) =
-    (below : List ℕ) × LoadsTo below (Err why) × (words ≡ fault_report (fault.Tree why how) (path_below settings.root below) (menu_line_of why) [])
+    (below : List ℕ) × LoadsTo below (Err why)
+    × (words ≡ fault_report (fault.Tree why how) (path_below settings.root below)
+    (line_of_fault why) [])
 TellsSite path settings words (Some (fault.SeedOutOfScope seed)) =
-    (seed_outside settings.scope settings.seeds ≡ Some seed) × (words ≡ fault_report (fault.SeedOutOfScope seed) path None [])
+    (seed_outside settings.scope settings.seeds ≡ Some seed)
+    × (words ≡ fault_report (fault.SeedOutOfScope seed) path None [])
 TellsSite path settings words (Some other) = ⊥
 
--- the line at which settings aren't TOML, if the parser names one; other faults of settings have no line
+-- the line at which settings aren't TOML, if the parser names one; other faults have no line
 abbrev pub HasLine : List ℕ → SettingsFault → Option ℕ → Type 0
 HasLine text settings_fault.NotToml line = IfSome line (IsLineOf text)
 HasLine text why line = line ≡ None
@@ -118,11 +128,16 @@ TellsRefused path text words why =
 -- the report on settings that give a key twice
 abbrev pub TellsTwice : List ℕ → List ℕ → List ℕ → Type 0
 TellsTwice path text words =
-    (line : Option ℕ) × (key : List ℕ) × IfSome line (IsLineOf text) × IsKeyOf text key × (words ≡ fault_report fault.KeyTwice path line key)
+    (line : Option ℕ) × (key : List ℕ) × IfSome line (IsLineOf text) × IsKeyOf text key
+    × (words ≡ fault_report fault.KeyTwice path line key)
 
 -- the report on a text of settings: their fault, or the report on the site that they describe
 abbrev pub TellsText : List ℕ → List ℕ → List ℕ → Option SiteFault → Type 0
 TellsText path text words (Some (fault.Settings why)) =
-    (why ≢ settings_fault.NoMemory → settings_of (parse_document text) ≡ Err why) × TellsRefused path text words why
-TellsText path text words (Some fault.KeyTwice) = (settings_of (parse_document text) ≡ Err settings_fault.NotToml) × TellsTwice path text words
-TellsText path text words found = (settings : SettingsData) × (settings_of (parse_document text) ≡ Ok settings) × TellsSite path settings words found
+    (why ≢ settings_fault.NoMemory → settings_of (parse_document text) ≡ Err why)
+    × TellsRefused path text words why
+TellsText path text words (Some fault.KeyTwice) =
+    (settings_of (parse_document text) ≡ Err settings_fault.NotToml) × TellsTwice path text words
+TellsText path text words found =
+    (settings : SettingsData) × (settings_of (parse_document text) ≡ Ok settings)
+    × TellsSite path settings words found

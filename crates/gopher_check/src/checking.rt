@@ -1,4 +1,5 @@
-//! Checking a site: its settings, its folder, and the seeds of its crawl.
+//! Checking a site (`check`): its settings, its folder and its seeds; and which line or key a
+//! report names.
 
 ghost use Rattle.std.specs.Prelude.{◌≡◌, ◌≢◌, ◌≤◌, [], length, None, Some, Err, IfOk, IfSome};
 ghost use Rattle.toml.specs.Parse.{parse_document};
@@ -6,13 +7,13 @@ ghost use Rattle.gopher_scope.specs.Settings.{settings_data, settings_of};
 ghost use Rattle.gopher_scope.specs.declared.fault.SettingsFault.TheVariants as settings_fault;
 ghost use Rattle.gopher_tree.specs.Fault.{files_fault};
 ghost use Rattle.gopher_check.specs.declared.fault.SiteFault.TheVariants.{SettingsUnreadable, KeyTwice};
-ghost use Rattle.gopher_check.specs.Report.{fault_report, menu_line_of, path_below, seed_outside, HasKey, HasLine, TellsSite, TellsText, TellsTwice};
+ghost use Rattle.gopher_check.specs.Report.{fault_report, line_of_fault, path_below, seed_outside, HasKey, HasLine, TellsSite, TellsText, TellsTwice};
 ghost use Rattle.gopher_check.specs.Text.{line_at, key_of, IsKeyOf, IsLineOf};
 
 use crate::fault::SiteFault;
-use crate::fault_words::fault_report;
+use crate::fault_report::fault_report;
 use crate::obstacle::obstacle_at;
-use crate::site_words::site_report;
+use crate::site_report::site_report;
 use crate::unknown::unknown_key;
 use gopher_item::{NoMemory, Place, split_once, trim_spaces};
 use gopher_scope::{Scope, Settings, SettingsFault};
@@ -20,7 +21,7 @@ use gopher_tree::{Tree, TreeFault};
 use std::alloc::Global;
 use std::fs::Files;
 
-// What the parser of TOML says of a key that is given twice.
+// The message of the TOML parser for a key that is given twice.
 const DUPLICATE: &str = "duplicate key";
 
 /// The report of a check.
@@ -54,8 +55,8 @@ fn seed_outside(scope: &Scope, seeds: &[Place]) -> Option<usize>
 }
 
 // The line of a menu file that a fault names.
-fn menu_line_of(fault: TreeFault) -> Option<usize>
-    ensures { result ≡ menu_line_of fault }
+fn line_of_fault(fault: TreeFault) -> Option<usize>
+    ensures { result ≡ line_of_fault fault }
 {
     match fault {
         TreeFault::BadMenuLine { line, .. } => Some(line),
@@ -131,7 +132,7 @@ fn settings_report<R: Files>(
         Err(refused) => {
             let place = path_below(alloc, settings.root.as_str(), &refused.path)?;
             let fault = SiteFault::Tree(refused.fault, obstacle_at(rt, alloc, &place));
-            let words = fault_report(alloc, fault, &place, menu_line_of(refused.fault), b"")?;
+            let words = fault_report(alloc, fault, &place, line_of_fault(refused.fault), b"")?;
             Ok(Report {
                 words,
                 fault: Some(fault),
@@ -150,7 +151,7 @@ fn settings_line(alloc: Global, text: &str, fault: SettingsFault) -> Option<usiz
     }
 }
 
-// The key of a piece of TOML, which may be a key with its value, or the line that begins a table.
+// The key of a piece of TOML: a key with its value, or the line that begins a table.
 fn key_of(piece: &[u8]) -> &[u8]
     ensures { result.now ≡ key_of piece.now }
 {

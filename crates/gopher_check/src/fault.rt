@@ -1,4 +1,4 @@
-//! The faults of a site: the number, the cause and the remedy of each.
+//! `SiteFault`: the faults of a site, with the number, the cause and the remedy of each.
 
 ghost use Rattle.std.specs.Prelude.{◌≡◌};
 ghost use Rattle.gopher_check.specs.Fault.{site_fault_code, cause, remedy};
@@ -19,7 +19,7 @@ pub enum SiteFault {
     SeedOutOfScope(usize),
     /// 80: the settings file can't be read, has over 1,048,576 bytes, or isn't UTF-8.
     SettingsUnreadable,
-    /// 30: a line of the settings gives a key, or begins a table, that was given before.
+    /// 30: a line of the settings repeats an earlier key or table.
     KeyTwice,
 }
 
@@ -28,17 +28,18 @@ fn tree_cause(fault: TreeFault, obstacle: Obstacle) -> &'static str
 {
     match fault {
         TreeFault::BadName { .. } => {
-            "a name on this path holds a TAB, CR or LF, or a folder is named .menu"
+            "a name in this path contains a TAB, CR or LF, or a folder is named .menu"
         }
-        TreeFault::Reserved { .. } => "the name search in the root is kept for the search",
+        TreeFault::Reserved { .. } =>
+            "the name search is reserved in the root, because /search is the server's search",
         TreeFault::LongSelector { .. } => "the path from the root has over 254 bytes",
         TreeFault::TooBig { .. } => {
-            "a file has over 16777216 bytes, or all have over 67108864, or files and folders are over 4096"
+            "this file has over 16777216 bytes, or the site has over 67108864 bytes or over 4096 files and folders"
         }
-        TreeFault::BadMenuLine { .. } => "this line has none of the forms of a menu file",
-        TreeFault::Twice { .. } => "the path is there already",
+        TreeFault::BadMenuLine { .. } => "this isn't a valid line of a menu file",
+        TreeFault::Twice { .. } => "another file has the same path",
         TreeFault::Unreadable { .. } => obstacle.cause(),
-        TreeFault::NoMemory => "memory was refused",
+        TreeFault::NoMemory => "out of memory",
     }
 }
 
@@ -46,18 +47,19 @@ fn tree_remedy(fault: TreeFault, obstacle: Obstacle) -> &'static str
     ensures { result.now ≡ tree_remedy fault obstacle }
 {
     match fault {
-        TreeFault::BadName { .. } => "rename it",
-        TreeFault::Reserved { .. } => "rename it",
+        TreeFault::BadName { .. } => "rename the file or folder",
+        TreeFault::Reserved { .. } => "rename the file or folder",
         TreeFault::LongSelector { .. } => {
-            "shorten its names, or take away a link to a folder above it"
+            "use shorter names, or remove a symbolic link that points to a folder above it"
         }
-        TreeFault::TooBig { .. } => "serve less, or take away a link to a folder above it",
+        TreeFault::TooBig { .. } =>
+            "serve fewer or smaller files, or remove a symbolic link that points to a folder above it",
         TreeFault::BadMenuLine { .. } => {
-            "write text alone, or type and name, selector, and perhaps host and port, between single TABs"
+            "write text without TABs, or type and name, TAB, selector, and for another server TAB, host, TAB, port"
         }
-        TreeFault::Twice { .. } => "take one of the two away",
+        TreeFault::Twice { .. } => "remove one of the two",
         TreeFault::Unreadable { .. } => obstacle.remedy(),
-        TreeFault::NoMemory => "give the program more memory, or serve less",
+        TreeFault::NoMemory => "give the program more memory, or serve fewer or smaller files",
     }
 }
 
@@ -65,12 +67,15 @@ fn settings_cause(fault: SettingsFault) -> &'static str
     ensures { result.now ≡ settings_cause fault }
 {
     match fault {
-        SettingsFault::NotToml => "the settings are not TOML",
-        SettingsFault::Missing(_) => "the key is missing, or one that its tables need",
-        SettingsFault::WrongKind(_) => "the value is of another kind, or one in its tables",
-        SettingsFault::OutOfRange(_) => "the value is out of range, or one in its tables",
-        SettingsFault::UnknownKey => "the key is not known, or one in its tables",
-        SettingsFault::NoMemory => "memory was refused",
+        SettingsFault::NotToml => "the settings aren't valid TOML",
+        SettingsFault::Missing(_) =>
+            "this key is missing, or one of its tables lacks a required key",
+        SettingsFault::WrongKind(_) =>
+            "this key's value has the wrong type, or a value in one of its tables has",
+        SettingsFault::OutOfRange(_) =>
+            "this key's value is out of range, or a value in one of its tables is",
+        SettingsFault::UnknownKey => "this key is unknown, or a key in one of its tables is",
+        SettingsFault::NoMemory => "out of memory",
     }
 }
 
@@ -78,14 +83,14 @@ fn settings_remedy(fault: SettingsFault) -> &'static str
     ensures { result.now ≡ settings_remedy fault }
 {
     match fault {
-        SettingsFault::NotToml => "mend this line: texts stand in quotation marks",
-        SettingsFault::Missing(_) => "add it: hole.toml(5) tells the keys",
+        SettingsFault::NotToml => "correct this line; strings need quotation marks",
+        SettingsFault::Missing(_) => "add it; hole.toml(5) describes the keys",
         SettingsFault::WrongKind(_) => {
-            "texts stand in quotation marks, numbers in none, and tables begin with [[seeds]], [[allow]] or [[deny]]"
+            "put strings in quotation marks, write integers without, and begin tables with [[seeds]], [[allow]] or [[deny]]"
         }
-        SettingsFault::OutOfRange(_) => "hole.toml(5) tells the ranges",
+        SettingsFault::OutOfRange(_) => "use a value that hole.toml(5) allows",
         SettingsFault::UnknownKey => {
-            "correct its spelling; the server's own keys stand before the first [["
+            "correct its spelling; the server's own keys come before the first [["
         }
         SettingsFault::NoMemory => "give the program more memory",
     }
@@ -113,12 +118,12 @@ impl SiteFault {
             SiteFault::Settings(fault) => settings_cause(fault),
             SiteFault::Tree(fault, obstacle) => tree_cause(fault, obstacle),
             SiteFault::SeedOutOfScope(_) => {
-                "no rule of allow covers this seed, or a rule of deny does"
+                "no allow rule covers this seed, or a deny rule does"
             }
             SiteFault::SettingsUnreadable => {
-                "the settings cannot be read, have over 1048576 bytes, or are not UTF-8"
+                "the settings can't be read, have over 1048576 bytes, or aren't UTF-8"
             }
-            SiteFault::KeyTwice => "the key on this line was given before",
+            SiteFault::KeyTwice => "this line repeats an earlier key or table",
         }
     }
 
@@ -130,10 +135,10 @@ impl SiteFault {
             SiteFault::Settings(fault) => settings_remedy(fault),
             SiteFault::Tree(fault, obstacle) => tree_remedy(fault, obstacle),
             SiteFault::SeedOutOfScope(_) => {
-                "add a rule with its host, its port and a beginning of its selector, or take the seed away"
+                "add an allow rule with its host, its port and a prefix of its selector, change the deny rule, or remove the seed"
             }
-            SiteFault::SettingsUnreadable => "correct the path, its rights or the text",
-            SiteFault::KeyTwice => "take one of the two lines away",
+            SiteFault::SettingsUnreadable => "correct the path, the permissions or the text",
+            SiteFault::KeyTwice => "remove one of the two lines",
         }
     }
 }

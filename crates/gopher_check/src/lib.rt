@@ -9,10 +9,10 @@
 
 mod checking;
 mod fault;
-mod fault_words;
+mod fault_report;
 mod lines;
 mod obstacle;
-mod site_words;
+mod site_report;
 mod unknown;
 
 pub use checking::{Report, check, unreadable};

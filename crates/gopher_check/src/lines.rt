@@ -1,4 +1,4 @@
-//! The lines of a report.
+//! Appending one line to a report: texts in their shown form, numbers, addresses.
 
 ghost use Rattle.std.specs.Prelude.{◌≡◌, ◌++◌, OnOk};
 ghost use Rattle.gopher_check.specs.Lines.{shown_byte, shown, words_line, number_line, server_words, address_rest};

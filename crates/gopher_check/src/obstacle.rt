@@ -1,4 +1,4 @@
-//! Why a file or folder can't be read.
+//! `Obstacle`: the system's reason why a file or folder can't be read, with its cause and remedy.
 
 ghost use Rattle.std.specs.Prelude.{◌≡◌};
 ghost use Rattle.gopher_check.specs.Fault.{obstacle_cause, obstacle_of, obstacle_remedy};
@@ -32,12 +32,12 @@ impl Obstacle {
         ensures { result.now ≡ obstacle_cause self }
     {
         match self {
-            Obstacle::NotUtf8 => "a name in this folder is not UTF-8",
-            Obstacle::Denied => "the right to read this is missing",
-            Obstacle::Missing => "nothing is there",
-            Obstacle::NotFolder => "a folder is wanted, and this is none",
-            Obstacle::Loop => "links lead to one another without an end",
-            Obstacle::Other => "the system could not read it",
+            Obstacle::NotUtf8 => "a name in this folder isn't UTF-8",
+            Obstacle::Denied => "permission to read this is missing",
+            Obstacle::Missing => "no file or folder exists at this path",
+            Obstacle::NotFolder => "this isn't a folder",
+            Obstacle::Loop => "symbolic links form a loop",
+            Obstacle::Other => "the system couldn't read this",
         }
     }
 
@@ -46,17 +46,18 @@ impl Obstacle {
         ensures { result.now ≡ obstacle_remedy self }
     {
         match self {
-            Obstacle::NotUtf8 => "rename it: ls -b shows its bytes",
-            Obstacle::Denied => "let the server's user read it, and enter the folders above it",
-            Obstacle::Missing => "make the folder, or correct root in the settings",
+            Obstacle::NotUtf8 => "rename it; ls -b shows its bytes",
+            Obstacle::Denied =>
+                "give the server's user permission to read it, and to enter the folders above it",
+            Obstacle::Missing => "create the folder, or correct root in the settings",
             Obstacle::NotFolder => "correct root in the settings",
-            Obstacle::Loop => "take the link away",
-            Obstacle::Other => "try to read it as the server's user",
+            Obstacle::Loop => "remove the link",
+            Obstacle::Other => "read it as the server's user to see the reason",
         }
     }
 }
 
-// The obstacle of an error of the system.
+// The obstacle that the kind of the system's error means.
 fn obstacle_of(kind: ErrorKind) -> Obstacle
     ensures { result ≡ obstacle_of kind }
 {

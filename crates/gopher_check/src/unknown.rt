@@ -1,4 +1,4 @@
-//! Finding the unknown key of settings.
+//! Finding the unknown key of settings: one of their own first, then one in an array.
 
 ghost use Rattle.std.specs.Prelude.{◌≡◌, find, IfOk};
 ghost use Rattle.std.specs.Option.{option_map};
@@ -46,8 +46,8 @@ fn array_key(table: &Table) -> Option<Key>
     first_with_unknown(table, &ARRAYS)
 }
 
-/// Returns the first unknown key of the settings, in the order of the table, which is that of the
-/// bytes. If only tables in arrays have one, it returns the key of the first such array.
+/// Returns the first unknown key of the settings by its bytes. If only tables in arrays have one,
+/// it returns the key of the first such array.
 pub(crate) fn unknown_key(alloc: Global, text: &str) -> Result<Vec<u8>, NoMemory>
     ensures { IfOk result (λ key. key.items ≡ unknown_name (parse_document text.now)) }
 {

@@ -8,6 +8,8 @@ use Rattle.std.specs.Vec.{vec_capacity, vec_len}
 use Rattle.std.specs.declared.vec.Vec.{Vec}
 use Rattle.gopher_item.specs.Place.{PlaceData, same_place, is_among}
 use Rattle.gopher_scope.specs.Scope.{ScopeData, allows}
+use Rattle.gopher_scope.specs.declared.limits.TheConstants.{MAX_PLACES}
+use Rattle.gopher_text.specs.declared.reply_reader.TheConstants.{MAX_REPLY}
 use Rattle.gopher_frontier.specs.declared.known.Standing.{Standing}
 use Rattle.gopher_frontier.specs.declared.sizes.Added.{Added}
 use Rattle.gopher_frontier.specs.declared.sizes.Status.{Status}
@@ -43,20 +45,25 @@ is_dropped limit places place = not (is_among places place) && nat_le limit (len
 
 -- the known places after one more mention, and after several
 abbrev pub after_mention : ℕ → List PlaceData → PlaceData → List PlaceData
-after_mention limit places place = if is_among places place || nat_le limit (length places) then places else places ++ place ∷ []
+after_mention limit places place =
+    if is_among places place || nat_le limit (length places) then places else places ++ place ∷ []
 
 abbrev pub after_mentions : ℕ → List PlaceData → List PlaceData → List PlaceData
 after_mentions limit places [] = places
-after_mentions limit places (mention ∷ mentions) = after_mentions limit (after_mention limit places mention) mentions
+after_mentions limit places (mention ∷ mentions) =
+    after_mentions limit (after_mention limit places mention) mentions
 
 -- the number of these mentions that are dropped
 abbrev pub drops : ℕ → List PlaceData → List PlaceData → ℕ
 drops limit places [] = 0
-drops limit places (mention ∷ mentions) = (if is_dropped limit places mention then 1 else 0) + drops limit (after_mention limit places mention) mentions
+drops limit places (mention ∷ mentions) =
+    (if is_dropped limit places mention then 1 else 0)
+    + drops limit (after_mention limit places mention) mentions
 
 -- a link is a mention if the scope allows it
 abbrev pub after_link : ScopeData → ℕ → List PlaceData → PlaceData → List PlaceData
-after_link scope limit places link = if allows scope link then after_mention limit places link else places
+after_link scope limit places link =
+    if allows scope link then after_mention limit places link else places
 
 abbrev pub is_dropped_link : ScopeData → ℕ → List PlaceData → PlaceData → Bool
 is_dropped_link scope limit places link = allows scope link && is_dropped limit places link
@@ -76,15 +83,18 @@ IsDropped limit old place dropped = dropped ≡ is_dropped limit old.places plac
 abbrev pub Links : {Z : Type 0} → ScopeData → ℕ → KnownData → KnownData → Arc PlaceData Z → Type 0
 Links scope limit old new link = new.places ≡ after_link scope limit old.places (arc_value link)
 
-abbrev pub IsDroppedLink : {Z : Type 0} → ScopeData → ℕ → KnownData → Arc PlaceData Z → Bool → Type 0
-IsDroppedLink scope limit old link dropped = dropped ≡ is_dropped_link scope limit old.places (arc_value link)
+abbrev pub IsDroppedLink : {Z : Type 0} → ScopeData → ℕ → KnownData → Arc PlaceData Z → Bool
+    → Type 0
+IsDroppedLink scope limit old link dropped =
+    dropped ≡ is_dropped_link scope limit old.places (arc_value link)
 
 -- the tables after several mentions
 abbrev pub MentionsAll : ℕ → KnownData → KnownData → List PlaceData → Type 0
 MentionsAll limit old new mentions = new.places ≡ after_mentions limit old.places mentions
 
 -- the tables after several links, and how many of several mentions were dropped
-abbrev pub LinksAll : {Z : Type 0} → ScopeData → ℕ → KnownData → KnownData → List (Arc PlaceData Z) → Type 0
+abbrev pub LinksAll : {Z : Type 0} → ScopeData → ℕ → KnownData → KnownData → List (Arc PlaceData Z)
+    → Type 0
 LinksAll scope limit old new links = MentionsAll limit old new (allowed scope links)
 
 abbrev pub AreDropped : ℕ → KnownData → List PlaceData → ℕ → Type 0
@@ -99,7 +109,8 @@ pub record QueueData : Type 0 where
 
 -- the queue with these entries, of which the first `taken` were taken
 abbrev pub queue_with : {Z : Type 0} → Vec ℕ Z → ℕ → QueueData
-queue_with entries taken = record { waiting = drop taken entries.items; room = vec_capacity entries - vec_len entries }
+queue_with entries taken =
+    record { waiting = drop taken entries.items; room = vec_capacity entries - vec_len entries }
 
 -- the numbers from `first` up to, not including, `end` wait behind the others
 abbrev pub with_range : List ℕ → ℕ → ℕ → List ℕ
@@ -147,7 +158,8 @@ pub record KeepsFrontier (old new : FrontierData) : Type 0 where
   pub room : old.room ≤ new.room
 
 -- the tables after these mentions, of which `dropped` were dropped; the rest stays
-pub record Learned (limit : ℕ) (mentions : List PlaceData) (before after : FrontierData) (dropped : ℕ) : Type 0 where
+pub record Learned (limit : ℕ) (mentions : List PlaceData) (before after : FrontierData)
+    (dropped : ℕ) : Type 0 where
   pub places : after.places ≡ after_mentions limit before.places mentions
   pub grows : Extends (known_part before) (known_part after)
   pub keeps : KeepsCounts before after
@@ -155,17 +167,18 @@ pub record Learned (limit : ℕ) (mentions : List PlaceData) (before after : Fro
 
 -- a frontier can learn this many links with this limit of places
 pub record MayLearn (limit links : ℕ) (frontier : FrontierData) : Type 0 where
-  pub few_links : links ≤ 1048576
-  pub limit_fits : limit ≤ 65536
+  pub few_links : links ≤ MAX_REPLY
+  pub limit_fits : limit ≤ MAX_PLACES
   pub few_places : length frontier.places ≤ limit
-  pub few_out : frontier.out ≤ 65536
+  pub few_out : frontier.out ≤ MAX_PLACES
 
 -- the frontier learned these mentions and returned `added`; the queue has room for the fresh places
 -- and for the outcome of each place that is out
-pub record Learns (limit : ℕ) (mentions : List PlaceData) (before after : FrontierData) (added : Added) : Type 0 where
+pub record Learns (limit : ℕ) (mentions : List PlaceData) (before after : FrontierData)
+    (added : Added) : Type 0 where
   pub learned : Learned limit mentions before after added.dropped
   pub fresh : added.fresh + length before.places ≡ length after.places
-  pub few : added.dropped ≤ 1048576
+  pub few : added.dropped ≤ MAX_REPLY
   pub room : added.fresh + before.out ≤ after.room
 
 -- the counts of a frontier
@@ -181,18 +194,21 @@ status_of frontier =
 
 -- the place of the number is this one
 abbrev pub is_place_at : List PlaceData → ℕ → PlaceData → Bool
-is_place_at places number place = option_map_or (λ other. same_place other place) (slice_get places number) false
+is_place_at places number place =
+    option_map_or (λ other. same_place other place) (slice_get places number) false
 
 -- the number is out
 abbrev pub is_out_at : List Standing → ℕ → Bool
-is_out_at standings number = option_map_or (λ standing. standing.is_out) (slice_get standings number) false
+is_out_at standings number =
+    option_map_or (λ standing. standing.is_out) (slice_get standings number) false
 
 abbrev pub IsNotOut : FrontierData → ℕ → Type 0
 IsNotOut frontier number = is_out_at frontier.standings number ≡ false
 
 -- the number is out with this state
 abbrev pub IsOutAs : FrontierData → ℕ → Standing → Type 0
-IsOutAs frontier number standing = (slice_get frontier.standings number ≡ Some standing) × (standing.is_out ≡ true)
+IsOutAs frontier number standing =
+    (slice_get frontier.standings number ≡ Some standing) × (standing.is_out ≡ true)
 
 -- the frontier of a crawl that begins
 pub record Begins (limit : ℕ) (seeds : List PlaceData) (frontier : FrontierData) : Type 0 where
@@ -208,7 +224,9 @@ pub record Begins (limit : ℕ) (seeds : List PlaceData) (frontier : FrontierDat
 abbrev pub after_claim : FrontierData → ℕ → Standing → FrontierData
 after_claim frontier number standing =
     record frontier {
-      standings = slice_set frontier.standings number (record { claims = standing.claims + 1; is_out = true });
+      standings =
+          slice_set frontier.standings number
+          (record { claims = standing.claims + 1; is_out = true });
       waiting = drop 1 frontier.waiting;
       out = frontier.out + 1;
     }
@@ -217,7 +235,8 @@ after_claim frontier number standing =
 abbrev pub after_outcome : FrontierData → ℕ → Standing → FrontierData
 after_outcome frontier number standing =
     record frontier {
-      standings = slice_set frontier.standings number (record { claims = standing.claims; is_out = false });
+      standings =
+          slice_set frontier.standings number (record { claims = standing.claims; is_out = false });
       out = frontier.out - 1;
     }
 
@@ -225,7 +244,8 @@ after_outcome frontier number standing =
 abbrev pub after_find : FrontierData → ℕ → Standing → ℕ → ℕ → FrontierData
 after_find frontier number standing before dropped =
     record frontier {
-      standings = slice_set frontier.standings number (record { claims = standing.claims; is_out = false });
+      standings =
+          slice_set frontier.standings number (record { claims = standing.claims; is_out = false });
       waiting = frontier.waiting ++ range_with_len before (length frontier.places - before);
       room = frontier.room - (length frontier.places - before);
       out = frontier.out - 1;
@@ -237,8 +257,11 @@ after_find frontier number standing before dropped =
 abbrev pub after_failure : FrontierData → ℕ → Standing → ℕ → FrontierData
 after_failure frontier number standing tries =
     record frontier {
-      standings = slice_set frontier.standings number (record { claims = standing.claims; is_out = false });
-      waiting = if nat_lt standing.claims tries then frontier.waiting ++ number ∷ [] else frontier.waiting;
+      standings =
+          slice_set frontier.standings number (record { claims = standing.claims; is_out = false });
+      waiting =
+          if nat_lt standing.claims tries then frontier.waiting ++ number ∷ []
+          else frontier.waiting;
       room = if nat_lt standing.claims tries then frontier.room - 1 else frontier.room;
       out = frontier.out - 1;
       done = if nat_lt standing.claims tries then frontier.done else frontier.done + 1;

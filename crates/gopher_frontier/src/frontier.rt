@@ -1,4 +1,4 @@
-//! The frontier of a crawl: the known places, the queue of waiting ones, and their numbers.
+//! `Frontier`: the known places of a crawl, the queue of waiting ones, and their numbers.
 
 ghost use Rattle.std.specs.Prelude.{◌≡◌, ◌+◌, ◌-◌, ◌^◌, ◌<◌, ◌≤◌, length, map, take, slice_get, MatchOption, Some, IfOk, OnOk, OnErr};
 ghost use Rattle.std.specs.Arc.{arc_value};
@@ -8,7 +8,7 @@ use crate::known::{KnownPlaces, Standing};
 use crate::queue::Queue;
 use crate::sizes::{Added, Status};
 use gopher_item::{NoMemory, Place};
-use gopher_scope::Scope;
+use gopher_scope::{MAX_PLACES, MAX_TRIES, Scope};
 use std::alloc::Global;
 use std::marker::Model;
 use std::sync::Arc;
@@ -38,7 +38,7 @@ impl Model for Frontier {
 impl Frontier {
     /// The frontier of a new crawl: the distinct seeds, at most `limit` of them, wait.
     pub fn open(alloc: Global, limit: u32, seeds: &[Place]) -> Result<Frontier, NoMemory>
-        requires { limit ≤ 65536 }
+        requires { limit ≤ MAX_PLACES }
         ensures { IfOk result (Begins limit seeds.now) }
     {
         let mut known = KnownPlaces::new(alloc);
@@ -205,8 +205,8 @@ impl Frontier {
     pub fn claim(&mut self, number: u32, standing: Standing)
         requires first { slice_get self.old.waiting 0 ≡ Some number }
         requires standing { slice_get self.old.standings number ≡ Some standing }
-        requires few_claims { standing.claims < 5 }
-        requires few_out { self.old.out ≤ 65536 }
+        requires few_claims { standing.claims < MAX_TRIES }
+        requires few_out { self.old.out ≤ MAX_PLACES }
         ensures { self.new ≡ after_claim self.old number standing }
     {
         let claims = standing.claims + 1;
@@ -247,7 +247,7 @@ impl Frontier {
         requires few_places { length self.old.places < 2 ^ 32 }
         requires room { length self.old.places - before ≤ self.old.room }
         requires some_out { 0 < self.old.out }
-        requires few_done { self.old.done ≤ 65536 }
+        requires few_done { self.old.done ≤ MAX_PLACES }
         requires few_dropped { self.old.dropped + dropped < 2 ^ 64 }
         ensures { self.new ≡ after_find self.old number standing before dropped }
     {
@@ -263,7 +263,7 @@ impl Frontier {
         requires standing { slice_get self.old.standings number ≡ Some standing }
         requires room { 0 < self.old.room }
         requires some_out { 0 < self.old.out }
-        requires few_done { self.old.done ≤ 65536 }
+        requires few_done { self.old.done ≤ MAX_PLACES }
         ensures { self.new ≡ after_failure self.old number standing tries }
     {
         self.settle(number, standing);

@@ -1,4 +1,5 @@
-//! The known places of a crawl, and the state of each.
+//! `KnownPlaces`, `Standing`: the known places of a crawl, the state of each, and mentions of
+//! places.
 
 ghost use Rattle.std.specs.Prelude.{◌≡◌, ◌<◌, [], ◌≤◌, false, length, map, take, slice_get, slice_set, IfOk, OnOk, OnErr};
 ghost use Rattle.std.specs.Arc.{arc_value};
@@ -7,6 +8,7 @@ ghost use Rattle.gopher_frontier.specs.Tables.{KnownData, Extends, IsWithPlace, 
 
 use gopher_item::{NoMemory, Place};
 use gopher_scope::Scope;
+use gopher_text::MAX_REPLY;
 use indexmap::IndexMap;
 use std::alloc::Global;
 use std::marker::Model;
@@ -171,7 +173,7 @@ impl KnownPlaces {
         limit: usize,
         links: &[Arc<Place>],
     ) -> Result<u32, NoMemory>
-        requires { length links.now ≤ 1048576 }
+        requires { length links.now ≤ MAX_REPLY }
         ensures places { OnOk result (LinksAll scope.now limit self.old self.new links.now) }
         ensures dropped { IfOk result (AreDropped limit self.old (allowed scope.now links.now)) }
         ensures few { IfOk result (λ dropped. dropped ≤ length links.now) }

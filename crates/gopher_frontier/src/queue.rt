@@ -1,4 +1,4 @@
-//! The queue of waiting numbers.
+//! `Queue`: the numbers of the places that wait, in order.
 
 ghost use Rattle.std.specs.Prelude.{◌≡◌, ◌+◌, ◌-◌, ◌^◌, ◌<◌, ◌≤◌, [], ◌∷◌, ◌++◌, length, drop, slice_get, OnOk};
 ghost use Rattle.gopher_frontier.specs.Tables.{QueueData, with_range};

@@ -1,4 +1,4 @@
-//! The counts of a frontier, and what a page adds to them.
+//! `Status`, `Added`: the counts of a frontier, and what a page adds to them.
 
 /// What a page adds to the frontier.
 #[derive(Clone, Copy, Debug, PartialEq, Eq)]

@@ -20,7 +20,7 @@ pub enum Asked<'a> {
     Serve(Serving<'a>),
     /// `check`: check settings and their folder.
     Check(Checking<'a>),
-    /// A text: of `--help`, of `--version`, or about bad arguments.
+    /// `--help`, `--version`, or bad arguments: a text.
     Told(Text),
 }
 
@@ -36,7 +36,7 @@ pub struct Checking<'a> {
 /// A text that is printed and ends the program.
 #[derive(Drop)]
 pub enum Text {
-    /// That of `--help` or `--version`.
+    /// The text of `--help` or `--version`.
     Shown(String),
     /// What is wrong with the arguments.
     Refusal(String),
@@ -51,7 +51,7 @@ pub struct Serving<'a> {
     pub requests: Option<u64>,
     /// The path of the log; `None` if no request is logged.
     pub log: Option<&'a str>,
-    /// Whether to print the crawl's sizes as it goes on.
+    /// Whether to print the progress of the crawl.
     pub progress: bool,
     /// Where the server listens: IP addresses, each with or without a port, for example `192.0.2.1:70`
     /// or `::`. If there are none, it listens at the addresses of the settings' host.
@@ -70,14 +70,14 @@ fn progress_argument<'a>(alloc: Global) -> Arg<'a> {
     Arg::new(alloc, "progress")
         .long("progress")
         .action(ArgAction::SetTrue)
-        .help("Tell the crawl's sizes on standard error every ten seconds")
+        .help("Print the crawl's progress on standard error every ten seconds")
 }
 
 fn settings_argument<'a>(alloc: Global) -> Arg<'a> {
     Arg::new(alloc, "SETTINGS")
         .required(true)
         .action(ArgAction::Set)
-        .help("The settings of the server and its crawl, a TOML file")
+        .help("A TOML file with the settings of the server and its crawl; see hole.toml(5)")
 }
 
 fn address_argument<'a>(alloc: Global) -> Arg<'a> {
@@ -85,16 +85,16 @@ fn address_argument<'a>(alloc: Global) -> Arg<'a> {
         .long("listen")
         .value_name("ADDRESS")
         .action(ArgAction::Append)
-        .help("Listen at this IP address, with its port if it has one; may be repeated")
+        .help("Listen at this IP address, such as 0.0.0.0 or [::]:7070; may be repeated")
 }
 
 fn check_command<'a>(alloc: Global) -> Result<Command<'a>, AllocError> {
     let listens = Arg::new(alloc, "listen")
         .long("listen")
         .action(ArgAction::SetTrue)
-        .help("Bind each address of the host for a moment, too");
+        .help("Also try to listen at each address of the host");
     Command::new(alloc, "check")
-        .about("Tell what is wrong with the settings and their folder, and where")
+        .about("Report what is wrong with the settings or the folder, and where")
         .arg(settings_argument(alloc))?
         .arg(listens)
 }
@@ -105,7 +105,7 @@ fn serve_command<'a>(alloc: Global) -> Result<Command<'a>, AllocError> {
         .value_name("N")
         .action(ArgAction::Set)
         .value_parser(value_parser!(u64).range(0..=MAX_REQUESTS as i64))
-        .help("End after N connections, at most 1000000");
+        .help("Exit after N connections and the end of the crawl; N is at most 1000000");
     Command::new(alloc, "serve")
         .about("Serve a folder, crawl the allowed hosts and answer searches")
         .arg(settings_argument(alloc))?
@@ -117,10 +117,10 @@ fn serve_command<'a>(alloc: Global) -> Result<Command<'a>, AllocError> {
 
 fn program_command<'a>(alloc: Global) -> Result<Command<'a>, AllocError> {
     let replay = Command::new(alloc, "replay").about(
-        "Replay the crawl of a script from standard input",
+        "Read a script from standard input and replay its crawl",
     );
     Command::new(alloc, "hole")
-        .about("A Gopher server with search over a crawl")
+        .about("A Gopher server with a crawler and a search")
         .version(VERSION)
         .bin_name("hole")?
         .no_binary_name(true)
@@ -159,11 +159,11 @@ fn address_of(argument: &str) -> Option<&str> {
     }
 }
 
-// Says that an argument is no address.
+// The text about an argument that isn't an address.
 fn no_address<'a>(alloc: Global, argument: &str) -> Result<Asked<'a>, NoMemory> {
     let text = format!(in alloc;
-        "error: invalid value '{argument}' for '--listen <ADDRESS>': it is no IP address, \
-         with a port or without one\n\nFor more information, try 'hole serve --help'.\n"
+        "error: invalid value '{argument}' for '--listen <ADDRESS>': expected an \
+         IP address, with or without a port\n\nFor more information, try 'hole serve --help'.\n"
     )?;
     Ok(Asked::Told(Text::Refusal(text)))
 }

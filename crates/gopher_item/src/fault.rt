@@ -1,4 +1,4 @@
-//! The errors of items and requests, with their numbers.
+//! `ItemFault`, `RequestFault`: why items and requests are refused, with the numbers.
 
 ghost use Rattle.std.specs.Prelude.{◌≡◌};
 ghost use Rattle.gopher_item.specs.Fault.{item_fault_code, request_fault_code};

@@ -1,4 +1,4 @@
-//! Valid selectors and valid addresses of servers.
+//! Valid fields: `is_selector`, `is_host`, `address_fault`; and hosts in lower case.
 
 ghost use Rattle.std.specs.Prelude.{◌≡◌, ◌==◌, ◌||◌, map};
 ghost use Rattle.std.specs.List.{list_any};

@@ -1,4 +1,4 @@
-//! The server's own address.
+//! `Home`: the server's own host and port.
 
 ghost use Rattle.std.specs.Prelude.{◌≡◌, IfOk};
 ghost use Rattle.gopher_item.specs.Fault.{Makes};

@@ -1,4 +1,4 @@
-//! Reading one line of a menu.
+//! Reading one line of a menu: an item, or an odd line (`entry_of`).
 
 ghost use Rattle.std.specs.Prelude.{◌≡◌, false, true, [], ◌∷◌, None, IfOk, MatchOption};
 ghost use Rattle.std.specs.Arc.{arc_value};

@@ -1,4 +1,4 @@
-//! Reading menus.
+//! `Menu`, `Entry`: reading a whole menu (`read_menu`).
 
 ghost use Rattle.std.specs.Prelude.{◌≡◌, ◌==◌, IfOk};
 ghost use Rattle.gopher_item.specs.Menu.{ReadsMenu, is_last_line};

@@ -1,4 +1,4 @@
-//! Menu lines.
+//! `MenuLine`: the type, display string, selector, host and port of an item.
 
 ghost use Rattle.std.specs.Prelude.{◌≡◌, ℕ, ◌==◌, ◌||◌, ◌<◌, ◌^◌, IfOk, IfNone};
 ghost use Rattle.std.specs.Arc.{arc_value};

@@ -1,4 +1,4 @@
-//! Places and their order.
+//! `Place`: a type, selector, host and port; places and their order.
 
 ghost use Rattle.std.specs.Prelude.{◌≡◌, refl, IfOk};
 ghost use Rattle.std.specs.Cmp;

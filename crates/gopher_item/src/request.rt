@@ -1,4 +1,4 @@
-//! Reading requests.
+//! `Request`: reading a request line (`read_request`).
 
 ghost use Rattle.std.specs.Prelude.{◌≡◌};
 ghost use Rattle.gopher_item.specs.Request.{ReadsRequest};

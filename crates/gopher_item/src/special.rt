@@ -1,4 +1,4 @@
-//! The bytes that RFC 1436 keeps out of fields.
+//! The bytes that RFC 1436 keeps out of fields: special bytes and control bytes.
 
 ghost use Rattle.std.specs.Prelude.{◌≡◌};
 ghost use Rattle.gopher_item.specs.Special.{is_special, is_control, has_special};

@@ -1,4 +1,4 @@
-//! Writing menus.
+//! Writing menus: `write_menu`, and the parts of a menu line.
 
 ghost use Rattle.std.specs.Prelude.{◌≡◌, ◌++◌, [], ◌∷◌, true, codes, map, All, OnOk, OnErr};
 ghost use Rattle.std.specs.Fmt.{decimal};

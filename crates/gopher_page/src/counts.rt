@@ -1,4 +1,4 @@
-//! The words of a page with their counts, in packed form.
+//! `Counts`: the words of a page with their counts, packed, and the count of a word or prefix.
 
 ghost use Rattle.std.specs.Prelude.{◌≡◌, ◌<◌, ◌≤◌, List, Some, ◌-◌, length, take, drop, slice_get, IfOk};
 ghost use Rattle.std.specs.List.{sum_by};

@@ -1,4 +1,4 @@
-//! A list of numbers, most of them below 65,536.
+//! `Ends`: a list of numbers, most of them below 65,536.
 
 ghost use Rattle.std.specs.Prelude.{◌≡◌, ◌<◌, Some, [], ◌∷◌, ◌++◌, length, slice_get, IfOk, OnOk};
 

@@ -1,4 +1,4 @@
-//! The errors of queries, with their numbers.
+//! `QueryFault`: why a text isn't a query, with the numbers.
 
 ghost use Rattle.std.specs.Prelude.{◌≡◌};
 ghost use Rattle.gopher_page.specs.Query.{query_fault_code};

@@ -1,4 +1,4 @@
-//! The lines of a page.
+//! The lines whose words count: those of a menu (`entry_lines`) and those of a text (`text_lines`).
 
 ghost use Rattle.std.specs.Prelude.{◌≡◌, map, IfOk};
 ghost use Rattle.gopher_page.specs.Words.{texts};

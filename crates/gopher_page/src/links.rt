@@ -1,4 +1,4 @@
-//! The links of a menu.
+//! The links of a menu: `links_of_entries`.
 
 ghost use Rattle.std.specs.Prelude.{◌≡◌, map, IfOk, OnOk};
 ghost use Rattle.std.specs.Arc.{arc_value};

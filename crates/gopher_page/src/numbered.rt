@@ -1,4 +1,4 @@
-//! Words with their first bytes as a number, which is enough for most comparisons.
+//! `Numbered`: a word with its first bytes as a number, which is enough for most comparisons.
 
 ghost use Rattle.std.specs.Prelude.{◌≡◌, Some, map, nat_eq, IfOk, refl};
 ghost use Rattle.std.specs.Ordering.{nat_cmp};

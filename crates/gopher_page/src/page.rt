@@ -1,4 +1,4 @@
-//! The page of a place: what a catalogue keeps of its reply.
+//! `Page`: what a catalogue keeps of the reply of a place (`Page::of`).
 
 ghost use Rattle.std.specs.Prelude.{◌≡◌, ◌≤◌, false, length, map, IfOk};
 ghost use Rattle.std.specs.Arc.{arc_value};

@@ -1,4 +1,4 @@
-//! Queries: which pages they match, and the scores of these.
+//! `Query`, `Term`, `Operator`: reading a query, which pages it matches, and their scores.
 
 ghost use Rattle.std.specs.Prelude.{◌≡◌, ◌+◌, ◌<◌, ◌≤◌, ◌++◌, IsTrue, not, Some, length, slice_get, IfOk, OnOk};
 ghost use Rattle.gopher_page.specs.Query.{operator_of, later_terms, terms_from, AddsFewTerms, query_of, count_of_term, joined, matches, is_not, wanted, wanted_word, wanted_prefix, score, ReadsQuery, IsQuery, HasWanted};

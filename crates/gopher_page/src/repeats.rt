@@ -1,4 +1,4 @@
-//! A list of counts, most of them below 256.
+//! `Repeats`: a list of counts, most of them below 256.
 
 ghost use Rattle.std.specs.Prelude.{◌≡◌, ◌<◌, ◌≤◌, Some, [], ◌∷◌, ◌++◌, length, slice_get, IfOk, OnOk};
 

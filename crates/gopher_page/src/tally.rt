@@ -1,4 +1,4 @@
-//! Counting the words of lines.
+//! Counting the words of lines: `count_words`.
 
 ghost use Rattle.std.specs.Prelude.{◌≡◌, ◌≤◌, length, IfOk};
 ghost use Rattle.std.specs.List.{flat_map, sum_by};

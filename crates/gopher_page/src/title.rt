@@ -1,4 +1,4 @@
-//! The title of a page.
+//! The title of a page: `title_of`.
 
 ghost use Rattle.std.specs.Prelude.{◌≡◌, ◌==◌, map, take, IfOk};
 ghost use Rattle.std.specs.List.{find};

@@ -1,4 +1,4 @@
-//! Words: the runs of letters, digits and bytes of 128 or more.
+//! Words, the runs of letters, digits and bytes of 128 or more: `words`, `next_token`.
 
 ghost use Rattle.std.specs.Prelude.{◌≡◌, ◌<◌, [], length, position, IfOk, IfSome, MatchOption};
 ghost use Rattle.gopher_page.specs.Words.{is_gap, is_word_byte, is_word, bare_words, words_of, tokens_of, IsOneRun, IsCutAtGap, IsFirstToken, IsFirstWord, LeavesLess, LeavesNoMore};

@@ -8,7 +8,7 @@ ghost use Rattle.gopher_tree.specs.Reply.{menu_file, tree_reply};
 ghost use Rattle.gopher_replies.specs.Kept.{IsReply, IsKept, kept_bytes, most_menu_bytes, is_menu_within};
 
 use gopher_item::{ByteString, Home, NoMemory};
-use gopher_tree::{MOST_NODES, Node, Tree};
+use gopher_tree::{MAX_NODES, Node, Tree};
 use std::alloc::Global;
 
 // The most bytes of kept menus.
@@ -85,7 +85,7 @@ impl KeptReplies {
             replies: Vec::new(alloc),
             texts: 0,
             menus: 0,
-            most_texts: 2 * tree.number_of_bytes() + MOST_MORE * MOST_NODES,
+            most_texts: 2 * tree.number_of_bytes() + MOST_MORE * MAX_NODES,
         };
         for path in tree.paths(alloc)? {
             kept = kept.with_node(alloc, tree, home, path)?;

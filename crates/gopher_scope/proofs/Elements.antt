@@ -8,8 +8,8 @@ use Rattle.toml.specs.Data.{Data, Members, as_array, as_table}
 use Rattle.toml.specs.View.{view, items_of, items_view, members_view}
 use Rattle.toml.specs.declared.value.Value.{Value}
 use Rattle.gopher_scope.specs.Reading.{elements, first_of, has_unknown, array_problem, element_problem, table_problem, values_read}
-use Rattle.gopher_scope.specs.declared.settings.form.Element.{Element}
-use Rattle.gopher_scope.specs.declared.settings.problem.Problem.TheVariants.{OutOfRange}
+use Rattle.gopher_scope.specs.declared.settings.tables.Element.{Element}
+use Rattle.gopher_scope.specs.declared.settings.value.Problem.TheVariants.{OutOfRange}
 
 -- the elements of a list as items are the list
 pub elements-items_of : (values : List Data) → elements (items_of values) ≡ values

@@ -12,21 +12,21 @@ use Rattle.gopher_item.specs.Place.{is_host, is_place_kind, address_fault, place
 use Rattle.gopher_item.specs.declared.fault.ItemFault.{ItemFault}
 use Rattle.gopher_item.specs.declared.fault.ItemFault.TheVariants.{BadKind, BadSelector, BadHost, BadPort, NoMemory}
 use Rattle.gopher_item.specs.Fault.{Makes}
-use Rattle.gopher_scope.specs.Rows.{all_keys, key_name, key_form, fields_of, is_in_range}
+use Rattle.gopher_scope.specs.Rows.{all_keys, key_name, key_form, element_fields, is_in_range}
 use Rattle.gopher_scope.specs.Reading.{elements, first_of, field_value, field_problem, integer_problem, number_read, text_problem, scalar_problem, table_problem, integer_read, text_read, element_problem, array_problem, tables_problem, values_read, form_problem}
-use Rattle.gopher_scope.specs.Settings.{key_value, key_fault, settings_have_unknown, settings_fault, settings_read, settings_data, integer_in, integer_at, text_at, field_integer, field_text, kind_read, Answers, IsUpTo, AreInRange, IsNumberAt, StandsIn, SettingsData}
+use Rattle.gopher_scope.specs.Settings.{key_value, key_fault, settings_have_unknown, settings_fault, settings_read, settings_data, integer_in, integer_at, text_at, field_integer, field_text, kind_read, Answers, IsUpTo, AreInRange, IsNumberAt, AreValuesIn, SettingsData}
 use Rattle.gopher_scope.specs.declared.settings.Settings.{Settings}
 use Rattle.gopher_scope.specs.declared.fault.SettingsFault.{SettingsFault}
-use Rattle.gopher_scope.specs.declared.settings.form.Form.TheVariants.{Scalar as One}
+use Rattle.gopher_scope.specs.declared.settings.key.Form.TheVariants.{Scalar as One}
 use Rattle.gopher_scope.specs.declared.settings.key.Key.{Key}
 use Rattle.gopher_scope.specs.declared.settings.key.Key.TheVariants as key
-use Rattle.gopher_scope.specs.declared.settings.form.Element.{Element}
-use Rattle.gopher_scope.specs.declared.settings.form.Element.TheVariants as element
-use Rattle.gopher_scope.specs.declared.settings.form.Scalar.TheVariants.{Integer, Text}
-use Rattle.gopher_scope.specs.declared.settings.field.Field.TheVariants as field
-use Rattle.gopher_scope.specs.declared.settings.problem.Problem.TheVariants.{OutOfRange}
-use Rattle.gopher_scope.specs.declared.settings.text.TextKind.{TextKind}
-use Rattle.gopher_scope.specs.declared.settings.text.TextKind.TheVariants.{Host, Path, PlaceKind, Selector}
+use Rattle.gopher_scope.specs.declared.settings.tables.Element.{Element}
+use Rattle.gopher_scope.specs.declared.settings.tables.Element.TheVariants as element
+use Rattle.gopher_scope.specs.declared.settings.value.Scalar.TheVariants.{Integer, Text}
+use Rattle.gopher_scope.specs.declared.settings.tables.Field.TheVariants as field
+use Rattle.gopher_scope.specs.declared.settings.value.Problem.TheVariants.{OutOfRange}
+use Rattle.gopher_scope.specs.declared.settings.value.TextKind.{TextKind}
+use Rattle.gopher_scope.specs.declared.settings.value.TextKind.TheVariants.{Host, Path, PlaceKind, Selector}
 
 -- a choice without a result
 then_none : {A : Type 0} (test : Bool) (first : Option A) (x : A) → (if test then first else Some x) ≡ None → first ≡ None
@@ -102,9 +102,9 @@ kind_is_good false = refl
 
 pub seed_fault-none : (table : Members) → table_problem element.Seed (Some table) ≡ None → place_fault (kind_read (field_text table field.Kind)) (field_text table field.Selector) (field_text table field.Host) (field_integer table field.Port) ≡ None
 seed_fault-none table none =
-    let host = first_of-none (field_problem table) (fields_of element.Seed) 1 field.Host none (omega arith) in
-    let port = first_of-none (field_problem table) (fields_of element.Seed) 2 field.Host none (omega arith) in
-    let selector = first_of-none (field_problem table) (fields_of element.Seed) 3 field.Host none (omega arith) in
+    let host = first_of-none (field_problem table) (element_fields element.Seed) 1 field.Host none (omega arith) in
+    let port = first_of-none (field_problem table) (element_fields element.Seed) 2 field.Host none (omega arith) in
+    let selector = first_of-none (field_problem table) (element_fields element.Seed) 3 field.Host none (omega arith) in
     let good_host = text_read-in_range Host (field_value table field.Host) host in
     let good_port = integer_read-positive 70 65535 (field_value table field.Port) (omega arith) port in
     let good_selector = text_read-in_range Selector (field_value table field.Selector) selector in
@@ -202,7 +202,7 @@ path_stands None none = absurd cc
 path_stands (Some value) none = text_stands Path (as_str value) none
 
 -- the settings of a table without a fault are its values
-pub settings_stand : (table : Members) → settings_fault table ≡ None → StandsIn table (settings_read table)
+pub settings_stand : (table : Members) → settings_fault table ≡ None → AreValuesIn table (settings_read table)
 settings_stand table none = record {
   host = host_stands (key_value table key.Host) (form_problem-none table key.Host none);
   port = integer_at-stands table key.Port 70 65535 refl none;
@@ -227,7 +227,7 @@ pub answers_in_range : (table : Members) (result : Result Settings SettingsFault
 answers_in_range table result answers = answers_with AreInRange table result (settings_in_range table) answers
 
 pub answers_stand : (text : Option Members) (table : Members) (result : Result Settings SettingsFault) → text ≡ Some table → Answers (settings_fault table) (settings_read table) result
-    → IfOk result (λ settings. IfSome text (λ read. StandsIn read (settings_data settings)))
+    → IfOk result (λ settings. IfSome text (λ read. AreValuesIn read (settings_data settings)))
 answers_stand text table result is answers =
-    subst (λ t. IfOk result (λ settings. IfSome t (λ read. StandsIn read (settings_data settings)))) (sym is)
-    (answers_with (StandsIn table) table result (settings_stand table) answers)
+    subst (λ t. IfOk result (λ settings. IfSome t (λ read. AreValuesIn read (settings_data settings)))) (sym is)
+    (answers_with (AreValuesIn table) table result (settings_stand table) answers)

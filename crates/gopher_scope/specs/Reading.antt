@@ -4,16 +4,16 @@ use Rattle.std.specs.List.{list_any}
 use Rattle.std.specs.Option.{option_or, option_map_or}
 use Rattle.std.specs.Cmp.Lexicographic.{pointwise}
 use Rattle.toml.specs.Data.{Data, Items, no_items, item, Members, no_members, member, get_member, as_integer, as_str, as_array, as_table}
-use Rattle.gopher_scope.specs.Rows.{fields_of, field_name, field_scalar, absent_text, is_in_range}
-use Rattle.gopher_scope.specs.declared.settings.field.Field.{Field}
-use Rattle.gopher_scope.specs.declared.settings.form.Form.{Form}
-use Rattle.gopher_scope.specs.declared.settings.form.Form.TheVariants.{Scalar as One, Tables}
-use Rattle.gopher_scope.specs.declared.settings.form.Element.{Element}
-use Rattle.gopher_scope.specs.declared.settings.form.Scalar.{Scalar}
-use Rattle.gopher_scope.specs.declared.settings.form.Scalar.TheVariants.{Integer, Text}
-use Rattle.gopher_scope.specs.declared.settings.text.TextKind.{TextKind}
-use Rattle.gopher_scope.specs.declared.settings.problem.Problem.{Problem}
-use Rattle.gopher_scope.specs.declared.settings.problem.Problem.TheVariants.{Missing, WrongKind, OutOfRange}
+use Rattle.gopher_scope.specs.Rows.{element_fields, field_name, field_scalar, absent_text, is_in_range}
+use Rattle.gopher_scope.specs.declared.settings.tables.Field.{Field}
+use Rattle.gopher_scope.specs.declared.settings.key.Form.{Form}
+use Rattle.gopher_scope.specs.declared.settings.key.Form.TheVariants.{Scalar as One, Tables}
+use Rattle.gopher_scope.specs.declared.settings.tables.Element.{Element}
+use Rattle.gopher_scope.specs.declared.settings.value.Scalar.{Scalar}
+use Rattle.gopher_scope.specs.declared.settings.value.Scalar.TheVariants.{Integer, Text}
+use Rattle.gopher_scope.specs.declared.settings.value.TextKind.{TextKind}
+use Rattle.gopher_scope.specs.declared.settings.value.Problem.{Problem}
+use Rattle.gopher_scope.specs.declared.settings.value.Problem.TheVariants.{Missing, WrongKind, OutOfRange}
 
 -- the first result, if there is one
 abbrev pub first_of : {A B : Type 0} → (A → Option B) → List A → Option B
@@ -23,7 +23,8 @@ first_of answer (x ∷ xs) = option_or (answer x) (first_of answer xs)
 -- the value has to be an integer from 1 to `most`
 abbrev pub integer_problem : ℕ → Option ℤ → Option Problem
 integer_problem most None = Some WrongKind
-integer_problem most (Some (pos number)) = if nat_le 1 number && nat_le number most then None else Some OutOfRange
+integer_problem most (Some (pos number)) =
+    if nat_le 1 number && nat_le number most then None else Some OutOfRange
 integer_problem most (Some (negsuc number)) = Some OutOfRange
 
 -- the value has to be a text of this kind
@@ -51,7 +52,7 @@ field_problem table field = scalar_problem (field_scalar field) (field_value tab
 -- an element that isn't a table has the wrong type; the keys of a table are checked in order
 abbrev pub table_problem : Element → Option Members → Option Problem
 table_problem element None = Some WrongKind
-table_problem element (Some table) = first_of (field_problem table) (fields_of element)
+table_problem element (Some table) = first_of (field_problem table) (element_fields element)
 
 abbrev pub element_problem : Element → Data → Option Problem
 element_problem element value = table_problem element (as_table value)
@@ -60,7 +61,8 @@ element_problem element value = table_problem element (as_table value)
 abbrev pub array_problem : Element → Option Items → Option Problem
 array_problem element None = Some WrongKind
 array_problem element (Some items) =
-    if nat_le (length (elements items)) 256 then first_of (element_problem element) (elements items) else Some OutOfRange
+    if nat_le (length (elements items)) 256 then first_of (element_problem element) (elements items)
+    else Some OutOfRange
 
 abbrev pub tables_problem : Element → Option Data → Option Problem
 tables_problem element None = None
@@ -77,11 +79,13 @@ has_unknown is_known no_members = false
 has_unknown is_known (member name value more) = not (is_known name) || has_unknown is_known more
 
 unfoldable pub is_field_name : Element → List ℕ → Bool
-is_field_name element name = list_any (λ field. pointwise nat_eq (field_name field) name) (fields_of element)
+is_field_name element name =
+    list_any (λ field. pointwise nat_eq (field_name field) name) (element_fields element)
 
 -- the element is a table with an unknown key
 abbrev pub element_has_unknown : Element → Data → Bool
-element_has_unknown element value = option_map_or (has_unknown (is_field_name element)) (as_table value) false
+element_has_unknown element value =
+    option_map_or (has_unknown (is_field_name element)) (as_table value) false
 
 -- the array has an element with an unknown key
 abbrev pub array_has_unknown : Element → Option Items → Bool

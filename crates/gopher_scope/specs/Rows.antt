@@ -4,51 +4,47 @@ use Rattle.std.specs.Cmp.Lexicographic.{pointwise}
 use Rattle.gopher_item.specs.Place.{is_host, is_selector}
 use Rattle.gopher_scope.specs.declared.settings.key.Key.{Key}
 use Rattle.gopher_scope.specs.declared.settings.key.Key.TheVariants as key
-use Rattle.gopher_scope.specs.declared.settings.field.Field.{Field}
-use Rattle.gopher_scope.specs.declared.settings.field.Field.TheVariants as field
-use Rattle.gopher_scope.specs.declared.settings.form.Form.{Form}
-use Rattle.gopher_scope.specs.declared.settings.form.Form.TheVariants.{Scalar as One, Tables}
-use Rattle.gopher_scope.specs.declared.settings.form.Element.{Element}
-use Rattle.gopher_scope.specs.declared.settings.form.Element.TheVariants as element
-use Rattle.gopher_scope.specs.declared.settings.form.Scalar.{Scalar}
-use Rattle.gopher_scope.specs.declared.settings.form.Scalar.TheVariants.{Integer, Text}
-use Rattle.gopher_scope.specs.declared.settings.text.TextKind.{TextKind}
-use Rattle.gopher_scope.specs.declared.settings.text.TextKind.TheVariants.{Host, Path, PlaceKind, Selector}
+use Rattle.gopher_scope.specs.declared.settings.tables.Field.{Field}
+use Rattle.gopher_scope.specs.declared.settings.tables.Field.TheVariants as field
+use Rattle.gopher_scope.specs.declared.settings.key.Form.{Form}
+use Rattle.gopher_scope.specs.declared.settings.key.Form.TheVariants.{Scalar as One, Tables}
+use Rattle.gopher_scope.specs.declared.settings.tables.Element.{Element}
+use Rattle.gopher_scope.specs.declared.settings.tables.Element.TheVariants as element
+use Rattle.gopher_scope.specs.declared.settings.value.Scalar.{Scalar}
+use Rattle.gopher_scope.specs.declared.settings.value.Scalar.TheVariants.{Integer, Text}
+use Rattle.gopher_scope.specs.declared.settings.value.TextKind.{TextKind}
+use Rattle.gopher_scope.specs.declared.settings.value.TextKind.TheVariants.{Host, Path, PlaceKind, Selector}
 
 -- the keys of the settings, in the order in which they are checked
 abbrev pub all_keys : List Key
-all_keys = key.Host ∷ key.Port ∷ key.Root ∷ key.Seeds ∷ key.Allow ∷ key.Deny ∷ key.Places ∷ key.Workers ∷ key.Threads ∷ key.Tries ∷ []
+all_keys =
+    key.Host ∷ key.Port ∷ key.Root ∷ key.Seeds ∷ key.Allow ∷ key.Deny ∷ key.Places ∷ key.Workers
+    ∷ key.Threads ∷ key.Tries ∷ []
+
+-- the name of a key, and its valid values; an integer has its value for a missing key and its
+-- maximum, and is at least 1
+abbrev pub key_row : Key → List ℕ × Form
+key_row key.Host = (codes "host", One (Text Host))
+key_row key.Port = (codes "port", One (Integer 70 65535))
+key_row key.Root = (codes "root", One (Text Path))
+key_row key.Seeds = (codes "seeds", Tables element.Seed)
+key_row key.Allow = (codes "allow", Tables element.Rule)
+key_row key.Deny = (codes "deny", Tables element.Rule)
+key_row key.Places = (codes "places", One (Integer 4096 65536))
+key_row key.Workers = (codes "workers", One (Integer 4 16))
+key_row key.Threads = (codes "threads", One (Integer 2 8))
+key_row key.Tries = (codes "tries", One (Integer 1 5))
 
 abbrev pub key_name : Key → List ℕ
-key_name key.Host = codes "host"
-key_name key.Port = codes "port"
-key_name key.Root = codes "root"
-key_name key.Seeds = codes "seeds"
-key_name key.Allow = codes "allow"
-key_name key.Deny = codes "deny"
-key_name key.Places = codes "places"
-key_name key.Workers = codes "workers"
-key_name key.Threads = codes "threads"
-key_name key.Tries = codes "tries"
+key_name key = (key_row key).0
 
--- the valid values of a key; an integer has its value for a missing key and its maximum, and is at
--- least 1
 abbrev pub key_form : Key → Form
-key_form key.Host = One (Text Host)
-key_form key.Port = One (Integer 70 65535)
-key_form key.Root = One (Text Path)
-key_form key.Seeds = Tables element.Seed
-key_form key.Allow = Tables element.Rule
-key_form key.Deny = Tables element.Rule
-key_form key.Places = One (Integer 4096 65536)
-key_form key.Workers = One (Integer 4 16)
-key_form key.Threads = One (Integer 2 8)
-key_form key.Tries = One (Integer 1 5)
+key_form key = (key_row key).1
 
 -- the keys of a table in an array, in the order in which they are checked
-abbrev pub fields_of : Element → List Field
-fields_of element.Seed = field.Kind ∷ field.Host ∷ field.Port ∷ field.Selector ∷ []
-fields_of element.Rule = field.Host ∷ field.Port ∷ field.Prefix ∷ []
+abbrev pub element_fields : Element → List Field
+element_fields element.Seed = field.Kind ∷ field.Host ∷ field.Port ∷ field.Selector ∷ []
+element_fields element.Rule = field.Host ∷ field.Port ∷ field.Prefix ∷ []
 
 abbrev pub field_name : Field → List ℕ
 field_name field.Kind = codes "type"

@@ -15,7 +15,8 @@ pub record RuleData : Type 0 where
 
 -- the first fault of the parts of a rule, if they have one
 abbrev pub rule_fault : List ℕ → ℕ → List ℕ → Option ItemFault
-rule_fault host port prefix = if not (is_selector prefix) then Some BadSelector else address_fault host port
+rule_fault host port prefix =
+    if not (is_selector prefix) then Some BadSelector else address_fault host port
 
 -- the rule of these parts: its host in lower case
 abbrev pub rule_of : List ℕ → ℕ → List ℕ → RuleData
@@ -23,4 +24,6 @@ rule_of host port prefix = record { host = map lower_case host; port = port; pre
 
 -- the rule covers the place
 abbrev pub covers : RuleData → PlaceData → Bool
-covers rule place = pointwise nat_eq rule.host place.host && (rule.port == place.port) && starts_with nat_eq place.selector rule.prefix
+covers rule place =
+    pointwise nat_eq rule.host place.host && (rule.port == place.port)
+    && starts_with nat_eq place.selector rule.prefix

@@ -14,12 +14,12 @@ use Rattle.gopher_scope.specs.declared.fault.SettingsFault.TheVariants as fault
 use Rattle.gopher_scope.specs.declared.settings.Settings.{Settings}
 use Rattle.gopher_scope.specs.declared.settings.key.Key.{Key}
 use Rattle.gopher_scope.specs.declared.settings.key.Key.TheVariants as key
-use Rattle.gopher_scope.specs.declared.settings.field.Field.{Field}
-use Rattle.gopher_scope.specs.declared.settings.field.Field.TheVariants as field
-use Rattle.gopher_scope.specs.declared.settings.form.Form.{Form}
-use Rattle.gopher_scope.specs.declared.settings.form.Form.TheVariants.{Scalar as One, Tables}
-use Rattle.gopher_scope.specs.declared.settings.problem.Problem.{Problem}
-use Rattle.gopher_scope.specs.declared.settings.problem.Problem.TheVariants as problem
+use Rattle.gopher_scope.specs.declared.settings.tables.Field.{Field}
+use Rattle.gopher_scope.specs.declared.settings.tables.Field.TheVariants as field
+use Rattle.gopher_scope.specs.declared.settings.key.Form.{Form}
+use Rattle.gopher_scope.specs.declared.settings.key.Form.TheVariants.{Scalar as One, Tables}
+use Rattle.gopher_scope.specs.declared.settings.value.Problem.{Problem}
+use Rattle.gopher_scope.specs.declared.settings.value.Problem.TheVariants as problem
 
 -- settings as data
 pub record SettingsData : Type 0 where
@@ -33,7 +33,17 @@ pub record SettingsData : Type 0 where
   pub tries : ℕ
 
 abbrev pub settings_data : Settings → SettingsData
-settings_data s = record { home = s.home; root = string_bytes s.root; seeds = s.seeds.items; scope = s.scope; places = s.places; workers = s.workers; threads = s.threads; tries = s.tries }
+settings_data s =
+    record {
+      home = s.home;
+      root = string_bytes s.root;
+      seeds = s.seeds.items;
+      scope = s.scope;
+      places = s.places;
+      workers = s.workers;
+      threads = s.threads;
+      tries = s.tries;
+    }
 
 -- a number from 1 to `most`
 abbrev pub IsUpTo : ℕ → ℕ → Type 0
@@ -50,14 +60,16 @@ pub record AreInRange (settings : SettingsData) : Type 0 where
 
 -- the number is the value of a key, or `absent` if the key is missing
 abbrev pub IsNumberAt : Members → List ℕ → ℕ → ℕ → Type 0
-IsNumberAt table name absent number = MatchOption (get_member name table) (number ≡ absent) (λ value. as_integer value ≡ Some (pos number))
+IsNumberAt table name absent number =
+    MatchOption (get_member name table) (number ≡ absent)
+    (λ value. as_integer value ≡ Some (pos number))
 
 -- the text is the value of a key
 abbrev pub IsTextAt : Members → List ℕ → List ℕ → Type 0
 IsTextAt table name text = IsSomeAnd (get_member name table) (λ value. as_str value ≡ Some text)
 
 -- the numbers and texts are the values of a table's keys
-pub record StandsIn (table : Members) (settings : SettingsData) : Type 0 where
+pub record AreValuesIn (table : Members) (settings : SettingsData) : Type 0 where
   pub host : IsTextAt table (codes "host") settings.home.host
   pub port : IsNumberAt table (codes "port") 70 settings.home.port
   pub root : IsTextAt table (codes "root") settings.root
@@ -96,12 +108,15 @@ key_has_unknown table key = form_has_unknown (key_form key) (key_value table key
 
 -- the settings, or a table in one of their arrays, have an unknown key
 abbrev pub settings_have_unknown : Members → Bool
-settings_have_unknown table = has_unknown is_key_name table || list_any (key_has_unknown table) all_keys
+settings_have_unknown table =
+    has_unknown is_key_name table || list_any (key_has_unknown table) all_keys
 
 -- the fault of a table, if it has one: an unknown key anywhere or, without one, the fault of the
 -- first key with a fault, in order
 abbrev pub settings_fault : Members → Option SettingsFault
-settings_fault table = if settings_have_unknown table then Some fault.UnknownKey else first_of (key_fault table) all_keys
+settings_fault table =
+    if settings_have_unknown table then Some fault.UnknownKey
+    else first_of (key_fault table) all_keys
 
 abbrev pub integer_in : Form → Option Data → ℕ
 integer_in (One scalar) value = integer_read scalar value
@@ -133,11 +148,14 @@ kind_read text = if pointwise nat_eq text (codes "0") then 48 else 49
 -- the place of a table of `seeds`
 abbrev pub seed_read : Members → PlaceData
 seed_read table =
-    place_of (kind_read (field_text table field.Kind)) (field_text table field.Selector) (field_text table field.Host) (field_integer table field.Port)
+    place_of (kind_read (field_text table field.Kind)) (field_text table field.Selector)
+    (field_text table field.Host) (field_integer table field.Port)
 
 -- the rule of a table of `allow` or `deny`
 abbrev pub rule_read : Members → RuleData
-rule_read table = rule_of (field_text table field.Host) (field_integer table field.Port) (field_text table field.Prefix)
+rule_read table =
+    rule_of (field_text table field.Host) (field_integer table field.Port)
+    (field_text table field.Prefix)
 
 -- the settings of a table without a fault
 abbrev pub settings_read : Members → SettingsData
@@ -145,7 +163,11 @@ settings_read table = record {
   home = record { host = text_at table key.Host; port = integer_at table key.Port };
   root = text_at table key.Root;
   seeds = map seed_read (tables_at table key.Seeds);
-  scope = record { allow = map rule_read (tables_at table key.Allow); deny = map rule_read (tables_at table key.Deny) };
+  scope =
+      record {
+        allow = map rule_read (tables_at table key.Allow);
+        deny = map rule_read (tables_at table key.Deny);
+      };
   places = integer_at table key.Places;
   workers = integer_at table key.Workers;
   threads = integer_at table key.Threads;

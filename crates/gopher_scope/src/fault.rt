@@ -1,4 +1,4 @@
-//! The errors of settings, with their numbers.
+//! `SettingsFault`: why a text isn't valid settings, with the number of each fault.
 
 ghost use Rattle.std.specs.Prelude.{◌≡◌};
 ghost use Rattle.gopher_scope.specs.Settings.{settings_fault_code};
@@ -10,22 +10,22 @@ use thiserror::Error;
 #[derive(Clone, Copy, Debug, PartialEq, Eq, Error)]
 pub enum SettingsFault {
     /// 30: the text isn't TOML.
-    #[error("the settings are not TOML")]
+    #[error("the settings aren't valid TOML")]
     NotToml,
     /// 31: the key, or a key of a table in its array, is required and missing.
     #[error("{0}: the key, or a key in one of its tables, is missing")]
     Missing(Key),
     /// 32: the value of the key, or a value in its array, has the wrong type.
-    #[error("{0}: the value, or one in its tables, is of the wrong kind")]
+    #[error("{0}: the value, or one in its tables, has the wrong type")]
     WrongKind(Key),
     /// 33: the value of the key, or a value in its array, is out of range.
-    #[error("{0}: the value, or one in its tables, is out of its range")]
+    #[error("{0}: the value, or one in its tables, is out of range")]
     OutOfRange(Key),
     /// 34: the settings, or a table in one of their arrays, have an unknown key.
     #[error("a key is unknown")]
     UnknownKey,
     /// 90: out of memory.
-    #[error("no memory")]
+    #[error("out of memory")]
     NoMemory,
 }
 

@@ -10,11 +10,13 @@
 #![tactic(auto)]
 
 mod fault;
+mod limits;
 mod rule;
 mod scope;
 mod settings;
 
 pub use fault::SettingsFault;
+pub use limits::{MAX_PLACES, MAX_TRIES};
 pub use rule::Rule;
 pub use scope::Scope;
 pub use settings::{Key, Settings, is_key_name, key_has_unknown};

@@ -1,4 +1,4 @@
-//! Rules, the parts of a scope.
+//! `Rule`: the places of one server whose selectors begin with a prefix.
 
 ghost use Rattle.std.specs.Prelude.{◌≡◌};
 ghost use Rattle.gopher_item.specs.Fault.{Makes};

@@ -1,4 +1,4 @@
-//! Scopes: which places a crawl may visit.
+//! `Scope`: the allow rules and deny rules of a crawl, and whether they allow a place.
 
 ghost use Rattle.std.specs.Prelude.{◌≡◌};
 ghost use Rattle.gopher_scope.specs.Rule.{RuleData};

@@ -1,28 +1,23 @@
-//! Settings and how they are read.
+//! `Settings`: the fields, and how they are read from a text in TOML.
 
 ghost use Rattle.std.specs.Prelude.{◌≡◌, ◌≢◌, map, Ok, Err, Some, None, IfOk, IfErr, IfSome};
 ghost use Rattle.toml.specs.Parse.{parse_document};
 ghost use Rattle.toml.specs.View.{table_view};
-ghost use Rattle.gopher_scope.specs.Settings.{settings_data, settings_fault, settings_read, settings_of, integer_at, text_at, tables_at, seed_read, rule_read, Answers, AreInRange, StandsIn};
+ghost use Rattle.gopher_scope.specs.Settings.{settings_data, settings_fault, settings_read, settings_of, integer_at, text_at, tables_at, seed_read, rule_read, Answers, AreInRange, AreValuesIn};
 
 mod check;
-mod field;
-mod form;
-mod integer;
 mod items;
 mod key;
-mod problem;
-mod scalar;
 mod tables;
-mod text;
+mod value;
 
 use crate::fault::SettingsFault;
 use crate::scope::Scope;
 use check::settings_fault;
 pub use check::{is_key_name, key_has_unknown};
-use form::Form;
 use gopher_item::{Home, ItemFault, NoMemory, Place};
 use items::{rules, seeds, values_at};
+use key::Form;
 pub use key::Key;
 use std::alloc::Global;
 use toml::Table;
@@ -153,7 +148,8 @@ impl Settings {
             settings_of (parse_document text.now) ≡ Ok (settings_data settings)) }
         ensures ranges { IfOk result (λ settings. AreInRange (settings_data settings)) }
         ensures table { IfOk result (λ settings.
-            IfSome (parse_document text.now) (λ table. StandsIn table (settings_data settings))) }
+            IfSome (parse_document text.now)
+            (λ table. AreValuesIn table (settings_data settings))) }
         ensures refused { IfErr result (λ fault. fault ≢ SettingsFault.NoMemory
             → settings_of (parse_document text.now) ≡ Err fault) }
     {

@@ -1,4 +1,4 @@
-//! The errors of reading and sending, with their numbers.
+//! `LineFault`, `ReplyFault`, `SendFault`: why reading or sending fails, with the numbers.
 
 ghost use Rattle.std.specs.Prelude.{◌≡◌};
 ghost use Rattle.gopher_text.specs.Fault.{line_fault_code, reply_fault_code};

@@ -1,4 +1,4 @@
-//! Reading one line of a stream.
+//! Reading one line of a stream: `read_line_from`.
 
 ghost use Rattle.std.specs.Prelude.{◌≡◌, ℕ, ◌+◌, ◌≤◌, List, length, take, IfErr, IfOk, IfSome, OnOk, vec_len};
 ghost use Rattle.std.specs.Io.BufRead.{DropsThrough, first_line};

@@ -1,4 +1,4 @@
-//! One read and its outcome.
+//! One call of a reader and its outcome: `read_once`, `read_byte`.
 
 ghost use Rattle.std.specs.Prelude.{◌<◌, length};
 ghost use Rattle.gopher_text.specs.Reply.{ReadsAfter};

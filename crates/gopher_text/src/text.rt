@@ -1,4 +1,4 @@
-//! Reading texts.
+//! Reading texts, without doubled periods: `read_text`, `first_text_line`.
 
 ghost use Rattle.std.specs.Prelude.{◌≡◌, ◌<◌, ◌++◌, ◌==◌, [], ◌∷◌, false, true, not, length, IfOk, IfSome, MatchOption, OnOk, OnErr};
 ghost use Rattle.std.specs.Io.{StartsWith};

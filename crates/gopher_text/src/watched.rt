@@ -1,4 +1,4 @@
-//! Readers and writers that count their failed calls.
+//! `Watched`: a reader or writer that counts its failed calls.
 
 ghost use Rattle.std.specs.Prelude.{◌≡◌, ℕ, ◌+◌, ◌-◌, ◌^◌, ◌<◌, ◌≤◌, min, length, OnOk};
 ghost use Rattle.std.specs.Io.{ReadsAtMost, WritesAtMost};

@@ -1,4 +1,4 @@
-//! Writing texts.
+//! Writing texts, with doubled periods: `write_text`.
 
 ghost use Rattle.std.specs.Prelude.{◌≡◌, ◌++◌, true, OnOk, OnErr};
 ghost use Rattle.std.specs.Io.{StartsWith};

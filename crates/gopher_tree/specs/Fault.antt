@@ -51,12 +51,14 @@ or_fault (Some fault) later = Some fault
 abbrev pub file_fault : List File → File → Option TreeFault
 file_fault files file =
     or_fault (path_fault (length files) file.0)
-    (if is_too_big files file then Some (TooBig (length files)) else or_fault (menu_fault (length files) file) (twice_fault files file.0))
+    (if is_too_big files file then Some (TooBig (length files))
+    else or_fault (menu_fault (length files) file) (twice_fault files file.0))
 
 -- the fault of the first file that has one, after the files `done`
 abbrev pub fault_after : List File → List File → Option TreeFault
 fault_after done [] = None
-fault_after done (file ∷ files) = or_fault (file_fault done file) (fault_after (done ++ file ∷ []) files)
+fault_after done (file ∷ files) =
+    or_fault (file_fault done file) (fault_after (done ++ file ∷ []) files)
 
 abbrev pub files_fault : List File → Option TreeFault
 files_fault files = fault_after [] files
@@ -76,4 +78,5 @@ first_fault (file ∷ files) = file_fault [] file
 -- it reports only if the first file has no fault
 abbrev pub MakesTree : List File → Result (List File) TreeFault → Type 0
 MakesTree files (Ok tree) = (files_fault files ≡ None) × (tree ≡ files)
-MakesTree files (Err fault) = (files_fault files ≡ Some fault) ⊎ ((fault ≡ NoMemory) × (first_fault files ≡ None))
+MakesTree files (Err fault) =
+    (files_fault files ≡ Some fault) ⊎ ((fault ≡ NoMemory) × (first_fault files ≡ None))

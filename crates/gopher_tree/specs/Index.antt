@@ -17,11 +17,13 @@ held_at index path = get_by (λ key. slice_cmp nat_cmp path key.items) index
 -- the index of the first file with the path, counted on from `number`
 abbrev pub number_from : ℕ → List File → List ℕ → Option ℕ
 number_from number [] path = None
-number_from number (file ∷ files) path = if has_path path file then Some number else number_from (number + 1) files path
+number_from number (file ∷ files) path =
+    if has_path path file then Some number else number_from (number + 1) files path
 
 abbrev pub entry_by : List File → List ℕ → Option ℕ → Option Entry
 entry_by files path (Some number) = Some (entry.File number)
-entry_by files path None = if is_folder files path then Some (entry.Folder (children files path)) else None
+entry_by files path None =
+    if is_folder files path then Some (entry.Folder (children files path)) else None
 
 -- the number of the file with the path or, without one, the folder at the path
 abbrev pub entry_of : List File → List ℕ → Option Entry
@@ -54,17 +56,23 @@ folder_with held child = Some (entry.Folder (with_child (children_at held) child
 
 -- the entry at a path after a file with the path `added` was added
 abbrev pub folders_after : Option Entry → ℕ → List ℕ → List ℕ → Option Entry
-folders_after held kind added path = if is_below path added then folder_with held (child_of_rest kind (rest_below path added)) else held
+folders_after held kind added path =
+    if is_below path added then folder_with held (child_of_rest kind (rest_below path added))
+    else held
 
 abbrev pub entry_after : Option Entry → ℕ → ℕ → List ℕ → List ℕ → Option Entry
-entry_after held number kind added path = if pointwise nat_eq path added then Some (entry.File number) else folders_after held kind added path
+entry_after held number kind added path =
+    if pointwise nat_eq path added then Some (entry.File number)
+    else folders_after held kind added path
 
 -- the entries after a file was added to the folder before this position, if a slash is at the
 -- position
-abbrev pub AddsBefore : {A : Type 0} → BTreeMap (Vec ℕ A) Entry → BTreeMap (Vec ℕ A) Entry → ℕ → List ℕ → ℕ → Type 0
+abbrev pub AddsBefore : {A : Type 0} → BTreeMap (Vec ℕ A) Entry → BTreeMap (Vec ℕ A) Entry → ℕ
+    → List ℕ → ℕ → Type 0
 AddsBefore old new kind path place =
     (q : List ℕ) → held_at new q ≡ (if is_slash path place && pointwise nat_eq q (take place path)
-    then folder_with (held_at old (take place path)) (child_of kind (names_of (drop (place + 1) path))) else held_at old q)
+    then folder_with (held_at old (take place path))
+    (child_of kind (names_of (drop (place + 1) path))) else held_at old q)
 
 -- if the index contains a folder other than the root that the path leads through, the folders above
 -- it contain their child on that path
@@ -75,12 +83,14 @@ IsSettled index kind path =
     → folder_with (held_at index q) (child_of_rest kind (rest_below q path)) ≡ held_at index q
 
 -- the distinct paths of an index in byte order
-pub record IndexPaths {A : Type 0} (index : BTreeMap (Vec ℕ A) Entry) (paths : List (List ℕ)) : Type 0 where
+pub record IndexPaths {A : Type 0} (index : BTreeMap (Vec ℕ A) Entry)
+    (paths : List (List ℕ)) : Type 0 where
   pub order : IsStrictlySortedBy (slice_cmp nat_cmp) paths
   pub whole : (path : List ℕ) → is_among paths path ≡ is_some (held_at index path)
 
 -- the index contains the entry of each path, its paths are the nodes, and no folder is a file
-pub record IsIndex {A : Type 0} (files : List File) (index : BTreeMap (Vec ℕ A) Entry) : Type 0 where
+pub record IsIndex {A : Type 0} (files : List File)
+    (index : BTreeMap (Vec ℕ A) Entry) : Type 0 where
   pub entries : (path : List ℕ) → held_at index path ≡ entry_of files path
   pub paths : (path : List ℕ) → is_some (held_at index path) ≡ is_among (nodes files) path
   pub apart : (path : List ℕ) → is_folder files path ≡ true → is_file files path ≡ false

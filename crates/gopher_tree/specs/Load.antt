@@ -32,7 +32,8 @@ IsUnreadable number fault = (fault ≡ Unreadable number) ⊎ (fault ≡ NoMemor
 abbrev pub RefusesFile : List File → ℕ → File → TreeFault → Type 0
 RefusesFile files nodes file fault =
     (file_fault files file ≡ Some fault)
-    ⊎ (((4096 ≤ nodes) × (fault ≡ TooBig (length files))) ⊎ ((file_fault files file ≡ None) × (fault ≡ NoMemory)))
+    ⊎ (((4096 ≤ nodes) × (fault ≡ TooBig (length files)))
+    ⊎ ((file_fault files file ≡ None) × (fault ≡ NoMemory)))
 
 -- a walk stops at a path after these files and nodes: the file there has the fault, the folder
 -- there has too long a selector, there are too many nodes, something can't be read, or it is out of
@@ -50,12 +51,15 @@ Stops files path fault = (folders : ℕ) × StopsAt files (1 + folders + length 
 
 -- a walk that had listed `before` lists these files, and the new ones have no fault
 abbrev pub Lists : List File → List File → Type 0
-Lists before files = (added : List File) × (files ≡ before ++ added) × (fault_after before added ≡ None)
+Lists before files =
+    (added : List File) × (files ≡ before ++ added) × (fault_after before added ≡ None)
 
 -- a walk that had listed `before` ends, or stops at a path after the files that it has listed
-abbrev pub WalksTo : {T : Type 0} → (T → List File) → List File → List ℕ → Result T TreeFault → Type 0
+abbrev pub WalksTo : {T : Type 0} → (T → List File) → List File → List ℕ → Result T TreeFault
+    → Type 0
 WalksTo listed before path (Ok walk) = Lists before (listed walk)
-WalksTo listed before path (Err fault) = (files : List File) × Lists before files × Stops files path fault
+WalksTo listed before path (Err fault) =
+    (files : List File) × Lists before files × Stops files path fault
 
 -- loading a folder returns the tree of the files that the walk lists, or fails with the fault at
 -- which the walk stops, at this path

@@ -19,26 +19,31 @@ pub record WrittenLineData : Type 0 where
 abbrev pub is_item : ℕ → List ℕ → List ℕ → Bool
 is_item kind display selector = not (is_some (menu_line_fault kind display selector (codes "host")))
 
-abbrev pub item_of : ℕ → List ℕ → List ℕ → Option HomeData → Option WrittenLineData
-item_of kind display selector server = if is_item kind display selector then Some (record { kind = kind; display = display; selector = selector; server = server }) else None
+abbrev pub written_item : ℕ → List ℕ → List ℕ → Option HomeData → Option WrittenLineData
+written_item kind display selector server =
+    if is_item kind display selector
+    then Some (record { kind = kind; display = display; selector = selector; server = server })
+    else None
 
 -- the server of a host and a port, after spaces at their ends are dropped
 abbrev pub server_of_port : List ℕ → Option ℕ → Option HomeData
 server_of_port host None = None
-server_of_port host (Some port) = if is_host host then Some (record { host = host; port = port }) else None
+server_of_port host (Some port) =
+    if is_host host then Some (record { host = host; port = port }) else None
 
 abbrev pub server_of : List ℕ → List ℕ → Option HomeData
 server_of host port = server_of_port (trim_spaces host) (number_of 65535 (trim_spaces port))
 
 abbrev pub item_at : ℕ → List ℕ → List ℕ → Option HomeData → Option WrittenLineData
 item_at kind display selector None = None
-item_at kind display selector (Some server) = item_of kind display selector (Some server)
+item_at kind display selector (Some server) = written_item kind display selector (Some server)
 
 -- a text alone is an `i` line; of several fields, the first is the type and the display string
 abbrev pub line_of_fields : List (List ℕ) → Option WrittenLineData
-line_of_fields (text ∷ []) = item_of 105 text [] None
-line_of_fields ((kind ∷ display) ∷ selector ∷ []) = item_of kind display selector None
-line_of_fields ((kind ∷ display) ∷ selector ∷ host ∷ port ∷ []) = item_at kind display selector (server_of host port)
+line_of_fields (text ∷ []) = written_item 105 text [] None
+line_of_fields ((kind ∷ display) ∷ selector ∷ []) = written_item kind display selector None
+line_of_fields ((kind ∷ display) ∷ selector ∷ host ∷ port ∷ []) =
+    item_at kind display selector (server_of host port)
 line_of_fields _ = None
 
 abbrev pub written_line : List ℕ → Option WrittenLineData
@@ -47,18 +52,33 @@ written_line line = line_of_fields (fields_of line)
 -- the number, counted on from `number`, of the first line with none of these forms
 abbrev pub bad_line_from : ℕ → List (List ℕ) → Option ℕ
 bad_line_from number [] = None
-bad_line_from number (line ∷ lines) = if is_some (written_line line) then bad_line_from (number + 1) lines else Some number
+bad_line_from number (line ∷ lines) =
+    if is_some (written_line line) then bad_line_from (number + 1) lines else Some number
 
 abbrev pub bad_line : List ℕ → Option ℕ
 bad_line bytes = bad_line_from 1 (lines_of bytes)
 
 -- the line that a server with the address `home` sends
-abbrev pub line_at : HomeData → WrittenLineData → MenuLineData
-line_at home line = at line.server
+abbrev pub sent_line : HomeData → WrittenLineData → MenuLineData
+sent_line home line = at line.server
   where
     at : Option HomeData → MenuLineData
-    at None = record { kind = line.kind; display = line.display; selector = line.selector; host = home.host; port = home.port }
-    at (Some server) = record { kind = line.kind; display = line.display; selector = line.selector; host = server.host; port = server.port }
+    at None =
+        record {
+          kind = line.kind;
+          display = line.display;
+          selector = line.selector;
+          host = home.host;
+          port = home.port;
+        }
+    at (Some server) =
+        record {
+          kind = line.kind;
+          display = line.display;
+          selector = line.selector;
+          host = server.host;
+          port = server.port;
+        }
 
 abbrev pub written_menu : HomeData → List ℕ → List MenuLineData
-written_menu home bytes = map (line_at home) (filter_map written_line (lines_of bytes))
+written_menu home bytes = map (sent_line home) (filter_map written_line (lines_of bytes))

@@ -63,7 +63,10 @@ is_slash path place = slice_index path place == 47
 abbrev pub folders_within : ℕ → List ℕ → List (List ℕ)
 folders_within zero path = []
 folders_within (suc zero) path = []
-folders_within (suc (suc count)) path = if slice_index path (suc count) == 47 then folders_within (suc count) path ++ take (suc count) path ∷ [] else folders_within (suc count) path
+folders_within (suc (suc count)) path =
+    if slice_index path (suc count) == 47
+    then folders_within (suc count) path ++ take (suc count) path ∷ []
+    else folders_within (suc count) path
 
 abbrev pub folders_of : List ℕ → List (List ℕ)
 folders_of path = folders_within (length path) path

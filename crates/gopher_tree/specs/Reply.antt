@@ -17,7 +17,8 @@ pub data Named : Type 0 where
 
 -- the file with the path, unless its name is `.menu`; without a file, the folder at the path
 abbrev pub named_by : List File → List ℕ → Option File → Option Named
-named_by files path (Some file) = if is_menu_path path then None else Some (NamedFile (kind_of file.0 file.1) file.1)
+named_by files path (Some file) =
+    if is_menu_path path then None else Some (NamedFile (kind_of file.0 file.1) file.1)
 named_by files path None = if is_folder files path then Some (NamedFolder path) else None
 
 abbrev pub named_at : List File → Option (List ℕ) → Option Named
@@ -32,18 +33,33 @@ abbrev pub front_of : List ℕ → List ℕ
 front_of folder = if length folder == 0 then 47 ∷ [] else 47 ∷ folder ++ 47 ∷ []
 
 abbrev pub child_line : HomeData → List ℕ → Child → MenuLineData
-child_line home front child = record { kind = child.1; display = child.0; selector = front ++ child.0; host = home.host; port = home.port }
+child_line home front child =
+    record {
+      kind = child.1;
+      display = child.0;
+      selector = front ++ child.0;
+      host = home.host;
+      port = home.port;
+    }
 
 -- the line of the search, of type `7` (55; RFC 1436, section 3.8)
 abbrev pub search_line : HomeData → MenuLineData
-search_line home = record { kind = 55; display = codes "Search"; selector = codes "/search"; host = home.host; port = home.port }
+search_line home =
+    record {
+      kind = 55;
+      display = codes "Search";
+      selector = codes "/search";
+      host = home.host;
+      port = home.port;
+    }
 
 -- the root's menu begins with the search line
 abbrev pub head_lines : HomeData → List ℕ → List MenuLineData
 head_lines home folder = if length folder == 0 then search_line home ∷ [] else []
 
 abbrev pub listing_of : HomeData → List ℕ → List Child → List MenuLineData
-listing_of home folder names = head_lines home folder ++ map (child_line home (front_of folder)) names
+listing_of home folder names =
+    head_lines home folder ++ map (child_line home (front_of folder)) names
 
 abbrev pub listing : List File → HomeData → List ℕ → List MenuLineData
 listing files home folder = listing_of home folder (children files folder)
@@ -66,7 +82,8 @@ file_reply kind bytes = if kind == 48 then text_bytes (lines_of bytes) else byte
 
 -- a line of type `3` (51; RFC 1436, section 3.8), whose text a client shows as an error
 abbrev pub error_line : List ℕ → HomeData → MenuLineData
-error_line text home = record { kind = 51; display = text; selector = []; host = home.host; port = home.port }
+error_line text home =
+    record { kind = 51; display = text; selector = []; host = home.host; port = home.port }
 
 abbrev pub error_bytes : List ℕ → HomeData → List ℕ
 error_bytes text home = menu_bytes (error_line text home ∷ [])

@@ -7,7 +7,8 @@ use Rattle.gopher_tree.specs.Index.{IsIndex}
 use Rattle.gopher_tree.specs.declared.tree.index.Entry.{Entry}
 
 -- the index, the number of bytes and the number of nodes are those of the files, within the limits
-pub record IsTree {A : Type 0} (files : List File) (held : BTreeMap (Vec ℕ A) Entry) (bytes count : ℕ) : Type 0 where
+pub record IsTree {A : Type 0} (files : List File) (held : BTreeMap (Vec ℕ A) Entry)
+    (bytes count : ℕ) : Type 0 where
   pub index : IsIndex files held
   pub bytes_is : bytes ≡ total_bytes files
   pub count_is : count ≡ length (nodes files)
@@ -16,4 +17,5 @@ pub record IsTree {A : Type 0} (files : List File) (held : BTreeMap (Vec ℕ A) 
 
 -- a path adds this many nodes to those of the files
 abbrev pub Adds : List File → List ℕ → ℕ → Type 0
-Adds files path count = length (fold add_path (nodes files) (paths_of path)) ≡ length (nodes files) + count
+Adds files path count =
+    length (fold add_path (nodes files) (paths_of path)) ≡ length (nodes files) + count

@@ -10,7 +10,13 @@ abbrev pub server_data : Option (Bor (List ℕ) × ℕ) → Option HomeData
 server_data server = option_map (λ s. record { host = s.0.now; port = s.1 }) server
 
 abbrev pub line_data : WrittenLine → WrittenLineData
-line_data line = record { kind = line.kind; display = line.display.now; selector = line.selector.now; server = server_data line.server }
+line_data line =
+    record {
+      kind = line.kind;
+      display = line.display.now;
+      selector = line.selector.now;
+      server = server_data line.server;
+    }
 
 -- both are the same line, or neither is a line
 abbrev pub IsLine : Option WrittenLineData → Option WrittenLine → Type 0

@@ -20,4 +20,4 @@ mod tree;
 
 pub use fault::{LoadRefused, TreeFault};
 pub use reply::{error_reply, not_found};
-pub use tree::{MOST_NODES, Node, Tree};
+pub use tree::{MAX_NODES, Node, Tree};

@@ -1,4 +1,4 @@
-//! Loading a tree from a folder of the file system.
+//! Loading a tree from a folder of the file system (`Tree::load`): the walk, depth first.
 
 ghost use Rattle.std.specs.Prelude.{◌≡◌, ◌<◌, ◌≤◌, ◌+◌, ◌++◌, [], ◌∷◌, length, None, Some, IfOk, IfErr, OnOk, MatchResult};
 ghost use Rattle.gopher_tree.specs.Fault.{file_fault, files_fault};
@@ -8,8 +8,8 @@ pub(crate) mod folder;
 
 use crate::fault::{LoadRefused, TreeFault};
 use crate::load::folder::{Target, names_in, read_file, target_of, without_links};
-use crate::tree::path::{LONGEST_PATH, path_fault, path_in};
-use crate::tree::{MOST_NODES, Tree};
+use crate::tree::path::{MAX_PATH, path_fault, path_in};
+use crate::tree::{MAX_NODES, Tree};
 use gopher_item::NoMemory;
 use std::alloc::Global;
 use std::fs::Files;
@@ -58,7 +58,7 @@ impl Walk {
         if let Some(fault) = path_fault(number, &path) {
             return Err(fault);
         }
-        if self.nodes >= MOST_NODES {
+        if self.nodes >= MAX_NODES {
             return Err(TreeFault::TooBig { file: number });
         }
         let nodes = self.nodes + 1;
@@ -76,10 +76,10 @@ impl Walk {
             folder_fault (length self.tree) self.nodes path.now ≡ Some fault) }
     {
         let number = self.tree.number_of_files();
-        if path.len() > LONGEST_PATH {
+        if path.len() > MAX_PATH {
             return Err(TreeFault::LongSelector { file: number });
         }
-        if self.nodes >= MOST_NODES {
+        if self.nodes >= MAX_NODES {
             return Err(TreeFault::TooBig { file: number });
         }
         Ok(Walk {

@@ -1,4 +1,4 @@
-//! Menu files: a `.menu` file contains the menu of its folder. The format is this profile's.
+//! Reading `.menu` files, whose lines are the menu of their folder. The format is this profile's.
 
 ghost use Rattle.std.specs.Prelude.{◌≡◌, ℕ, ◌++◌, ◌&&◌, ◌||◌, ◌==◌, not, [], ◌∷◌, None, Some, MatchOption, OnOk, map};
 ghost use Rattle.std.specs.Io.{StartsWith};
@@ -7,7 +7,7 @@ ghost use Rattle.std.specs.Option.{option_map};
 ghost use Rattle.gopher_item.specs.Special.{is_control};
 ghost use Rattle.gopher_item.specs.Menu.{fields_of};
 ghost use Rattle.gopher_item.specs.MenuLine.{menu_line_bytes, menu_bytes};
-ghost use Rattle.gopher_tree.specs.MenuFile.{is_item, item_of, line_of_fields, server_of, written_line, bad_line, written_menu, line_at};
+ghost use Rattle.gopher_tree.specs.MenuFile.{is_item, written_item, line_of_fields, server_of, written_line, bad_line, written_menu, sent_line};
 ghost use Rattle.gopher_tree.specs.WrittenLine.{line_data, server_data, IsLine};
 
 use gopher_item::{
@@ -35,13 +35,14 @@ fn is_item(kind: u8, display: &[u8], selector: &[u8]) -> bool
 }
 
 // A line of these parts, if they are valid.
-fn item_of<'a>(
+fn written_item<'a>(
     kind: u8,
     display: &'a [u8],
     selector: &'a [u8],
     server: Option<(&'a [u8], u16)>,
 ) -> Option<WrittenLine<'a>>
-    ensures { IsLine (item_of kind display.now selector.now (server_data server.entry)) result }
+    ensures { IsLine (written_item kind display.now selector.now
+        (server_data server.entry)) result }
 {
     if !is_item(kind, display, selector) {
         return None;
@@ -75,14 +76,14 @@ fn line_of_fields<'a>(first: &'a [u8], rest: &'a [u8]) -> Option<WrittenLine<'a>
         return None;
     };
     let Some((selector, rest)) = split_once(TAB, rest) else {
-        return item_of(*kind, display, rest, None);
+        return written_item(*kind, display, rest, None);
     };
     let (host, port) = split_once(TAB, rest)?;
     if let Some(_) = split_once(TAB, port) {
         return None;
     }
     let server = server_of(host, port)?;
-    item_of(*kind, display, selector, Some(server))
+    written_item(*kind, display, selector, Some(server))
 }
 
 fn written_line(line: &[u8]) -> Option<WrittenLine<'_>>
@@ -90,7 +91,7 @@ fn written_line(line: &[u8]) -> Option<WrittenLine<'_>>
 {
     match split_once(TAB, line) {
         Some((first, rest)) => line_of_fields(first, rest),
-        None => item_of(b'i', line, &[], None),
+        None => written_item(b'i', line, &[], None),
     }
 }
 
@@ -113,7 +114,7 @@ pub(crate) fn bad_line(bytes: &[u8]) -> Option<usize>
 // Appends the line as a server with the address `home` sends it.
 fn push_written(line: WrittenLine, home: &Home, out: &mut Vec<u8>) -> Result<(), AllocError>
     ensures written { OnOk result (out.new.items ≡ out.old.items
-        ++ menu_line_bytes (line_at home.now (line_data line.entry))) }
+        ++ menu_line_bytes (sent_line home.now (line_data line.entry))) }
 {
     let (host, port) = match line.server {
         Some(server) => server,

@@ -1,4 +1,4 @@
-//! Making replies: menus, texts and raw files.
+//! Making replies: menus of folders, menus of `.menu` files, texts, raw files and errors.
 
 ghost use Rattle.std.specs.Prelude.{◌≡◌, false, ◌++◌, ◌==◌, length, IfOk, OnOk, if◌then◌else◌};
 ghost use Rattle.std.specs.List.{flat_map};
@@ -16,7 +16,7 @@ use std::alloc::{AllocError, Global};
 /// Makes an error reply: a menu with one line of type `3` (RFC 1436, section 3.8) that displays
 /// `text`.
 ///
-/// The text contains no TAB, CR, LF and NUL.
+/// The text contains no TAB, CR, LF or NUL.
 pub fn error_reply(alloc: Global, text: &[u8], home: &Home) -> Result<Vec<u8>, NoMemory>
     requires { has_special text.now ≡ false }
     ensures { IfOk result (λ bytes. bytes.items ≡ error_bytes text.now home.now) }

@@ -1,4 +1,4 @@
-//! Trees, their limits and their replies.
+//! `Tree`: its limits, how a file is added, and the node and the reply at a selector.
 
 ghost use Rattle.std.specs.Prelude.{◌≡◌, ℕ, ◌+◌, ◌≤◌, ◌<◌, ◌++◌, ◌∷◌, ◌||◌, ◌&&◌, ◌==◌, not, [], None, Some, List, length, take, slice_index, if◌then◌else◌, map, fold, count_by, IfOk, IsTrue, MatchResult};
 ghost use Rattle.gopher_tree.specs.Path.{is_menu_path, is_slash, folders_of};
@@ -9,30 +9,30 @@ ghost use Rattle.std.specs.Option.{option_map};
 ghost use Rattle.gopher_tree.specs.Reply.{named, menu_file, folder_reply, tree_reply};
 ghost use Rattle.gopher_tree.specs.Found.{Finds, Shows, file_data};
 
-pub(crate) mod alone;
 pub(crate) mod child_line;
 pub(crate) mod children;
 pub(crate) mod file;
+pub(crate) mod file_faults;
 pub(crate) mod index;
 pub(crate) mod kind;
 pub(crate) mod path;
 
 use crate::fault::TreeFault;
 use crate::reply::{file_reply, listing_reply, not_found, written_reply};
-use crate::tree::alone::{LARGEST_FILE, first_fault, menu_fault};
 use crate::tree::children::Children;
 use crate::tree::file::File;
+use crate::tree::file_faults::{MAX_FILE, first_fault, menu_fault};
 use crate::tree::index::{Entry, Index, add_file, is_file_entry, paths_in};
-use crate::tree::path::{is_menu_path, menu_path, path_fault, path_of};
+use crate::tree::path::{is_menu_path, menu_path, path_fault, path_of, slashes_at};
 use gopher_item::{Home, NoMemory};
 use std::alloc::Global;
 use std::collections::BTreeMap;
 use std::marker::Model;
 
-const MOST_BYTES: usize = 67_108_864;
+const MAX_BYTES: usize = 67_108_864;
 
 /// The most nodes of a tree: the root, the folders and the files.
-pub const MOST_NODES: usize = 4_096;
+pub const MAX_NODES: usize = 4_096;
 
 /// Files and the folders that their paths lead through, as a server sends them.
 ///
@@ -149,7 +149,8 @@ impl Tree {
         ensures among { result
             ≡ (is_slash path.now place && is_among (nodes self.now) (take place path.now)) }
         ensures either { result ≡ (is_slash path.now place
-            && (is_file self.now (take place path.now) || is_folder self.now (take place path.now))) }
+            && (is_file self.now (take place path.now)
+            || is_folder self.now (take place path.now))) }
         ensures above { IsTrue result → AboveAreFolders self.now (take place path.now) }
     {
         if path[place] != b'/' {
@@ -216,13 +217,13 @@ impl Tree {
         requires short { new_nodes ≤ 254 }
         ensures { result ≡ is_too_big self.now (path.now, bytes.now) }
     {
-        if bytes.len() > LARGEST_FILE {
+        if bytes.len() > MAX_FILE {
             return true;
         }
-        if self.bytes + bytes.len() > MOST_BYTES {
+        if self.bytes + bytes.len() > MAX_BYTES {
             return true;
         }
-        self.nodes + new_nodes > MOST_NODES
+        self.nodes + new_nodes > MAX_NODES
     }
 
     // The first fault of a file after these files, if its path alone has none.
@@ -388,13 +389,4 @@ impl Tree {
             None => not_found(alloc, home),
         }
     }
-}
-
-// How many slashes are at one position of a path: 1 or 0.
-fn slashes_at(path: &[u8], place: usize) -> usize
-    requires { place < length path.now }
-    ensures count { result ≡ (if is_slash path.now place then 1 else 0) }
-    ensures bound { result ≤ 1 }
-{
-    if path[place] == b'/' { 1 } else { 0 }
 }

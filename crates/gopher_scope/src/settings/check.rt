@@ -1,41 +1,14 @@
-//! Finding the first fault of a settings table.
+//! Checking a table of settings: whether it has an unknown key, and its first fault.
 
 ghost use Rattle.std.specs.Prelude.{◌≡◌};
 ghost use Rattle.std.specs.List.{list_any};
-ghost use Rattle.toml.specs.Data.{get_member};
 ghost use Rattle.toml.specs.View.{table_view};
-ghost use Rattle.gopher_scope.specs.Reading.{first_of, form_problem, has_unknown, form_has_unknown};
+ghost use Rattle.gopher_scope.specs.Reading.{first_of, has_unknown};
 ghost use Rattle.gopher_scope.specs.Settings.{key_fault, key_has_unknown, is_key_name, settings_have_unknown, settings_fault};
 
-use super::form::Form;
 use super::key::Key;
-use super::problem::Problem;
-use super::scalar::value_at;
 use crate::fault::SettingsFault;
 use toml::Table;
-
-impl Form {
-    fn problem(self, table: &Table, name: &str) -> Option<Problem>
-        ensures { result ≡ form_problem self (get_member name.now (table_view table.now)) }
-    {
-        match self {
-            Form::Scalar(scalar) => scalar.problem(table, name),
-            Form::Tables(element) => element.problem(table, name),
-        }
-    }
-
-    fn has_unknown(self, table: &Table, name: &str) -> bool
-        ensures { result ≡ form_has_unknown self (get_member name.now (table_view table.now)) }
-    {
-        match (self, value_at(table, name)) {
-            (Form::Scalar(_), _) | (Form::Tables(_), None) => false,
-            (Form::Tables(element), Some(value)) => match value.as_array() {
-                None => false,
-                Some(array) => element.array_has_unknown(array),
-            },
-        }
-    }
-}
 
 #[tactic(auto, unfolding(crate::specs::Settings::key_fault))]
 fn key_fault(table: &Table, key: Key) -> Option<SettingsFault>

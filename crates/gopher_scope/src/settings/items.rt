@@ -1,4 +1,4 @@
-//! Reading the seeds and the rules of arrays without a fault.
+//! Reading seeds and rules from tables that have no fault.
 
 ghost use Rattle.std.specs.Prelude.{◌≡◌, map, Some, None, IfOk};
 ghost use Rattle.std.specs.List.{filter_map};
@@ -7,9 +7,8 @@ ghost use Rattle.toml.specs.View.{view, table_view};
 ghost use Rattle.gopher_scope.specs.Reading.{first_of, field_problem, table_problem, element_problem, values_read};
 ghost use Rattle.gopher_scope.specs.Settings.{field_integer, field_text, kind_read, seed_read, rule_read};
 
-use super::field::Field;
-use super::form::Element;
-use super::scalar::value_at;
+use super::tables::{Element, Field};
+use super::value::value_at;
 use crate::rule::Rule;
 use gopher_item::{ItemFault, NoMemory, Place};
 use std::alloc::Global;

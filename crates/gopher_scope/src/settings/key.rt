@@ -1,11 +1,17 @@
-//! The keys of the settings.
+//! The keys of the settings, `Key`, with the name and the valid values, `Form`, of each.
 
 ghost use Rattle.std.specs.Prelude.{◌≡◌, Some};
+ghost use Rattle.toml.specs.Data.{get_member};
+ghost use Rattle.toml.specs.View.{table_view};
+ghost use Rattle.gopher_scope.specs.Reading.{form_problem, form_has_unknown};
 ghost use Rattle.gopher_scope.specs.Rows.{key_name, key_form};
 
-use super::form::{Element, Form, Scalar};
-use super::text::TextKind;
+use super::tables::Element;
+use super::value::{Problem, Scalar, TextKind, value_at};
+use crate::limits::{MAX_PLACES, MAX_TRIES};
+use gopher_item::MAX_PORT;
 use std::fmt;
+use toml::Table;
 
 /// A key of the settings. Keys are checked in this order.
 #[derive(Clone, Copy, Debug, PartialEq, Eq)]
@@ -31,6 +37,40 @@ pub enum Key {
     Threads,
     /// `tries`: how often the crawl claims a place at most, from 1 to 5; 1 if missing.
     Tries,
+}
+
+/// The valid values of a key of the settings.
+#[derive(Clone, Copy, Debug, PartialEq, Eq)]
+pub(crate) enum Form {
+    /// An integer or a text.
+    Scalar(Scalar),
+    /// An array of at most 256 tables; an empty one if the key is missing.
+    Tables(Element),
+}
+
+impl Form {
+    /// Returns the fault of the key's value, if it has one.
+    pub(crate) fn problem(self, table: &Table, name: &str) -> Option<Problem>
+        ensures { result ≡ form_problem self (get_member name.now (table_view table.now)) }
+    {
+        match self {
+            Form::Scalar(scalar) => scalar.problem(table, name),
+            Form::Tables(element) => element.problem(table, name),
+        }
+    }
+
+    /// Returns whether the key's value is an array with a table that has an unknown key.
+    pub(crate) fn has_unknown(self, table: &Table, name: &str) -> bool
+        ensures { result ≡ form_has_unknown self (get_member name.now (table_view table.now)) }
+    {
+        match (self, value_at(table, name)) {
+            (Form::Scalar(_), _) | (Form::Tables(_), None) => false,
+            (Form::Tables(element), Some(value)) => match value.as_array() {
+                None => false,
+                Some(array) => element.array_has_unknown(array),
+            },
+        }
+    }
 }
 
 /// The name and the valid values of a key.
@@ -91,15 +131,15 @@ impl Key {
     {
         match self {
             Key::Host => text("host", TextKind::Host),
-            Key::Port => integer("port", 70, 65_535),
+            Key::Port => integer("port", 70, MAX_PORT),
             Key::Root => text("root", TextKind::Path),
             Key::Seeds => tables("seeds", Element::Seed),
             Key::Allow => tables("allow", Element::Rule),
             Key::Deny => tables("deny", Element::Rule),
-            Key::Places => integer("places", 4096, 65_536),
+            Key::Places => integer("places", 4_096, MAX_PLACES),
             Key::Workers => integer("workers", 4, 16),
             Key::Threads => integer("threads", 2, 8),
-            Key::Tries => integer("tries", 1, 5),
+            Key::Tries => integer("tries", 1, MAX_TRIES),
         }
     }
 

@@ -1,23 +1,85 @@
-//! Arrays of tables.
+//! The tables in `seeds`, `allow` and `deny`: their keys, `Field`, and their kinds, `Element`.
 
 ghost use Rattle.std.specs.Prelude.{◌≡◌, map, Some, None};
 ghost use Rattle.std.specs.List.{list_any};
 ghost use Rattle.toml.specs.Data.{get_member};
 ghost use Rattle.toml.specs.View.{view, array_view, table_view};
-ghost use Rattle.gopher_scope.specs.Rows.{fields_of};
+ghost use Rattle.gopher_scope.specs.Rows.{element_fields, field_name, field_scalar};
 ghost use Rattle.gopher_scope.specs.Reading.{first_of, field_problem, table_problem, element_problem, array_problem, tables_problem, has_unknown, is_field_name, element_has_unknown, array_has_unknown};
 
-use super::field::Field;
-use super::form::Element;
-use super::problem::Problem;
-use super::scalar::value_at;
+use super::value::{Problem, Scalar, TextKind, value_at};
+use gopher_item::MAX_PORT;
 use toml::value::Array;
 use toml::{Table, Value};
 
 /// The most tables in an array.
-const MOST_TABLES: usize = 256;
+const MAX_TABLES: usize = 256;
+
+/// A key of a table in an array.
+#[derive(Clone, Copy, Debug, PartialEq, Eq)]
+pub(crate) enum Field {
+    /// `type`: the type of a place.
+    Kind,
+    /// `host`: the host of a place or a rule.
+    Host,
+    /// `port`: the port of a place or a rule.
+    Port,
+    /// `selector`: the selector of a place.
+    Selector,
+    /// `prefix`: the prefix of a rule.
+    Prefix,
+}
+
+impl Field {
+    /// Returns the name of the key in the text.
+    pub(crate) fn name(self) -> &'static str
+        ensures { result.now ≡ field_name self }
+    {
+        match self {
+            Field::Kind => "type",
+            Field::Host => "host",
+            Field::Port => "port",
+            Field::Selector => "selector",
+            Field::Prefix => "prefix",
+        }
+    }
+
+    /// Returns the kind and the range of the key's value.
+    pub(crate) fn scalar(self) -> Scalar
+        ensures { result ≡ field_scalar self }
+    {
+        match self {
+            Field::Kind => Scalar::Text(TextKind::PlaceKind),
+            Field::Host => Scalar::Text(TextKind::Host),
+            Field::Port => Scalar::Integer {
+                absent: 70,
+                most: MAX_PORT,
+            },
+            Field::Selector | Field::Prefix => Scalar::Text(TextKind::Selector),
+        }
+    }
+}
+
+/// The kind of the tables in an array.
+#[derive(Clone, Copy, Debug, PartialEq, Eq)]
+pub(crate) enum Element {
+    /// Tables of places.
+    Seed,
+    /// Tables of rules.
+    Rule,
+}
 
 impl Element {
+    /// Returns the keys of such a table in the order in which they are checked.
+    pub(crate) fn fields(self) -> &'static [Field]
+        ensures { result.now ≡ element_fields self }
+    {
+        match self {
+            Element::Seed => &[Field::Kind, Field::Host, Field::Port, Field::Selector],
+            Element::Rule => &[Field::Host, Field::Port, Field::Prefix],
+        }
+    }
+
     fn first_problem(self, table: &Table) -> Option<Problem>
         ensures { result ≡ table_problem self (Some (table_view table.now)) }
     {
@@ -53,7 +115,7 @@ impl Element {
     fn array_problem(self, array: &Array) -> Option<Problem>
         ensures { result ≡ array_problem self (Some (array_view array.now)) }
     {
-        if array.len() <= MOST_TABLES {
+        if array.len() <= MAX_TABLES {
             self.elements_problem(array)
         } else {
             Some(Problem::OutOfRange)

@@ -1,4 +1,4 @@
-//! Folders of the file system: their names, the targets of names, and the bytes of files.
+//! Reading the file system: the names in a folder, the target of a name, and the bytes of a file.
 //!
 //! A name can vanish between any two calls, because other programs change the folder while it is
 //! read. A name that has vanished counts as a link that leads nowhere.
@@ -11,7 +11,7 @@ ghost use Rattle.std.specs.IoError.{error_kind};
 ghost use Rattle.gopher_tree.specs.Load.{is_shown, IsUnreadable, most_read};
 
 use crate::fault::TreeFault;
-use crate::tree::alone::LARGEST_FILE;
+use crate::tree::file_faults::MAX_FILE;
 use crate::tree::path::is_menu_name;
 use std::alloc::{AllocError, Global};
 use std::fs::{Files, OpenFile};
@@ -20,7 +20,7 @@ use std::path::{Path, PathBuf};
 use std::{fs, io};
 
 // The most bytes of a file that are read: one more than a file may have.
-const MOST_READ: u64 = LARGEST_FILE as u64 + 1;
+const MAX_READ: u64 = MAX_FILE as u64 + 1;
 
 // The target of an entry of a folder.
 #[derive(Clone, Copy)]
@@ -181,10 +181,10 @@ fn most_read(found: &fs::Metadata) -> Option<u64>
         return None;
     }
     let length = found.len();
-    if length < MOST_READ {
+    if length < MAX_READ {
         Some(length)
     } else {
-        Some(MOST_READ)
+        Some(MAX_READ)
     }
 }
 

@@ -1,4 +1,4 @@
-//! The menu line of a name in a folder.
+//! Appending the menu line of one name in a folder.
 
 ghost use Rattle.std.specs.Prelude.{◌≡◌, ◌++◌, OnOk};
 ghost use Rattle.gopher_item.specs.MenuLine.{menu_line_bytes};

@@ -1,4 +1,4 @@
-//! The names in a folder.
+//! `Children`: the names in a folder in order, and their menu lines.
 
 ghost use Rattle.std.specs.Prelude.{◌≡◌, ◌++◌, [], map, OnOk};
 ghost use Rattle.std.specs.List.{flat_map};

@@ -1,4 +1,4 @@
-//! A file of a tree.
+//! `File`: the path, the type and the bytes of a file.
 
 ghost use Rattle.std.specs.Prelude.{◌≡◌};
 ghost use Rattle.gopher_tree.specs.Kind.{kind_of};

@@ -1,4 +1,4 @@
-//! The index of a tree: the file or folder at each path.
+//! The index of a tree: the file or folder at each path, and adding a file to it.
 
 ghost use Rattle.std.specs.Prelude.{◌≡◌, ℕ, ◌+◌, ◌<◌, List, [], length, take, drop, ◌&&◌, None, Some, is_some, map, IfOk, OnOk, nat_eq, if◌then◌else◌};
 ghost use Rattle.std.specs.Cmp.Lexicographic.{pointwise};

@@ -1,16 +1,16 @@
-//! Paths and selectors.
+//! Paths: which are bad, the path of a selector, and the path of a folder's `.menu` file.
 
-ghost use Rattle.std.specs.Prelude.{◌≡◌, ◌<◌, ◌&&◌, not, length, IfOk};
+ghost use Rattle.std.specs.Prelude.{◌≡◌, ◌<◌, ◌≤◌, ◌&&◌, not, length, if◌then◌else◌, IfOk};
 ghost use Rattle.std.specs.Option.{option_map};
 ghost use Rattle.gopher_tree.specs.Fault.{path_fault};
-ghost use Rattle.gopher_tree.specs.Path.{names_of, first_name, last_name, is_menu_name, is_bad_name, has_bad_name, is_menu_path, path_of, path_in, menu_path};
+ghost use Rattle.gopher_tree.specs.Path.{names_of, is_slash, first_name, last_name, is_menu_name, is_bad_name, has_bad_name, is_menu_path, path_of, path_in, menu_path};
 
 use crate::fault::TreeFault;
 use gopher_item::{NoMemory, has_special, split_once};
 use std::alloc::Global;
 
 // The longest path, in bytes: its selector has one slash more, and at most 255 bytes.
-pub(crate) const LONGEST_PATH: usize = 254;
+pub(crate) const MAX_PATH: usize = 254;
 
 const MENU: &[u8] = b".menu";
 
@@ -74,7 +74,7 @@ pub(crate) fn path_fault(number: usize, path: &[u8]) -> Option<TreeFault>
         Some(TreeFault::BadName { file: number })
     } else if first_name(path) == SEARCH {
         Some(TreeFault::Reserved { file: number })
-    } else if path.len() > LONGEST_PATH {
+    } else if path.len() > MAX_PATH {
         Some(TreeFault::LongSelector { file: number })
     } else {
         None
@@ -117,4 +117,13 @@ pub(crate) fn path_of(selector: &[u8]) -> Option<&[u8]>
         [b'/', path @ ..] => Some(path),
         _ => None,
     }
+}
+
+// How many slashes are at one position of a path: 1 or 0.
+pub(crate) fn slashes_at(path: &[u8], place: usize) -> usize
+    requires { place < length path.now }
+    ensures count { result ≡ (if is_slash path.now place then 1 else 0) }
+    ensures bound { result ≤ 1 }
+{
+    if path[place] == b'/' { 1 } else { 0 }
 }

@@ -3,7 +3,7 @@ use Rattle.toml.specs.View.{table_view}
 use Rattle.gopher_scope.proofs.Faultless.{form_problem-none}
 use Rattle.gopher_scope.specs.Reading.{form_problem}
 use Rattle.gopher_scope.specs.Settings.{key_value}
-use Rattle.gopher_scope.specs.declared.settings.form.Form.{Form}
+use Rattle.gopher_scope.specs.declared.settings.key.Form.{Form}
 use Rattle.gopher_scope.proofs.settings.integer_at.Goals as goal
 
 pub integer-requires : goal.integer-requires

@@ -1,5 +1,5 @@
 use Rattle.gopher_scope.proofs.Elements.{table_problem-none}
-use Rattle.gopher_scope.specs.declared.settings.form.Element.TheVariants.{Rule}
+use Rattle.gopher_scope.specs.declared.settings.tables.Element.TheVariants.{Rule}
 use Rattle.gopher_scope.proofs.settings.items.rules.Goals as goal
 
 pub rule-requires : goal.rule-requires

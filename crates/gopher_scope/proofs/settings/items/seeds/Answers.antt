@@ -1,5 +1,5 @@
 use Rattle.gopher_scope.proofs.Elements.{table_problem-none}
-use Rattle.gopher_scope.specs.declared.settings.form.Element.TheVariants.{Seed}
+use Rattle.gopher_scope.specs.declared.settings.tables.Element.TheVariants.{Seed}
 use Rattle.gopher_scope.proofs.settings.items.seeds.Goals as goal
 
 pub seed-requires : goal.seed-requires

@@ -1,4 +1,4 @@
-//! The report of a fault.
+//! The report of a fault: number, path, line, key or seed, cause and remedy.
 
 ghost use Rattle.std.specs.Prelude.{◌≡◌, ◌++◌, IfOk, OnOk};
 ghost use Rattle.gopher_check.specs.Report.{unknown_detail, settings_detail, detail, line_detail, fault_report};

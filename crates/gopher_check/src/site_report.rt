@@ -1,4 +1,4 @@
-//! The report of a site without a fault.
+//! The report of a site without a fault: address, sizes, seeds and rules.
 
 ghost use Rattle.std.specs.Prelude.{◌≡◌, ◌++◌, IfOk, OnOk};
 ghost use Rattle.std.specs.List.{flat_map};

@@ -9,7 +9,7 @@ use crate::menu_file::bad_line;
 use crate::tree::path::{is_menu_path, path_fault};
 
 // The most bytes of a file.
-pub(crate) const LARGEST_FILE: usize = 16_777_216;
+pub(crate) const MAX_FILE: usize = 16_777_216;
 
 // The fault of a file as a menu file, if it is one.
 pub(crate) fn menu_fault(number: usize, path: &[u8], bytes: &[u8]) -> Option<TreeFault>
@@ -32,7 +32,7 @@ fn fault_alone(path: &[u8], bytes: &[u8]) -> Option<TreeFault>
     if let Some(fault) = path_fault(0, path) {
         return Some(fault);
     }
-    if bytes.len() > LARGEST_FILE {
+    if bytes.len() > MAX_FILE {
         return Some(TreeFault::TooBig { file: 0 });
     }
     menu_fault(0, path, bytes)
