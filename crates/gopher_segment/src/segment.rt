@@ -47,7 +47,7 @@ impl Model for Segment {
 impl Segment {
     /// Makes the segment of `pages`. The first page has the number `first`.
     ///
-    /// While it runs it allocates up to 108 bytes for each distinct word of each page, and 65,536
+    /// While it runs it allocates up to 127 bytes for each distinct word of each page, and 65,536
     /// bytes more.
     pub fn of_pages(alloc: Global, first: usize, pages: &[Arc<Page>]) -> Result<Segment, NoMemory>
         requires { first + length pages.now ≤ 65536 }
