@@ -12,10 +12,8 @@ use gopher_bytes::NoMemory;
 use itoa::Buffer;
 use std::alloc::AllocError;
 
-/// Appends the start of a menu line: the type, the display string and a TAB.
-///
-/// If out of memory, `out` can end with a prefix of these bytes.
-pub fn push_front(kind: u8, display: &[u8], out: &mut Vec<u8>) -> Result<(), AllocError>
+// Appends the start of a menu line. If out of memory, `out` can end with a prefix of it.
+fn put_front(kind: u8, display: &[u8], out: &mut Vec<u8>) -> Result<(), AllocError>
     ensures written { OnOk result (out.new.items
         ≡ out.old.items ++ (kind ∷ display.now ++ 9 ∷ [])) }
     ensures kept { StartsWith out.new.items out.old.items }
@@ -26,10 +24,8 @@ pub fn push_front(kind: u8, display: &[u8], out: &mut Vec<u8>) -> Result<(), All
     Ok(())
 }
 
-/// Appends the end of a menu line: a TAB, the host, a TAB, the port and CR LF.
-///
-/// If out of memory, `out` can end with a prefix of these bytes.
-pub fn push_server(host: &[u8], port: u16, out: &mut Vec<u8>) -> Result<(), AllocError>
+// Appends the end of a menu line. If out of memory, `out` can end with a prefix of it.
+fn put_server(host: &[u8], port: u16, out: &mut Vec<u8>) -> Result<(), AllocError>
     ensures written { OnOk result (out.new.items ≡ out.old.items
         ++ (9 ∷ host.now ++ 9 ∷ decimal port ++ codes "\r\n")) }
     ensures kept { StartsWith out.new.items out.old.items }
@@ -42,11 +38,8 @@ pub fn push_server(host: &[u8], port: u16, out: &mut Vec<u8>) -> Result<(), Allo
     out.extend_from_slice(b"\r\n")
 }
 
-/// Appends a menu line (RFC 1436, appendix: DirEntity). The caller ensures that no part contains a
-/// TAB, CR, LF or NUL.
-///
-/// If out of memory, `out` can end with a prefix of the line.
-pub fn push_menu_line(
+// Appends a menu line. If out of memory, `out` can end with a prefix of it.
+fn put_menu_line(
     kind: u8,
     display: &[u8],
     selector: &[u8],
@@ -58,17 +51,76 @@ pub fn push_menu_line(
         ++ menu_line_bytes (menu_line_of kind display.now selector.now host.now port)) }
     ensures kept { StartsWith out.new.items out.old.items }
 {
-    push_front(kind, display, out)?;
+    put_front(kind, display, out)?;
     out.extend_from_slice(selector)?;
-    push_server(host, port, out)
+    put_server(host, port, out)
+}
+
+/// Appends the start of a menu line: the type, the display string and a TAB.
+///
+/// If out of memory, `out` stays unchanged.
+pub fn push_front(kind: u8, display: &[u8], out: &mut Vec<u8>) -> Result<(), NoMemory>
+    ensures written { OnOk result (out.new.items
+        ≡ out.old.items ++ (kind ∷ display.now ++ 9 ∷ [])) }
+    ensures refused { OnErr result (out.new.items ≡ out.old.items) }
+{
+    let length = out.len();
+    if put_front(kind, display, out).is_err() {
+        out.truncate(length);
+        return Err(NoMemory);
+    }
+    Ok(())
+}
+
+/// Appends the end of a menu line: a TAB, the host, a TAB, the port and CR LF.
+///
+/// If out of memory, `out` stays unchanged.
+pub fn push_server(host: &[u8], port: u16, out: &mut Vec<u8>) -> Result<(), NoMemory>
+    ensures written { OnOk result (out.new.items ≡ out.old.items
+        ++ (9 ∷ host.now ++ 9 ∷ decimal port ++ codes "\r\n")) }
+    ensures refused { OnErr result (out.new.items ≡ out.old.items) }
+{
+    let length = out.len();
+    if put_server(host, port, out).is_err() {
+        out.truncate(length);
+        return Err(NoMemory);
+    }
+    Ok(())
+}
+
+/// Appends a menu line (RFC 1436, appendix: DirEntity). The caller ensures that no part contains a
+/// TAB, CR, LF or NUL.
+///
+/// If out of memory, `out` stays unchanged.
+pub fn push_menu_line(
+    kind: u8,
+    display: &[u8],
+    selector: &[u8],
+    host: &[u8],
+    port: u16,
+    out: &mut Vec<u8>,
+) -> Result<(), NoMemory>
+    ensures written { OnOk result (out.new.items ≡ out.old.items
+        ++ menu_line_bytes (menu_line_of kind display.now selector.now host.now port)) }
+    ensures refused { OnErr result (out.new.items ≡ out.old.items) }
+{
+    let length = out.len();
+    if put_menu_line(kind, display, selector, host, port, out).is_err() {
+        out.truncate(length);
+        return Err(NoMemory);
+    }
+    Ok(())
 }
 
 /// Appends the line that ends a menu: a single period and CR LF (RFC 1436, appendix: Lastline).
-pub fn push_last_line(out: &mut Vec<u8>) -> Result<(), AllocError>
+///
+/// If out of memory, `out` stays unchanged.
+pub fn push_last_line(out: &mut Vec<u8>) -> Result<(), NoMemory>
     ensures written { OnOk result (out.new.items ≡ out.old.items ++ codes ".\r\n") }
     ensures refused { OnErr result (out.new.items ≡ out.old.items) }
 {
-    out.extend_from_slice(b".\r\n")
+    out.extend_from_slice(b".\r\n")?;
+    Ok(())
 }
 
 fn push_line(line: &MenuLine, out: &mut Vec<u8>) -> Result<(), AllocError>
@@ -76,7 +128,7 @@ fn push_line(line: &MenuLine, out: &mut Vec<u8>) -> Result<(), AllocError>
     ensures written { OnOk result (out.new.items ≡ out.old.items ++ menu_line_bytes line.now) }
     ensures kept { StartsWith out.new.items out.old.items }
 {
-    push_menu_line(
+    put_menu_line(
         line.kind(),
         line.display(),
         line.selector(),
@@ -87,7 +139,7 @@ fn push_line(line: &MenuLine, out: &mut Vec<u8>) -> Result<(), AllocError>
 }
 
 // Appends the lines and the last line.
-fn push_lines(lines: &[MenuLine], out: &mut Vec<u8>) -> Result<(), AllocError>
+fn push_lines(lines: &[MenuLine], out: &mut Vec<u8>) -> Result<(), NoMemory>
     ensures plain { OnOk result (All IsMenuLine lines.now) }
     ensures written { OnOk result (out.new.items ≡ out.old.items ++ menu_bytes lines.now) }
     ensures kept { StartsWith out.new.items out.old.items }

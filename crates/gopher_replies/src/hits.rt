@@ -6,7 +6,7 @@ ghost use Rattle.gopher_replies.specs.Hits.{hit_line, hit_lines, hits_bytes};
 
 use gopher_index::Hit;
 use gopher_item::{NoMemory, push_last_line, push_menu_line};
-use std::alloc::{AllocError, Global};
+use std::alloc::Global;
 
 /// Returns the menu of hits: a line for each, in their order, and the last line.
 pub fn hits_menu(alloc: Global, hits: &[Hit]) -> Result<Vec<u8>, NoMemory>
@@ -19,7 +19,7 @@ pub fn hits_menu(alloc: Global, hits: &[Hit]) -> Result<Vec<u8>, NoMemory>
 }
 
 // Appends a line for each hit.
-fn push_hits(hits: &[Hit], out: &mut Vec<u8>) -> Result<(), AllocError>
+fn push_hits(hits: &[Hit], out: &mut Vec<u8>) -> Result<(), NoMemory>
     ensures { OnOk result (out.new.items ≡ out.old.items ++ hit_lines hits.now) }
 {
     for hit in hits {
@@ -29,7 +29,7 @@ fn push_hits(hits: &[Hit], out: &mut Vec<u8>) -> Result<(), AllocError>
 }
 
 // Appends the line of a hit.
-fn push_hit(hit: &Hit, out: &mut Vec<u8>) -> Result<(), AllocError>
+fn push_hit(hit: &Hit, out: &mut Vec<u8>) -> Result<(), NoMemory>
     ensures { OnOk result (out.new.items ≡ out.old.items ++ menu_line_bytes (hit_line hit.now)) }
 {
     let place = &hit.place;

@@ -52,8 +52,8 @@ impl Model for Segment {
 impl Segment {
     /// Makes the segment of `pages`. The first page has the number `first`.
     ///
-    /// While it runs it allocates up to 108 bytes for each distinct word of each page, and 65,536
-    /// bytes more. Behind that it sorts the places of the pages, with up to 34 bytes for each.
+    /// While it runs it allocates up to 127 bytes for each distinct word of each page, and 65,536
+    /// bytes more. Then it sorts the places of the pages, with up to 34 bytes for each.
     pub fn of_pages(alloc: Global, first: usize, pages: &[Arc<Page>]) -> Result<Segment, NoMemory>
         requires { first + length pages.now ≤ 65536 }
         ensures first { IfOk result (λ segment. segment.first ≡ first) }

@@ -1,22 +1,38 @@
 //! Shared values in several lists.
 
-ghost use Rattle.std.specs.Prelude.{◌≡◌, ◌++◌, map, IfOk, OnOk};
+ghost use Rattle.std.specs.Prelude.{◌≡◌, ◌++◌, length, map, take, IfOk, OnOk, OnErr};
 ghost use Rattle.std.specs.Arc.{arc_value};
 
 use gopher_bytes::NoMemory;
 use std::alloc::Global;
 use std::sync::Arc;
 
-/// Appends the items to a list, which then shares them.
-///
-/// If out of memory, the list can end with some of them.
-pub fn share<T: Drop>(items: &[Arc<T>], list: &mut Vec<Arc<T>>) -> Result<(), NoMemory>
-    ensures { OnOk result (map arc_value list.new.items
+// Appends the items to a list, which then shares them. If out of memory, the list can end with some
+// of them.
+fn push_shared<T: Drop>(items: &[Arc<T>], list: &mut Vec<Arc<T>>) -> Result<(), NoMemory>
+    ensures shared { OnOk result (map arc_value list.new.items
         ≡ map arc_value list.old.items ++ map arc_value items.now) }
+    ensures kept { take (length list.old.items) list.new.items ≡ list.old.items }
 {
     list.reserve(items.len())?;
     for item in items {
         list.push(item.clone()?)?;
+    }
+    Ok(())
+}
+
+/// Appends the items to a list, which then shares them.
+///
+/// If out of memory, the list stays unchanged.
+pub fn share<T: Drop>(items: &[Arc<T>], list: &mut Vec<Arc<T>>) -> Result<(), NoMemory>
+    ensures shared { OnOk result (map arc_value list.new.items
+        ≡ map arc_value list.old.items ++ map arc_value items.now) }
+    ensures refused { OnErr result (list.new.items ≡ list.old.items) }
+{
+    let length = list.len();
+    if push_shared(items, list).is_err() {
+        list.truncate(length);
+        return Err(NoMemory);
     }
     Ok(())
 }
@@ -26,6 +42,6 @@ pub fn shared<T: Drop>(alloc: Global, items: &[Arc<T>]) -> Result<Vec<Arc<T>>, N
     ensures { IfOk result (λ list. map arc_value list.items ≡ map arc_value items.now) }
 {
     let mut list = Vec::new(alloc);
-    share(items, &mut list)?;
+    push_shared(items, &mut list)?;
     Ok(list)
 }

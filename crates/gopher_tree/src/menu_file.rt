@@ -11,10 +11,9 @@ ghost use Rattle.gopher_tree.specs.MenuFile.{is_item, written_item, line_of_fiel
 ghost use Rattle.gopher_tree.specs.WrittenLine.{line_data, server_data, IsLine};
 
 use gopher_item::{
-    Home, first_line, has_special, is_bad_type, is_host, is_selector, push_menu_line, read_number,
-    split_once, trim_spaces,
+    Home, NoMemory, first_line, has_special, is_bad_type, is_host, is_selector, push_menu_line,
+    read_number, split_once, trim_spaces,
 };
-use std::alloc::AllocError;
 
 const TAB: u8 = b'\t';
 
@@ -112,7 +111,7 @@ pub(crate) fn bad_line(bytes: &[u8]) -> Option<usize>
 }
 
 // Appends the line as a server with the address `home` sends it.
-fn push_written(line: WrittenLine, home: &Home, out: &mut Vec<u8>) -> Result<(), AllocError>
+fn push_written(line: WrittenLine, home: &Home, out: &mut Vec<u8>) -> Result<(), NoMemory>
     ensures written { OnOk result (out.new.items ≡ out.old.items
         ++ menu_line_bytes (sent_line home.now (line_data line.entry))) }
 {
@@ -128,7 +127,7 @@ pub(crate) fn push_written_lines(
     bytes: &[u8],
     home: &Home,
     out: &mut Vec<u8>,
-) -> Result<(), AllocError>
+) -> Result<(), NoMemory>
     ensures { OnOk result (out.new.items ≡ out.old.items
         ++ flat_map menu_line_bytes (written_menu home.now bytes.now)) }
 {

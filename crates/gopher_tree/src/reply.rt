@@ -11,7 +11,7 @@ use crate::menu_file::push_written_lines;
 use crate::tree::children::Children;
 use gopher_item::{Home, NoMemory, push_last_line, push_menu_line};
 use gopher_text::write_text_of;
-use std::alloc::{AllocError, Global};
+use std::alloc::Global;
 
 /// Makes an error reply: a menu with one line of type `3` (RFC 1436, section 3.8) that displays
 /// `text`.
@@ -60,7 +60,7 @@ fn front_of(alloc: Global, folder: &[u8]) -> Result<Vec<u8>, NoMemory>
 }
 
 // Appends the search line if the folder is the root.
-fn push_head(folder: &[u8], home: &Home, out: &mut Vec<u8>) -> Result<(), AllocError>
+fn push_head(folder: &[u8], home: &Home, out: &mut Vec<u8>) -> Result<(), NoMemory>
     ensures { OnOk result (out.new.items ≡ out.old.items
         ++ flat_map menu_line_bytes (head_lines home.now folder.now)) }
 {

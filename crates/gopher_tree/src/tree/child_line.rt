@@ -4,8 +4,7 @@ ghost use Rattle.std.specs.Prelude.{◌≡◌, ◌++◌, OnOk};
 ghost use Rattle.gopher_item.specs.MenuLine.{menu_line_bytes};
 ghost use Rattle.gopher_tree.specs.Reply.{child_line};
 
-use gopher_item::{Home, push_front, push_server};
-use std::alloc::AllocError;
+use gopher_item::{Home, NoMemory, push_front, push_server};
 
 // Appends the line of a name in a folder; `front` comes before the name in its selector.
 pub(crate) fn push_child_line(
@@ -14,7 +13,7 @@ pub(crate) fn push_child_line(
     front: &[u8],
     home: &Home,
     out: &mut Vec<u8>,
-) -> Result<(), AllocError>
+) -> Result<(), NoMemory>
     ensures { OnOk result (out.new.items ≡ out.old.items
         ++ menu_line_bytes (child_line home.now front.now (name.now, kind))) }
 {

@@ -10,7 +10,7 @@ ghost use Rattle.gopher_tree.specs.Reply.{child_line};
 
 use crate::tree::child_line::push_child_line;
 use gopher_item::{ByteString, Home, NoMemory};
-use std::alloc::{AllocError, Global};
+use std::alloc::Global;
 use std::collections::BTreeMap;
 use std::marker::Model;
 
@@ -51,7 +51,7 @@ impl Children {
         front: &[u8],
         home: &Home,
         out: &mut Vec<u8>,
-    ) -> Result<(), AllocError>
+    ) -> Result<(), NoMemory>
         ensures { OnOk result (out.new.items ≡ out.old.items
             ++ flat_map menu_line_bytes (map (child_line home.now front.now) self.now)) }
     {

@@ -9,7 +9,7 @@ returns c =
     let rest = take_rest segments c.args.end in
     let front = take c.args.start (map arc_value segments) in
     let begun = ap (map arc_value) c.in_ok-push.ensures.items ∙ map_push arc_value c.in_ok-list.list.items c.args.merged ∙ ap (λ l. l ++ arc_value c.args.merged ∷ []) (c.in_ok-list.ensures ∙ sym (take-map arc_value c.args.start segments)) in
-    c.in_ok-share.ensures
+    c.in_ok-share.ensures.shared
     ∙ (λ i. begun i ++ map arc_value (rest i))
     ∙ append_assoc front (arc_value c.args.merged ∷ []) (map arc_value (drop c.args.end segments))
     ∙ ap (λ l. front ++ arc_value c.args.merged ∷ l) (sym (drop-map arc_value c.args.end segments))
