@@ -14,6 +14,7 @@ use crate::crew::Crew;
 use crate::fault::DeskFault;
 use crate::journal::Journal;
 use crate::kept::Kept;
+use crate::memory::PageMemory;
 use crate::note::Note;
 use crate::opening::{cut, show};
 use crate::pass::Pass;
@@ -30,6 +31,7 @@ use std::sync::{Arc, Condvar, Mutex, MutexGuard, Wait};
 pub struct Desk<C: Crew, R: Wait + Drop> {
     kept: Mutex<Kept<C, R>>,
     outcomes: Condvar,
+    memory: PageMemory,
 }
 
 /// The error of `Desk::open`, with the arguments that it was given.
@@ -110,6 +112,7 @@ fn start<C: Crew, R: Wait + Drop>(
     Desk {
         kept: Mutex::new(Kept::new(catalogue, book, journal)),
         outcomes: Condvar::new(),
+        memory: PageMemory::unlimited(),
     }
 }
 
@@ -302,6 +305,23 @@ impl<C: Crew, R: Wait + Drop> Desk<C, R> {
         unreachable!()
     }
 
+    /// Limits the memory that the pages of workers may take, in bytes as `Page::size` counts them. A
+    /// worker fails a page past it with `NoMemory` (5), as if out of memory. Without a call of this
+    /// there is no limit.
+    pub fn limit_memory(&self, bytes: u64) {
+        self.memory.set_limit(bytes);
+    }
+
+    /// Returns how many pages workers failed because they were past the limit of memory.
+    pub fn pages_past_limit(&self) -> u64 {
+        self.memory.refused()
+    }
+
+    /// The memory that the pages of workers take.
+    pub(crate) fn memory(&self) -> &PageMemory {
+        &self.memory
+    }
+
     /// Returns the number of places in each state. They are those of a legal record.
     pub fn status<W: Wait>(&self, rt: &W) -> Status
         ensures { IsStatus result }
@@ -316,14 +336,22 @@ impl<C: Crew, R: Wait + Drop> Desk<C, R> {
         ensures joined { IfErr result (λ refused. AreJoined shares.items refused.shares.items) }
         ensures whole { HasAll C.parts shares.items → IsOk result }
     {
-        let Desk { kept, outcomes } = self;
+        let Desk {
+            kept,
+            outcomes,
+            memory,
+        } = self;
         let mut kept = kept.into_inner();
         let mut shares = shares;
         let sum = kept.gather(&mut shares);
         let events = kept.events();
         if sum != events {
             let kept = Mutex::new(kept);
-            let desk = Desk { kept, outcomes };
+            let desk = Desk {
+                kept,
+                outcomes,
+                memory,
+            };
             return Err(CloseRefused {
                 desk,
                 shares,

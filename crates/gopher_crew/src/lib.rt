@@ -64,6 +64,7 @@ mod history;
 mod journal;
 mod kept;
 pub mod laws;
+mod memory;
 mod note;
 mod opening;
 mod pass;

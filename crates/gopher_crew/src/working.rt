@@ -1,6 +1,6 @@
 //! Workers, which fetch and settle while they hold no lock.
 
-ghost use Rattle.std.specs.Prelude.{◌≡◌, ◌+◌, ◌*◌, ◌≤◌, vec_len, IfOk};
+ghost use Rattle.std.specs.Prelude.{◌≡◌, ◌+◌, ◌*◌, ◌≤◌, true, false, vec_len, IfOk};
 ghost use Rattle.gopher_crew.specs.Work.{one_more_call, found_rise, failed_rise, outcome_rise, IsPaid, IsStop, EndsClaim, Works};
 
 use crate::crew::Crew;
@@ -66,6 +66,31 @@ fn hand_in_failure<C: Crew, R: Wait + Drop, W: Wait>(
     }
 }
 
+// Hands in a page, if there is memory for it. Returns whether it was added.
+fn hand_in_page<C: Crew, R: Wait + Drop, W: Wait>(
+    rt: &W,
+    desk: &Desk<C, R>,
+    share: &mut Share<C>,
+    number: u32,
+    page: Page,
+) -> bool
+    ensures found { result ≡ true → share.new.events ≡ share.old.events + 1 }
+    ensures refused { result ≡ false → share.new.events ≡ share.old.events }
+    ensures parts { share.new.parts ≡ share.old.parts }
+{
+    let size = page.size() as u64;
+    if !desk.memory().take(size) {
+        return false;
+    }
+    match desk.found(rt, share, number, page) {
+        Ok(_reply) => true,
+        Err(_refused) => {
+            desk.memory().give_back(size);
+            false
+        }
+    }
+}
+
 // Hands in the page of a place, or fails it. A place whose page is refused is failed, too, since it
 // would stay out otherwise.
 fn hand_in<C: Crew, R: Wait + Drop, W: Wait>(
@@ -80,10 +105,12 @@ fn hand_in<C: Crew, R: Wait + Drop, W: Wait>(
     ensures out { EndsClaim result number }
 {
     let why = match settled {
-        Ok(page) => match desk.found(rt, share, number, page) {
-            Ok(_reply) => return Outcome::Found,
-            Err(_refused) => Why::NoMemory,
-        },
+        Ok(page) => {
+            if hand_in_page(rt, desk, share, number, page) {
+                return Outcome::Found;
+            }
+            Why::NoMemory
+        }
         Err(why) => why,
     };
     hand_in_failure(rt, desk, share, number, why)

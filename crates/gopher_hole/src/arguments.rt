@@ -53,6 +53,8 @@ pub struct Serving<'a> {
     pub log: Option<&'a str>,
     /// Whether to print the progress of the crawl.
     pub progress: bool,
+    /// How many bytes the pages of the crawl may take; `None` if there is no limit.
+    pub crawl_memory: Option<u64>,
     /// Where the server listens: IP addresses, each with or without a port, for example `192.0.2.1:70`
     /// or `::`. If there are none, it listens at the addresses of the settings' host.
     pub addresses: Vec<&'a str>,
@@ -64,6 +66,14 @@ fn log_argument<'a>(alloc: Global) -> Arg<'a> {
         .value_name("FILE")
         .action(ArgAction::Set)
         .help("Append a line for each request to this file")
+}
+
+fn memory_argument<'a>(alloc: Global) -> Arg<'a> {
+    Arg::new(alloc, "crawl-memory")
+        .long("crawl-memory")
+        .value_name("BYTES")
+        .action(ArgAction::Set)
+        .help("Leave out pages once they take this much memory, for example 64M (or K, G)")
 }
 
 fn progress_argument<'a>(alloc: Global) -> Arg<'a> {
@@ -112,7 +122,8 @@ fn serve_command<'a>(alloc: Global) -> Result<Command<'a>, AllocError> {
         .arg(address_argument(alloc))?
         .arg(requests)?
         .arg(log_argument(alloc))?
-        .arg(progress_argument(alloc))
+        .arg(progress_argument(alloc))?
+        .arg(memory_argument(alloc))
 }
 
 fn program_command<'a>(alloc: Global) -> Result<Command<'a>, AllocError> {
@@ -159,13 +170,47 @@ fn address_of(argument: &str) -> Option<&str> {
     }
 }
 
-// The text about an argument that isn't an address.
-fn no_address<'a>(alloc: Global, argument: &str) -> Result<Asked<'a>, NoMemory> {
+// The number of bytes that an argument names: `65536`, `64K`, `64M` or `64G`.
+fn bytes_of(argument: &str) -> Option<u64> {
+    let (digits, unit) = if let Some(digits) = argument.strip_suffix('K') {
+        (digits, 1 << 10)
+    } else if let Some(digits) = argument.strip_suffix('M') {
+        (digits, 1 << 20)
+    } else if let Some(digits) = argument.strip_suffix('G') {
+        (digits, 1 << 30)
+    } else {
+        (argument, 1)
+    };
+    match digits.parse::<u64>() {
+        Ok(number) => number.checked_mul(unit),
+        Err(_) => None,
+    }
+}
+
+// The text about a bad value of an option.
+fn bad_value<'a>(
+    alloc: Global,
+    argument: &str,
+    option: &str,
+    problem: &str,
+) -> Result<Asked<'a>, NoMemory> {
     let text = format!(in alloc;
-        "error: invalid value '{argument}' for '--listen <ADDRESS>': expected an \
-         IP address, with or without a port\n\nFor more information, try 'hole serve --help'.\n"
+        "error: invalid value '{argument}' for '{option}': {problem}\n\n\
+         For more information, try 'hole serve --help'.\n"
     )?;
     Ok(Asked::Told(Text::Refusal(text)))
+}
+
+// The text about an argument that isn't an address.
+fn no_address<'a>(alloc: Global, argument: &str) -> Result<Asked<'a>, NoMemory> {
+    let problem = "expected an IP address, with or without a port";
+    bad_value(alloc, argument, "--listen <ADDRESS>", problem)
+}
+
+// The text about an argument that isn't a number of bytes.
+fn no_bytes<'a>(alloc: Global, argument: &str) -> Result<Asked<'a>, NoMemory> {
+    let problem = "expected a number of bytes, for example 65536, 64K, 64M or 64G";
+    bad_value(alloc, argument, "--crawl-memory <BYTES>", problem)
 }
 
 // The arguments of `serve`, or the text about a bad one.
@@ -180,11 +225,19 @@ fn read_serve<'a>(alloc: Global, serve: &ArgMatches<'a>) -> Result<Asked<'a>, No
             None => return no_address(alloc, argument),
         }
     }
+    let mut crawl_memory = None;
+    if let Some(argument) = serve.get_str("crawl-memory") {
+        crawl_memory = bytes_of(argument);
+        if crawl_memory.is_none() {
+            return no_bytes(alloc, argument);
+        }
+    }
     Ok(Asked::Serve(Serving {
         settings,
         requests: serve.get_one::<u64>("requests"),
         log: serve.get_str("log"),
         progress: serve.get_flag("progress"),
+        crawl_memory,
         addresses,
     }))
 }

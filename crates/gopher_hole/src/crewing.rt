@@ -9,7 +9,7 @@ use crate::fault::ProgramFault;
 use crate::fetching::TcpFetch;
 use crate::listening::listen;
 use crate::opening::{Opened, open, read_settings};
-use crate::progress::crawl_and_tell;
+use crate::progress::{crawl_and_tell, tell_limit};
 use crate::starting::{Started, join_all, start_threads};
 use gopher_catalogue::Status;
 use gopher_crew::{Blank, Crew, Desk, Pass, Share, WorkEnd, crawl};
@@ -115,7 +115,9 @@ fn serve_and_crawl<
     let crawled = if progress {
         crawl_and_tell(rt, alloc, desk, pairs)
     } else {
-        crawl(rt, alloc, desk, pairs)
+        let crawled = crawl(rt, alloc, desk, pairs);
+        tell_limit(rt, desk);
+        crawled
     };
     let end = join_all(rt, started);
     if let Some(fault) = fault_at_end(end.failed, end.is_short, crawled.is_ok()) {
@@ -201,6 +203,9 @@ pub fn serve<
         passes,
         shares,
     } = open::<C, R>(rt, alloc, settings, blank)?;
+    if let Some(bytes) = serving.crawl_memory {
+        desk.limit_memory(bytes);
+    }
     let pairs = pairs_of(alloc, shares)?;
     let listeners = listen(rt, alloc, replies.home(), &serving.addresses)?;
     tell_listening(alloc, replies.home(), output)?;

@@ -29,6 +29,16 @@ fn tell(rt: &impl Eprint, alloc: Global, status: Status) {
     }
 }
 
+/// Prints on the error stream that the crawl reached its limit of memory, if it did, and returns whether
+/// it did.
+pub fn tell_limit<C: Crew, R: Wait + Drop>(rt: &impl Eprint, desk: &Desk<C, R>) -> bool {
+    let is_reached = desk.pages_past_limit() > 0;
+    if is_reached {
+        let _ = rt.eprintln("hole: the crawl reached --crawl-memory: it leaves pages out");
+    }
+    is_reached
+}
+
 // Waits until the crawl is over, for ten seconds at most, and returns whether it is.
 fn wait_for_end(clock: &impl Clock, is_over: &AtomicBool) -> bool {
     for _rest in 0..RESTS {
@@ -40,7 +50,8 @@ fn wait_for_end(clock: &impl Clock, is_over: &AtomicBool) -> bool {
     is_over.load(Ordering::SeqCst)
 }
 
-// Prints the sizes every ten seconds if they have changed, and once the crawl is over.
+// Prints the sizes every ten seconds if they have changed, and once the crawl is over. Prints once if
+// the crawl reaches its limit of memory.
 fn tell_until_over<C: Crew, R: Wait + Drop, W: Wait + Clock + Eprint>(
     rt: &W,
     alloc: Global,
@@ -48,12 +59,16 @@ fn tell_until_over<C: Crew, R: Wait + Drop, W: Wait + Clock + Eprint>(
     is_over: &AtomicBool,
 ) {
     let mut told = None;
+    let mut is_limit_told = false;
     for _round in rt.forever() {
         let was_over = wait_for_end(rt, is_over);
         let status = desk.status(rt);
         if told != Some(status) {
             tell(rt, alloc, status);
             told = Some(status);
+        }
+        if !is_limit_told {
+            is_limit_told = tell_limit(rt, desk);
         }
         if was_over {
             return;

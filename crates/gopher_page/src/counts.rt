@@ -165,6 +165,12 @@ impl Counts {
         self.ends.len()
     }
 
+    /// Returns the number of bytes that the words, their ends and their counts take.
+    pub fn size(&self) -> usize {
+        let tables = self.ends.size().saturating_add(self.counts.size());
+        self.bytes.len().saturating_add(tables)
+    }
+
     /// Returns the word at `index`, which is below `len`, and its count.
     pub fn get(&self, index: usize) -> (&[u8], u32)
         requires { index < length self.now }

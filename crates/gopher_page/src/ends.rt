@@ -66,6 +66,11 @@ impl Ends {
         self.low.len()
     }
 
+    /// Returns the number of bytes that the ends take.
+    pub fn size(&self) -> usize {
+        self.low.len().saturating_add(self.high.len()).saturating_mul(2)
+    }
+
     /// Returns the end at `index`.
     pub fn get(&self, index: usize) -> u32
         requires { index < length self.now }

@@ -57,6 +57,17 @@ impl Model for Page {
     ghost view = { λ p. arc_value p.parts };
 }
 
+// The most bytes of memory that a page takes beside its words, its title and its links: its place, its
+// events, and its part of the lists of a catalogue.
+const PAGE_SIZE: usize = 512;
+
+// The most bytes that a catalogue takes for a known place, beside its selector and its host.
+const LINK_SIZE: usize = 160;
+
+// The most bytes that a word of a page takes in a segment of an index, beside the word: its end, the
+// end of its posting list, and the posting.
+const POSTING_SIZE: usize = 11;
+
 // The page of a place with these lines and links.
 fn page_of_lines(
     alloc: Global,
@@ -160,6 +171,21 @@ impl Page {
         ensures { result.now ≡ self.now.counts }
     {
         &self.parts.counts
+    }
+
+    /// Returns how many bytes of memory a catalogue needs for the page, at most: its words twice (in the
+    /// page and in the index), its title, and its links as known places. Words and places that other
+    /// pages have too are counted again.
+    pub fn size(&self) -> usize {
+        let words = self.parts.counts.size();
+        let postings = self.parts.counts.len().saturating_mul(POSTING_SIZE);
+        let mut size = PAGE_SIZE.saturating_add(self.parts.title.len());
+        size = size.saturating_add(words.saturating_mul(2)).saturating_add(postings);
+        for link in self.parts.links.iter() {
+            let names = link.selector().len().saturating_add(link.host().len());
+            size = size.saturating_add(names).saturating_add(LINK_SIZE);
+        }
+        size
     }
 
     /// Returns how often `word` occurs in the page.

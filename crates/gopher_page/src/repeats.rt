@@ -61,6 +61,12 @@ impl Repeats {
         self.high.shrink_to_fit();
     }
 
+    /// Returns the number of bytes that the counts take.
+    pub fn size(&self) -> usize {
+        let high = self.high.len().saturating_mul(2);
+        self.low.len().saturating_add(high)
+    }
+
     /// Returns the count at `index`.
     pub fn get(&self, index: usize) -> u32
         requires { index < length self.now }
