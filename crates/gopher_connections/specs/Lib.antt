@@ -1,3 +1,4 @@
+pub mod Connections
 pub mod Deadlines
 pub mod Places
 pub mod WorkQueue

@@ -1,9 +1,10 @@
 //! Connections by their keys, in the order of their last use.
 
-ghost use Rattle.std.specs.Prelude.{◌≡◌, ◌==◌, [], Some, length, nat_eq, IfOk, IfErr, OnErr};
+ghost use Rattle.std.specs.Prelude.{◌≡◌, ◌==◌, [], Some, length, nat_eq, IfOk, IfErr, OnErr, OnOk};
 ghost use Rattle.std.specs.Option.{is_some, option_map, option_copied_mut};
 ghost use Rattle.std.specs.Map.{lookup, remove_entry};
-ghost use Rattle.lru.specs.LruCache.{last_entry, promoted};
+ghost use Rattle.lru.specs.LruCache.{last_entry, promoted, put_entries};
+ghost use Rattle.gopher_connections.specs.Connections.{key_after};
 
 use lru::LruCache;
 use std::alloc::{AllocError, Global};
@@ -11,7 +12,8 @@ use std::alloc::{AllocError, Global};
 /// Connections that wait, each at a key of its own, in the order of their last use. Keys are
 /// numbers from 0 that aren't given twice.
 ///
-/// Contracts see the pairs of keys and connections as `held.entries`, the most recently used first.
+/// Contracts see the pairs of keys and connections as `held.entries`, the most recently used first,
+/// and the next key as `next`.
 #[derive(Drop)]
 pub struct Connections<T: Drop> {
     held: LruCache<usize, T>,
@@ -25,7 +27,8 @@ impl<T: Drop> Connections<T> {
     ///
     /// Out of memory (90).
     pub fn new(alloc: Global) -> Result<Connections<T>, AllocError>
-        ensures { IfOk result (λ none. none.held.entries ≡ []) }
+        ensures none { IfOk result (λ none. none.held.entries ≡ []) }
+        ensures next { IfOk result (λ none. none.next ≡ 0) }
     {
         Ok(Connections {
             held: LruCache::unbounded(alloc)?,
@@ -53,8 +56,12 @@ impl<T: Drop> Connections<T> {
     ///
     /// The connection, if memory is refused. The others are as they were.
     pub fn put(&mut self, connection: T) -> Result<usize, T>
+        ensures key { IfOk result (λ key. key ≡ self.old.next) }
         ensures named { IfOk result (λ key.
             lookup (nat_eq key) self.new.held.entries ≡ Some connection) }
+        ensures others { OnOk result (self.new.held.entries
+            ≡ put_entries nat_eq self.old.held self.old.next connection) }
+        ensures next { OnOk result (self.new.next ≡ key_after self.old.next) }
         ensures returned { IfErr result (λ refused. refused ≡ connection) }
         ensures kept { OnErr result (self.new.held.entries ≡ self.old.held.entries) }
     {
@@ -83,6 +90,7 @@ impl<T: Drop> Connections<T> {
     pub fn touch(&mut self, key: usize) -> bool
         ensures found { result ≡ is_some (lookup (nat_eq key) self.old.held.entries) }
         ensures first { self.new.held.entries ≡ promoted (nat_eq key) self.old.held.entries }
+        ensures next { self.new.next ≡ self.old.next }
     {
         self.held.promote(&key)
     }
@@ -98,6 +106,7 @@ impl<T: Drop> Connections<T> {
     pub fn remove(&mut self, key: usize) -> Option<T>
         ensures taken { result ≡ lookup (nat_eq key) self.old.held.entries }
         ensures others { self.new.held.entries ≡ remove_entry (nat_eq key) self.old.held.entries }
+        ensures next { self.new.next ≡ self.old.next }
     {
         self.held.pop(&key)
     }

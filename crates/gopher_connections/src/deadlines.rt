@@ -1,4 +1,4 @@
-//! When connections end that linger.
+//! The deadlines of lingering connections, the earliest first.
 
 ghost use Rattle.std.specs.Prelude.{◌≡◌, ◌∷◌, ◌++◌, [], MatchOption, OnOk, OnErr};
 ghost use Rattle.gopher_connections.specs.Deadlines.{NoneIsDue, TakesDue, first_deadline};

@@ -1,4 +1,4 @@
-//! The places of a server's connections.
+//! The places for connections that all server threads share, and what a thread may hold of them.
 
 ghost use Rattle.std.specs.Prelude.{◌≡◌, ◌-◌, nat_lt, None, Some, if◌then◌else◌};
 ghost use Rattle.gopher_connections.specs.Places.{max_places as most, fair_share};

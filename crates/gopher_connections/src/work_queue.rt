@@ -1,4 +1,4 @@
-//! Whose work is next.
+//! A queue of keys, first in, first out: whose search is next.
 
 ghost use Rattle.std.specs.Prelude.{◌≡◌, ◌∷◌, ◌++◌, [], OnOk, OnErr};
 ghost use Rattle.gopher_connections.specs.WorkQueue.{first_key, without_key};

@@ -1,4 +1,4 @@
-//! Batches of lines.
+//! Lines of the log, gathered before they are written (`Batch`).
 
 ghost use Rattle.std.specs.Prelude.{◌≡◌, OnOk, OnErr};
 ghost use Rattle.gopher_log.specs.Batch.{is_full, is_empty, with_line, with_dropped, with_request, with_told, no_lines};

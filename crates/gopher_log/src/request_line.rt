@@ -1,4 +1,4 @@
-//! The line of a request.
+//! The log's line of a request.
 
 ghost use Rattle.std.specs.Prelude.{◌≡◌, ◌++◌, OnOk};
 ghost use Rattle.std.specs.Fmt.{decimal};

@@ -1,4 +1,4 @@
-//! The batch that is being written.
+//! The batch that is being written, and what a partial write leaves of it.
 
 ghost use Rattle.std.specs.Prelude.{◌≡◌, drop, OnOk, OnErr};
 ghost use Rattle.gopher_log.specs.Batch.{is_empty};

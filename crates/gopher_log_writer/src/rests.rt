@@ -1,4 +1,4 @@
-//! The rests of the thread that writes.
+//! How long the thread that writes rests while its file takes nothing.
 
 ghost use Rattle.std.specs.Prelude.{◌≡◌};
 ghost use Rattle.gopher_log_writer.specs.Rests.{first_rest, is_last, next_rest, rested};

@@ -1,4 +1,4 @@
-//! A server thread's part of the log.
+//! A server thread's part of the log: adding lines, and handing on batches.
 
 ghost use Rattle.std.specs.Prelude.{◌≡◌, not};
 ghost use Rattle.std.specs.Option.{is_some};
