@@ -50,7 +50,7 @@ class Documents(unittest.TestCase):
     def test_each_file_says_what_it_holds(self):
         for crate in list_files.crates():
             for path in list_files.sources(crate):
-                self.assertRegex(list_files.about(path.read_text()), r"^[A-Z].*\.$", str(path))
+                self.assertRegex(list_files.about(path.read_text()), r"^[A-Z`].*\.$", str(path))
 
     def test_public_names_are_listed_with_their_types(self):
         text = "\n".join(

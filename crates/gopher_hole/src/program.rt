@@ -1,4 +1,4 @@
-//! The program.
+//! `run`, the whole program: it does what its arguments ask, and returns the exit status.
 
 ghost use Rattle.std.specs.Prelude.{◌≡◌, ◌≢◌, ◌≤◌, map, string_bytes, Result};
 ghost use Rattle.std.specs.Bool.{OnTrue};

@@ -1,4 +1,4 @@
-//! The hits of a search.
+//! `Hit`: a page that a search found, with its title and score.
 
 use gopher_item::{ByteString, Place};
 

@@ -68,7 +68,8 @@ impl Ends {
 
     /// Returns the number of bytes that the ends take.
     pub fn size(&self) -> usize {
-        self.low.len().saturating_add(self.high.len()).saturating_mul(2)
+        let ends = self.low.len().saturating_add(self.high.len());
+        ends.saturating_mul(2)
     }
 
     /// Returns the end at `index`.

@@ -177,10 +177,10 @@ impl Page {
     /// page and in the index), its title, and its links as known places. Words and places that other
     /// pages have too are counted again.
     pub fn size(&self) -> usize {
-        let words = self.parts.counts.size();
+        let words = self.parts.counts.size().saturating_mul(2);
         let postings = self.parts.counts.len().saturating_mul(POSTING_SIZE);
         let mut size = PAGE_SIZE.saturating_add(self.parts.title.len());
-        size = size.saturating_add(words.saturating_mul(2)).saturating_add(postings);
+        size = size.saturating_add(words).saturating_add(postings);
         for link in self.parts.links.iter() {
             let names = link.selector().len().saturating_add(link.host().len());
             size = size.saturating_add(names).saturating_add(LINK_SIZE);

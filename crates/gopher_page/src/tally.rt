@@ -1,4 +1,4 @@
-//! Counting the words of lines: `count_words`.
+//! Counting the words of lines (`count_words`): joins the lines, lowers letters, sorts the words.
 
 ghost use Rattle.std.specs.Prelude.{◌≡◌, ◌≤◌, length, IfOk};
 ghost use Rattle.std.specs.List.{flat_map, sum_by};
@@ -12,7 +12,7 @@ use gopher_item::{ByteString, NoMemory};
 use gopher_text::MAX_REPLY;
 use std::alloc::Global;
 
-// The lines, each followed by an LF.
+// The text of a page, to be cut into words: its lines, each followed by an LF.
 fn joined(alloc: Global, lines: &[&[u8]]) -> Result<Vec<u8>, NoMemory>
     ensures { IfOk result (λ text. text.items ≡ joined_lines (texts lines.now)) }
 {

@@ -1,4 +1,4 @@
-//! Segments.
+//! `Segment`: consecutive pages with a table of their words; made of pages, searched by word.
 
 ghost use Rattle.std.specs.Prelude.{◌≡◌, ◌+◌, ◌≤◌, ◌-◌, ◌^◌, false, ◌++◌, length, map, min, replicate, IfOk, OnOk};
 ghost use Rattle.std.specs.Arc.{arc_value};

@@ -1,4 +1,4 @@
-//! Sizes of segments.
+//! `Size`: how large a segment is, and whether one can be as large.
 
 ghost use Rattle.std.specs.Prelude.{◌≡◌, ◌+◌, ◌-◌, ◌^◌, ◌&&◌, not, nat_lt, length, min};
 

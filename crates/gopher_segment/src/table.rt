@@ -1,4 +1,4 @@
-//! The words of a segment with their postings.
+//! `Table`, the rows of a segment: each is a word with its postings. Finds the row of a word.
 
 ghost use Rattle.std.specs.Prelude.{◌≡◌, true, false, ℕ, ◌+◌, ◌^◌, ◌<◌, ◌≤◌, List, Some, length, slice_get, slice_index};
 ghost use Rattle.std.specs.List.{zip};
