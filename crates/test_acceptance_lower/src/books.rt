@@ -5,7 +5,7 @@ use gopher_index::Index;
 use gopher_page::Query;
 use std::alloc::Global;
 
-const MENU: &[u8] = b"1Docs\t/docs\th\t70\r\n.\r\n";
+const MENU: &[u8] = b"1Docs\t/docs\tlocalhost\t70\r\n.\r\n";
 
 // The menu of the root is found.
 fn find_root(alloc: Global, catalogue: &mut Catalogue) -> Option<()> {

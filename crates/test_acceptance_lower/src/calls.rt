@@ -7,7 +7,7 @@ use gopher_page::Page;
 use gopher_scope::{Rule, Scope};
 use std::alloc::Global;
 
-const HOST: &[u8] = b"h";
+const HOST: &[u8] = b"localhost";
 
 fn directory(alloc: Global, selector: &[u8]) -> Option<Place> {
     Place::new(alloc, b'1', selector, HOST, 70).ok()

@@ -13,6 +13,8 @@ mod folders;
 #[cfg(test)]
 mod items;
 #[cfg(test)]
+mod long_books;
+#[cfg(test)]
 mod menus;
 #[cfg(test)]
 mod merges;
@@ -22,6 +24,8 @@ mod pages;
 mod queries;
 #[cfg(test)]
 mod replies;
+#[cfg(test)]
+mod runs;
 #[cfg(test)]
 mod settings;
 #[cfg(test)]

@@ -18,8 +18,8 @@ fn page(alloc: Global, number: u32) -> Option<Arc<Page>> {
     Arc::new(alloc, page).ok()
 }
 
-// Adds the page of a number at the end of an index.
-fn add(alloc: Global, index: &mut Index, number: u32) -> Option<()> {
+/// Adds the page of a number at the end of an index.
+pub fn add(alloc: Global, index: &mut Index, number: u32) -> Option<()> {
     if index.len() >= 65_536 {
         return None;
     }
@@ -36,8 +36,8 @@ fn merges_one(alloc: Global, index: &mut Index) -> Option<bool> {
     Some(true)
 }
 
-// How often pages are merged, at most 64 times, until none are due.
-fn merges(alloc: Global, index: &mut Index) -> Option<u32> {
+/// How often pages are merged, at most 64 times, until none are due.
+pub fn merges(alloc: Global, index: &mut Index) -> Option<u32> {
     for count in 0..64u32 {
         if !merges_one(alloc, index)? {
             return Some(count);
