@@ -356,6 +356,15 @@ def attack_by_use(tally, folder, root, _files, given):
         tally.expect("a client that sends on is answered", read_all(slow), b"hello\r\n.\r\n")
 
 
+def open_files(number):
+    """How many files a process holds open, once that has stayed so for a moment: a server closes a connection after its end."""
+    held = None
+    while held != (now := len(os.listdir(f"/proc/{number}/fd"))):
+        held = now
+        time.sleep(0.2)
+    return held
+
+
 def attack_by_refused_accepts(tally, folder, root, files, given):
     """Descriptors are short for a moment: a client waits, or the one idle longest is closed; no thread ends."""
     with contextlib.ExitStack() as ends:
@@ -364,7 +373,7 @@ def attack_by_refused_accepts(tally, folder, root, files, given):
         site = Site(HOST.encode(), server.port, files)
         number = server.process.pid
         _, most = resource.prlimit(number, resource.RLIMIT_NOFILE)
-        resource.prlimit(number, resource.RLIMIT_NOFILE, (len(os.listdir(f"/proc/{number}/fd")), most))
+        resource.prlimit(number, resource.RLIMIT_NOFILE, (open_files(number), most))
         waiting = ends.enter_context(connect(server.port))
         waiting.sendall(b"/a.txt\r\n")
         time.sleep(0.2)
@@ -374,7 +383,7 @@ def attack_by_refused_accepts(tally, folder, root, files, given):
         tally.expect("it is answered soon", time.monotonic() - began < 1.0, True)
         silent = [ends.enter_context(connect(server.port)) for _ in range(10)]
         tally.expect("a client beside silent ones", ask_whole(server.port, b"/a.txt\r\n"), b"hello\r\n.\r\n")
-        resource.prlimit(number, resource.RLIMIT_NOFILE, (len(os.listdir(f"/proc/{number}/fd")), most))
+        resource.prlimit(number, resource.RLIMIT_NOFILE, (open_files(number), most))
         tally.expect("a client while descriptors are short", ask_whole(server.port, b"/a.txt\r\n"), site.reply(b"/a.txt\r\n"))
         closed = settled(silent, 1)
         tally.expect(f"silent clients closed for it: {closed}", 1 <= len(closed) <= 4, True)
