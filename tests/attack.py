@@ -6,7 +6,7 @@
 A crowd of clients that say nothing, send a byte a second, read nothing of 8 MiB, or reset in mid-reply stays for N seconds
 (7 without N). Then come lines at and over the limit, lines that ask for what lies outside of the folder or is hidden, lines
 without an end, clients that send on, more silent clients than there are places, descriptors that are short, clients
-that ask for 8 MiB and read nothing, and clients that ask the heaviest searches. Every ordinary client has to be
+that ask for 8 MiB or a large menu and read nothing, and clients that ask the heaviest searches. Every ordinary client has to be
 answered whole within SOON seconds, the program's memory has to stay below KIB (24,576 without it; a build with an address
 sanitizer, as `rt try` makes, takes some 64,000), and the program has to end well. The last line is
 'attack: N passed, M failed'. It takes about N + 50 seconds, and at most some minutes where the program fails, since a server
@@ -29,7 +29,7 @@ import time
 from concurrent.futures import ThreadPoolExecutor
 
 from heavy import Flood, Heavy, heavy_texts
-from server import HOST, PROGRAM, WAIT, Server, Tally, connect, read_all
+from server import HOST, PROGRAM, WAIT, Server, Tally, ask, connect, read_all
 from site_model import Site
 
 SILENT, SLOW, DEAF, ORDINARY, HEAVY = 1_000, 200, 50, 4, 64
@@ -38,6 +38,8 @@ SOON = 5.0
 MOST_MEMORY = 24_576  # KiB, of a server whose files have 9 MiB
 PLACES = 100
 MAX_HELD = 300_000_000
+DEAF_TO_MENUS = 20
+MAX_FOR_MENUS = 16_384  # KiB, less than one copy of the menu
 MIB = 1 << 20
 LARGE = bytes(range(256)) * 32_768
 MIDDLE = bytes(range(256)) * 256
@@ -422,6 +424,26 @@ def attack_by_deaf(tally, folder, root, files, given):
         print(f"attack: {held} bytes of the system for {SILENT} deaf clients; p99 {sorted(times)[197]:.3f} s", flush=True)
 
 
+def attack_by_large_menus(tally, folder, _root, _files, given):
+    """Many clients ask for a large menu and read nothing: the server holds no copy for each."""
+    root, lines, host = folder / "menus", 70_000, "h" * 250
+    root.mkdir()
+    (root / ".menu").write_bytes(b"\n" * lines)
+    with contextlib.ExitStack() as ends:
+        server = ends.enter_context(Server(given.program, folder, root, host=host, words=("--listen", HOST)))
+        server.started()
+        wanted = b"i\t\t%s\t%d\r\n" % (host.encode(), server.port) * lines + b".\r\n"
+        tally.expect("a large menu is sent whole", ask(server.port, b"\r\n") == wanted, True)
+        before = server.most_memory()
+        for _ in range(DEAF_TO_MENUS):
+            client = ends.enter_context(connect(server.port))
+            client.sendall(b"\r\n")
+            tally.expect("a deaf client's menu begins", client.recv(1, socket.MSG_PEEK), b"i")
+        held = server.most_memory() - before
+        tally.expect(f"{held} KiB for {DEAF_TO_MENUS} deaf clients of a menu are below {MAX_FOR_MENUS}", held < MAX_FOR_MENUS, True)
+        print(f"attack: {held} KiB for {DEAF_TO_MENUS} deaf clients of a menu of {len(wanted)} bytes", flush=True)
+
+
 def crawls(server, wanted):
     """Whether the progress of a server's crawl comes to this line before the server is killed."""
     return any(line == wanted for line in server.process.stderr)
@@ -466,7 +488,7 @@ def attack_by_searches(tally, folder, root, files, given):
 
 ATTACKS = (
     attack_by_crowd, attack_by_lines, attack_by_senders, attack_by_waiting, attack_by_use, attack_by_refused_accepts,
-    attack_by_deaf, attack_by_searches,
+    attack_by_deaf, attack_by_large_menus, attack_by_searches,
 )
 
 
