@@ -53,8 +53,9 @@ pub struct Serving<'a> {
     pub log: Option<&'a str>,
     /// Whether to print the crawl's sizes as it goes on.
     pub progress: bool,
-    /// Where the server listens: IP addresses, each with or without a port, for example `192.0.2.1:70`
-    /// or `::`. If there are none, it listens at the addresses of the settings' host.
+    /// Where the server listens: IP addresses, each with or without a port, for example
+    /// `192.0.2.1:70` or `::`. If there are none, it listens at the addresses of the settings'
+    /// host.
     pub addresses: Vec<&'a str>,
 }
 
