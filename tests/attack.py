@@ -6,7 +6,7 @@
 A crowd of clients that say nothing, send a byte a second, read nothing of 8 MiB, or reset in mid-reply stays for N seconds
 (7 without N). Then come lines at and over the limit, lines that ask for what lies outside of the folder or is hidden, lines
 without an end, clients that send on, more silent clients than there are places, descriptors that are short, clients
-that ask for 8 MiB and read nothing, and clients that ask the heaviest searches. Every ordinary client has to be
+that ask for 8 MiB or a large menu and read nothing, and clients that ask the heaviest searches. Every ordinary client has to be
 answered whole within SOON seconds, the program's memory has to stay below KIB (24,576 without it; a build with an address
 sanitizer, as `rt try` makes, takes some 64,000), and the program has to end well. The last line is
 'attack: N passed, M failed'. It takes about N + 50 seconds, and at most some minutes where the program fails, since a server
@@ -29,7 +29,7 @@ import time
 from concurrent.futures import ThreadPoolExecutor
 
 from heavy import Flood, Heavy, heavy_texts
-from server import HOST, PROGRAM, WAIT, Server, Tally, connect, read_all
+from server import HOST, PROGRAM, WAIT, Server, Tally, ask, connect, read_all
 from site_model import Site
 
 SILENT, SLOW, DEAF, ORDINARY, HEAVY = 1_000, 200, 50, 4, 64
@@ -38,6 +38,8 @@ SOON = 5.0
 MOST_MEMORY = 24_576  # KiB, of a server whose files have 9 MiB
 PLACES = 100
 MAX_HELD = 300_000_000
+DEAF_TO_MENUS = 20
+MAX_FOR_MENUS = 16_384  # KiB, less than one copy of the menu
 MIB = 1 << 20
 LARGE = bytes(range(256)) * 32_768
 MIDDLE = bytes(range(256)) * 256
@@ -356,6 +358,15 @@ def attack_by_use(tally, folder, root, _files, given):
         tally.expect("a client that sends on is answered", read_all(slow), b"hello\r\n.\r\n")
 
 
+def open_files(number):
+    """How many files a process holds open, once that has stayed so for a moment: a server closes a connection after its end."""
+    held = None
+    while held != (now := len(os.listdir(f"/proc/{number}/fd"))):
+        held = now
+        time.sleep(0.2)
+    return held
+
+
 def attack_by_refused_accepts(tally, folder, root, files, given):
     """Descriptors are short for a moment: a client waits, or the one idle longest is closed; no thread ends."""
     with contextlib.ExitStack() as ends:
@@ -364,7 +375,7 @@ def attack_by_refused_accepts(tally, folder, root, files, given):
         site = Site(HOST.encode(), server.port, files)
         number = server.process.pid
         _, most = resource.prlimit(number, resource.RLIMIT_NOFILE)
-        resource.prlimit(number, resource.RLIMIT_NOFILE, (len(os.listdir(f"/proc/{number}/fd")), most))
+        resource.prlimit(number, resource.RLIMIT_NOFILE, (open_files(number), most))
         waiting = ends.enter_context(connect(server.port))
         waiting.sendall(b"/a.txt\r\n")
         time.sleep(0.2)
@@ -374,7 +385,7 @@ def attack_by_refused_accepts(tally, folder, root, files, given):
         tally.expect("it is answered soon", time.monotonic() - began < 1.0, True)
         silent = [ends.enter_context(connect(server.port)) for _ in range(10)]
         tally.expect("a client beside silent ones", ask_whole(server.port, b"/a.txt\r\n"), b"hello\r\n.\r\n")
-        resource.prlimit(number, resource.RLIMIT_NOFILE, (len(os.listdir(f"/proc/{number}/fd")), most))
+        resource.prlimit(number, resource.RLIMIT_NOFILE, (open_files(number), most))
         tally.expect("a client while descriptors are short", ask_whole(server.port, b"/a.txt\r\n"), site.reply(b"/a.txt\r\n"))
         closed = settled(silent, 1)
         tally.expect(f"silent clients closed for it: {closed}", 1 <= len(closed) <= 4, True)
@@ -411,6 +422,26 @@ def attack_by_deaf(tally, folder, root, files, given):
         tally.expect(f"{held} bytes of the system are below {MAX_HELD}", held < MAX_HELD, True)
         tally.expect(f"{sorted(times)[197]:.3f} s are soon", sorted(times)[197] < 0.5, True)
         print(f"attack: {held} bytes of the system for {SILENT} deaf clients; p99 {sorted(times)[197]:.3f} s", flush=True)
+
+
+def attack_by_large_menus(tally, folder, _root, _files, given):
+    """Many clients ask for a large menu and read nothing: the server holds no copy for each."""
+    root, lines, host = folder / "menus", 70_000, "h" * 250
+    root.mkdir()
+    (root / ".menu").write_bytes(b"\n" * lines)
+    with contextlib.ExitStack() as ends:
+        server = ends.enter_context(Server(given.program, folder, root, host=host, words=("--listen", HOST)))
+        server.started()
+        wanted = b"i\t\t%s\t%d\r\n" % (host.encode(), server.port) * lines + b".\r\n"
+        tally.expect("a large menu is sent whole", ask(server.port, b"\r\n") == wanted, True)
+        before = server.most_memory()
+        for _ in range(DEAF_TO_MENUS):
+            client = ends.enter_context(connect(server.port))
+            client.sendall(b"\r\n")
+            tally.expect("a deaf client's menu begins", client.recv(1, socket.MSG_PEEK), b"i")
+        held = server.most_memory() - before
+        tally.expect(f"{held} KiB for {DEAF_TO_MENUS} deaf clients of a menu are below {MAX_FOR_MENUS}", held < MAX_FOR_MENUS, True)
+        print(f"attack: {held} KiB for {DEAF_TO_MENUS} deaf clients of a menu of {len(wanted)} bytes", flush=True)
 
 
 def crawls(server, wanted):
@@ -457,7 +488,7 @@ def attack_by_searches(tally, folder, root, files, given):
 
 ATTACKS = (
     attack_by_crowd, attack_by_lines, attack_by_senders, attack_by_waiting, attack_by_use, attack_by_refused_accepts,
-    attack_by_deaf, attack_by_searches,
+    attack_by_deaf, attack_by_large_menus, attack_by_searches,
 )
 
 

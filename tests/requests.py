@@ -26,7 +26,6 @@ from site_model import Site
 
 LINES_OF_A_SITE = 50
 AT_ONCE = 16
-MOST_HITS = 50
 
 
 def drawn_settings(draw, host):

@@ -1,6 +1,8 @@
 -- A conversation over streams, one step after another.
 use Rattle.std.specs.Prelude.{◌≡◌, ℕ, ◌<◌, ◌≤◌, ◌⊎◌, Bool, true, List, [], length, take, Option, IfSome}
 use Rattle.std.specs.Io.BufRead.{first_line}
+use Rattle.std.specs.declared.io.ErrorKind.{ErrorKind}
+use Rattle.std.specs.declared.io.ErrorKind.TheVariants as kind
 use Rattle.std.specs.Io.KnownBytes.{Appends, Consumes, IsAtEnd, Keeps}
 use Rattle.gopher_text.specs.Watched.{CountsFailure, HasFailed}
 use Rattle.gopher_conversation.specs.Leads.{Leads}
@@ -104,6 +106,12 @@ IsProgressAfter fault Done = ⊥
 IsProgressAfter fault Works = ⊥
 IsProgressAfter fault (Failed why) = why ≡ fault
 IsProgressAfter fault progress = Unit {0}
+
+-- the progress after a call that failed in this way
+abbrev pub progress_after : ErrorKind → ServeFault → Progress
+progress_after kind.Interrupted fault = Paused
+progress_after kind.WouldBlock fault = Waits
+progress_after other fault = Failed fault
 
 -- how a conversation stands when it stops, by its progress: the conversation, how many calls of the reader had failed
 -- before and after, and how many of the writer

@@ -1,6 +1,7 @@
 -- A conversation with one client, over all bytes that came in.
 use Rattle.std.specs.Prelude.{◌≡◌, ℕ, ◌+◌, Bool, true, false, ◌||◌, ◌⊎◌, List, [], ◌++◌, length, take, drop, nat_le, Option, None, Some, if◌then◌else◌}
 use Rattle.std.specs.Io.BufRead.{first_line}
+use Rattle.gopher_item.specs.declared.limits.TheConstants.{MAX_LINE}
 use Rattle.gopher_text.specs.Line.{has_feed}
 use Rattle.gopher_conversation.specs.declared.conversation.Stage.{Stage}
 use Rattle.gopher_conversation.specs.declared.conversation.Stage.TheVariants as stage
@@ -16,10 +17,10 @@ pub data Talk : Type 0 where
 
 -- whether the first line of what came in is known: at its LF, at the end of the input, and where it is too long
 abbrev pub is_known : Bool → List ℕ → Bool
-is_known ended bytes = ended || (has_feed bytes || nat_le 1026 (length bytes))
+is_known ended bytes = ended || (has_feed bytes || nat_le (MAX_LINE + 2) (length bytes))
 
 abbrev pub known_line : List ℕ → Talk
-known_line line = if nat_le (length line) 1024 then Asks line else IsTooLong
+known_line line = if nat_le (length line) MAX_LINE then Asks line else IsTooLong
 
 -- the conversation, by whether the input is at its end and by all bytes that came in
 abbrev pub talk_of : Bool → List ℕ → Talk

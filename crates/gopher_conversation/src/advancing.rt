@@ -1,7 +1,7 @@
-//! The steps of a conversation, each with at most one call of a stream.
+//! One step of a conversation (`advance`), with at most one call of a stream.
 
 ghost use Rattle.std.specs.Prelude.{◌≡◌, ◌<◌, ◌⊎◌, ℕ, List, length};
-ghost use Rattle.gopher_conversation.specs.Advance.{GoesOn, IsProgressAfter, Listens, Replies, Says, Steps};
+ghost use Rattle.gopher_conversation.specs.Advance.{GoesOn, IsProgressAfter, Listens, Replies, Says, Steps, progress_after};
 ghost use Rattle.gopher_conversation.specs.Leads.{Leads};
 ghost use Rattle.gopher_conversation.specs.Serve.{stream_of};
 ghost use Rattle.gopher_conversation.specs.Talk.{Asks};
@@ -163,7 +163,8 @@ fn say<W: Write>(
 
 // The progress after a call that failed.
 fn progress_after(kind: ErrorKind, fault: ServeFault) -> Progress
-    ensures { IsProgressAfter fault result }
+    ensures progress { result ≡ progress_after kind fault }
+    ensures allowed { IsProgressAfter fault result }
 {
     match kind {
         ErrorKind::Interrupted => Progress::Paused,

@@ -1,4 +1,4 @@
-//! The trait of what answers request lines.
+//! The trait `Answers`, of what answers request lines.
 
 use gopher_item::NoMemory;
 use gopher_replies::Answer;

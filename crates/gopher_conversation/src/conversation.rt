@@ -1,4 +1,4 @@
-//! A conversation with one client, without streams.
+//! A conversation with one client, as a value without streams (`Conversation`).
 
 ghost use Rattle.std.specs.Prelude.{◌≡◌, ◌<◌, ◌≤◌, ◌+◌, ◌^◌, [], length, false, true, IfSome};
 ghost use Rattle.std.specs.Option.{option_map};
@@ -9,17 +9,14 @@ ghost use Rattle.gopher_conversation.specs.Talk.{Hears, IsAnswered, IsLine, aske
 ghost use Rattle.gopher_conversation.specs.Talk.{Gathers};
 ghost use Rattle.gopher_conversation.specs.TalkOf.{IsPhaseAt, reply_in};
 
-use gopher_item::NoMemory;
+use gopher_item::{MAX_LINE, NoMemory};
 use gopher_replies::Answer;
 use memchr::memchr;
 use std::alloc::Global;
 use std::marker::Model;
 
-// The most bytes of a line before its end.
-const MOST_IN_LINE: usize = 1_024;
-
 // The most bytes of a line with its end, CR LF.
-const MOST_WITH_END: usize = 1_026;
+const MAX_WITH_END: usize = MAX_LINE + 2;
 
 // The state of a conversation.
 #[derive(Drop)]
@@ -80,7 +77,7 @@ fn has_feed(bytes: &[u8]) -> bool
 fn is_known(bytes: &[u8]) -> bool
     ensures { result ≡ is_known false bytes.now }
 {
-    has_feed(bytes) || bytes.len() >= MOST_WITH_END
+    has_feed(bytes) || bytes.len() >= MAX_WITH_END
 }
 
 // The first line of the bytes, without its end.
@@ -108,7 +105,7 @@ fn phase_of<'a>(gathered: &[u8]) -> Phase<'a>
     ensures talk { IsPhaseAt gathered.now result }
     ensures silent { reply_in result ≡ [] }
 {
-    if first_line(gathered).len() > MOST_IN_LINE {
+    if first_line(gathered).len() > MAX_LINE {
         Phase::TooLong
     } else {
         Phase::Asked
@@ -168,7 +165,7 @@ impl<'a> Conversation<'a> {
         let Phase::Gathering = self.phase else {
             return;
         };
-        let room = MOST_WITH_END.saturating_sub(self.gathered.len());
+        let room = MAX_WITH_END.saturating_sub(self.gathered.len());
         let front = &piece[..piece.len().min(room)];
         if self.gathered.extend_from_slice(front).is_err() {
             self.phase = Phase::LacksMemory;

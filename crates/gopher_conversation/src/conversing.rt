@@ -1,4 +1,4 @@
-//! A conversation that goes on for as long as its streams are ready.
+//! The steps of a conversation while its streams are ready (`converse`).
 
 ghost use Rattle.std.specs.Prelude.{◌<◌, length};
 ghost use Rattle.gopher_conversation.specs.Advance.{GoesOn, Stops};

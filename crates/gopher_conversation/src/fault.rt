@@ -1,4 +1,4 @@
-//! The faults of conversations.
+//! The faults of conversations, with their numbers.
 
 ghost use Rattle.std.specs.Prelude.{◌≡◌};
 ghost use Rattle.gopher_conversation.specs.Fault.{serve_fault_code, unread};

@@ -1,4 +1,4 @@
-//! One conversation, over streams that block.
+//! One whole conversation, over streams that block (`serve_with`).
 
 ghost use Rattle.gopher_conversation.specs.Leads.{Leads};
 ghost use Rattle.gopher_conversation.specs.Serve.{IsUnheard, Serves, stream_of};

@@ -1,6 +1,5 @@
 -- Kept replies, and the reply to a selector without a kept one.
-use Rattle.std.proofs.Common.{◌≡◌, ℕ, ◌+◌, ◌<◌, ◌≤◌, min, leb, true, false, cond, eqb, List, [], ◌∷◌, length, Option, None, Some, ◌⊎◌, inl, inr, refl, sym, ap, ◌∙◌, arith}
-use Rattle.std.proofs.lemmas.Bool.Decides.{leb_tells}
+use Rattle.std.proofs.Common.{◌≡◌, ℕ, ◌<◌, false, cond, eqb, List, [], ◌∷◌, length, Option, None, Some, refl, sym, ap, ◌∙◌, arith}
 use Rattle.gopher_item.specs.Place.{HomeData}
 use Rattle.gopher_bytes.specs.Lines.{lines_of}
 use Rattle.gopher_text.specs.Text.{text_bytes}
@@ -34,18 +33,3 @@ reply_of_file files home selector kind bytes shows other = by (named files selec
     by None shows = absurd shows
     by (Some (NamedFile of_kind held)) shows = ap (λ t. cond t (text_bytes (lines_of held)) held) (ap (λ k. eqb k 48) (sym shows.0) ∙ other) ∙ sym shows.1
     by (Some (NamedFolder path)) shows = absurd shows
-
--- saturating sums with a maximum
-pub capped : (product written last most : ℕ) → min (min (min product most + written) most + last) most ≡ min (product + written + last) most
-capped product written last most = omega arith
-
--- below the maximum, a saturated sum compares as the sum does
-pub within_capped : (size most room : ℕ) → room < most → leb (min size most) room ≡ leb size room
-within_capped size most room low = by (leb_tells (min size most) room) (leb_tells size room)
-  where
-    by : ((leb (min size most) room ≡ true) × (min size most ≤ room)) ⊎ ((leb (min size most) room ≡ false) × (room < min size most))
-        → ((leb size room ≡ true) × (size ≤ room)) ⊎ ((leb size room ≡ false) × (room < size)) → leb (min size most) room ≡ leb size room
-    by (inl (a, h)) (inl (b, k)) = a ∙ sym b
-    by (inl (a, h)) (inr (b, k)) = absurd (omega arith)
-    by (inr (a, h)) (inl (b, k)) = absurd (omega arith)
-    by (inr (a, h)) (inr (b, k)) = a ∙ sym b

@@ -1,5 +1,5 @@
 -- Kept replies, and the number of their bytes.
-use Rattle.std.specs.Prelude.{◌≡◌, ℕ, ◌+◌, ◌*◌, ◌≤◌, ◌==◌, nat_le, Bool, true, List, Option, None, Some, count_by, sum_by, length}
+use Rattle.std.specs.Prelude.{◌≡◌, ℕ, ◌+◌, ◌*◌, ◌≤◌, List, sum_by, length}
 use Rattle.std.specs.List.{All}
 use Rattle.gopher_item.specs.Place.{HomeData}
 use Rattle.gopher_tree.specs.Files.{File, total_bytes}
@@ -16,30 +16,17 @@ IsReply files home kept = kept.bytes ≡ tree_reply files home kept.selector
 abbrev pub kept_bytes : List KeptReply → ℕ
 kept_bytes replies = sum_by (λ kept. length kept.bytes) replies
 
--- each reply is that of its selector; texts have at most twice the files' bytes and 24,576 more,
--- menus at most 16,777,216 bytes
+-- each reply is that of its selector, and their bytes are within the limit
 pub record IsKept (files : List File) (home : HomeData) (kept : KeptReplies) : Type 0 where
   pub right : All (IsReply files home) kept.replies.items
-  pub whole : kept_bytes kept.replies.items ≡ kept.texts + kept.menus
-  pub most_is : kept.most_texts ≡ 2 * total_bytes files + 24576
+  pub whole : kept_bytes kept.replies.items ≡ kept.bytes
+  pub most_is : kept.most ≡ 267 * total_bytes files + 4276224
   pub few_bytes : total_bytes files ≤ 67108864
-  pub few_texts : kept.texts ≤ kept.most_texts
-  pub few_menus : kept.menus ≤ 16777216
+  pub few : kept.bytes ≤ kept.most
 
 -- the kept replies, and the reply to a selector that names nothing
 abbrev pub AreReplies : List File → HomeData → KeptReplies → List ℕ → Type 0
 AreReplies files home kept not_found = IsKept files home kept × (not_found ≡ not_found_bytes home)
-
--- an upper bound of the bytes of a menu file's menu: each of its lines can get the server's
--- address, an `i` and the TABs
-abbrev pub most_menu_bytes : HomeData → List ℕ → ℕ
-most_menu_bytes home written = (count_by (λ byte. byte == 10) written + 1) * (length home.host + 11) + length written + 3
-
--- the menu of this menu file has at most `room` bytes for sure; true without a menu file, because a
--- listing is measured when it is made
-abbrev pub is_menu_within : HomeData → ℕ → Option (List ℕ) → Bool
-is_menu_within home room None = true
-is_menu_within home room (Some written) = nat_le (most_menu_bytes home written) room
 
 -- the replies of a tree: its files, the server's address, and the number of bytes of kept texts and
 -- menus

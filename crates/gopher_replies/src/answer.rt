@@ -1,4 +1,4 @@
-//! What a line is answered with.
+//! What a line is answered with (`Answer`): a reply, or a search that makes one.
 
 ghost use Rattle.std.specs.Prelude.{◌≡◌, IfOk, IfSome};
 ghost use Rattle.gopher_replies.specs.Kept.{reply_bytes};

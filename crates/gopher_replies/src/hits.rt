@@ -1,4 +1,4 @@
-//! The menu of what a search found.
+//! The menu of hits.
 
 ghost use Rattle.std.specs.Prelude.{◌≡◌, ◌++◌, IfOk, OnOk};
 ghost use Rattle.gopher_item.specs.MenuLine.{menu_line_bytes};

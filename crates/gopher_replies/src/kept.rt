@@ -1,21 +1,24 @@
-//! The replies that are made once and kept: those of text files and of folders.
+//! The replies that are made once and kept (`KeptReplies`): texts and menus.
 
-ghost use Rattle.std.specs.Prelude.{◌≡◌, ◌≤◌, ◌+◌, ◌*◌, [], ◌∷◌, ◌++◌, length, min, ◌^◌, ◌<◌, ℕ, List, IfOk, IfSome, OnOk};
+ghost use Rattle.std.specs.Prelude.{◌≡◌, ◌≤◌, ◌+◌, [], ◌∷◌, ◌++◌, List, IfOk, IfSome, OnOk};
 ghost use Rattle.std.specs.List.{All};
 ghost use Rattle.gopher_item.specs.Place.{HomeData};
-ghost use Rattle.gopher_tree.specs.Files.{File, total_bytes};
-ghost use Rattle.gopher_tree.specs.Reply.{menu_file, tree_reply};
-ghost use Rattle.gopher_replies.specs.Kept.{IsReply, IsKept, kept_bytes, most_menu_bytes, is_menu_within};
+ghost use Rattle.gopher_tree.specs.Files.{File};
+ghost use Rattle.gopher_tree.specs.Reply.{tree_reply};
+ghost use Rattle.gopher_replies.specs.Kept.{IsReply, IsKept, kept_bytes};
 
-use gopher_item::{ByteString, Home, NoMemory};
+use gopher_item::{ByteString, Home, MAX_HOST, NoMemory};
 use gopher_tree::{MAX_NODES, Node, Tree};
 use std::alloc::Global;
 
-// The most bytes of kept menus.
-const MOST_MENUS: usize = 16_777_216;
+// The most bytes of kept replies for each byte of a file. A line of a menu file grows by at most
+// the host's length and 11 bytes, and may be an LF alone. A text has at most twice its file's
+// bytes, and 6 more.
+const MAX_PER_BYTE: usize = MAX_HOST + 12;
 
-// The text of a file has at most this many bytes more than twice the file's.
-const MOST_MORE: usize = 6;
+// The most bytes for each node: its line in a listing has a name, a selector, the host and 11
+// bytes more; a folder's menu ends with 3 bytes, and with a line of a menu file without LF.
+const MAX_PER_NODE: usize = 775 + 269;
 
 #[derive(Debug, Drop)]
 pub(crate) struct KeptReply {
@@ -23,57 +26,19 @@ pub(crate) struct KeptReply {
     bytes: ByteString,
 }
 
-// Replies in byte order of their selectors, the bytes of the texts and of the menus among them, and
-// the most bytes of texts.
+// Replies in byte order of their selectors, the number of their bytes, and the most bytes that
+// they may have.
 #[derive(Debug, Drop)]
 pub(crate) struct KeptReplies {
     replies: Vec<KeptReply>,
-    texts: usize,
-    menus: usize,
-    most_texts: usize,
+    bytes: usize,
+    most: usize,
 }
 
 fn selector_of(alloc: Global, path: &[u8]) -> Result<Vec<u8>, NoMemory> {
     let mut selector = Vec::from_slice(alloc, b"/")?;
     selector.extend_from_slice(path)?;
     Ok(selector)
-}
-
-// A line of a menu has at most this many bytes more than the written line and the server's host.
-const MOST_MORE_IN_LINE: usize = 11;
-
-// The bytes of the last line of a menu: a period, CR and LF.
-const LAST_LINE: usize = 3;
-
-// An upper bound of the bytes of the menu of a menu file.
-fn most_menu_bytes(written: &[u8], home: &Home) -> usize
-    ensures { result ≡ min (most_menu_bytes home.now written.now) 18446744073709551615 }
-{
-    let line = home.host().len() + MOST_MORE_IN_LINE;
-    let feeds = written.iter().filter(|byte| **byte == b'\n').count();
-    (feeds + 1)
-        .saturating_mul(line)
-        .saturating_add(written.len())
-        .saturating_add(LAST_LINE)
-}
-
-// Whether the menu of the folder's menu file has at most `room` bytes for sure. Without a menu file
-// it returns true, because `push_within` measures the listing.
-fn is_menu_within(
-    alloc: Global,
-    tree: &Tree,
-    home: &Home,
-    folder: &[u8],
-    room: usize,
-) -> Result<bool, NoMemory>
-    requires { room < 18446744073709551615 }
-    ensures { IfOk result (λ within. within
-        ≡ is_menu_within home.now room (menu_file tree.now folder.now)) }
-{
-    match tree.menu_file(alloc, folder)? {
-        Some(written) => Ok(most_menu_bytes(written, home) <= room),
-        None => Ok(true),
-    }
 }
 
 impl KeptReplies {
@@ -83,9 +48,8 @@ impl KeptReplies {
     {
         let mut kept = KeptReplies {
             replies: Vec::new(alloc),
-            texts: 0,
-            menus: 0,
-            most_texts: 2 * tree.number_of_bytes() + MOST_MORE * MAX_NODES,
+            bytes: 0,
+            most: MAX_PER_BYTE * tree.number_of_bytes() + MAX_PER_NODE * MAX_NODES,
         };
         for path in tree.paths(alloc)? {
             kept = kept.with_node(alloc, tree, home, path)?;
@@ -107,19 +71,10 @@ impl KeptReplies {
         let selector = selector_of(alloc, path)?;
         let mut kept = self;
         match tree.find(&selector) {
-            Some(Node::File(b'0', _)) => {
-                let room = kept.most_texts - kept.texts;
+            Some(Node::File(b'0', _) | Node::Folder) => {
+                let room = kept.most - kept.bytes;
                 let count = push_within(alloc, tree, home, selector, room, &mut kept.replies)?;
-                kept.texts += count;
-                Ok(kept)
-            }
-            Some(Node::Folder) => {
-                let room = MOST_MENUS - kept.menus;
-                if !is_menu_within(alloc, tree, home, path, room)? {
-                    return Ok(kept);
-                }
-                let count = push_within(alloc, tree, home, selector, room, &mut kept.replies)?;
-                kept.menus += count;
+                kept.bytes += count;
                 Ok(kept)
             }
             _ => Ok(kept),
@@ -142,10 +97,9 @@ impl KeptReplies {
     }
 
     pub(crate) fn number_of_bytes(&self) -> usize
-        requires { self.now.texts + self.now.menus < 2 ^ 64 }
-        ensures { result ≡ self.now.texts + self.now.menus }
+        ensures { result ≡ self.now.bytes }
     {
-        self.texts + self.menus
+        self.bytes
     }
 }
 

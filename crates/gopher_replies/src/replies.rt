@@ -1,4 +1,4 @@
-//! Replies of a tree, most of them kept.
+//! The replies of a tree, by selector (`Replies`, `Reply`).
 
 ghost use Rattle.std.specs.Prelude.{◌≡◌, ◌≤◌, ◌+◌, ◌*◌, [], ℕ, List, length, IfOk, IfSome, MatchResult};
 ghost use Rattle.gopher_item.specs.Place.{HomeData};
@@ -17,9 +17,12 @@ use thiserror::Error;
 /// request.
 ///
 /// It keeps the texts of files, the menus of folders, and the reply to a selector that names
-/// nothing. Files of other types are sent from the tree. Kept texts have at most twice as many
-/// bytes as the files and 24,576 more, kept menus at most 16,777,216. Menus that might exceed that
-/// limit are made on each request.
+/// nothing. Files of other types are sent from the tree. So each reply is there once, however many
+/// clients it is sent to.
+///
+/// A text has at most twice as many bytes as its file and 6 more. A line of a menu file grows by at
+/// most the host's length and 11 bytes. Together the kept replies have at most 267 bytes for each
+/// byte of the files, and 4,276,224 more.
 ///
 /// Contracts see it as the list of the tree's files, the server's address, and the number of kept
 /// bytes.
@@ -144,7 +147,7 @@ impl Replies {
     /// nor the reply to a selector that names nothing.
     pub fn number_of_bytes(&self) -> usize
         ensures count { result ≡ self.now.size }
-        ensures bound { result ≤ 2 * total_bytes self.now.files + 24576 + 16777216 }
+        ensures bound { result ≤ 267 * total_bytes self.now.files + 4276224 }
     {
         self.kept.number_of_bytes()
     }

@@ -1,4 +1,4 @@
-//! The reply of a search that goes on in steps.
+//! The reply of a search that goes on in steps (`SearchReply`).
 
 ghost use Rattle.std.specs.Prelude.{◌≡◌, ◌<◌, IfOk, MatchOption};
 ghost use Rattle.gopher_replies.specs.Hits.{hits_bytes};

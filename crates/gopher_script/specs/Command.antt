@@ -5,6 +5,7 @@ use Rattle.std.specs.Cmp.Lexicographic.{pointwise}
 use Rattle.gopher_item.specs.Menu.{fields_of}
 use Rattle.gopher_bytes.specs.Number.{number_of}
 use Rattle.gopher_item.specs.Place.{PlaceData}
+use Rattle.gopher_item.specs.declared.limits.TheConstants.{MAX_LINE}
 use Rattle.gopher_scope.specs.Rule.{RuleData}
 use Rattle.gopher_catalogue.specs.declared.event.Why.{Why}
 use Rattle.gopher_catalogue.specs.declared.event.Why.TheVariants.{Connect, Read, Write, TooLong, NoMemory}
@@ -73,9 +74,9 @@ abbrev pub last_field : List (List ℕ) → Option (List ℕ)
 last_field (field ∷ []) = Some field
 last_field fields = None
 
--- a query's text, of at most 1,024 bytes
+-- a query's text, of at most 1,024 bytes (`MAX_LINE`)
 abbrev pub query_text : List ℕ → Option Command
-query_text text = if nat_le (length text) 1024 then Some (Search text) else None
+query_text text = if nat_le (length text) MAX_LINE then Some (Search text) else None
 
 abbrev pub search_in : List (List ℕ) → Option Command
 search_in fields = option_and_then query_text (last_field fields)

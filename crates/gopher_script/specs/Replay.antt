@@ -3,6 +3,7 @@ use Rattle.std.specs.Prelude.{◌≡◌, ℕ, ◌<◌, ◌≤◌, ◌⊎◌, Lis
 use Rattle.std.specs.Io.KnownBytes.{Appends, Consumes, IsAtEnd, Keeps}
 use Rattle.gopher_text.specs.Reply.{SpendsTurns}
 use Rattle.gopher_text.specs.Watched.{WatchedData, HasFailed}
+use Rattle.gopher_text.specs.declared.reply_reader.TheConstants.{MAX_REPLY}
 use Rattle.gopher_script.specs.Statement.{StatementData}
 use Rattle.gopher_script.specs.Script.{RunData, script_output, answer_at, after_at}
 use Rattle.gopher_script.specs.declared.stage.Stage.{Stage}
@@ -40,27 +41,23 @@ StatementEnds stage statement old new before after (Err WriteFailed) =
 StatementEnds stage statement old new before after (Err NoMemory) = Appends old new []
 StatementEnds stage statement old new before after (Err fault) = ⊥
 
--- the most bytes of a script
-abbrev pub script_limit : ℕ
-script_limit = 1048576
-
 -- the end of a replay that has read these bytes of the script: the bytes left to read, the reader's
 -- count of failures before and after, and the writer's contents and count of failures before and
 -- after
 abbrev pub ReplayEnds : {T : Type 0} → List ℕ → Option (List ℕ) → ℕ → ℕ → Option (List ℕ) → Option (List ℕ) → ℕ → ℕ → Result T ReplayFault → Type 0
 ReplayEnds bytes left missed missing old new before after (Ok end) =
-    (length bytes ≤ script_limit) × IsAtEnd left × RunEnds (script_output bytes) old new before after (Ok end)
+    (length bytes ≤ MAX_REPLY) × IsAtEnd left × RunEnds (script_output bytes) old new before after (Ok end)
 ReplayEnds bytes left missed missing old new before after (Err (BadScript line)) =
-    (length bytes ≤ script_limit) × IsAtEnd left × RunEnds {T = Unit {0}} (script_output bytes) old new before after (Err (BadScript line))
+    (length bytes ≤ MAX_REPLY) × IsAtEnd left × RunEnds {T = Unit {0}} (script_output bytes) old new before after (Err (BadScript line))
 ReplayEnds bytes left missed missing old new before after (Err WriteFailed) =
-    (length bytes ≤ script_limit) × IsAtEnd left × RunEnds {T = Unit {0}} (script_output bytes) old new before after (Err WriteFailed)
+    (length bytes ≤ MAX_REPLY) × IsAtEnd left × RunEnds {T = Unit {0}} (script_output bytes) old new before after (Err WriteFailed)
 ReplayEnds bytes left missed missing old new before after (Err NoMemory) =
-    (length bytes ≤ script_limit) × ((IsAtEnd left × AppendsPart old new (script_output bytes).output) ⊎ Keeps old new)
-ReplayEnds bytes left missed missing old new before after (Err ScriptTooLong) = (script_limit < length bytes) × Keeps old new
+    (length bytes ≤ MAX_REPLY) × ((IsAtEnd left × AppendsPart old new (script_output bytes).output) ⊎ Keeps old new)
+ReplayEnds bytes left missed missing old new before after (Err ScriptTooLong) = (MAX_REPLY < length bytes) × Keeps old new
 ReplayEnds bytes left missed missing old new before after (Err ReadFailed) =
-    (length bytes ≤ script_limit) × HasFailed missed missing × Keeps old new
+    (length bytes ≤ MAX_REPLY) × HasFailed missed missing × Keeps old new
 ReplayEnds bytes left missed missing old new before after (Err TooManyTurns) =
-    (length bytes ≤ script_limit) × HasFailed missed missing × SpendsTurns 2097152 missed missing (length bytes) × Keeps old new
+    (length bytes ≤ MAX_REPLY) × HasFailed missed missing × SpendsTurns 2097152 missed missing (length bytes) × Keeps old new
 
 -- a replay: the bytes left to read before and after, the reader's count of failures before and
 -- after, and the writer's contents and count of failures before and after

@@ -1,11 +1,11 @@
-//! The commands of a script.
+//! The commands of a script, as values.
 
 ghost use Rattle.std.specs.Prelude.{◌≡◌, ◌≤◌, length};
 ghost use Rattle.gopher_item.specs.Fault.{Makes};
 ghost use Rattle.gopher_script.specs.Parts.{fault_of_rule, made_rule, fault_of_place, made_place};
 
 use gopher_catalogue::Why;
-use gopher_item::{ItemFault, Place};
+use gopher_item::{ItemFault, MAX_LINE, Place};
 use gopher_scope::Rule;
 use std::alloc::Global;
 use std::marker::Model;
@@ -89,7 +89,7 @@ impl<'a> PlaceParts<'a> {
     }
 }
 
-/// The text of a query: at most 1,024 bytes.
+/// The text of a query: at most 1,024 bytes (`MAX_LINE`).
 #[derive(Drop)]
 pub struct QueryText<'a> {
     pub bytes: &'a [u8],
@@ -97,19 +97,20 @@ pub struct QueryText<'a> {
 
 impl<'a> Model for QueryText<'a> {
     ghost use Rattle.std.specs.Prelude.{ℕ, ◌≤◌, List, length};
+    ghost use Rattle.gopher_item.specs.declared.limits.TheConstants.{MAX_LINE};
 
     ghost Value = { List ℕ };
 
     ghost view = { λ t. t.bytes.now };
 
-    ghost invariant = { λ t. length t.bytes.now ≤ 1024 };
+    ghost invariant = { λ t. length t.bytes.now ≤ MAX_LINE };
 }
 
 impl<'a> QueryText<'a> {
     /// Returns the text.
     pub fn as_slice(&self) -> &'a [u8]
         ensures text { result.now ≡ self.now }
-        ensures few { length result.now ≤ 1024 }
+        ensures few { length result.now ≤ MAX_LINE }
     {
         self.bytes
     }

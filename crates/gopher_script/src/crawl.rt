@@ -1,4 +1,4 @@
-//! The commands of a script in its crawl. Each function returns the bytes of the command's answer.
+//! The commands of a script during its crawl. Each function returns the bytes of the answer.
 
 ghost use Rattle.std.specs.Prelude.{◌≡◌, ◌≤◌, IfOk, OnOk, length};
 ghost use Rattle.gopher_catalogue.specs.Step.{turn_of, after_turn};
@@ -13,6 +13,7 @@ use crate::listing::{hits_lines, places_lines};
 use gopher_catalogue::{Catalogue, FoundFault, Turn, Why};
 use gopher_item::{NoMemory, Place};
 use gopher_page::{Page, Query, QueryFault};
+use gopher_text::MAX_REPLY;
 use std::alloc::Global;
 
 /// Claims the next place.
@@ -36,7 +37,7 @@ pub fn found(
     parts: &PlaceParts<'_>,
     reply: &[u8],
 ) -> Result<Vec<u8>, NoMemory>
-    requires { length reply.now ≤ 1048576 }
+    requires { length reply.now ≤ MAX_REPLY }
     ensures answer { IfOk result
         (λ answer. answer.items ≡ found_line catalogue.old number parts.now reply.now) }
     ensures record { OnOk result
@@ -55,7 +56,7 @@ fn found_at(
     place: &Place,
     reply: &[u8],
 ) -> Result<Vec<u8>, NoMemory>
-    requires { length reply.now ≤ 1048576 }
+    requires { length reply.now ≤ MAX_REPLY }
     ensures answer { IfOk result (λ answer. answer.items
         ≡ page_line catalogue.old number (page_of (scope_in catalogue.old) place.now reply.now)) }
     ensures record { OnOk result (catalogue.new

@@ -1,4 +1,4 @@
-//! The errors of a replay, with their numbers.
+//! The faults of a replay, with their numbers.
 
 ghost use Rattle.std.specs.Prelude.{◌≡◌};
 ghost use Rattle.gopher_script.specs.Fault.{replay_fault_code};

@@ -1,4 +1,4 @@
-//! The fields of a line.
+//! The fields of a line, which TABs separate.
 
 ghost use Rattle.std.specs.Prelude.{◌≡◌, ◌∷◌, [], MatchOption};
 ghost use Rattle.gopher_item.specs.Menu.{fields_of};

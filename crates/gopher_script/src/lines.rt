@@ -1,4 +1,4 @@
-//! The answers of commands, as bytes.
+//! The answers of commands that are one line, as bytes.
 
 ghost use Rattle.std.specs.Prelude.{◌≡◌, ◌≢◌, ◌++◌, IfOk, OnOk};
 ghost use Rattle.gopher_item.specs.Fault.{item_fault_code};

@@ -1,4 +1,4 @@
-//! The answers of searches, as bytes.
+//! The answers of `search` and `occurs`, as bytes.
 
 ghost use Rattle.std.specs.Prelude.{◌≡◌, ◌++◌, IfOk, OnOk};
 ghost use Rattle.std.specs.List.{flat_map};

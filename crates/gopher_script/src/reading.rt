@@ -1,4 +1,4 @@
-//! Reading the commands of a script.
+//! Reading the command of a line (`read_command`).
 
 ghost use Rattle.std.specs.Prelude.{◌≡◌};
 ghost use Rattle.std.specs.Option.{option_map};
@@ -7,9 +7,7 @@ ghost use Rattle.gopher_script.specs.Command.{is_name, short_number, port_in, nu
 use crate::command::{Command, PlaceParts, QueryText, RuleParts, WordText};
 use crate::fields::Fields;
 use gopher_catalogue::Why;
-use gopher_item::read_number;
-
-const LONGEST_QUERY: usize = 1_024;
+use gopher_item::{MAX_LINE, read_number};
 
 fn short_number(width: usize, limit: u32, digits: &[u8]) -> Option<u32>
     ensures { result ≡ short_number width limit digits.now }
@@ -136,7 +134,7 @@ fn search<'a>(fields: Fields<'a>) -> Option<Command<'a>>
     ensures { result ≡ search_in fields.entry }
 {
     let bytes = last_field(fields)?;
-    if bytes.len() <= LONGEST_QUERY {
+    if bytes.len() <= MAX_LINE {
         Some(Command::Search(QueryText { bytes }))
     } else {
         None

@@ -1,4 +1,4 @@
-//! Replaying scripts.
+//! Replaying scripts: running their statements, and sending the answers (`replay`).
 
 ghost use Rattle.std.specs.Prelude.{◌≡◌, ◌≤◌, ◌⊎◌, [], All, length};
 ghost use Rattle.gopher_script.specs.Statement.{HasSmallReply};
@@ -9,12 +9,9 @@ use crate::draft::Draft;
 use crate::fault::ReplayFault;
 use crate::script::{Script, Statement};
 use crate::stage::{Performed, Stage, perform};
-use gopher_text::{Watched, read_reply, send};
+use gopher_text::{MAX_REPLY, Watched, read_reply, send};
 use std::alloc::Global;
 use std::io::{Read, Write};
-
-// The most bytes of a script.
-const SCRIPT_LIMIT: usize = 1_048_576;
 
 /// Sends all bytes with `gopher_text::send`.
 ///
@@ -66,7 +63,7 @@ fn run_script<W: Write>(
     bytes: &[u8],
     output: &mut Watched<W>,
 ) -> Result<(), ReplayFault>
-    requires { length bytes.now ≤ 1048576 }
+    requires { length bytes.now ≤ MAX_REPLY }
     ensures { RunEnds (script_output bytes.now)
         (W.contents output.old.device) (W.contents output.new.device)
         output.old.failures output.new.failures result }
@@ -92,7 +89,7 @@ fn run_script<W: Write>(
 /// - `ReadFailed` (10): a read failed for another reason than an interruption; nothing was written
 /// - `TooManyTurns` (11): 2,097,152 reads, including interrupted ones, didn't reach the end;
 ///   nothing was written
-/// - `ScriptTooLong` (12): the script has more than 1,048,576 bytes; nothing was written
+/// - `ScriptTooLong` (12): the script has more than 1,048,576 bytes (`MAX_REPLY`); nothing was written
 /// - `WriteFailed` (13): a write of an answer failed; a prefix of the script's output was written
 /// - `BadScript` (70): a line isn't a command, or not at this stage; exactly the answers of all
 ///   commands before it were written
@@ -107,7 +104,7 @@ pub fn replay<R: Read, W: Write>(
         (W.contents output.old.device) (W.contents output.new.device)
         output.old.failures output.new.failures result }
 {
-    match read_reply(alloc, input, SCRIPT_LIMIT) {
+    match read_reply(alloc, input, MAX_REPLY) {
         Ok(script) => run_script(alloc, &script, output),
         Err(why) => Err(ReplayFault::from(why)),
     }

@@ -1,4 +1,4 @@
-//! The stages of a script, and performing its commands.
+//! What each command does before the crawl and during it (`perform`).
 
 ghost use Rattle.std.specs.Prelude.{◌≡◌, ◌≤◌, ◌≢◌, [], IfOk, OnOk, MatchOption, None, Some, length};
 ghost use Rattle.gopher_catalogue.specs.Fault.{open_fault_code};
@@ -12,6 +12,7 @@ use crate::lines::{ok_line, refused_line, status_line};
 use gopher_catalogue::{Catalogue, OpenFault, OpenRefused};
 use gopher_item::NoMemory;
 use gopher_scope::Scope;
+use gopher_text::MAX_REPLY;
 use std::alloc::Global;
 
 /// The stage of a script.
@@ -106,7 +107,7 @@ fn perform_in(
     command: Command<'_>,
     reply: &[u8],
 ) -> Result<Option<Performed>, NoMemory>
-    requires { length reply.now ≤ 1048576 }
+    requires { length reply.now ≤ MAX_REPLY }
     ensures { IfOk result (IsPerformed (answer_in catalogue command.entry reply.now)
         (Stage.Crawling (after_in catalogue command.entry reply.now))) }
 {
@@ -135,7 +136,7 @@ pub fn perform(
     command: Command<'_>,
     reply: &[u8],
 ) -> Result<Option<Performed>, NoMemory>
-    requires { length reply.now ≤ 1048576 }
+    requires { length reply.now ≤ MAX_REPLY }
     ensures { IfOk result (IsPerformed (answer_of stage command.entry reply.now)
         (after stage command.entry reply.now)) }
 {

@@ -1,4 +1,4 @@
-//! The reply to a request line.
+//! The reply to a request line, made anew (`answer`) or from kept replies (`answer_kept`).
 
 ghost use Rattle.std.specs.Prelude.{◌≡◌, ◌≤◌, IfOk, IfSome, OnErr, length};
 ghost use Rattle.gopher_replies.specs.Answer.{answer_bytes};
@@ -6,7 +6,7 @@ ghost use Rattle.gopher_serve.specs.Answer.{AnswersLine, AnswersRequest, SeesOn,
 
 use crate::searching::{begin_search, search};
 use gopher_crew::{Crew, Pass};
-use gopher_item::{ByteString, Home, NoMemory, Request, RequestFault, read_request};
+use gopher_item::{ByteString, Home, MAX_LINE, NoMemory, Request, RequestFault, read_request};
 use gopher_replies::{Answer, Replies, Reply};
 use gopher_tree::{Tree, error_reply};
 use std::alloc::Global;
@@ -14,7 +14,7 @@ use std::alloc::Global;
 /// Returns the reply of a server to a request line (RFC 1436, section 2). `line` is without its
 /// end.
 ///
-/// - The line is over 1,024 bytes, or its selector is over 255 bytes or contains a CR, LF or NUL:
+/// - The line is over 1,024 bytes (`MAX_LINE`), or its selector is over 255 bytes or contains a CR, LF or NUL:
 ///   the error reply `Bad request`.
 /// - The selector is `/search`: the hits as a menu. If the line has no search string, or one
 ///   without words, the error reply `No words`. If the published catalogue can't be entered (61),
@@ -53,7 +53,7 @@ fn answer_request<C: Crew>(
     pass: &mut Pass<C>,
     request: &Request,
 ) -> Result<Vec<u8>, NoMemory>
-    requires { IfSome request.now.search (λ text. length text ≤ 1024) }
+    requires { IfSome request.now.search (λ text. length text ≤ MAX_LINE) }
     ensures answered { IfOk result (λ reply.
         AnswersRequest tree.now home.now pass.old pass.new request.now reply.items) }
     ensures refused { OnErr result (SeesOn pass.old pass.new) }
@@ -95,7 +95,7 @@ fn answer_kept_request<'a, C: Crew>(
     pass: &mut Pass<C>,
     request: &Request,
 ) -> Result<Answer<'a>, NoMemory>
-    requires { IfSome request.now.search (λ text. length text ≤ 1024) }
+    requires { IfSome request.now.search (λ text. length text ≤ MAX_LINE) }
     ensures answered { IfOk result (λ answer.
         AnswersRequest replies.now.files replies.now.home pass.old pass.new request.now
         (answer_bytes answer)) }

@@ -1,16 +1,17 @@
-//! Fetching the reply of a place.
+//! Fetching the reply of a place over a stream (`fetch_over`).
 
 ghost use Rattle.std.specs.Prelude.{◌≡◌, ◌≤◌, ◌++◌, ◌∷◌, [], IfErr, IfOk};
 ghost use Rattle.gopher_serve.specs.Fetch.{FailsToFetch, Fetches, request_bytes, why_of};
 
 use gopher_catalogue::Why;
 use gopher_item::{NoMemory, Place};
-use gopher_text::{ReplyFault, Watched, read_reply, send};
+use gopher_text::{MAX_REPLY, ReplyFault, Watched, read_reply, send};
 use std::alloc::{AllocError, Global};
 use std::io::{Read, Write};
 
 /// Fetches the reply of a place over a connection to its server: sends the selector and CR LF, and
-/// reads to the end of the input. `limit` is the most bytes of the reply, at most 1,048,576.
+/// reads to the end of the input. `limit` is the most bytes of the reply, at most 1,048,576
+/// (`MAX_REPLY`).
 ///
 /// # Errors
 ///
@@ -24,7 +25,7 @@ pub fn fetch_over<S: Read + Write>(
     place: &Place,
     limit: usize,
 ) -> Result<Vec<u8>, Why>
-    requires { limit ≤ 1048576 }
+    requires { limit ≤ MAX_REPLY }
     ensures fetched { IfOk result (λ bytes. Fetches S.contents S.remaining limit
         (request_bytes place.now) stream.old stream.new bytes.items) }
     ensures unfetched { IfErr result (FailsToFetch S.contents S.remaining limit

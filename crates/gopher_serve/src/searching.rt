@@ -1,4 +1,4 @@
-//! The reply to a search.
+//! The reply to a line that searches.
 
 ghost use Rattle.std.specs.Prelude.{◌≡◌, ◌<◌, ◌≤◌, [], IfOk, IfSome, MatchOption, OnErr, length};
 ghost use Rattle.gopher_replies.specs.Answer.{answer_bytes};
@@ -6,15 +6,15 @@ ghost use Rattle.gopher_serve.specs.Answer.{AnswersTerms, SeesOn, asked, no_cata
 
 use gopher_crew::{Crew, Pass, SearchFault};
 use gopher_index::Begun;
-use gopher_item::{ByteString, Home, NoMemory};
+use gopher_item::{ByteString, Home, MAX_LINE, NoMemory};
 use gopher_page::{Query, QueryFault};
 use gopher_replies::{Answer, Reply, SearchReply, hits_menu};
 use gopher_tree::error_reply;
 use std::alloc::Global;
 
-// The query of a search string, of at most 1,024 bytes; none if there are no words.
+// The query of a search string, of at most 1,024 bytes (`MAX_LINE`); none if there are no words.
 fn query_of(alloc: Global, search: &Option<ByteString>) -> Result<Option<Query>, NoMemory>
-    requires { IfSome search.now (λ text. length text ≤ 1024) }
+    requires { IfSome search.now (λ text. length text ≤ MAX_LINE) }
     ensures { IfOk result (λ query. MatchOption query (asked search.now ≡ [])
         (λ terms. (terms ≡ asked search.now) × (0 < length terms))) }
 {
@@ -28,14 +28,14 @@ fn query_of(alloc: Global, search: &Option<ByteString>) -> Result<Option<Query>,
     }
 }
 
-/// Returns the reply to a search for a string of at most 1,024 bytes, if the line has one.
+/// Returns the reply to a search for a string of at most 1,024 bytes (`MAX_LINE`), if the line has one.
 pub fn search<C: Crew>(
     alloc: Global,
     home: &Home,
     pass: &mut Pass<C>,
     search: &Option<ByteString>,
 ) -> Result<Vec<u8>, NoMemory>
-    requires { IfSome search.now (λ text. length text ≤ 1024) }
+    requires { IfSome search.now (λ text. length text ≤ MAX_LINE) }
     ensures answered { IfOk result (λ reply.
         AnswersTerms home.now pass.old pass.new (asked search.now) reply.items) }
     ensures refused { OnErr result (SeesOn pass.old pass.new) }
@@ -53,7 +53,7 @@ pub fn begin_search<'a, C: Crew>(
     pass: &mut Pass<C>,
     search: &Option<ByteString>,
 ) -> Result<Answer<'a>, NoMemory>
-    requires { IfSome search.now (λ text. length text ≤ 1024) }
+    requires { IfSome search.now (λ text. length text ≤ MAX_LINE) }
     ensures answered { IfOk result (λ answer.
         AnswersTerms home.now pass.old pass.new (asked search.now) (answer_bytes answer)) }
     ensures refused { OnErr result (SeesOn pass.old pass.new) }

@@ -1,4 +1,4 @@
-//! One conversation of a tree, over streams that block.
+//! One whole conversation of a tree, over streams that block (`serve_one`).
 
 ghost use Rattle.std.specs.Prelude.{◌≡◌, IfErr};
 ghost use Rattle.gopher_conversation.specs.Serve.{IsUnheard, Serves, stream_of};

@@ -1,4 +1,4 @@
-//! What a server answers request lines with.
+//! A tree's replies and a pass, which answer request lines (`Site`).
 
 ghost use Rattle.std.specs.Prelude.{◌≡◌};
 ghost use Rattle.gopher_serve.specs.Site.{site_with};

@@ -1,4 +1,4 @@
-//! Failed accepts, by the system's error.
+//! What the error of a failed accept means.
 
 ghost use Rattle.std.specs.Prelude.{◌≡◌};
 ghost use Rattle.gopher_server.specs.Accepting.{failure_of, is_lost, is_short};

@@ -1,4 +1,4 @@
-//! How a server thread accepts connections.
+//! How a server thread accepts connections: its listeners, its quota, and its pauses.
 
 use crate::listeners::{unwatch, watch};
 use crate::shared::ServerShared;
@@ -49,6 +49,14 @@ impl Acceptor {
         self.listeners.is_none()
     }
 
+    /// Returns how many listeners it has, 0 if it accepts nothing more.
+    pub(crate) fn number_of_listeners(&self) -> usize {
+        match &self.listeners {
+            Some(listeners) => listeners.len(),
+            None => 0,
+        }
+    }
+
     /// Returns the end of its pause, if it pauses.
     pub(crate) fn resumes_at(&self) -> Option<u64> {
         match self.accepting {
@@ -91,10 +99,11 @@ impl Acceptor {
         Some(listener.accept())
     }
 
-    /// Accepts nothing for 100 ms.
+    /// Accepts nothing for 100 ms, and wakes the other threads, which may have connections to close.
     pub(crate) fn pause(&mut self, poll: &Poll, now: u64) {
         self.unwatch(poll);
         self.accepting = Accepting::Pauses(now.saturating_add(PAUSE));
+        self.shared.wake_all();
     }
 
     // Accepts again. If the system refuses, pauses again.

@@ -1,4 +1,4 @@
-//! The listeners, and the reports of their connections.
+//! Listeners in a poll: their tokens, watching them, and the size of their send buffers.
 
 use mio::Poll;
 use mio::net::TcpListener;

@@ -1,4 +1,4 @@
-//! A server thread at work.
+//! A server thread at work (`serve`): accepting clients, and its round of events.
 
 use crate::accepting::{AcceptFailure, failure_of};
 use crate::acceptor::Acceptor;
@@ -64,6 +64,14 @@ impl<'a, A: Answers<'a> + Drop> Server<'a, A> {
         }
     }
 
+    // Accepts the connections that wait at any listener. The system reports a connection to one
+    // thread, which may have paused or have left it to the others.
+    fn accept_all<R: Wait + Clock + Eprint>(&mut self, rt: &R) {
+        for index in 0..self.acceptor.number_of_listeners() {
+            self.accept(rt, index);
+        }
+    }
+
     // Makes do after an accept that failed, and returns whether something was short.
     fn meet_failure<R: Wait + Clock + Eprint>(
         &mut self,
@@ -87,7 +95,7 @@ impl<'a, A: Answers<'a> + Drop> Server<'a, A> {
     }
 
     // Closes the connection idle longest if descriptors or memory are short. If that didn't help,
-    // or there is none, accepts nothing for a time.
+    // or there is none, accepts nothing for a time, and leaves the connection to the other threads.
     fn make_do<R: Wait + Clock>(&mut self, rt: &R, was_short: bool) {
         match self.connections.idle_longest() {
             Some(key) if !was_short => self.close(rt, key),
@@ -121,7 +129,7 @@ impl<'a, A: Answers<'a> + Drop> Server<'a, A> {
     // Goes on with what an event names. `is_gone` says that a client takes nothing more.
     fn handle_event<R: Wait + Clock + Eprint>(&mut self, rt: &R, token: usize, is_gone: bool) {
         if token == WAKER {
-            return;
+            return self.accept_all(rt);
         }
         match listener_index(token) {
             Some(index) => self.accept(rt, index),

@@ -1,4 +1,4 @@
-//! The system resources of server threads, made before the threads start.
+//! What server threads need of the system, made before they start (`set_up`).
 
 use crate::listeners::{WAKER, limit_send_buffer, watch};
 use crate::shared::ServerShared;

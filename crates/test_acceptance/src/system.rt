@@ -1,48 +1,13 @@
 // The system of a test, as one on which the program runs.
-use gopher_hole::OpenLog;
+use gopher_hole::System;
 use std::alloc::{AllocError, Global};
-use std::env::Env;
-use std::fs::{File, Files};
-use std::net::{Net, TcpListener, TcpStream};
+use std::net::{TcpListener, TcpStream};
 use std::process::Abort;
-use std::sync::Wait;
-use std::thread::Threads;
-use std::time::Clock;
 
 /// A system on which the program runs, in a test.
-pub trait Host: Files<File = File>
-    + OpenLog
-    + Net<Listener = TcpListener, Stream = TcpStream>
-    + Threads
-    + Wait
-    + Clock
-    + Env
-    + Eprint
-    + AllocGlobal
-    + Clone
-    + Send
-    + Sync
-    + Drop
-    + Abort
-    + 'static {}
+pub trait Host: System + Abort {}
 
-impl<
-    H: Files<File = File>
-        + OpenLog
-        + Net<Listener = TcpListener, Stream = TcpStream>
-        + Threads
-        + Wait
-        + Clock
-        + Env
-        + Eprint
-        + AllocGlobal
-        + Clone
-        + Send
-        + Sync
-        + Drop
-        + Abort
-        + 'static,
-> Host for H {}
+impl<H: System + Abort> Host for H {}
 
 /// The sockets that a test has opened for itself.
 pub type Sockets = Option<(TcpListener, TcpStream)>;

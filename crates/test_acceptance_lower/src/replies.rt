@@ -1,4 +1,4 @@
-// Replies that are made once and kept, and those that are made at each request.
+// Replies that are made once and kept.
 use crate::folders::{Rows, file_of, home, only, tree_of};
 use gopher_replies::{Replies, Reply};
 use gopher_tree::Tree;
@@ -57,25 +57,25 @@ fn keeps_replies(rt: HostRuntime) {
     assert!(rt; replies.number_of_bytes() == ROOT.len() + 11 + 29);
 }
 
-// A tree whose top menu is larger than what is kept.
+// A tree whose top menu is 19 times as large as its file.
 fn large_tree(alloc: Global) -> Option<Tree> {
     let files = only(alloc, file_of(alloc, b".menu", b'\n', 900_000))?;
     Tree::of_files(alloc, files).ok()
 }
 
-// Whether the top menu is made, and has this length.
-fn makes_menu(alloc: Global, replies: &Replies, length: usize) -> bool {
+// Whether the top menu is kept, and has this length.
+fn keeps_menu(alloc: Global, replies: &Replies, length: usize) -> bool {
     match replies.reply(alloc, b"") {
-        Ok(Reply::Made(bytes)) => bytes.len() == length,
+        Ok(Reply::Kept(bytes)) => bytes.len() == length,
         _ => false,
     }
 }
 
 #[test]
-fn makes_large_menus(rt: HostRuntime) {
+fn keeps_large_menus(rt: HostRuntime) {
     let Some(replies) = replies_of(rt.alloc(), large_tree(rt.alloc())) else {
         panic!(rt; "no replies");
     };
-    assert!(rt; makes_menu(rt.alloc(), &replies, 900_000 * 19 + 3));
-    assert!(rt; replies.number_of_bytes() == 0);
+    assert!(rt; keeps_menu(rt.alloc(), &replies, 900_000 * 19 + 3));
+    assert!(rt; replies.number_of_bytes() == 900_000 * 19 + 3);
 }

@@ -33,6 +33,7 @@ const EARLY: Rows = &[
     (b"/search\t -- ", NO_WORDS),
     (b"/a\0b", BAD_REQUEST),
     (&[b'a'; 256], BAD_REQUEST),
+    (&[b'a'; 1_025], BAD_REQUEST),
     (&[b'a'; 255], NOT_FOUND),
     (SEARCH, NOTHING),
 ];
