@@ -32,17 +32,20 @@ module _ (terms : List TermData) (best : BestData) (lowest : ℕ) (low : lowest 
 
 -- ---- blocks
 
-pub block_cells : {X : Type 0} (f : X → PageData) (terms : List TermData) (pages : List X) (truths : List Bool) (scores : List ℕ) (start size : ℕ) → AreCells terms (map f pages) truths scores
-    → AreCells terms (map f (take size (drop start pages))) (take size (drop start truths)) (take size (drop start scores))
-block_cells f terms pages truths scores start size cells =
+pub span_cells : (terms : List TermData) (pages : List PageData) (truths : List Bool) (scores : List ℕ) (start size : ℕ) → AreCells terms pages truths scores → AreCells terms (take size (drop start pages)) (take size (drop start truths)) (take size (drop start scores))
+span_cells terms pages truths scores start size cells =
     record {
       matching = part (λ (page : PageData). matches terms page.counts) truths cells.matching;
       scoring = part (λ (page : PageData). score terms page.counts) scores cells.scoring;
     }
   where
-    part : {Y : Type 0} (g : PageData → Y) (ys : List Y) → ys ≡ map g (map f pages) → take size (drop start ys) ≡ map g (map f (take size (drop start pages)))
-    part g ys e =
-        ap (λ l. take size (drop start l)) e ∙ ap (take size) (drop-map g start (map f pages) ∙ ap (map g) (drop-map f start pages)) ∙ take-map g size (map f (drop start pages)) ∙ ap (map g) (take-map f size (drop start pages))
+    part : {Y : Type 0} (g : PageData → Y) (ys : List Y) → ys ≡ map g pages → take size (drop start ys) ≡ map g (take size (drop start pages))
+    part g ys e = ap (λ l. take size (drop start l)) e ∙ ap (take size) (drop-map g start pages) ∙ take-map g size (drop start pages)
+
+pub span_next : {X : Type 0} (xs : List X) (start end : ℕ) → start ≤ end → take end xs ≡ take start xs ++ take (end - start) (drop start xs)
+span_next xs start end forward =
+    let whole : end ≡ start + (end - start) = omega arith in
+    ap (λ n. take n xs) whole ∙ take-add start (end - start) xs
 
 pub block_next : {X : Type 0} (f : X → PageData) (pages : List X) (start end : ℕ) → start ≤ end → map f (take end pages) ≡ map f (take start pages) ++ map f (take (end - start) (drop start pages))
 block_next f pages start end forward =

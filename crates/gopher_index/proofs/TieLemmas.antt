@@ -1,5 +1,5 @@
 -- Hits that come behind the last of the best, and others behind these.
-use Rattle.std.proofs.Common.{◌≡◌, ℕ, ◌+◌, ◌<◌, ◌≤◌, Bool, true, false, ◌&&◌, nat_le, nat_lt, List, [], ◌∷◌, ◌++◌, length, map, take, filter, get_or, slice_get, refl, sym, ap, subst, ◌∙◌, arith}
+use Rattle.std.proofs.Common.{◌≡◌, ◌⊎◌, ℕ, ◌+◌, ◌<◌, ◌≤◌, Bool, true, false, ◌&&◌, nat_le, nat_lt, List, [], ◌∷◌, ◌++◌, length, map, take, filter, get_or, slice_get, refl, sym, ap, subst, ◌∙◌, inl, inr, arith}
 use Rattle.std.specs.Prelude.{Option, Some, None, option_map, Result, Ok, Err, OnOk}
 use Rattle.std.specs.Cmp.{nat_cmp_is}
 use Rattle.std.specs.Option.{option_map_or}
@@ -7,7 +7,8 @@ use Rattle.std.specs.Ordering.{is_gt, is_lt, ordering_reverse, ordering_then}
 use Rattle.std.specs.declared.cmp.Ordering.{Ordering}
 use Rattle.std.specs.declared.cmp.Ordering.TheVariants.{Less, Equal, Greater}
 use Rattle.std.proofs.lemmas.Bool.{both_ways}
-use Rattle.std.proofs.lemmas.Option.{get_or_from_slice_get, slice_get-map, slice_get_read, slice_get_within}
+use Rattle.std.proofs.lemmas.Option.{get_or_from_slice_get, slice_get-map, slice_get_cases, slice_get_read, slice_get_within}
+use Rattle.std.proofs.lemmas.List.{take_more}
 use Rattle.gopher_item.specs.Place.{place_cmp}
 use Rattle.gopher_page.specs.Page.{PageData}
 use Rattle.gopher_segment.specs.Ranks.{AreRanks}
@@ -90,3 +91,21 @@ covered_beyond pages ranks tied score below page best are here beyond most index
 pub on_ok_from : {A E : Type 0} (result : Result A E) (P Q : Type 0) → (P → Q) → OnOk result P → OnOk result Q
 on_ok_from (Ok x) P Q f h = f h
 on_ok_from (Err e) P Q f h = tt
+
+-- ---- the page at an index
+
+pub record PageHere (pages : List PageData) (index : ℕ) : Type 0 where
+  pub page : PageData
+  pub there : slice_get pages index ≡ Some page
+  pub next : take (index + 1) pages ≡ take index pages ++ page ∷ []
+
+pub page_here : (pages : List PageData) (index : ℕ) → index < length pages → PageHere pages index
+page_here pages index within = by (slice_get_cases pages index).1
+  where
+    by : ((x : PageData) × (index < length pages) × (slice_get pages index ≡ Some x) × (get_or pages index x ≡ x)) ⊎ ((length pages ≤ index) × (slice_get pages index ≡ None)) → PageHere pages index
+    by (inl found) = record { page = found.0; there = found.2; next = take_more pages index found.0 within ∙ ap (λ y. take index pages ++ y ∷ []) found.3 }
+    by (inr past) = absurd (omega (arith, past.0, within))
+
+pub read_at : {Y : Type 0} (f : PageData → Y) (pages : List PageData) (zs : List Y) (index : ℕ) (page : PageData) (d : Y) → slice_get pages index ≡ Some page → zs ≡ map f pages → get_or zs index d ≡ f page
+read_at f pages zs index page d there made =
+    ap (λ l. get_or l index d) made ∙ get_or_from_slice_get (map f pages) index (f page) d (slice_get-map f pages index ∙ ap (option_map f) there)

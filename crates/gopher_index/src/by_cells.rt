@@ -1,18 +1,20 @@
 //! Searching segments for several terms or a prefix: the pages of each segment are ranked by cells.
 
-ghost use Rattle.std.specs.Prelude.{None, ◌≡◌, ◌≤◌, false, List, length, map, nat_le, IfOk, OnOk};
+ghost use Rattle.std.specs.Prelude.{None, ◌≡◌, ◌≤◌, false, List, length, map, nat_le, take, IfOk, OnOk};
 ghost use Rattle.std.specs.Arc.{arc_value};
 ghost use Rattle.std.specs.List.{list_any};
 ghost use Rattle.gopher_page.specs.Query.{TermData};
-ghost use Rattle.gopher_index.specs.Best.{IsBestOf, TakesIn};
+ghost use Rattle.gopher_index.specs.Best.{BestData, IsBestOf, TakesIn};
 ghost use Rattle.gopher_index.specs.Cells.{AreCells};
+ghost use Rattle.gopher_index.specs.Ties.{AreTies};
 ghost use Rattle.gopher_segment.specs.Segment.{pages_of};
 
 use crate::best::Best;
 use crate::cells::Cells;
 use crate::likely::likely_hits;
+use crate::ties::Ties;
 use gopher_item::NoMemory;
-use gopher_page::{Page, Term};
+use gopher_page::Term;
 use gopher_segment::{Segment, pages_len};
 use std::alloc::Global;
 use std::sync::Arc;
@@ -31,54 +33,60 @@ fn any_reaches(scores: &[u32], lowest: u32) -> bool
     is_reached
 }
 
-// Inserts the pages that match into the best. A page is read only if its score is high enough.
+// Inserts the pages from `start` to `end` that match into the best. A page is read only if its score is
+// high enough.
 fn rank_block<'a>(
-    pages: &'a [Arc<Page>],
+    ties: &mut Ties<'a>,
     truths: &[bool],
     scores: &[u32],
+    start: usize,
+    end: usize,
     best: &mut Best<'a>,
 ) -> Result<(), NoMemory>
-    requires truths { length truths.now ≡ length pages.now }
-    requires scores { length scores.now ≡ length pages.now }
-    ensures { (terms : List TermData)
-        → AreCells terms (map arc_value pages.now) truths.now scores.now
-        → OnOk result (TakesIn terms (map arc_value pages.now) best.old best.new) }
+    requires truths { length truths.now ≡ length ties.old.pages.now }
+    requires scores { length scores.now ≡ length ties.old.pages.now }
+    requires ties { AreTies ties.old best.old }
+    requires forward { start ≤ end }
+    requires within { end ≤ length ties.old.pages.now }
+    ensures same { ties.new.pages ≡ ties.old.pages }
+    ensures ties { OnOk result (AreTies ties.new best.new) }
+    ensures takes { (terms : List TermData) (old : BestData)
+        → AreCells terms (map arc_value ties.old.pages.now) truths.now scores.now
+        → TakesIn terms (take start (map arc_value ties.old.pages.now)) old best.old
+        → OnOk result
+        (TakesIn terms (take end (map arc_value ties.old.pages.now)) old best.new) }
 {
     let mut lowest = best.lowest_score();
-    for (index, page) in pages.iter().enumerate() {
+    for index in start..end {
         let score = u64::from(scores[index]);
         if score >= lowest && truths[index] {
-            best.insert(score, page)?;
+            ties.insert(index, score, best)?;
             lowest = best.lowest_score();
         }
     }
     Ok(())
 }
 
-/// Inserts the pages that match into the best. Skips blocks without a score that is high enough.
+/// Inserts the pages of a segment that match into the best. Skips blocks without a score that is high
+/// enough.
 pub(crate) fn rank_cells<'a>(
-    pages: &'a [Arc<Page>],
+    segment: &'a Segment,
     truths: &[bool],
     scores: &[u32],
     best: &mut Best<'a>,
 ) -> Result<(), NoMemory>
-    requires truths { length truths.now ≡ length pages.now }
-    requires scores { length scores.now ≡ length pages.now }
-    ensures { (terms : List TermData)
-        → AreCells terms (map arc_value pages.now) truths.now scores.now
-        → OnOk result (TakesIn terms (map arc_value pages.now) best.old best.new) }
+    requires truths { length truths.now ≡ length segment.now.pages }
+    requires scores { length scores.now ≡ length segment.now.pages }
+    ensures { (terms : List TermData) → AreCells terms segment.now.pages truths.now scores.now
+        → OnOk result (TakesIn terms segment.now.pages best.old best.new) }
 {
+    let mut ties = Ties::new(segment);
     let mut start = 0;
-    while start < pages.len() {
-        let end = pages.len().min(start + BLOCK);
+    while start < scores.len() {
+        let end = scores.len().min(start + BLOCK);
         let lowest = best.lowest_score().min(u64::from(u32::MAX)) as u32;
         if any_reaches(&scores[start..end], lowest) {
-            rank_block(
-                &pages[start..end],
-                &truths[start..end],
-                &scores[start..end],
-                best,
-            )?;
+            rank_block(&mut ties, truths, scores, start, end, best)?;
         }
         start = end;
     }
@@ -95,7 +103,7 @@ fn rank_segment<'a>(
     ensures { OnOk result (TakesIn terms.now segment.now.pages best.old best.new) }
 {
     cells.fill(segment, terms)?;
-    rank_cells(segment.pages(), &cells.truths, &cells.scores, best)
+    rank_cells(segment, &cells.truths, &cells.scores, best)
 }
 
 fn rank_segments<'a>(
@@ -133,7 +141,7 @@ fn best_of_first<'a>(
         None => 0,
     };
     let mut best = Best::new(alloc, least)?;
-    rank_cells(segment.pages(), &cells.truths, &cells.scores, &mut best)?;
+    rank_cells(segment, &cells.truths, &cells.scores, &mut best)?;
     Ok(best)
 }
 

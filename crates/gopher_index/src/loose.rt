@@ -53,14 +53,14 @@ fn rank_loose_page<'a>(
 
 /// Inserts the loose pages that match a query's terms into the best.
 pub(crate) fn rank_loose_pages<'a>(
-    pages: &'a [Arc<Page>],
+    loose: &'a [Arc<Page>],
     terms: &[Term],
     best: &mut Best<'a>,
 ) -> Result<(), NoMemory>
     requires { length terms.now ≤ 1024 }
-    ensures { OnOk result (TakesIn terms.now (map arc_value pages.now) best.old best.new) }
+    ensures { OnOk result (TakesIn terms.now (map arc_value loose.now) best.old best.new) }
 {
-    for page in pages {
+    for page in loose {
         rank_loose_page(page, terms, best)?;
     }
     Ok(())
@@ -75,8 +75,8 @@ fn rank_page_by_groups<'a>(
     ensures { (terms : List TermData) → AreGroups terms groups.now
         → OnOk result (TakesIn terms (arc_value page.now ∷ []) best.old best.new) }
 {
-    let (truth, score) = weigh_by_groups(groups, page);
-    if !truth {
+    let (is_match, score) = weigh_by_groups(groups, page);
+    if !is_match {
         return Ok(());
     }
     best.insert(score, page)

@@ -51,18 +51,17 @@ pub(crate) struct Progress {
 fn kept_with_cells(
     alloc: Global,
     kept: &[Kept],
-    pages: &[Arc<Page>],
+    segment: &Segment,
     truths: &[bool],
     scores: &[u32],
 ) -> Result<Vec<Kept>, NoMemory>
-    requires truths { length truths.now ≡ length pages.now }
-    requires scores { length scores.now ≡ length pages.now }
-    ensures { (terms : List TermData)
-        → AreCells terms (map arc_value pages.now) truths.now scores.now
-        → IfOk result (λ new. AddsPages terms (map arc_value pages.now) kept.now new.items) }
+    requires truths { length truths.now ≡ length segment.now.pages }
+    requires scores { length scores.now ≡ length segment.now.pages }
+    ensures { (terms : List TermData) → AreCells terms segment.now.pages truths.now scores.now
+        → IfOk result (λ new. AddsPages terms segment.now.pages kept.now new.items) }
 {
     let mut best = Best::of(alloc, kept)?;
-    rank_cells(pages, truths, scores, &mut best)?;
+    rank_cells(segment, truths, scores, &mut best)?;
     best.kept(alloc)
 }
 
@@ -160,9 +159,10 @@ impl Progress {
         ensures same { IsSameSearch self.old self.new }
         ensures fewer { OnOk result (steps_left self.new < steps_left self.old) }
     {
-        let pages = self.segments[self.segments_done].pages();
+        let segment = &self.segments[self.segments_done];
         let truths = truths_of(self.alloc, &self.joined.verdicts)?;
-        self.kept = kept_with_cells(self.alloc, &self.kept, pages, &truths, &self.joined.scores)?;
+        let scores = &self.joined.scores;
+        self.kept = kept_with_cells(self.alloc, &self.kept, segment, &truths, scores)?;
         self.segments_done += 1;
         self.joined.groups = 0;
         Ok(())

@@ -14,15 +14,15 @@ pub returns-clause-same : goal.returns-clause-same
 returns-clause-same c =
     let old = c.args.self.now in
     let terms = old.terms.items in
-    let segment = c.index.result.now in
+    let segment = c.index-segment.result.now in
     let pages = (arc_value segment).pages in
     let none : old.loose_done ≡ 0 = none_loose old.loose_done old.segments_done (length old.segments.items) c.requires.is.in_order c.requires.segments in
-    let joined : AreJoined old.groups.items pages old.joined = c.requires.is.under_way segment c.index.ensures (omega (arith, c.requires.groups, c.requires.planned)) in
+    let joined : AreJoined old.groups.items pages old.joined = c.requires.is.under_way segment c.index-segment.ensures (omega (arith, c.requires.groups, c.requires.planned)) in
     let all : AreGroupCells old.groups.items pages old.joined.verdicts.items old.joined.scores.items =
     subst (λ groups. AreGroupCells groups pages old.joined.verdicts.items old.joined.scores.items) (take_all old.joined.groups old.groups.items (omega (arith, c.requires.groups))) joined.cells in
     let cells : AreCells terms pages c.in_ok-truths.truths.items old.joined.scores.items =
-    groups_cells terms old.groups.items pages c.in_ok-truths.truths.items old.joined.verdicts.items old.joined.scores.items (c.requires.is.plan c.requires.planned).groups_are (c.in_ok-truths.ensures ∙ ap (map is_match) c.deref-2.ensures.value) all in
-    let here : map arc_value c.pages-pages.result.now ≡ pages = c.pages-pages.ensures.pages ∙ ap (λ segment. segment.pages) c.deref.ensures in
+    groups_cells terms old.groups.items pages c.in_ok-truths.truths.items old.joined.verdicts.items old.joined.scores.items (c.requires.is.plan c.requires.planned).groups_are (c.in_ok-truths.ensures ∙ ap (map is_match) c.deref.ensures.value) all in
+    let here : c.deref-3.result.now.pages ≡ pages = ap (λ segment. segment.pages) c.deref-3.ensures in
     record {
       is = record {
         query = c.requires.is.query;
@@ -35,10 +35,10 @@ returns-clause-same c =
         under_way = λ segment at more. absurd (omega (arith, more));
         best =
             c.in_ok-self.ensures terms
-            (same_cells terms pages (map arc_value c.pages-pages.result.now) c.in_ok-truths.truths.items c.deref-4.result.now old.joined.scores.items c.deref-5.result.now (sym here) (sym c.deref-4.ensures.value) (sym c.deref-5.ensures.value) cells)
-            (pages_done old) (ap (map kept_hit) c.deref-3.ensures.value ∙ c.requires.is.best)
+            (same_cells terms pages c.deref-3.result.now.pages c.in_ok-truths.truths.items c.deref-4.result.now old.joined.scores.items c.deref-5.result.now (sym here) (sym c.deref-4.ensures.value) (sym c.deref-5.ensures.value) cells)
+            (pages_done old) (ap (map kept_hit) c.deref-2.ensures.value ∙ c.requires.is.best)
             ∙ ap (λ pages. answer_from 0 (pages_done old ++ pages) terms) here
-            ∙ ap (λ pages. answer_from 0 pages terms) (sym (segment_taken arc_value arc_value old.segments.items old.loose.items old.segments_done old.loose_done segment none c.requires.segments c.index.ensures));
+            ∙ ap (λ pages. answer_from 0 pages terms) (sym (segment_taken arc_value arc_value old.segments.items old.loose.items old.segments_done old.loose_done segment none c.requires.segments c.index-segment.ensures));
       };
       pages = refl;
       terms = refl;
