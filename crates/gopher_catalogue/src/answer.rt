@@ -1,4 +1,4 @@
-//! The result of a claim.
+//! `Turn`, `Claim`: the result of a claim.
 
 use gopher_item::Place;
 use std::sync::Arc;

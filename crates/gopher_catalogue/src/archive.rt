@@ -1,4 +1,4 @@
-//! The record of a crawl, with the index of its pages.
+//! `Archive`: the record of a crawl with the index of its pages.
 
 ghost use Rattle.std.specs.Prelude.{◌≡◌, ◌+◌, ◌<◌, ◌≤◌, [], ◌∷◌, ◌++◌, length, map, IfOk, IfErr, IfSome, OnOk, OnErr};
 ghost use Rattle.std.specs.Arc.{arc_value};

@@ -1,4 +1,4 @@
-//! A searchable record of events that any caller can build.
+//! `Book`: a record of events that any caller can build, and searches of it.
 
 ghost use Rattle.std.specs.Prelude.{◌≡◌, [], ◌∷◌, ◌++◌, length, IfOk, OnOk, OnErr};
 ghost use Rattle.gopher_catalogue.specs.Legal.{IsLegal};

@@ -1,4 +1,4 @@
-//! The catalogue of a crawl: its steps and its searches.
+//! `Catalogue`: the steps of a crawl, open, claim, found and fail, and its searches.
 
 ghost use Rattle.std.specs.Prelude.{◌≡◌, ℕ, true, false, None, Some, [], ◌∷◌, ◌++◌, map, not, position, slice_get, IfOk, IfErr, IfSome, OnOk, OnErr};
 ghost use Rattle.std.specs.Arc.{arc_value};

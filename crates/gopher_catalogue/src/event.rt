@@ -1,4 +1,4 @@
-//! The events of a crawl.
+//! `Event`, `EventData`, `Why`: the events of a crawl.
 
 ghost use Rattle.std.specs.Prelude.{◌≡◌, IfOk};
 ghost use Rattle.gopher_catalogue.specs.Event.{why_code};

@@ -1,4 +1,4 @@
-//! The errors of the catalogue, with their numbers.
+//! `OpenFault`, `FoundFault`, `FailRefused`: why a step is refused, with the numbers.
 
 ghost use Rattle.std.specs.Prelude.{◌≡◌};
 ghost use Rattle.gopher_catalogue.specs.Fault.{open_fault_code, found_fault_code};

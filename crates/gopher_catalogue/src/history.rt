@@ -1,4 +1,4 @@
-//! The record of a crawl.
+//! `History`: the record of a crawl as a list of events.
 
 ghost use Rattle.std.specs.Prelude.{◌≡◌, ◌+◌, ◌<◌, ◌≤◌, [], ◌∷◌, ◌++◌, length, map, IfOk, OnOk};
 ghost use Rattle.std.specs.Arc.{arc_value};

@@ -1,4 +1,4 @@
-//! The arguments with which a crawl begins.
+//! `Opening`: the scope, the seeds and the limits with which a crawl begins.
 
 ghost use Rattle.std.specs.Prelude.{◌≡◌};
 ghost use Rattle.gopher_catalogue.specs.Opening.{opening_of};
