@@ -1,4 +1,4 @@
-//! The words of pages, one page after another.
+//! Making the rows of pages, one page after another.
 
 ghost use Rattle.std.specs.Prelude.{◌≡◌, ◌+◌, ◌≤◌, ◌-◌, ◌^◌, ◌++◌, length, map, min, IfOk, OnOk};
 ghost use Rattle.std.specs.Arc.{arc_value};

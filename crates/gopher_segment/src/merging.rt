@@ -1,4 +1,4 @@
-//! Merging tables.
+//! Merging the tables of consecutive segments into one.
 
 ghost use Rattle.std.specs.Prelude.{◌≡◌, ℕ, Bool, ◌<◌, List, None, ◌++◌, length, map, drop, option_map, IfOk, IfSome, OnOk};
 ghost use Rattle.std.specs.List.{flat_map};

@@ -1,4 +1,4 @@
-//! The words of pages, to be joined into a table.
+//! A row: one word of one page, with its count.
 
 ghost use Rattle.std.specs.Prelude.{◌≡◌, [], ◌∷◌, ◌++◌, slice_index_or, OnOk, OnErr};
 ghost use Rattle.gopher_page.specs.Words.{same_word};

@@ -1,4 +1,4 @@
-//! Runs of postings.
+//! The postings of each word, packed in one list: appending them, and adding their counts to cells.
 
 ghost use Rattle.std.specs.Prelude.{◌≡◌, ℕ, ◌+◌, ◌^◌, ◌<◌, ◌≤◌, Some, [], ◌∷◌, ◌++◌, ◌-◌, length, take, drop, slice_get, slice_index, ◌==◌, if◌then◌else◌, IfOk, OnOk};
 ghost use Rattle.std.specs.List.{zip};
