@@ -111,7 +111,7 @@ IsProgressAfter fault progress = Unit {0}
 abbrev pub progress_after : ErrorKind → ServeFault → Progress
 progress_after kind.Interrupted fault = Paused
 progress_after kind.WouldBlock fault = Waits
-progress_after other fault = Failed fault
+progress_after why fault = Failed fault
 
 -- how a conversation stands when it stops, by its progress: the conversation, how many calls of the reader had failed
 -- before and after, and how many of the writer
