@@ -7,7 +7,7 @@ use prog.Atomic.{either}
 use Rattle.logbook.specs.Pages.{Cell, cell, keeps, no_nib, step, Moves, Goes}
 use Rattle.gopher_catalogue.specs.declared.event.EventData.{EventData}
 use Rattle.gopher_crew.specs.History.{IsCounted, Adds}
-use Rattle.gopher_crew.proofs.Beginnings.{prefix_whole}
+use Rattle.gopher_crew.proofs.Prefixes.{prefix_whole}
 
 abbrev pub shown : List EventData → List EventData
 shown log = []

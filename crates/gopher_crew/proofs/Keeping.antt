@@ -5,9 +5,9 @@ use Rattle.gopher_catalogue.specs.declared.event.EventData.{EventData}
 use Rattle.gopher_catalogue.specs.declared.event.EventData.TheVariants.{Claimed}
 use Rattle.gopher_catalogue.specs.Step.{TurnData, Take, Idle, Finished, after_turn}
 use Rattle.gopher_catalogue.proofs.LegalSizes.{length-record_fits}
-use Rattle.gopher_crew.specs.Crew.{JournalData, IsKept}
+use Rattle.gopher_crew.specs.Crew.{FollowerData, IsKept}
 use Rattle.gopher_crew.specs.Kept.{rise_of}
-use Rattle.gopher_crew.proofs.Beginnings.{prefix_self, prefix_push, prefix_trans}
+use Rattle.gopher_crew.proofs.Prefixes.{prefix_self, prefix_push, prefix_trans}
 
 -- a record begins with the record before a turn
 pub turn_grows : (record_ : List EventData) (turn : TurnData) → IsPrefix record_ (after_turn record_ turn)
@@ -21,9 +21,9 @@ turn_counts record_ Idle = omega arith
 turn_counts record_ Finished = omega arith
 
 -- the count of a record's events is small
-pub few_events : (record_ : List EventData) (journal : JournalData) (count : ℕ) → IsKept record_ journal count → count < 2 ^ 63
-few_events record_ journal count kept = omega (arith, length-record_fits record_ kept.legal, kept.counted)
+pub few_events : (record_ : List EventData) (follower : FollowerData) (count : ℕ) → IsKept record_ follower count → count < 2 ^ 63
+few_events record_ follower count kept = omega (arith, length-record_fits record_ kept.legal, kept.counted)
 
 -- what was entered begins the record after a turn
-pub turn_keeps : (front record_ : List EventData) (turn : TurnData) → IsPrefix front record_ → IsPrefix front (after_turn record_ turn)
-turn_keeps front record_ turn begun = prefix_trans front record_ (after_turn record_ turn) begun (turn_grows record_ turn)
+pub turn_keeps : (prefix record_ : List EventData) (turn : TurnData) → IsPrefix prefix record_ → IsPrefix prefix (after_turn record_ turn)
+turn_keeps prefix record_ turn begun = prefix_trans prefix record_ (after_turn record_ turn) begun (turn_grows record_ turn)

@@ -1,9 +1,9 @@
-pub mod Beginnings
+pub mod Prefixes
 pub mod Adding
 pub mod Publishing
 pub mod Records
 pub mod Keeping
-pub mod Errands
+pub mod MergeJobs
 pub mod Versions
 pub mod Pairing
-pub mod Shelving
+pub mod PublisherLemmas

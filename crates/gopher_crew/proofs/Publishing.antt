@@ -9,36 +9,36 @@ use Rattle.logbook.specs.Pages.{Book}
 use Rattle.gopher_catalogue.specs.declared.event.EventData.{EventData}
 use Rattle.gopher_crew.specs.declared.update.Update.{Update}
 use Rattle.gopher_crew.specs.Version.{VersionData, IsVersion, IsPublished, Sees, after_update, last_of, GoesOn}
-use Rattle.gopher_crew.proofs.Beginnings.{prefix_self, prefix_none, prefix_trans}
+use Rattle.gopher_crew.proofs.Prefixes.{prefix_self, prefix_none, prefix_trans}
 
 -- a reader that has seen nothing may come at any time
 pub admits : (history : Book) → Admits (IsPublished history) []
 admits history x views h = record {
   is_version = h.is_version;
-  begins = λ seat v at. ⊎_elim (h.begins seat v) (λ (e : [] ≡ v). subst (λ (z : List EventData). IsPrefix z x.front.events) e (prefix_none x.front.events)) (at_snoc views [] v seat at);
+  begins = λ seat v at. ⊎_elim (h.begins seat v) (λ (e : [] ≡ v). subst (λ (z : List EventData). IsPrefix z x.prefix.events) e (prefix_none x.prefix.events)) (at_snoc views [] v seat at);
 }
 
 -- a version that goes on may take the place of the published one, and the one who shows it, or looks, sees it
 pub shows : (history : Book) (seat : ℕ) (v : List EventData) (x y : VersionData) → GoesOn history x y → TurnsAt (IsPublished history) seat v x y (Sees history)
 shows history seat v x y on views h at = (
-  y.front.events,
+  y.prefix.events,
   record {
     is_version = on.0;
-    begins = λ j u e. ⊎_elim (λ (t : (j ≡ seat) × (y.front.events ≡ u)). subst (λ (z : List EventData). IsPrefix z y.front.events) t.1 (prefix_self y.front.events))
-        (λ (t : (j ≢ seat) × (get_elem? views j ≡ some u)). prefix_trans u x.front.events y.front.events (h.begins j u t.1) on.1) (at_set views seat j y.front.events u e);
+    begins = λ j u e. ⊎_elim (λ (t : (j ≡ seat) × (y.prefix.events ≡ u)). subst (λ (z : List EventData). IsPrefix z y.prefix.events) t.1 (prefix_self y.prefix.events))
+        (λ (t : (j ≢ seat) × (get_elem? views j ≡ some u)). prefix_trans u x.prefix.events y.prefix.events (h.begins j u t.1) on.1) (at_set views seat j y.prefix.events u e);
   },
   record { began = h.begins seat v at; sees = refl; is_version = on.0 },
 )
 
 -- an entry changes nothing that is published
 pub looks : (history : Book) (seat : ℕ) (v : List EventData) → Turns (IsPublished history) seat v (λ x. x) (Sees history)
-looks history seat v x views h at = shows history seat v x x (h.is_version, prefix_self x.front.events) views h at
+looks history seat v x views h at = shows history seat v x x (h.is_version, prefix_self x.prefix.events) views h at
 
--- at the beginning there is one view, which has seen nothing
+-- at first there is one view, which has seen nothing
 pub shown_first : (history : Book) (x : VersionData) → IsVersion history x → IsPublished history x ([] ∷ [])
 shown_first history x is = record {
   is_version = is;
-  begins = λ seat v at. ⊎_elim (λ (none : get_elem? [] seat ≡ some v). absurd cc) (λ (e : [] ≡ v). subst (λ (z : List EventData). IsPrefix z x.front.events) e (prefix_none x.front.events)) (at_snoc [] [] v seat at);
+  begins = λ seat v at. ⊎_elim (λ (none : get_elem? [] seat ≡ some v). absurd cc) (λ (e : [] ≡ v). subst (λ (z : List EventData). IsPrefix z x.prefix.events) e (prefix_none x.prefix.events)) (at_snoc [] [] v seat at);
 }
 
 -- the update that was appended last is applied to the version that those before it make

@@ -1,4 +1,4 @@
--- The pages of records of which one begins the other.
+-- The pages of a record and of a prefix of it.
 use Rattle.std.proofs.Common.{◌≡◌, ◌+◌, ◌++◌, [], ◌∷◌, List, length, sym, ap, ◌∙◌, arith, length-append}
 use Rattle.std.proofs.lemmas.Grind.{flat_map-append}
 use mathlib.Core.List.{IsPrefix}
@@ -6,9 +6,9 @@ use Rattle.gopher_catalogue.specs.declared.event.EventData.{EventData}
 use Rattle.gopher_catalogue.specs.Pages.{page_of_event, pages_found}
 use Rattle.gopher_page.specs.Page.{PageData}
 use Rattle.gopher_index.specs.Index.{EndsWith}
-use Rattle.gopher_crew.proofs.Beginnings.{prefix_shorter, prefix_whole}
+use Rattle.gopher_crew.proofs.Prefixes.{prefix_shorter, prefix_whole}
 
--- the pages of a record begin with those of a beginning of it
+-- the pages of a prefix of a record are a prefix of its pages
 pub pages_begin : (a b : List EventData) → IsPrefix a b → IsPrefix (pages_found a) (pages_found b)
 unfolding pages_found
 pages_begin a b begins = (pages_found begins.0, sym (ap pages_found (sym begins.1) ∙ flat_map-append page_of_event a begins.0))

@@ -8,39 +8,40 @@ use Rattle.gopher_page.specs.Query.{TermData}
 use Rattle.gopher_index.specs.Answer.{answer_of}
 use Rattle.gopher_index.specs.declared.hit.Hit.{Hit}
 
--- the record that a pass took last from what is published, and the one that begins its next answer's
--- record: the longest of the notes that it heard and of the records that it searched. After a search that
--- failed, what it was told of may be shorter than what it has seen
+-- `seen`: the published record that a pass took last. `told`: the longest of the notes that it
+-- heard and of the records that it searched; its next answer's record begins with it. After a
+-- search that failed, it may be shorter than what the pass has seen
 pub record PassData : Type 0 where
   pub seen : List EventData
   pub told : List EventData
 
--- how many events a share counts, and how many of the ledger's parts it has
+-- the number of events that a share counts, and the number of its parts of the ledger
 pub record ShareData : Type 0 where
   pub events : ℕ
   pub parts : ℕ
 
--- the record that is published, and the one that is published next, if an update waits for memory
-pub record ShelfData : Type 0 where
+-- the record that is published, and the one that the waiting update will publish. If no update
+-- waits, both are the same
+pub record PublisherData : Type 0 where
   pub published : List EventData
   pub next : List EventData
 
--- a record that is published, while no other waits
-abbrev pub all_published : List EventData → ShelfData
+-- a record is published, and no update waits
+abbrev pub all_published : List EventData → PublisherData
 all_published record_ = record { published = record_; next = record_ }
 
--- what was entered into the history, and the record that is published
-pub record JournalData : Type 0 where
+-- the events that were entered into the history, and the record that is published
+pub record FollowerData : Type 0 where
   pub entered : List EventData
   pub published : List EventData
 
--- whether a beginning of a record is all of it
+-- whether a prefix of a record is the whole record
 abbrev pub IsWhole : Bool → List EventData → List EventData → Type 0
-IsWhole true front record_ = front ≡ record_
-IsWhole false front record_ = length front < length record_
+IsWhole true prefix record_ = prefix ≡ record_
+IsWhole false prefix record_ = length prefix < length record_
 
--- whether all that was entered is published
-abbrev pub IsShown : Bool → List EventData → JournalData → Type 0
+-- whether all events that were entered are published
+abbrev pub IsShown : Bool → List EventData → FollowerData → Type 0
 IsShown true entered new = new.published ≡ entered
 IsShown false entered new = length new.published < length entered
 
@@ -49,12 +50,12 @@ pub record KeptData : Type 0 where
   pub events : List EventData
   pub published : List EventData
 
--- a legal record, of which a beginning was entered and a beginning is published, and the count of its
--- events after the first
-pub record IsKept (record_ : List EventData) (journal : JournalData) (count : ℕ) : Type 0 where
+-- a legal record, a prefix of which was entered and a prefix of which is published, and the count
+-- of its events after the first
+pub record IsKept (record_ : List EventData) (follower : FollowerData) (count : ℕ) : Type 0 where
   pub legal : IsLegal record_
-  pub entered : IsPrefix journal.entered record_
-  pub published : IsPrefix journal.published record_
+  pub entered : IsPrefix follower.entered record_
+  pub published : IsPrefix follower.published record_
   pub counted : length record_ ≡ count + 1
 
 -- the answer to a query over the pages that a record found

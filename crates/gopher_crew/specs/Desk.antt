@@ -7,28 +7,28 @@ use Rattle.gopher_catalogue.specs.declared.event.EventData.{EventData}
 use Rattle.gopher_crew.specs.declared.fault.DeskFault.{DeskFault}
 use Rattle.gopher_crew.specs.declared.fault.DeskFault.TheVariants.{BadCount}
 use Rattle.gopher_crew.specs.Crew.{PassData, ShareData}
-use Rattle.gopher_crew.specs.History.{BeginningData}
+use Rattle.gopher_crew.specs.History.{RecordPrefixData}
 
--- what a desk is opened with: the name of a ledger and its parts, and a history with the events that were
--- entered into it
+-- what a desk is opened with: the name of a ledger and the number of its parts, a history, and the
+-- events that were entered into it
 pub record BlankData : Type 0 where
   pub name : ℕ
   pub parts : ℕ
   pub history : Book
   pub begun : List EventData
 
-abbrev pub blank_data : ℕ → ℕ → BeginningData → BlankData
-blank_data name parts front = record { name = name; parts = parts; history = front.history; begun = front.events }
+abbrev pub blank_data : ℕ → ℕ → RecordPrefixData → BlankData
+blank_data name parts prefix = record { name = name; parts = parts; history = prefix.history; begun = prefix.events }
 
--- whether a desk may have so many passes and shares
+-- whether a desk may have these numbers of passes and shares
 abbrev pub are_counts : ℕ → ℕ → Bool
 are_counts passes shares = (nat_le 1 passes && nat_le passes 16) && (nat_le 1 shares && nat_le shares 16)
 
--- which fault a refusal may have: the counts are bad, or another cause where they aren't
+-- the faults of `Desk::open`: a bad count if the numbers are bad, and otherwise another fault
 abbrev pub IsDeskFault : ℕ → ℕ → DeskFault → Type 0
 IsDeskFault passes shares fault = MatchBool (are_counts passes shares) (fault ≢ BadCount) (fault ≡ BadCount)
 
--- a pass that has seen the record, and was told of nothing else
+-- a pass that has seen the record, and was told nothing else
 abbrev pub has_seen : List EventData → PassData
 has_seen record_ = record { seen = record_; told = record_ }
 
@@ -36,7 +36,7 @@ has_seen record_ = record { seen = record_; told = record_ }
 abbrev pub opening_shares : ℕ → ℕ → List ShareData
 opening_shares events shares = record { events = events; parts = 17 - shares } ∷ replicate (shares - 1) (record { events = 0; parts = 1 })
 
--- so many passes that have seen the record
+-- `count` passes that have seen the record
 abbrev pub AllHaveSeen : List EventData → ℕ → List PassData → Type 0
 AllHaveSeen record_ count passes = passes ≡ replicate count (has_seen record_)
 
@@ -44,14 +44,15 @@ AllHaveSeen record_ count passes = passes ≡ replicate count (has_seen record_)
 abbrev pub shares_at : List EventData → ℕ → List ShareData
 shares_at record_ shares = opening_shares (length record_ - 1) shares
 
--- how many events these shares count, and how many parts they have
+-- the number of events that these shares count, and the number of their parts
 abbrev pub events_of : List ShareData → ℕ
 events_of shares = sum_by (λ share. share.events) shares
 
 abbrev pub parts_of : List ShareData → ℕ
 parts_of shares = sum_by (λ share. share.parts) shares
 
--- the blank that comes back is the one that was handed in, but for events of the record that were entered
+-- a blank that an error returns is the one of the call, except that events of the record may have
+-- been entered
 pub record ComesBack (record_ : List EventData) (old new : BlankData) : Type 0 where
   pub name : new.name ≡ old.name
   pub parts : new.parts ≡ old.parts
@@ -63,7 +64,7 @@ pub record HasAll (parts : ℕ) (shares : List ShareData) : Type 0 where
   pub some : 0 < length shares
   pub whole : parts_of shares ≡ parts
 
--- other shares that count as many events, and have as many parts
+-- other shares that count the same number of events, and have the same number of parts
 pub record AreJoined (old new : List ShareData) : Type 0 where
   pub events : events_of new ≡ events_of old
   pub parts : parts_of new ≡ parts_of old

@@ -3,13 +3,13 @@ use Rattle.std.specs.Prelude.{ℕ, ◌≡◌, ◌==◌, Bool, true, false, List,
 use Rattle.logbook.specs.Pages.{Cell, Step, View, Book, Named}
 use Rattle.gopher_catalogue.specs.declared.event.EventData.{EventData}
 
--- a beginning of a history: which history it is, and its events
-pub record BeginningData : Type 0 where
+-- a prefix of a history: which history it is, and the prefix's events
+pub record RecordPrefixData : Type 0 where
   pub history : Book
   pub events : List EventData
 
--- where the event could be added, it comes last
-abbrev pub AddsTo : Bool → EventData → BeginningData → BeginningData → Type 0
+-- if the event was added, it comes last
+abbrev pub AddsTo : Bool → EventData → RecordPrefixData → RecordPrefixData → Type 0
 AddsTo true event old new = new.events ≡ old.events ++ event ∷ []
 AddsTo false event old new = new ≡ old
 
@@ -23,6 +23,6 @@ IsCounted cells events = cells ≡ (length events, true) ∷ (0, true) ∷ []
 abbrev pub head_of : Book → Named
 head_of history = record { tracked = true; key = 0; book = history }
 
--- what an exchange tells: where the word was as expected, the event came after all that was seen
+-- if the word was as expected, the exchange added the event after all that was seen
 abbrev pub Adds : Step EventData → View EventData ℕ → ℕ → View EventData ℕ → Type 0
 Adds step before found after = MatchBool (found == step.old) (after.0 ≡ before.0 ++ step.ask ∷ []) (Unit {0})

@@ -1,4 +1,4 @@
--- What the calls of a desk answer, and what their notes say.
+-- What the calls of a desk return, and of which records their notes are.
 use Rattle.std.specs.Prelude.{ℕ, ◌≡◌, ◌≢◌, ◌+◌, Bool, List, [], ◌∷◌, ◌++◌, Option, None, Some, slice_get}
 use Rattle.gopher_page.specs.Page.{PageData}
 use Rattle.gopher_catalogue.specs.declared.event.EventData.{EventData}
@@ -12,7 +12,8 @@ use Rattle.gopher_catalogue.specs.Step.{Added, Status, TurnData, Take, Idle, tur
 use Rattle.gopher_catalogue.specs.Turn.{IsTake}
 use Rattle.gopher_crew.specs.Crew.{KeptData, ShareData}
 
--- the note is there exactly where the published record is the whole record, and it is of that record
+-- there is a note exactly if the published record is the whole record, and the note is of that
+-- record
 abbrev pub IsNotedOn : Option (List EventData) → List EventData → List EventData → Type 0
 IsNotedOn (Some note) record_ published = (note ≡ record_) × (published ≡ record_)
 IsNotedOn None record_ published = published ≢ record_
@@ -41,14 +42,16 @@ IsFindFault kept number page fault = IsFoundFault (found_fault kept.events numbe
 abbrev pub IsOpeningOf : KeptData → OpeningData → Type 0
 IsOpeningOf kept opening = slice_get kept.events 0 ≡ Some (Opened opening)
 
--- the note of a claim is of a legal record on which the claim answers this turn, and which ends with it
+-- the note of a claim is of a legal record that ends with the claim. On the record before, the
+-- claim returns this turn
 pub record NotesTurn (turn : TurnData) (note : List EventData) : Type 0 where
   pub before : List EventData
   pub is_turn : turn_of before ≡ turn
   pub is_after : note ≡ after_turn before turn
   pub is_legal : IsLegal note
 
--- the note of a page is of a legal record that ends with the page, which added so much
+-- the note of a page is of a legal record that ends with the page. On the record before, the page
+-- adds `added`
 pub record NotesFind (number : ℕ) (page : PageData) (added : Added) (note : List EventData) : Type 0 where
   pub before : List EventData
   pub is_added : added_by before number page ≡ added
@@ -61,7 +64,7 @@ pub record NotesFailure (number : ℕ) (why : Why) (note : List EventData) : Typ
   pub is_after : note ≡ before ++ Failed number why ∷ []
   pub is_legal : IsLegal note
 
--- on a legal record a claim answers this turn
+-- on a legal record a claim returns this turn
 pub record AnswersTurn (turn : TurnData) : Type 0 where
   pub before : List EventData
   pub is_turn : turn_of before ≡ turn
@@ -78,7 +81,7 @@ pub record LetsClaim : Type 0 where
   pub is_take : IsTake (turn_of before)
   pub is_legal : IsLegal before
 
--- on a legal record the page is taken in, and adds so much
+-- on a legal record the page is accepted, and adds `added`
 pub record AnswersFind (number : ℕ) (page : PageData) (added : Added) : Type 0 where
   pub before : List EventData
   pub is_right : found_fault before number page.place ≡ None

@@ -1,6 +1,6 @@
 pub mod History
 pub mod Version
-pub mod Errand
+pub mod MergeJob
 pub mod Crew
 pub mod Fault
 pub mod Kept

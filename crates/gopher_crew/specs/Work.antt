@@ -1,5 +1,5 @@
 -- What a worker does.
-use Rattle.std.specs.Prelude.{ℕ, ◌≡◌, ◌+◌, ◌*◌, ◌≤◌, ◌⊎◌, false, min, List, Result, Ok, Err}
+use Rattle.std.specs.Prelude.{ℕ, ◌≡◌, ◌+◌, ◌*◌, ◌≤◌, ◌⊎◌, false, min, List, Option, Some, None, Result, Ok, Err}
 use Rattle.gopher_item.specs.Place.{PlaceData}
 use Rattle.gopher_scope.specs.Scope.{ScopeData}
 use Rattle.gopher_page.specs.Page.{PageData, page_of}
@@ -13,11 +13,12 @@ use Rattle.gopher_crew.specs.declared.working.Stop.{Stop}
 use Rattle.gopher_crew.specs.declared.working.Stop.TheVariants.{Finished, NoMemory as NoMemoryStop}
 use Rattle.gopher_crew.specs.Kept.{AnswersTurn, IsOutOn}
 
--- the count of a fetcher's calls after one more
+-- a fetcher's number of calls after one more
 abbrev pub one_more_call : ℕ → ℕ
 one_more_call calls = min (calls + 1) 18446744073709551615
 
--- by how much an outcome raises the pages that were handed in, and the places that were failed
+-- by how much an outcome raises the number of pages that were handed in, and of places that were
+-- failed
 abbrev pub found_rise : Outcome → ℕ
 found_rise Found = 1
 found_rise Failed = 0
@@ -28,7 +29,7 @@ failed_rise Found = 0
 failed_rise Failed = 1
 failed_rise Refused = 0
 
--- how many events an outcome adds
+-- the number of events that an outcome adds
 abbrev pub outcome_rise : Outcome → ℕ
 outcome_rise outcome = found_rise outcome + failed_rise outcome
 
@@ -37,13 +38,13 @@ abbrev pub EndsClaim : Outcome → ℕ → Type 0
 EndsClaim Refused number = IsOutOn number false
 EndsClaim outcome number = Unit {0}
 
--- a share rose by at most two for each call of the fetcher, unless the count of its calls is at its last
--- value
+-- a share rose by at most two for each call of the fetcher, unless the count of its calls is at its
+-- last value
 abbrev pub IsPaid : ShareData → ShareData → ℕ → ℕ → Type 0
 IsPaid old new calls calls' = (calls' ≡ 18446744073709551615) ⊎ (new.events + 2 * calls ≤ old.events + 2 * calls')
 
--- a share rose from one count to another: by at least two for each outcome, and by at most two for each
--- call of the fetcher, unless the count of its calls is at its last value
+-- a share rose from one count to another: by at least two for each outcome, and by at most two for
+-- each call of the fetcher, unless the count of its calls is at its last value
 pub record Earns (before calls after calls' outcomes : ℕ) : Type 0 where
   pub at_least : before + 2 * outcomes ≤ after
   pub at_most : (calls' ≡ 18446744073709551615) ⊎ (after + 2 * calls ≤ before + 2 * calls')
@@ -53,6 +54,12 @@ abbrev pub IsStop : Stop → Type 0
 IsStop Finished = AnswersTurn FinishedTurn
 IsStop NoMemoryStop = Unit {0}
 
+-- what a worker did in one round: it called its fetcher once and made at most two events, or it
+-- stopped
+abbrev pub WorksOnce : Option Stop → ShareData → ℕ → ShareData → ℕ → Type 0
+WorksOnce (Some stop) old calls new calls' = IsStop stop × (calls' ≡ calls) × (new.events ≡ old.events)
+WorksOnce None old calls new calls' = (calls' ≡ one_more_call calls) × (new.events ≤ old.events + 2)
+
 -- what a worker did between two states of its share and two counts of its fetcher's calls
 pub record Works (before : ShareData) (calls : ℕ) (after : ShareData) (calls' outcomes : ℕ) (stop : Stop) : Type 0 where
   pub is_stop : IsStop stop
@@ -60,7 +67,7 @@ pub record Works (before : ShareData) (calls : ℕ) (after : ShareData) (calls' 
   pub is_paid : IsPaid before after calls calls'
   pub same_parts : after.parts ≡ before.parts
 
--- the bytes that were fetched of a place become its page, unless memory is refused
+-- the bytes that were fetched of a place become its page, unless memory runs out
 abbrev pub SettlesBytes : ScopeData → PlaceData → List ℕ → Result PageData Why → Type 0
 SettlesBytes scope place bytes (Ok page) = page ≡ page_of scope place bytes
 SettlesBytes scope place bytes (Err why) = why ≡ NoMemory

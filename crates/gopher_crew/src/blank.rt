@@ -1,25 +1,25 @@
-//! What a desk is opened with.
+//! `Blank`: what a desk is opened with.
 
 ghost use Rattle.std.specs.Prelude.{◌≡◌, [], IsTrue};
 ghost use mathlib.Core.List.{IsPrefix};
 ghost use Rattle.gopher_crew.specs.Desk.{ComesBack};
 
-use crate::history::{Beginning, Head, begin};
-use crate::journal::enter_all;
+use crate::entering::enter_all;
+use crate::history::{Head, new_history};
+use crate::record_prefix::RecordPrefix;
 use gopher_catalogue::Catalogue;
 use std::marker::Model;
 use std::sync::ledger;
 
 /// What a desk is opened with: a ledger that counts nothing yet, and a history.
 ///
-/// Nothing was entered into the history of a new blank. That of a blank that `DeskRefused` returned has
-/// a prefix of the catalogue's record. The caller of a desk names its crew by `Brand`, and picks the
-/// names of its blank for it.
+/// The history of a new blank is empty. A blank that `DeskRefused` returned has a prefix of the
+/// catalogue's record in its history.
 #[derive(Drop)]
 pub struct Blank {
     pub(crate) count: ledger::Blank,
     pub(crate) head: Head,
-    pub(crate) front: Beginning,
+    pub(crate) prefix: RecordPrefix,
 }
 
 impl Model for Blank {
@@ -28,9 +28,9 @@ impl Model for Blank {
 
     ghost Value = { BlankData };
 
-    ghost view = { λ b. blank_data b.count.name b.count.parts b.front };
+    ghost view = { λ b. blank_data b.count.name b.count.parts b.prefix };
 
-    ghost invariant = { λ b. (b.count.parts ≡ 16) × (b.head ≡ b.front.history) };
+    ghost invariant = { λ b. (b.count.parts ≡ 16) × (b.head ≡ b.prefix.history) };
 }
 
 impl Blank {
@@ -39,28 +39,29 @@ impl Blank {
         ensures parts { result.parts ≡ 16 }
         ensures begun { result.begun ≡ [] }
     {
-        let (head, front) = begin();
+        let (head, prefix) = new_history();
         Blank {
             count: ledger::Blank::new(16),
             head,
-            front,
+            prefix,
         }
     }
 
-    /// Enters the rest of a catalogue's record into the history. Returns whether all of it is entered.
+    /// Enters the rest of a catalogue's record into the history. Returns whether the whole record
+    /// is entered then.
     pub(crate) fn enter(&mut self, catalogue: &Catalogue) -> bool
         requires { IsPrefix self.old.begun catalogue.now }
         ensures back { ComesBack catalogue.now self.old self.new }
         ensures all { IsTrue result → self.new.begun ≡ catalogue.now }
     {
-        enter_all(&mut self.front, &self.head, catalogue)
+        enter_all(&mut self.prefix, &self.head, catalogue)
     }
 
-    /// Returns the events that were entered, as a prefix of the history.
-    pub(crate) fn front(&self) -> &Beginning
+    /// Returns the token of the events that were entered.
+    pub(crate) fn prefix(&self) -> &RecordPrefix
         ensures history { result.now.history ≡ self.now.history }
         ensures events { result.now.events ≡ self.now.begun }
     {
-        &self.front
+        &self.prefix
     }
 }

@@ -1,4 +1,4 @@
-//! A crawl by several workers.
+//! `crawl`: several workers, each in a thread.
 
 ghost use Rattle.std.specs.Prelude.{◌≡◌, ◌+◌, ◌≤◌, [], length, vec_len, vec_capacity, IfOk, IfErr};
 ghost use Rattle.std.specs.List.{sum_by, AllZip};
@@ -21,7 +21,7 @@ pub struct CrawlRefused<F: Drop, C: Crew> {
 }
 
 impl<F: Drop, C: Crew> CrawlRefused<F, C> {
-    /// The number of this fault, 90.
+    /// Returns the number of this fault, 90.
     pub fn code(&self) -> u8
         ensures { result ≡ 90 }
     {
@@ -29,7 +29,7 @@ impl<F: Drop, C: Crew> CrawlRefused<F, C> {
     }
 }
 
-// A worker for each pair, in their order, that did nothing yet.
+// Appends a worker for each pair, in their order. Each did nothing yet.
 fn workers_of<F: Drop, C: Crew>(pairs: Vec<(F, Share<C>)>, workers: &mut Vec<WorkEnd<F, C>>)
     requires empty { workers.old.items ≡ [] }
     requires none { vec_len workers.old ≡ 0 }
@@ -45,7 +45,7 @@ fn workers_of<F: Drop, C: Crew>(pairs: Vec<(F, Share<C>)>, workers: &mut Vec<Wor
     }
 }
 
-// Lets each worker work, in a thread of its own if that can be started.
+// Runs each worker, in a thread of its own if that can be started.
 fn run_all<
     C: Crew + Send + Sync,
     R: Wait + Drop + Send,

@@ -1,4 +1,4 @@
-//! The desk at which a crew crawls.
+//! `Desk`: the lock at which a crew's workers share one catalogue.
 
 ghost use Rattle.std.specs.Arc.{arc_value};
 ghost use Rattle.std.specs.Prelude.{◌≡◌, ◌≢◌, ◌+◌, ◌≤◌, [], length, true, false, vec_capacity, IfOk, IfErr, IfSome, IsOk, OnOk, OnErr};
@@ -12,14 +12,14 @@ ghost use Rattle.gopher_crew.specs.Kept.{RisesAt, NotesTurn, NotesFind, NotesFai
 use crate::blank::Blank;
 use crate::crew::Crew;
 use crate::fault::DeskFault;
-use crate::journal::Journal;
 use crate::kept::Kept;
 use crate::memory::PageMemory;
 use crate::note::Note;
-use crate::opening::{cut, show};
+use crate::opening::{cut, publisher_with_passes};
 use crate::pass::Pass;
+use crate::publisher::Publisher;
+use crate::record_follower::RecordFollower;
 use crate::share::Share;
-use crate::shelf::Shelf;
 use gopher_catalogue::{Added, Catalogue, FailRefused, FoundRefused, Opening, Status, Turn, Why};
 use gopher_item::NoMemory;
 use gopher_page::Page;
@@ -45,7 +45,8 @@ pub struct DeskRefused {
     pub blank: Blank,
 }
 
-/// The error of `Desk::close` (62): the shares don't count all events of the record after the first.
+/// The error of `Desk::close` (62): the shares don't count all events of the record after the
+/// first.
 #[derive(Drop)]
 pub struct CloseRefused<C: Crew, R: Wait + Drop> {
     /// The desk, still open.
@@ -83,12 +84,13 @@ fn refused(fault: DeskFault, catalogue: Catalogue, blank: Blank) -> DeskRefused
     }
 }
 
-// Makes the desk over a catalogue whose whole record was entered and is published, and its shares.
+// Makes the desk over a catalogue whose record was entered and is published. Appends its shares to
+// the list.
 fn start<C: Crew, R: Wait + Drop>(
     alloc: Global,
     catalogue: Catalogue,
     blank: Blank,
-    shelf: Shelf<C, R>,
+    publisher: Publisher<C, R>,
     shares: u32,
     list: &mut Vec<Share<C>>,
 ) -> Desk<C, R>
@@ -96,7 +98,7 @@ fn start<C: Crew, R: Wait + Drop>(
     requires parts { blank.parts ≡ C.parts }
     requires history { blank.history ≡ C.history }
     requires begun { blank.begun ≡ catalogue }
-    requires shown { shelf ≡ all_published catalogue }
+    requires shown { publisher ≡ all_published catalogue }
     requires counts { (1 ≤ shares) × (shares ≤ 16) }
     requires empty { list.old.items ≡ [] }
     requires room { shares ≤ vec_capacity list.old }
@@ -104,13 +106,17 @@ fn start<C: Crew, R: Wait + Drop>(
     ensures whole { HasAll C.parts list.new.items }
 {
     let events = catalogue.record().len() as u64 - 1;
-    let Blank { count, head, front } = blank;
+    let Blank {
+        count,
+        head,
+        prefix,
+    } = blank;
     let (mut book, mut whole) = count.open::<C>();
     book.add(&mut whole, events);
     cut(whole, events, shares, list);
-    let journal = Journal::new(alloc, head, front, shelf);
+    let follower = RecordFollower::new(alloc, head, prefix, publisher);
     Desk {
-        kept: Mutex::new(Kept::new(catalogue, book, journal)),
+        kept: Mutex::new(Kept::new(catalogue, book, follower)),
         outcomes: Condvar::new(),
         memory: PageMemory::unlimited(),
     }
@@ -119,11 +125,12 @@ fn start<C: Crew, R: Wait + Drop>(
 impl<C: Crew, R: Wait + Drop> Desk<C, R> {
     /// Opens a desk over a catalogue.
     ///
-    /// Returns the desk, `passes` passes that have all seen the whole record, and `shares` shares, the
-    /// first of which counts the events that are already in the record. Publications wait by `rt`.
+    /// Returns the desk, `passes` passes that have all seen the whole record, and `shares` shares,
+    /// the first of which counts the events that are already in the record. Publications wait by
+    /// `rt`.
     ///
-    /// `blank` is a new one, or one that an earlier error returned with this catalogue. The crew `C`
-    /// has its names.
+    /// `blank` is a new one, or one that an earlier error returned with this catalogue. The crew
+    /// `C` has its names.
     ///
     /// # Errors
     /// - `BadCount` (60): the number of passes or of shares isn't 1 to 16. This is tested first.
@@ -161,9 +168,9 @@ impl<C: Crew, R: Wait + Drop> Desk<C, R> {
         let Ok(mut list) = Vec::with_capacity(alloc, shares as usize) else {
             return Err(refused(DeskFault::NoMemory, catalogue, blank));
         };
-        match show(alloc, rt, catalogue.index(), blank.front(), passes) {
-            Ok((shelf, passes)) => {
-                let desk = start(alloc, catalogue, blank, shelf, shares, &mut list);
+        match publisher_with_passes(alloc, rt, catalogue.index(), blank.prefix(), passes) {
+            Ok((publisher, passes)) => {
+                let desk = start(alloc, catalogue, blank, publisher, shares, &mut list);
                 Ok((desk, passes, list))
             }
             Err(fault) => Err(refused(fault, catalogue, blank)),
@@ -174,8 +181,8 @@ impl<C: Crew, R: Wait + Drop> Desk<C, R> {
 impl<C: Crew, R: Wait + Drop> Desk<C, R> {
     /// Claims the first waiting place. The share rises by one if there is one.
     ///
-    /// The turn is what a claim returns on a legal record. The note, if there is one, is of the record
-    /// after it.
+    /// The turn is what a claim returns on a legal record. The note, if there is one, is of the
+    /// record after it.
     ///
     /// # Errors
     /// 90, only if a place waits.
@@ -248,30 +255,31 @@ impl<C: Crew, R: Wait + Drop> Desk<C, R> {
         Ok(note)
     }
 
-    /// Returns the opening of the crawl, shared.
+    /// Returns a shared handle of the crawl's opening.
     pub(crate) fn opening<W: Wait>(&self, rt: &W) -> Result<Arc<Opening>, NoMemory>
         ensures { IfOk result (λ opening. BeginsWith (arc_value opening)) }
     {
         self.kept.lock(rt).opening()
     }
 
-    // Takes the lock. Before that it runs one errand, if there is one, while it holds no lock. One for
-    // each claim is enough, because fewer runs of pages are merged than places are claimed.
-    fn settled<W: Wait>(&self, rt: &W, alloc: Global) -> MutexGuard<'_, Kept<C, R>> {
+    // Merges one run of pages while it holds no lock, if one is due, and puts the segment in their
+    // place. Returns with the lock. One run for each claim is enough, because fewer runs of pages
+    // are merged than places are claimed.
+    fn merge_due<W: Wait>(&self, rt: &W, alloc: Global) -> MutexGuard<'_, Kept<C, R>> {
         let mut kept = self.kept.lock(rt);
-        let Some(mut errand) = kept.errand() else {
+        let Some(mut job) = kept.merge_job() else {
             return kept;
         };
         let lock = MutexGuard::unlock(kept);
-        let was_merged = errand.run(alloc);
+        let was_merged = job.run(alloc);
         kept = lock.lock(rt);
-        kept.install(errand, was_merged);
+        kept.install(job, was_merged);
         kept
     }
 
-    /// Merges one run of pages if one is due, then claims the first waiting place. While none waits but
-    /// some are out, it waits for their outcomes. When the crawl is finished, it publishes what was
-    /// merged since the last page.
+    /// Merges one run of pages if one is due, then claims the first waiting place. While none waits
+    /// but some are out, it waits for their outcomes. When the crawl is finished, it publishes what
+    /// was merged since the last page.
     ///
     /// # Errors
     /// 90, only if a place waits.
@@ -289,7 +297,7 @@ impl<C: Crew, R: Wait + Drop> Desk<C, R> {
         ensures err { OnErr result (share.new ≡ share.old) }
     {
         for _round in rt.forever() {
-            let mut kept = self.settled(rt, alloc);
+            let mut kept = self.merge_due(rt, alloc);
             let (turn, _note) = kept.claim(share)?;
             match turn {
                 Turn::Take(claim) => return Ok(Turn::Take(claim)),
@@ -329,7 +337,7 @@ impl<C: Crew, R: Wait + Drop> Desk<C, R> {
         self.kept.lock(rt).status()
     }
 
-    // What is kept, if the shares count all events of the record after the first.
+    // Returns what the desk keeps, if the shares count all events of the record after the first.
     fn gathered(self, shares: Vec<Share<C>>) -> Result<Kept<C, R>, CloseRefused<C, R>>
         ensures counted { IfOk result (λ kept. length kept.events ≡ events_of shares.items + 1) }
         ensures events { IfErr result (λ refused. refused.events ≢ events_of shares.items) }
@@ -361,7 +369,8 @@ impl<C: Crew, R: Wait + Drop> Desk<C, R> {
         Ok(kept)
     }
 
-    /// Closes the desk and returns its catalogue. With all shares that `open` returned, it never fails.
+    /// Closes the desk and returns its catalogue. With all shares that `open` returned, it never
+    /// fails.
     ///
     /// # Errors
     /// 62: the shares don't count all events of the record after the first. The error has the desk,
@@ -376,8 +385,8 @@ impl<C: Crew, R: Wait + Drop> Desk<C, R> {
         Ok(self.gathered(shares)?.end())
     }
 
-    /// Closes the desk as `close` does, and returns a note of the catalogue's record with it. There is
-    /// none if the last publication runs out of memory.
+    /// Closes the desk as `close` does, and returns a note of the catalogue's record with it. There
+    /// is none if the last publication runs out of memory.
     pub fn close_with_note(
         self,
         shares: Vec<Share<C>>,

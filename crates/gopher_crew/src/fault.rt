@@ -1,4 +1,4 @@
-//! Why a call of a desk or of a pass failed.
+//! `SearchFault` and `DeskFault`: why a search failed, or why a desk wasn't opened.
 
 ghost use Rattle.std.specs.Prelude.{◌≡◌};
 ghost use Rattle.gopher_crew.specs.Fault.{search_fault_code, desk_fault_code};

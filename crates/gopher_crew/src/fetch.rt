@@ -1,4 +1,4 @@
-//! What fetches the replies of places.
+//! `Fetch`: what a worker fetches replies with.
 
 ghost use Rattle.std.specs.Prelude.{◌≡◌, ℕ, ◌≤◌, vec_len, IfOk};
 ghost use Rattle.gopher_crew.specs.Work.{one_more_call};
@@ -7,8 +7,8 @@ use gopher_catalogue::Why;
 use gopher_item::Place;
 use std::alloc::Global;
 
-/// Fetches the replies of places. `R` is the runtime that it needs: a fetch over a network waits for its
-/// peer, and one from memory needs nothing.
+/// Fetches the replies of places. `R` is the runtime that it needs. A fetch over a network waits
+/// for its peer; one from memory needs no runtime.
 pub trait Fetch<R> {
     ghost called: { Self → ℕ };
 

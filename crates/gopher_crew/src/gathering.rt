@@ -1,4 +1,4 @@
-//! Merging the shares of a desk.
+//! Merging the shares of a desk into one.
 
 ghost use Rattle.std.specs.Prelude.{◌≡◌, ◌+◌, ◌<◌, ◌^◌};
 ghost use Rattle.gopher_crew.specs.Desk.{events_of, parts_of, HasAll};
@@ -7,8 +7,8 @@ use crate::crew::Crew;
 use crate::share::Share;
 use std::sync::ledger::Book;
 
-/// Merges shares of this book into one. Returns how many events they count: all of the book, if they
-/// have all its parts.
+/// Merges shares of a book into one. Returns the number of events that they count. If they have all
+/// parts of the book, that is the book's total.
 pub fn join<C: Crew>(book: &mut Book<C>, shares: &mut Vec<Share<C>>) -> u64
     requires { book.old.total < 2 ^ 63 }
     ensures total { book.new.total ≡ book.old.total }

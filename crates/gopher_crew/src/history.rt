@@ -1,10 +1,11 @@
-//! The one history of a crew, which exists in proofs alone. The program keeps its length.
+//! The crew's history: its rule, and `Head`, through which events are added. It exists in proofs
+//! alone.
 
-ghost use Rattle.std.specs.Prelude.{◌≡◌, ◌+◌, ◌<◌, ◌^◌, ◌⊎◌, false, [], ◌∷◌, ◌++◌, length, IsTrue, MatchBool};
-ghost use mathlib.Core.List.{IsPrefix};
+ghost use Rattle.std.specs.Prelude.{◌≡◌, [], ◌∷◌, ◌++◌, length, IsTrue};
 ghost use Rattle.gopher_catalogue.specs.EventOf.{event_data};
-ghost use Rattle.gopher_crew.specs.History.{head_of, AddsTo};
+ghost use Rattle.gopher_crew.specs.History.{head_of};
 
+use crate::record_prefix::RecordPrefix;
 use gopher_catalogue::{Event, EventData};
 use logbook::{Gain, Offer, Plain, Play, Rule, Seen, Start, Word};
 use std::marker::Model;
@@ -30,7 +31,7 @@ impl Rule<EventData, u64> for Law {
     ghost moves = { λ ask before after answer. Unit {0} };
 }
 
-/// Those who add to a history trade nothing.
+/// What `logbook` lets a step trade. Steps of a history trade nothing.
 pub struct Nothing;
 
 impl Gain<EventData, u64> for Nothing {
@@ -58,10 +59,11 @@ impl Plain<Event, EventData, u64> for Add {
     ghost state = { λ event. None };
 }
 
-/// The word of a history, through which events are added to it.
+/// The word of a history, through which events are added. The program keeps the history's length in
+/// it.
 #[derive(Drop)]
 pub struct Head {
-    word: Word<EventData, u64, Law>,
+    pub(crate) word: Word<EventData, u64, Law>,
 }
 
 impl Model for Head {
@@ -76,112 +78,19 @@ impl Model for Head {
     ghost invariant = { λ h. h.word ≡ head_of h.word.book };
 }
 
-/// A prefix of a history: as much of it as was seen.
-#[derive(Drop)]
-pub struct Beginning {
-    len: u32,
-    seen: Seen<EventData, u64, Law>,
-}
-
-impl Model for Beginning {
-    ghost use Rattle.std.specs.Prelude.{◌≡◌, length};
-    ghost use Rattle.gopher_crew.specs.History.{BeginningData};
-
-    ghost Value = { BeginningData };
-
-    ghost view = { λ b. record { history = b.seen.book; events = b.seen.log } };
-
-    ghost invariant = { λ b. b.len ≡ length b.seen.log };
-}
-
-/// A new history, without an event.
-pub fn begin() -> (Head, Beginning)
+/// Creates a history without an event. Returns its word, and the prefix that has no events.
+pub fn new_history() -> (Head, RecordPrefix)
     ensures history { result.0 ≡ result.1.history }
     ensures empty { result.1.events ≡ [] }
 {
     let (seen, mut first, _second) = Seen::open(Start::alone(), 0, 0);
     let word = Word::tracked(0, &mut first);
-    (Head { word }, Beginning { len: 0, seen })
+    (Head { word }, RecordPrefix::empty(seen))
 }
 
-impl Beginning {
-    /// Returns the number of its events.
-    pub fn len(&self) -> u32
-        ensures { result ≡ length self.now.events }
-    {
-        self.len
-    }
-
-    /// Returns a copy.
-    pub fn again(&self) -> Beginning
-        ensures { result ≡ self.now }
-    {
-        Beginning {
-            len: self.len,
-            seen: self.seen.again(),
-        }
-    }
-
-    /// Returns whether it is a prefix of another of the same history: whether it is no longer.
-    pub fn begins(&self, other: &Beginning) -> bool
-        requires { other.now.history ≡ self.now.history }
-        ensures begins { IsTrue result → IsPrefix self.now.events other.now.events }
-        ensures or_else { (result ≡ false) → IsPrefix other.now.events self.now.events }
-    {
-        let mut both = self.seen.again();
-        both.learn(&other.seen);
-        if self.len > other.len {
-            return false;
-        }
-        true
-    }
-
-    #[tactic(auto, using(crate::proofs::Beginnings::prefix_whole))]
-    /// Returns whether it is as long as another of the same history, and so the same.
-    pub fn is_same(&self, other: &Beginning) -> bool
-        requires { other.now.history ≡ self.now.history }
-        ensures { IsTrue result → self.now.events ≡ other.now.events }
-    {
-        if self.len != other.len {
-            return false;
-        }
-        self.begins(other)
-    }
-
-    /// Returns the longer of two prefixes of the same history. The other is a prefix of it.
-    pub fn longer(&self, other: &Beginning) -> Beginning
-        requires { other.now.history ≡ self.now.history }
-        ensures one { (result ≡ self.now) ⊎ (result ≡ other.now) }
-        ensures this { IsPrefix self.now.events result.events }
-        ensures that { IsPrefix other.now.events result.events }
-    {
-        if self.begins(other) {
-            other.again()
-        } else {
-            self.again()
-        }
-    }
-
-    /// Adds an event at the end of the history, unless the history is longer than this prefix. Returns
-    /// whether it did.
-    pub fn add(&mut self, head: &Head, event: &Event) -> bool
-        requires history { head.now ≡ self.old.history }
-        requires room { length self.old.events + 1 < 2 ^ 32 }
-        ensures history { self.new.history ≡ self.old.history }
-        ensures events { AddsTo result (event_data event.now) self.old self.new }
-    {
-        let mut seen = self.seen.again();
-        if !exchange(&head.word, self.len, &mut seen, event) {
-            return false;
-        }
-        self.len += 1;
-        self.seen = seen;
-        true
-    }
-}
-
-// The exchange of a history's word that adds an event.
-fn exchange(
+/// Adds an event to the history by an exchange of its word. Returns whether it did: it didn't if
+/// the history is longer than `len`.
+pub fn exchange(
     word: &Word<EventData, u64, Law>,
     len: u32,
     seen: &mut Seen<EventData, u64, Law>,

@@ -1,4 +1,4 @@
-//! What a desk keeps behind its lock.
+//! `Kept`: what a desk keeps behind its lock. Its calls are the steps of a crawl.
 
 ghost use Rattle.std.specs.Prelude.{◌≡◌, ◌+◌, ◌<◌, ◌^◌, true, false, None, [], ◌∷◌, ◌++◌, length, IfOk, IfErr, IfSome, OnOk, OnErr};
 ghost use Rattle.std.specs.Arc.{arc_value};
@@ -11,11 +11,10 @@ ghost use Rattle.gopher_crew.specs.Desk.{events_of, parts_of, HasAll};
 ghost use Rattle.gopher_crew.specs.Kept.{IsNoted, IsTurned, RisesAt, IsFindFault, IsOpeningOf, rise_of, NotesTurn, NotesFind, NotesFailure, AnswersTurn, AnswersFind, RefusesFind, IsOutOn, LetsClaim, BeginsWith};
 
 use crate::crew::Crew;
-use crate::errand::Errand;
 use crate::gathering::join;
-use crate::history::Beginning;
-use crate::journal::Journal;
+use crate::merge_job::MergeJob;
 use crate::note::Note;
+use crate::record_follower::RecordFollower;
 use crate::share::Share;
 use gopher_catalogue::{Added, Catalogue, FailRefused, FoundRefused, Opening, Status, Turn, Why};
 use gopher_item::NoMemory;
@@ -24,22 +23,22 @@ use std::marker::Model;
 use std::sync::ledger::Book;
 use std::sync::{Arc, Wait};
 
-// The number of pages to be found before merging is tried again, after a merge ran out of memory.
-const REST: usize = 64;
+// After a merge runs out of memory, merging is tried again when this number of pages was found.
+const PAGES_UNTIL_RETRY: usize = 64;
 
-/// The catalogue of a crawl, the count of its events after the first, and what is published of it.
-/// Contracts see its record and the published one, which is a prefix of it.
+/// The catalogue of a crawl, the count of its events after the first, and the follower that
+/// publishes it. Contracts see its record and the published one, which is a prefix of it.
 #[derive(Drop)]
 pub struct Kept<C: Crew, R: Wait + Drop> {
     catalogue: Catalogue,
     book: Book<C>,
-    journal: Journal<C, R>,
-    // Whether pages were merged since the index was last published for that.
+    follower: RecordFollower<C, R>,
+    // Whether pages were merged that aren't published as merged.
     is_merged: bool,
-    // Pages are merged once this number of pages is found.
-    rests_until: usize,
-    // Whether pages were given out to be merged at the end of the crawl.
-    is_ended: bool,
+    // No pages are merged before this number of pages was found.
+    retry_at: usize,
+    // Whether a run was returned to be merged since the crawl finished.
+    is_last_run_taken: bool,
 }
 
 impl<C: Crew, R: Wait + Drop> Model for Kept<C, R> {
@@ -50,12 +49,12 @@ impl<C: Crew, R: Wait + Drop> Model for Kept<C, R> {
 
     ghost Value = { KeptData };
 
-    ghost view = { λ k. record { events = k.catalogue; published = k.journal.published } };
+    ghost view = { λ k. record { events = k.catalogue; published = k.follower.published } };
 
-    ghost invariant = { λ k. IsKept k.catalogue k.journal k.book.total };
+    ghost invariant = { λ k. IsKept k.catalogue k.follower k.book.total };
 }
 
-// Counts the event of a turn that took a place, for the share and in the book.
+// Counts the event of a turn, for the share and in the book. Only a turn that took a place has one.
 fn count<C: Crew>(turn: &Turn, share: &mut Share<C>, book: &mut Book<C>)
     requires { book.old.total < 2 ^ 63 }
     ensures events { share.new.events ≡ share.old.events + rise_of (turn_data turn.now) }
@@ -69,10 +68,14 @@ fn count<C: Crew>(turn: &Turn, share: &mut Share<C>, book: &mut Book<C>)
 }
 
 impl<C: Crew, R: Wait + Drop> Kept<C, R> {
-    /// What a desk keeps of a catalogue whose whole record was entered and is published.
-    pub(crate) fn new(catalogue: Catalogue, book: Book<C>, journal: Journal<C, R>) -> Kept<C, R>
-        requires entered { journal.entered ≡ catalogue }
-        requires published { journal.published ≡ catalogue }
+    /// What a desk keeps of a catalogue. Its whole record was entered and is published.
+    pub(crate) fn new(
+        catalogue: Catalogue,
+        book: Book<C>,
+        follower: RecordFollower<C, R>,
+    ) -> Kept<C, R>
+        requires entered { follower.entered ≡ catalogue }
+        requires published { follower.published ≡ catalogue }
         requires legal { IsLegal catalogue }
         requires counted { length catalogue ≡ book.total + 1 }
         ensures events { result.events ≡ catalogue }
@@ -81,10 +84,10 @@ impl<C: Crew, R: Wait + Drop> Kept<C, R> {
         Kept {
             catalogue,
             book,
-            journal,
+            follower,
             is_merged: false,
-            rests_until: 0,
-            is_ended: false,
+            retry_at: 0,
+            is_last_run_taken: false,
         }
     }
 
@@ -111,12 +114,13 @@ impl<C: Crew, R: Wait + Drop> Kept<C, R> {
     {
         let turn = self.catalogue.claim()?;
         count(&turn, share, &mut self.book);
-        let note = self.journal.follow(&self.catalogue);
+        let note = self.follower.follow(&self.catalogue);
         Ok((turn, note))
     }
 
-    /// Adds the page of a place that is out, as `Catalogue::found` does, then publishes all that isn't
-    /// published yet. Returns a note exactly if the whole record is published as the call ends.
+    /// Adds the page of a place that is out, as `Catalogue::found` does, then publishes all that
+    /// isn't published yet. Returns a note exactly if the whole record is published as the call
+    /// ends.
     ///
     /// # Errors
     /// Those of `Catalogue::found`, with the page. Nothing changes then.
@@ -147,13 +151,13 @@ impl<C: Crew, R: Wait + Drop> Kept<C, R> {
     {
         let added = self.catalogue.found(number, page)?;
         share.add(&mut self.book);
-        let note = self.journal.follow(&self.catalogue);
+        let note = self.follower.follow(&self.catalogue);
         Ok((added, note))
     }
 
-    /// Records that a place that is out couldn't be fetched, as `Catalogue::fail` does, then publishes
-    /// all that isn't published yet. Returns a note exactly if the whole record is published as the
-    /// call ends.
+    /// Records that a place that is out couldn't be fetched, as `Catalogue::fail` does, then
+    /// publishes all that isn't published yet. Returns a note exactly if the whole record is
+    /// published as the call ends.
     ///
     /// # Errors
     /// 52: the number isn't out. Nothing changes then.
@@ -179,65 +183,67 @@ impl<C: Crew, R: Wait + Drop> Kept<C, R> {
     {
         self.catalogue.fail(number, why)?;
         share.add(&mut self.book);
-        Ok(self.journal.follow(&self.catalogue))
+        Ok(self.follower.follow(&self.catalogue))
     }
 
-    // Whether pages may be merged now. While no place waits, merging would only delay the end of the
-    // crawl, because few pages are still to come. When the crawl is finished, one run is merged.
+    // Returns whether pages may be merged now. While places are out but none waits, merging would
+    // only delay the end of the crawl, because few pages are still to come. When the crawl is
+    // finished, one run is merged.
     fn may_merge(&mut self) -> bool
         ensures { self.new ≡ self.old }
     {
         let status = self.catalogue.status();
         if status.waiting == 0 {
-            if status.out > 0 || self.is_ended {
+            if status.out > 0 || self.is_last_run_taken {
                 return false;
             }
-            self.is_ended = true;
+            self.is_last_run_taken = true;
         }
-        self.rests_until <= self.catalogue.index().len()
+        self.retry_at <= self.catalogue.index().len()
     }
 
-    /// Takes pages that are due to be merged. There are none while places are out but none waits, when
-    /// out of memory, and for 64 more pages after a merge ran out of memory.
-    pub(crate) fn errand(&mut self) -> Option<Errand<C>>
+    /// Returns a run of pages that is due to be merged. Returns `None` while places are out but
+    /// none waits, when out of memory, and for 64 more pages after a merge ran out of memory.
+    pub(crate) fn merge_job(&mut self) -> Option<MergeJob<C>>
         ensures { self.new ≡ self.old }
     {
         if !self.may_merge() {
             return None;
         }
-        let front = self.journal.entered(&self.catalogue)?;
+        let prefix = self.follower.entered(&self.catalogue)?;
         let Ok(Some(due)) = self.catalogue.due() else {
             return None;
         };
-        Some(Errand::new(due, front))
+        Some(MergeJob::new(due, prefix))
     }
 
-    /// Puts what an errand merged in its place in the index. If it wasn't merged, its pages are due again
-    /// once 64 more are found. It is published with the next page, or by `renew`.
-    pub(crate) fn install(&mut self, errand: Errand<C>, was_merged: bool)
+    /// Puts the segment of a merge job in the place of its pages. If memory ran out, the pages are
+    /// due again when 64 more are found. The next page publishes the segment, or `renew` does.
+    pub(crate) fn install(&mut self, job: MergeJob<C>, was_merged: bool)
         ensures { self.new ≡ self.old }
     {
         if was_merged {
             self.is_merged = true;
         } else {
-            self.rests_until = self.catalogue.index().len().saturating_add(REST);
+            let found = self.catalogue.index().len();
+            self.retry_at = found.saturating_add(PAGES_UNTIL_RETRY);
         }
-        let Some(front) = self.journal.entered(&self.catalogue) else {
+        let Some(prefix) = self.follower.entered(&self.catalogue) else {
             return;
         };
-        if let Some(due) = errand.due_in(&front) {
+        if let Some(due) = job.due_in(&prefix) {
             self.catalogue.install(due);
         }
     }
 
-    /// Publishes the pages as the index has them now, if some were merged since the desk was opened.
-    /// Searches after the crawl then find them merged.
+    /// Publishes the segments that the index has now, if some aren't published. Searches after the
+    /// crawl then go through few segments.
     pub(crate) fn renew(&mut self)
         ensures events { self.new.events ≡ self.old.events }
         ensures grows { IsPrefix self.old.published self.new.published }
     {
         if self.is_merged {
-            self.is_merged = !self.journal.renew(&self.catalogue);
+            self.is_merged = !self.follower.renew(&self.catalogue);
         }
     }
 
@@ -248,8 +254,8 @@ impl<C: Crew, R: Wait + Drop> Kept<C, R> {
         self.catalogue.record().len() as u64 - 1
     }
 
-    /// Merges shares into one. Returns how many events they count: all of the record after the first,
-    /// if they have all parts of the ledger.
+    /// Merges shares into one. Returns how many events they count: all of the record after the
+    /// first, if they have all parts of the ledger.
     pub(crate) fn gather(&mut self, shares: &mut Vec<Share<C>>) -> u64
         ensures same { self.new ≡ self.old }
         ensures sum { result ≡ events_of shares.old.items }
@@ -285,22 +291,23 @@ impl<C: Crew, R: Wait + Drop> Kept<C, R> {
         let Kept {
             catalogue,
             book: _book,
-            journal: _journal,
+            follower: _follower,
             is_merged: _is_merged,
-            rests_until: _rests_until,
-            is_ended: _is_ended,
+            retry_at: _retry_at,
+            is_last_run_taken: _is_last_run_taken,
         } = self;
         catalogue
     }
 
-    /// Returns the catalogue, with a note of the whole record unless publishing it runs out of memory.
+    /// Returns the catalogue, with a note of its record. There is no note if publishing it runs out
+    /// of memory.
     pub(crate) fn end_with_note(self) -> (Catalogue, Option<Note<C>>)
         ensures record { result.0 ≡ self.events }
         ensures noted { IfSome result.1 (λ note. note ≡ result.0) }
         ensures legal { IsLegal self.events }
     {
         let mut kept = self;
-        let note = kept.journal.follow(&kept.catalogue);
+        let note = kept.follower.follow(&kept.catalogue);
         (kept.end(), note)
     }
 }

@@ -1,5 +1,4 @@
-//! What tests and wrong bodies call: what a desk keeps behind its lock, and the part of a worker's turn
-//! that needs no lock. No other crate uses it.
+//! What tests and wrong bodies call: `Kept` and `settle`. No other crate uses them.
 
 pub use crate::kept::Kept;
 pub use crate::settling::settle;

@@ -4,38 +4,61 @@
 //! catalogue. A search answers from one legal record that begins with everything the same pass saw
 //! before. The workers of a crawl keep the parts of their shares, so that the desk can be closed.
 //!
+//! # Words
+//!
+//! The *record* is the list of a crawl's events. A *record prefix* (`RecordPrefix`) is a token that
+//! the record begins with certain events. The *history* is the record as the crate `logbook` keeps
+//! it in proofs: one list that only grows. It has a word of its own because contracts name a crew
+//! by its history, and because an event is in the catalogue's record before it is entered into the
+//! history.
+//!
 //! # The way of a found page
 //!
 //! ```text
-//! worker --page--> Desk (lock) --event--> Catalogue --record--> Journal --update--> Shelf --> Pass
-//!                                          frontier, index      history            two copies
+//! worker --page--> Desk (lock) --event--> Catalogue --record--> RecordFollower
+//!                                      frontier, index             history
+//! RecordFollower --update--> Publisher --version--> Pass
+//!                            two copies
 //! ```
 //!
-//! A worker claims a place, fetches it and makes its page while it holds no lock (`working`,
-//! `settling`). Behind the desk's lock, `Kept` adds the event to the catalogue, counts it for the
-//! worker's share, and has the journal publish. The journal enters the event into the crew's
-//! history and gives the shelf an `Update`. The shelf (`left_right`) keeps two copies: readers use
-//! one while the writer changes the other, and each update is applied to both. An update changes no
-//! pages, adds one page, or replaces all pages by those of an index if segments were merged since.
+//! A worker claims a place, fetches it and makes its page while it holds no lock. Behind the desk's
+//! lock, `Kept` adds the event to the catalogue and counts it for the worker's share. The follower
+//! enters the event into the history and gives the publisher an `Update`. The publisher
+//! (`left_right`) keeps two copies: readers use one while the writer changes the other, and each
+//! update is applied to both. An update changes no pages, adds one page, or replaces all pages by
+//! those of an index if segments were merged since.
 //!
-//! If a publication runs out of memory, its update waits, and the next publication publishes it first.
-//! So at most one update waits, however often memory runs out.
+//! If a publication runs out of memory, its update waits, and the next publication publishes it
+//! first. So at most one update waits, however often memory runs out.
 //!
-//! A search shares the published `Version` and leaves at once, so no long search holds up a
+//! A search shares the published `Version` and leaves at once, so a long search doesn't delay a
 //! publication.
 //!
 //! # Merging
 //!
-//! Before a worker claims, it takes one run of pages that is due to be merged (`Errand`), merges it
-//! without the lock, and puts the segment in their place. That these pages are still in the index
-//! follows from the token of the record that the errand holds: the record has only grown since.
+//! Before a worker claims, it takes one run of pages that is due to be merged (`MergeJob`), merges
+//! it without the lock, and puts the segment in their place. The pages are still in the index,
+//! because the record has only grown since. The job has the token of its record to prove it.
 //!
-//! # What exists in proofs only
+//! # Tokens
 //!
-//! The *history* is one list of events that only grows (`logbook`). The program keeps its length,
-//! in one word behind the lock. A `Beginning` is a token that the history reached a certain length.
-//! Of two tokens, the shorter is a prefix of the longer. Versions, notes and passes carry such
-//! tokens, so a pass compares two numbers to know that a version isn't older than what it saw.
+//! Versions, notes, passes and merge jobs have a `RecordPrefix`. Only its length exists in the
+//! program. Of two prefixes of one history, the shorter is a prefix of the longer. So a pass
+//! compares two numbers to know that a version isn't older than what it saw. The word of the
+//! history, behind the lock, is the history's length (`Head`).
+//!
+//! # Files
+//!
+//! | subject | files |
+//! |---|---|
+//! | opening and closing a desk | `desk`, `blank`, `opening`, `gathering` |
+//! | calls of a desk, behind its lock | `desk`, `kept`, `share`, `note` |
+//! | workers | `working`, `crawling`, `fetch`, `settling`, `memory` |
+//! | merging | `merge_job`, `Kept::merge_job` and `install`, `Desk::merge_due` |
+//! | the history and its tokens | `history`, `record_prefix`, `entering` |
+//! | publishing | `record_follower`, `publisher`, `update`, `version` |
+//! | searching | `pass` |
+//! | names and faults | `crew`, `fault` |
 //!
 //! # Opening a desk
 //!
@@ -56,21 +79,23 @@ mod blank;
 mod crawling;
 mod crew;
 mod desk;
-mod errand;
+mod entering;
 mod fault;
 mod fetch;
 mod gathering;
 mod history;
-mod journal;
 mod kept;
 pub mod laws;
 mod memory;
+mod merge_job;
 mod note;
 mod opening;
 mod pass;
+mod publisher;
+mod record_follower;
+mod record_prefix;
 mod settling;
 mod share;
-mod shelf;
 mod update;
 mod version;
 mod working;

@@ -1,16 +1,16 @@
-//! Notes: what a call of a desk returns of the published record.
+//! `Note`: a token that a record was published.
 
 ghost use Rattle.std.specs.Prelude.{◌≡◌, length};
 ghost use Rattle.gopher_catalogue.specs.Legal.{IsLegal};
 
 use crate::crew::Crew;
-use crate::history::Beginning;
+use crate::record_prefix::RecordPrefix;
 use std::marker::{Model, PhantomData};
 
-/// A record that was published, for `Pass::hear`. Contracts see that record.
+/// A token that a record was published, for `Pass::hear`. Contracts see that record.
 #[derive(Drop)]
 pub struct Note<C: Crew> {
-    front: Beginning,
+    prefix: RecordPrefix,
     of: PhantomData<C>,
 }
 
@@ -21,30 +21,30 @@ impl<C: Crew> Model for Note<C> {
 
     ghost Value = { List EventData };
 
-    ghost view = { λ n. n.front.events };
+    ghost view = { λ n. n.prefix.events };
 
-    ghost invariant = { λ n. (n.front.history ≡ C.history) × IsLegal n.front.events };
+    ghost invariant = { λ n. (n.prefix.history ≡ C.history) × IsLegal n.prefix.events };
 }
 
 impl<C: Crew> Note<C> {
-    /// The note of a record.
-    pub(crate) fn of(front: &Beginning) -> Note<C>
-        requires history { front.now.history ≡ C.history }
-        requires legal { IsLegal front.now.events }
-        ensures { result ≡ front.now.events }
+    /// The note of a published record.
+    pub(crate) fn of(prefix: &RecordPrefix) -> Note<C>
+        requires history { prefix.now.history ≡ C.history }
+        requires legal { IsLegal prefix.now.events }
+        ensures { result ≡ prefix.now.events }
     {
         Note {
-            front: front.again(),
+            prefix: prefix.copy(),
             of: PhantomData,
         }
     }
 
-    /// Returns the record as a prefix of the crew's history.
-    pub(crate) fn front(&self) -> &Beginning
+    /// Returns the record's token.
+    pub(crate) fn prefix(&self) -> &RecordPrefix
         ensures history { result.now.history ≡ C.history }
         ensures events { result.now.events ≡ self.now }
     {
-        &self.front
+        &self.prefix
     }
 
     /// Returns the length of the record.
@@ -52,6 +52,6 @@ impl<C: Crew> Note<C> {
         ensures at { result ≡ length self.now }
         ensures legal { IsLegal self.now }
     {
-        self.front.len()
+        self.prefix.len()
     }
 }

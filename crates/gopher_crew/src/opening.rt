@@ -1,4 +1,4 @@
-//! The parts of a desk that opens.
+//! The parts of a desk that opens: its publisher, its passes and its shares.
 
 ghost use Rattle.std.specs.Prelude.{◌≡◌, ◌+◌, ◌<◌, ◌≤◌, ◌^◌, ◌-◌, [], ◌∷◌, length, replicate, vec_capacity, ◌≢◌, IfOk, IfErr, IfSome};
 ghost use Rattle.gopher_crew.specs.declared.fault.DeskFault.TheVariants.{BadCount};
@@ -9,10 +9,10 @@ ghost use Rattle.gopher_crew.specs.Desk.{has_seen, opening_shares, AllHaveSeen};
 
 use crate::crew::Crew;
 use crate::fault::DeskFault;
-use crate::history::Beginning;
 use crate::pass::Pass;
+use crate::publisher::Publisher;
+use crate::record_prefix::RecordPrefix;
 use crate::share::Share;
-use crate::shelf::Shelf;
 use crate::version::Version;
 use gopher_index::Index;
 use std::alloc::Global;
@@ -22,59 +22,59 @@ use std::sync::ledger::Share as Part;
 /// The number of parts of a desk's ledger.
 pub const PARTS: u64 = 16;
 
-// A shelf for `passes` readers. Its first version has these pages and this record.
-fn shelf_of<C: Crew, R: Wait + Drop>(
+// Makes a publisher for `passes` readers. Its first version has these pages and this record.
+fn publisher_of<C: Crew, R: Wait + Drop>(
     alloc: Global,
     rt: R,
     index: &Index,
-    front: &Beginning,
+    prefix: &RecordPrefix,
     passes: u32,
-) -> Result<Shelf<C, R>, DeskFault>
-    requires history { front.now.history ≡ C.history }
-    requires pages { index.now ≡ pages_found front.now.events }
-    requires legal { IsLegal front.now.events }
+) -> Result<Publisher<C, R>, DeskFault>
+    requires history { prefix.now.history ≡ C.history }
+    requires pages { index.now ≡ pages_found prefix.now.events }
+    requires legal { IsLegal prefix.now.events }
     requires some { 0 < passes }
-    ensures shown { IfOk result (λ shelf. shelf ≡ all_published front.now.events) }
+    ensures shown { IfOk result (λ publisher. publisher ≡ all_published prefix.now.events) }
     ensures other { IfErr result (λ fault. fault ≢ BadCount) }
 {
-    let Ok(first) = Version::of(alloc, index, front) else {
+    let Ok(first) = Version::of(alloc, index, prefix) else {
         return Err(DeskFault::NoMemory);
     };
-    let Ok(second) = first.again() else {
+    let Ok(second) = first.share() else {
         return Err(DeskFault::NoMemory);
     };
-    let Ok(shelf) = Shelf::new(alloc, rt, first, second, passes as usize) else {
+    let Ok(publisher) = Publisher::new(alloc, rt, first, second, passes as usize) else {
         return Err(DeskFault::NoMemory);
     };
-    Ok(shelf)
+    Ok(publisher)
 }
 
-// A pass that has seen the record that the shelf publishes.
+// Makes a pass that has seen the published record. Returns `None` if it can't enter the version.
 fn pass_of<C: Crew, R: Wait + Drop>(
     alloc: Global,
-    shelf: &Shelf<C, R>,
-    front: &Beginning,
+    publisher: &Publisher<C, R>,
+    prefix: &RecordPrefix,
 ) -> Option<Pass<C>>
-    requires { front.now.history ≡ C.history }
-    ensures { IfSome result (λ pass. pass ≡ has_seen front.now.events) }
+    requires { prefix.now.history ≡ C.history }
+    ensures { IfSome result (λ pass. pass ≡ has_seen prefix.now.events) }
 {
-    Pass::open(alloc, shelf.reader()?, front)
+    Pass::open(alloc, publisher.reader()?, prefix)
 }
 
-// `passes` passes that have seen the record that the shelf publishes.
+// Makes `passes` passes that have seen the published record.
 fn passes_of<C: Crew, R: Wait + Drop>(
     alloc: Global,
-    shelf: &Shelf<C, R>,
-    front: &Beginning,
+    publisher: &Publisher<C, R>,
+    prefix: &RecordPrefix,
     passes: u32,
 ) -> Result<Vec<Pass<C>>, DeskFault>
-    requires { front.now.history ≡ C.history }
-    ensures passes { IfOk result (λ list. AllHaveSeen front.now.events passes list.items) }
+    requires { prefix.now.history ≡ C.history }
+    ensures passes { IfOk result (λ list. AllHaveSeen prefix.now.events passes list.items) }
     ensures other { IfErr result (λ fault. fault ≢ BadCount) }
 {
     let mut list = Vec::new(alloc);
     for _index in 0..passes {
-        let Some(pass) = pass_of(alloc, shelf, front) else {
+        let Some(pass) = pass_of(alloc, publisher, prefix) else {
             return Err(DeskFault::NoEntry);
         };
         let Ok(()) = list.push(pass) else {
@@ -84,29 +84,30 @@ fn passes_of<C: Crew, R: Wait + Drop>(
     Ok(list)
 }
 
-/// A shelf whose first version has these pages and this record, and `passes` passes that have seen it.
-pub fn show<C: Crew, R: Wait + Drop>(
+/// Makes a publisher whose first version has these pages and this record, and `passes` passes that
+/// have seen it.
+pub fn publisher_with_passes<C: Crew, R: Wait + Drop>(
     alloc: Global,
     rt: R,
     index: &Index,
-    front: &Beginning,
+    prefix: &RecordPrefix,
     passes: u32,
-) -> Result<(Shelf<C, R>, Vec<Pass<C>>), DeskFault>
-    requires history { front.now.history ≡ C.history }
-    requires pages { index.now ≡ pages_found front.now.events }
-    requires legal { IsLegal front.now.events }
+) -> Result<(Publisher<C, R>, Vec<Pass<C>>), DeskFault>
+    requires history { prefix.now.history ≡ C.history }
+    requires pages { index.now ≡ pages_found prefix.now.events }
+    requires legal { IsLegal prefix.now.events }
     requires some { 0 < passes }
-    ensures shown { IfOk result (λ shown. shown.0 ≡ all_published front.now.events) }
-    ensures passes { IfOk result (λ shown. AllHaveSeen front.now.events passes shown.1.items) }
+    ensures shown { IfOk result (λ shown. shown.0 ≡ all_published prefix.now.events) }
+    ensures passes { IfOk result (λ shown. AllHaveSeen prefix.now.events passes shown.1.items) }
     ensures other { IfErr result (λ fault. fault ≢ BadCount) }
 {
-    let shelf = shelf_of(alloc, rt, index, front, passes)?;
-    let list = passes_of(alloc, &shelf, front, passes)?;
-    Ok((shelf, list))
+    let publisher = publisher_of(alloc, rt, index, prefix, passes)?;
+    let list = passes_of(alloc, &publisher, prefix, passes)?;
+    Ok((publisher, list))
 }
 
-/// Cuts a ledger of 16 parts into `shares` shares, the first of which counts all events so far. The list
-/// has room for them.
+/// Cuts a ledger of 16 parts into `shares` shares, and appends them to a list that has room. The
+/// first share counts all events so far.
 pub fn cut<C: Crew>(whole: Part<C>, events: u64, shares: u32, list: &mut Vec<Share<C>>)
     requires parts { whole.parts ≡ 16 }
     requires events { whole.amount ≡ events }

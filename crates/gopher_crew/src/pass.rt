@@ -1,4 +1,4 @@
-//! Passes: searches that wait for nobody.
+//! `Pass`: searches over the published version, without a lock.
 
 ghost use Rattle.std.specs.Prelude.{◌≡◌, ◌⊎◌, false, length, IfOk, IfSome, IsTrue, OnOk};
 ghost use mathlib.Core.List.{IsPrefix};
@@ -12,9 +12,9 @@ ghost use Rattle.gopher_crew.specs.Version.{IsSeen, IsSeenVersion};
 
 use crate::crew::Crew;
 use crate::fault::SearchFault;
-use crate::history::Beginning;
 use crate::note::Note;
-use crate::shelf::VersionReader;
+use crate::publisher::VersionReader;
+use crate::record_prefix::RecordPrefix;
 use crate::version::{Sees, Version};
 use core::mem::replace_with;
 use gopher_index::{Begun, Hit};
@@ -25,20 +25,22 @@ use std::marker::Model;
 /// What a search finds.
 #[derive(Debug, Drop)]
 pub struct Answer {
-    /// The pages that match, by score descending, then in place order; the first 50.
+    /// The first 50 of the pages that match, by descending score, then in place order.
     pub hits: Vec<Hit>,
-    /// The length of the record that they are the answer of.
+    /// The length of the record that was searched.
     pub at: u32,
 }
 
-/// Searches the catalogue as it was published, beside the crew at the desk. It can be moved into another
-/// thread. Contracts see which record it has seen, and which it was told of: the longest of those that it
-/// answered and of the notes that it heard.
+/// Searches the published version of a desk's catalogue. It can be moved into another thread.
+///
+/// Contracts see two records. A pass has *seen* the record that it took last. It was *told* the
+/// longest of the records that it searched and of the notes that it heard. What was told may be
+/// shorter than what was seen after a search that failed.
 #[derive(Drop)]
 pub struct Pass<C: Crew> {
     alloc: Global,
     reader: VersionReader<C>,
-    told: Beginning,
+    told: RecordPrefix,
 }
 
 impl<C: Crew> Model for Pass<C> {
@@ -53,7 +55,7 @@ impl<C: Crew> Model for Pass<C> {
     ghost invariant = { λ p. p.told.history ≡ C.history };
 }
 
-// Takes the published version: enters, shares it, and leaves.
+// Enters the published version, shares it, and leaves.
 fn take_version<C: Crew>(
     reader: VersionReader<C>,
     _nothing: (),
@@ -63,38 +65,39 @@ fn take_version<C: Crew>(
 {
     match reader.enter_as::<Sees<C>>() {
         Ok(reading) => {
-            let version = reading.get().again();
+            let version = reading.get().share();
             (reading.leave(), version.map_err(|_| SearchFault::NoMemory))
         }
         Err(reader) => (reader, Err(SearchFault::NoEntry)),
     }
 }
 
-// Looks which record is published.
-fn look<C: Crew>(reader: VersionReader<C>) -> (VersionReader<C>, Option<Beginning>)
+// Enters the published version, copies the token of its record, and leaves.
+fn take_prefix<C: Crew>(reader: VersionReader<C>) -> (VersionReader<C>, Option<RecordPrefix>)
     ensures { IfSome result.1 (IsSeen C.history (view result.0.place)) }
 {
     match reader.enter_as::<Sees<C>>() {
         Ok(reading) => {
-            let front = reading.get().front().again();
-            (reading.leave(), Some(front))
+            let prefix = reading.get().prefix().copy();
+            (reading.leave(), Some(prefix))
         }
         Err(reader) => (reader, None),
     }
 }
 
 impl<C: Crew> Pass<C> {
-    /// A pass that has seen this record, which is published. None where it can't see it.
+    /// Makes a pass that has seen the published record. Returns `None` if it can't enter the
+    /// version, or if another record is published.
     pub(crate) fn open(
         alloc: Global,
         reader: VersionReader<C>,
-        published: &Beginning,
+        published: &RecordPrefix,
     ) -> Option<Pass<C>>
         requires { published.now.history ≡ C.history }
         ensures { IfSome result (λ pass. pass ≡ has_seen published.now.events) }
     {
-        let (reader, front) = look(reader);
-        let told = front?;
+        let (reader, prefix) = take_prefix(reader);
+        let told = prefix?;
         if !told.is_same(published) {
             return None;
         }
@@ -105,19 +108,19 @@ impl<C: Crew> Pass<C> {
         })
     }
 
-    /// Takes in a note of the same desk: each later search answers a record that begins with the note's.
-    /// Takes no memory.
+    /// Hears a note of the same desk. Each later search answers from a record that begins with the
+    /// note's.
     pub fn hear(&mut self, note: Note<C>)
         ensures seen { self.new.seen ≡ self.old.seen }
         ensures told { IsPrefix self.old.told self.new.told }
         ensures heard { IsPrefix note self.new.told }
         ensures one { (self.new.told ≡ self.old.told) ⊎ (self.new.told ≡ note) }
     {
-        self.told = self.told.longer(note.front());
+        self.told = self.told.longer(note.prefix());
     }
 
-    /// Whether another pass of the same desk was told of a record that begins with the one that this pass
-    /// was told of. If not, it is the other way round: all passes of a desk see one crawl.
+    /// Returns whether what another pass of the same desk was told begins with what this pass was
+    /// told. If not, it is the other way round, because all passes of a desk see one crawl.
     pub fn begins(&self, other: &Pass<C>) -> bool
         ensures begins { IsTrue result → IsPrefix self.now.told other.now.told }
         ensures or_else { (result ≡ false) → IsPrefix other.now.told self.now.told }
@@ -125,35 +128,36 @@ impl<C: Crew> Pass<C> {
         self.told.begins(&other.told)
     }
 
-    // Takes the published version, unless its record doesn't begin with what this pass was told of.
+    // Takes the published version. Its record begins with what this pass was told.
     fn take(&mut self) -> Result<Version, SearchFault>
         ensures legal { OnOk result (IsLegal self.new.seen) }
         ensures pages { IfOk result (λ version. version.pages ≡ pages_found self.new.seen) }
-        ensures front { IfOk result (λ version. version.front.events ≡ self.new.seen) }
+        ensures prefix { IfOk result (λ version. version.prefix.events ≡ self.new.seen) }
         ensures after_told { OnOk result (IsPrefix self.old.told self.new.seen) }
         ensures none_told { OnOk result (self.new.told ≡ self.new.seen) }
         ensures after_seen { IsPrefix self.old.seen self.new.seen }
         ensures told { IsPrefix self.old.told self.new.told }
     {
         let version = replace_with(&mut self.reader, (), take_version)?;
-        if !self.told.begins(version.front()) {
+        if !self.told.begins(version.prefix()) {
             return Err(SearchFault::NoEntry);
         }
-        self.told = version.front().again();
+        self.told = version.prefix().copy();
         Ok(version)
     }
 
-    /// Begins a search of the pages of the published record, with the promises of `search`.
+    /// Begins a search over the pages of the published record. Returns its hits if the search is
+    /// short, and otherwise a `Search` that finds them in steps.
     ///
-    /// The search shares these pages: its hits are those of this record, whatever is published
-    /// meanwhile.
+    /// The hits are those of one legal record, even if another is published meanwhile. That record
+    /// begins with what this pass saw before and was told. It is then what the pass has seen and
+    /// was told.
     ///
     /// # Errors
+    /// - `NoEntry` (61): the published version can't be entered.
+    /// - `NoMemory` (90).
     ///
-    /// - `NoEntry` (61): the published version can't be entered
-    /// - `NoMemory` (90)
-    ///
-    /// After an error the pass may have seen more.
+    /// After an error the pass may have seen a longer record.
     pub fn begin(&mut self, query: &Query) -> Result<Begun, SearchFault>
         ensures legal { OnOk result (IsLegal self.new.seen) }
         ensures hits { IfOk result (λ begun. begun_hits begun ≡ hits_of self.new.seen query.now) }
@@ -169,14 +173,10 @@ impl<C: Crew> Pass<C> {
         Ok(begun)
     }
 
-    /// Searches the pages of the published record. It waits for nobody, and holds up no publication for
-    /// longer than it takes to share the version.
+    /// Searches the pages of the published record to the end. See `begin` for the record and the
+    /// errors.
     ///
-    /// The answer is that of one legal record, whose length it tells. All that this pass saw before or
-    /// was told of are beginnings of it; it has then seen it, and was told nothing since.
-    ///
-    /// Refused: `NoEntry` (61) where the published version can't be entered; `NoMemory` (90). The pass
-    /// may have seen more then.
+    /// It takes no lock. It delays a publication only while it shares the version.
     pub fn search(&mut self, query: &Query) -> Result<Answer, SearchFault>
         ensures legal { OnOk result (IsLegal self.new.seen) }
         ensures at { IfOk result (λ answer. answer.at ≡ length self.new.seen) }
@@ -192,7 +192,7 @@ impl<C: Crew> Pass<C> {
         };
         Ok(Answer {
             hits,
-            at: version.front().len(),
+            at: version.prefix().len(),
         })
     }
 }

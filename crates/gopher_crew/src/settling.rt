@@ -1,4 +1,4 @@
-//! The part of a worker's turn that needs no lock.
+//! `settle`: makes the page of a fetched reply.
 
 ghost use Rattle.std.specs.Prelude.{◌≤◌, vec_len, IfOk, IfErr};
 ghost use Rattle.gopher_crew.specs.Work.{SettlesBytes, SettlesWhy};
@@ -9,8 +9,8 @@ use gopher_page::Page;
 use gopher_scope::Scope;
 use std::alloc::Global;
 
-/// Makes the page of a fetched reply, which has at most 1,048,576 bytes. If there is none, returns the
-/// reason of the fetch, or `NoMemory`.
+/// Makes the page of a fetched reply, which has at most 1,048,576 bytes. If there is none, returns
+/// the reason of the fetch, or `NoMemory`.
 pub fn settle(
     alloc: Global,
     scope: &Scope,

@@ -1,4 +1,4 @@
-//! Shares: how many of a desk's events a worker made.
+//! `Share`: how many of a desk's events a worker made.
 
 ghost use Rattle.std.specs.Prelude.{◌≡◌, ◌+◌, ◌<◌, ◌≤◌, ◌^◌};
 
@@ -65,7 +65,8 @@ impl<C: Crew> Share<C> {
         self.count += count;
     }
 
-    /// Shows that it counts no more than the book's total, and exactly that if it has every part.
+    /// Proves that the share counts at most the book's total, and exactly that if it has every
+    /// part. The program changes nothing.
     pub(crate) fn audit(&mut self, book: &mut Book<C>)
         ensures same { self.new ≡ self.old }
         ensures total { book.new.total ≡ book.old.total }

@@ -1,4 +1,4 @@
-//! The update that makes the next version of one.
+//! `Update` and `Change`: what makes the next version of a published one.
 
 ghost use Rattle.std.specs.Prelude.{◌≡◌, List, ◌++◌, ◌∷◌, [], MatchResult, IfOk};
 ghost use Rattle.std.specs.Arc.{arc_value};
@@ -6,7 +6,7 @@ ghost use mathlib.Core.List.{IsPrefix};
 ghost use Rattle.gopher_page.specs.Page.{PageData};
 ghost use Rattle.gopher_crew.specs.Version.{pages_after};
 
-use crate::history::Beginning;
+use crate::record_prefix::RecordPrefix;
 use gopher_index::Index;
 use gopher_item::NoMemory;
 use gopher_page::Page;
@@ -14,7 +14,7 @@ use std::alloc::Global;
 use std::sync::Arc;
 
 // The most pages of an index.
-const MOST_PAGES: usize = 65_536;
+const MAX_PAGES: usize = 65_536;
 
 /// What changes of a version's pages.
 #[derive(Drop)]
@@ -27,23 +27,22 @@ pub enum Change {
     All(Arc<Index>),
 }
 
-/// What makes the next version: what changes of the pages, and the next version's record, a prefix of
-/// the crew's history.
+/// What makes the next version: the change of its pages, and its record.
 #[derive(Drop)]
 pub struct Update {
     /// Where a copy of an index is made.
     pub(crate) alloc: Global,
     pub(crate) change: Change,
-    pub(crate) front: Beginning,
+    pub(crate) prefix: RecordPrefix,
 }
 
-// Adds a page to an index. If a search shares the index, a copy takes its place.
+// Adds a page to an index. If a search shares the index, a copy with the page takes its place.
 fn add(alloc: Global, index: &mut Arc<Index>, page: Arc<Page>) -> Result<(), NoMemory>
     ensures { MatchResult result
         (λ _. arc_value index.new ≡ arc_value index.old ++ arc_value page ∷ [])
         (λ _. arc_value index.new ≡ arc_value index.old) }
 {
-    if index.len() >= MOST_PAGES {
+    if index.len() >= MAX_PAGES {
         return Err(NoMemory);
     }
     if let Some(own) = Arc::get_mut(index) {
@@ -78,10 +77,10 @@ impl Change {
         }
     }
 
-    /// Changes the pages of an index. If a search shares the index, another takes its place.
+    /// Changes the pages of an index. If a search shares the index, another index takes its place.
     ///
     /// # Errors
-    /// 90, also if there would be more than 65,536 pages. The pages are then as before.
+    /// 90, also if the index would have more than 65,536 pages. The pages are then as before.
     pub fn apply(&self, alloc: Global, index: &mut Arc<Index>) -> Result<(), NoMemory>
         ensures { MatchResult result
             (λ _. arc_value index.new ≡ pages_after self.now (arc_value index.old))

@@ -1,4 +1,4 @@
-//! The version of the catalogue that a desk publishes.
+//! `Version`: a published snapshot of the catalogue, and the rule of what is published.
 
 ghost use Rattle.std.specs.Prelude.{◌≡◌, IfOk};
 ghost use Rattle.gopher_index.specs.Answer.{answer_of};
@@ -6,7 +6,7 @@ ghost use Rattle.gopher_index.specs.Begun.{begun_hits};
 ghost use Rattle.gopher_crew.specs.Version.{version_data};
 
 use crate::crew::Crew;
-use crate::history::Beginning;
+use crate::record_prefix::RecordPrefix;
 use crate::update::Update;
 use crossbeam_utils::rule::{Outcome, Protocol};
 use gopher_catalogue::EventData;
@@ -18,12 +18,12 @@ use std::alloc::{AllocError, Global};
 use std::marker::{Model, PhantomData};
 use std::sync::Arc;
 
-/// An index of pages, and a record, a beginning of a crew's history: what is published has the pages that
-/// the record found (`Shows`). Contracts see the pages and that beginning.
+/// An index, and the token of a record. A published version has the pages that its record found
+/// (`Shows`). Contracts see the pages and the record.
 #[derive(Drop)]
 pub struct Version {
     index: Arc<Index>,
-    front: Beginning,
+    prefix: RecordPrefix,
 }
 
 impl Model for Version {
@@ -32,53 +32,53 @@ impl Model for Version {
 
     ghost Value = { VersionData };
 
-    ghost view = { λ v. version_data (arc_value v.index) v.front };
+    ghost view = { λ v. version_data (arc_value v.index) v.prefix };
 }
 
 impl Version {
-    /// The version of a record, with these pages. It shares their segments. Refused only where memory is
-    /// (90).
-    pub fn of(alloc: Global, index: &Index, front: &Beginning) -> Result<Version, NoMemory>
-        ensures { IfOk result (λ version. version ≡ version_data index.now front.now) }
+    /// Makes the version of a record, which has these pages. The version shares the index's
+    /// segments and pages.
+    pub fn of(alloc: Global, index: &Index, prefix: &RecordPrefix) -> Result<Version, NoMemory>
+        ensures { IfOk result (λ version. version ≡ version_data index.now prefix.now) }
     {
         Ok(Version {
             index: Arc::new(alloc, index.again(alloc)?)?,
-            front: front.again(),
+            prefix: prefix.copy(),
         })
     }
 
-    /// The same version, shared. Refused only where memory is (90).
-    pub fn again(&self) -> Result<Version, NoMemory>
+    /// Returns the same version, which shares its index.
+    pub fn share(&self) -> Result<Version, NoMemory>
         ensures { IfOk result (λ version. version ≡ self.now) }
     {
         Ok(Version {
             index: self.index.clone()?,
-            front: self.front.again(),
+            prefix: self.prefix.copy(),
         })
     }
 
-    /// The pages.
+    /// Returns the index.
     pub fn index(&self) -> &Index
         ensures { result.now ≡ self.now.pages }
     {
         &self.index
     }
 
-    /// The record that it stands for.
-    pub fn front(&self) -> &Beginning
-        ensures { result.now ≡ self.now.front }
+    /// Returns the token of its record.
+    pub fn prefix(&self) -> &RecordPrefix
+        ensures { result.now ≡ self.now.prefix }
     {
-        &self.front
+        &self.prefix
     }
 
-    /// Begins a search of the pages. The search shares them with this version.
+    /// Begins a search of the pages, which it shares.
     pub fn begin(&self, alloc: Global, query: &Query) -> Result<Begun, NoMemory>
         ensures { IfOk result (λ begun. begun_hits begun ≡ answer_of self.now.pages query.now) }
     {
         self.index.begin(alloc, query)
     }
 
-    /// The answer to a query over the pages. Refused only where memory is (90).
+    /// Searches the pages to the end and returns the hits.
     pub fn search(&self, alloc: Global, query: &Query) -> Result<Vec<Hit>, NoMemory>
         ensures { IfOk result (λ hits. hits.items ≡ answer_of self.now.pages query.now) }
     {
@@ -99,13 +99,13 @@ impl Absorb<Update> for Version {
         let Ok(()) = update.change.apply(update.alloc, &mut self.index) else {
             return Err(AllocError);
         };
-        self.front = update.front.again();
+        self.prefix = update.prefix.copy();
         Ok(())
     }
 }
 
-/// The rule of what is published: it has the pages of a legal record, which is of the crew's history and
-/// begins with all that anyone has seen.
+/// The rule of what is published. A version's record is legal and a prefix of the crew's history.
+/// It begins with each record that a reader has seen. The version's pages are those that it found.
 pub struct Shows<C> {
     of: PhantomData<C>,
 }
@@ -119,7 +119,7 @@ impl<C: Crew> Protocol<Version, [EventData; 0]> for Shows<C> {
     ghost first = { [] };
 }
 
-/// What a publication and an entry tell.
+/// What is known after a publication or an entry: the version's record is the one seen.
 pub struct Sees<C> {
     of: PhantomData<C>,
 }

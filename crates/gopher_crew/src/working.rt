@@ -1,7 +1,7 @@
-//! Workers, which fetch and settle while they hold no lock.
+//! `work`: one worker, which claims places, fetches them and hands in their pages.
 
 ghost use Rattle.std.specs.Prelude.{◌≡◌, ◌+◌, ◌*◌, ◌≤◌, true, false, vec_len, IfOk};
-ghost use Rattle.gopher_crew.specs.Work.{one_more_call, found_rise, failed_rise, outcome_rise, IsPaid, IsStop, EndsClaim, Works};
+ghost use Rattle.gopher_crew.specs.Work.{one_more_call, found_rise, failed_rise, outcome_rise, IsPaid, IsStop, EndsClaim, Works, WorksOnce};
 
 use crate::crew::Crew;
 use crate::desk::Desk;
@@ -14,8 +14,8 @@ use gopher_scope::Scope;
 use std::alloc::Global;
 use std::sync::Wait;
 
-// The most bytes that a reply may have.
-const MOST_BYTES: usize = 1_048_576;
+// The most bytes of a reply.
+const MAX_REPLY: usize = 1_048_576;
 
 /// Why a worker stopped.
 #[derive(Clone, Copy, Debug, PartialEq, Eq)]
@@ -41,7 +41,8 @@ pub struct WorkEnd<F: Drop, C: Crew> {
     pub stop: Stop,
 }
 
-// What became of a place that was claimed. Only one that is out no more is refused.
+// What became of a place that was claimed. `Refused`: the desk refused its page and its failure,
+// because it was no longer out.
 enum Outcome {
     Found,
     Failed,
@@ -91,7 +92,7 @@ fn hand_in_page<C: Crew, R: Wait + Drop, W: Wait>(
     }
 }
 
-// Hands in the page of a place, or fails it. A place whose page is refused is failed, too, since it
+// Hands in the page of a place, or fails it. It also fails a place whose page is refused, which
 // would stay out otherwise.
 fn hand_in<C: Crew, R: Wait + Drop, W: Wait>(
     rt: &W,
@@ -116,8 +117,8 @@ fn hand_in<C: Crew, R: Wait + Drop, W: Wait>(
     hand_in_failure(rt, desk, share, number, why)
 }
 
-// Fetches a place that was claimed, makes its page, and hands it in.
-fn serve<C: Crew, R: Wait + Drop, W: Wait, F: Fetch<W> + Drop>(
+// Fetches a place that was claimed, makes its page, and hands it in or fails the place.
+fn fetch_and_report<C: Crew, R: Wait + Drop, W: Wait, F: Fetch<W> + Drop>(
     rt: &W,
     alloc: Global,
     desk: &Desk<C, R>,
@@ -133,12 +134,12 @@ fn serve<C: Crew, R: Wait + Drop, W: Wait, F: Fetch<W> + Drop>(
     ensures failed { worker.new.failed ≡ worker.old.failed }
     ensures out { EndsClaim result claim.now.number }
 {
-    let fetched = worker.fetcher.fetch(rt, alloc, &claim.place, MOST_BYTES);
+    let fetched = worker.fetcher.fetch(rt, alloc, &claim.place, MAX_REPLY);
     let settled = settle(alloc, scope, &claim.place, fetched);
     hand_in(rt, desk, &mut worker.share, claim.number, settled)
 }
 
-// Counts an outcome.
+// Counts an outcome as found or failed.
 fn count<F: Drop, C: Crew>(outcome: Outcome, worker: &mut WorkEnd<F, C>)
     ensures found { worker.new.found ≤ worker.old.found + found_rise outcome }
     ensures failed { worker.new.failed ≤ worker.old.failed + failed_rise outcome }
@@ -153,7 +154,7 @@ fn count<F: Drop, C: Crew>(outcome: Outcome, worker: &mut WorkEnd<F, C>)
 }
 
 impl<F: Drop, C: Crew> WorkEnd<F, C> {
-    /// The end of a worker that did nothing.
+    /// A worker that did nothing yet.
     pub(crate) fn idle(fetcher: F, share: Share<C>) -> WorkEnd<F, C>
         ensures fetcher { result.fetcher ≡ fetcher }
         ensures share { result.share ≡ share }
@@ -168,7 +169,34 @@ impl<F: Drop, C: Crew> WorkEnd<F, C> {
     }
 }
 
-/// Lets a worker begin anew, with its counts at 0, as `work` does.
+// Claims the next place, fetches it and reports its outcome. Returns why the worker stops if there is no
+// place to claim.
+fn work_once<C: Crew, R: Wait + Drop, W: Wait, F: Fetch<W> + Drop>(
+    rt: &W,
+    alloc: Global,
+    desk: &Desk<C, R>,
+    scope: &Scope,
+    worker: &mut WorkEnd<F, C>,
+) -> Option<Stop>
+    ensures calls { WorksOnce result worker.old.share (F.called worker.old.fetcher)
+        worker.new.share (F.called worker.new.fetcher) }
+    ensures outcomes { worker.old.share.events + 2 * (worker.new.found + worker.new.failed)
+        ≤ worker.new.share.events + 2 * (worker.old.found + worker.old.failed) }
+    ensures parts { worker.new.share.parts ≡ worker.old.share.parts }
+{
+    match desk.next(rt, alloc, &mut worker.share) {
+        Ok(Turn::Take(claim)) => {
+            let outcome = fetch_and_report(rt, alloc, desk, scope, &claim, worker);
+            count(outcome, worker);
+            None
+        }
+        Ok(Turn::Idle) => unreachable!(),
+        Ok(Turn::Finished) => Some(Stop::Finished),
+        Err(_refused) => Some(Stop::NoMemory),
+    }
+}
+
+/// Does what `work` does, with a worker in its place. Its counts begin at 0.
 pub(crate) fn run<C: Crew, R: Wait + Drop, W: Wait, F: Fetch<W> + Drop>(
     rt: &W,
     alloc: Global,
@@ -185,20 +213,9 @@ pub(crate) fn run<C: Crew, R: Wait + Drop, W: Wait, F: Fetch<W> + Drop>(
         return;
     };
     for _round in rt.forever() {
-        match desk.next(rt, alloc, &mut worker.share) {
-            Ok(Turn::Take(claim)) => {
-                let outcome = serve(rt, alloc, desk, opening.scope(), &claim, worker);
-                count(outcome, worker);
-            }
-            Ok(Turn::Idle) => unreachable!(),
-            Ok(Turn::Finished) => {
-                worker.stop = Stop::Finished;
-                return;
-            }
-            Err(_refused) => {
-                worker.stop = Stop::NoMemory;
-                return;
-            }
+        if let Some(stop) = work_once(rt, alloc, desk, opening.scope(), worker) {
+            worker.stop = stop;
+            return;
         }
     }
     unreachable!()

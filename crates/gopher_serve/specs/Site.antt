@@ -5,7 +5,7 @@ use mathlib.Core.List.{IsPrefix}
 use Rattle.gopher_item.specs.Place.{HomeData}
 use Rattle.gopher_tree.specs.Files.{File}
 use Rattle.gopher_crew.specs.Crew.{PassData}
-use Rattle.gopher_crew.proofs.Beginnings.{prefix_self, prefix_trans}
+use Rattle.gopher_crew.proofs.Prefixes.{prefix_self, prefix_trans}
 use Rattle.gopher_conversation.specs.Leads.{IsChain, Leads}
 use Rattle.gopher_serve.specs.Answer.{AnswersLine, SeesOn}
 

@@ -4,4 +4,4 @@ use Rattle.gopher_crew.specs.Desk.{has_seen}
 use Rattle.gopher_crew.proofs.opening.passes_of.Given as goal
 
 abbrev pub invariant-loop-index : goal.invariant-loop-index
-invariant-loop-index g l = l.list.items ≡ replicate l._index (has_seen l.front.events)
+invariant-loop-index g l = l.list.items ≡ replicate l._index (has_seen l.prefix.events)

@@ -1,0 +1,68 @@
+//! `MergeJob`: pages that a worker merges while it holds no lock.
+
+ghost use Rattle.std.specs.Prelude.{◌≡◌, IfSome};
+ghost use Rattle.gopher_index.specs.Index.{StandsIn};
+ghost use Rattle.gopher_catalogue.specs.Pages.{pages_found};
+
+use crate::crew::Crew;
+use crate::record_prefix::RecordPrefix;
+use gopher_catalogue::Due;
+use std::alloc::Global;
+use std::marker::{Model, PhantomData};
+
+/// A run of pages that a worker merges, and the record that found them. Contracts see the pages.
+#[derive(Drop)]
+pub struct MergeJob<C: Crew> {
+    due: Due,
+    prefix: RecordPrefix,
+    of: PhantomData<C>,
+}
+
+impl<C: Crew> Model for MergeJob<C> {
+    ghost use Rattle.gopher_segment.specs.Segment.{SegmentData};
+    ghost use Rattle.gopher_crew.specs.MergeJob.{IsMergeJob};
+
+    ghost Value = { SegmentData };
+
+    ghost view = { λ j. j.due };
+
+    ghost invariant = { λ j. IsMergeJob C.history j.prefix j.due };
+}
+
+impl<C: Crew> MergeJob<C> {
+    /// The job to merge pages that a record found.
+    pub fn new(due: Due, prefix: RecordPrefix) -> MergeJob<C>
+        requires history { prefix.history ≡ C.history }
+        requires stands { StandsIn due (pages_found prefix.events) }
+        ensures { result ≡ due }
+    {
+        MergeJob {
+            due,
+            prefix,
+            of: PhantomData,
+        }
+    }
+
+    /// Merges the pages. Returns whether it did: it didn't if memory ran out.
+    pub fn run(&mut self, alloc: Global) -> bool
+        ensures { self.new ≡ self.old }
+    {
+        self.due.merge(alloc).is_ok()
+    }
+
+    /// Returns the pages, if this record begins with the one that found them.
+    pub fn due_in(self, prefix: &RecordPrefix) -> Option<Due>
+        requires { prefix.now.history ≡ C.history }
+        ensures { IfSome result (λ due. StandsIn due (pages_found prefix.now.events)) }
+    {
+        let MergeJob {
+            due,
+            prefix: own,
+            of: _of,
+        } = self;
+        if !own.begins(prefix) {
+            return None;
+        }
+        Some(due)
+    }
+}
