@@ -30,12 +30,16 @@ links_after scope place (Some (Fetched bytes)) = (page_of scope place bytes).lin
 links_after scope place outcome = []
 
 -- reachable: the place is a seed, or a link on the page of a reachable place
-pub data IsReachable (scope : ScopeData) (seeds : List PlaceData) (table : OutcomeTable) : PlaceData → Type 0 where
+pub data IsReachable (scope : ScopeData) (seeds : List PlaceData) (table : OutcomeTable) : PlaceData
+    → Type 0 where
   seed : {place : PlaceData} → IsTrue (is_among seeds place) → IsReachable scope seeds table place
-  link : {place : PlaceData} {next : PlaceData} → IsReachable scope seeds table place → IsTrue (is_among (links_after scope place (table place)) next) → IsReachable scope seeds table next
+  link : {place : PlaceData} {next : PlaceData} → IsReachable scope seeds table place
+      → IsTrue (is_among (links_after scope place (table place)) next)
+      → IsReachable scope seeds table next
 
 -- the page of a reachable place, made of its bytes in the table
-pub record IsReachedPage (scope : ScopeData) (seeds : List PlaceData) (table : OutcomeTable) (page : PageData) : Type 0 where
+pub record IsReachedPage (scope : ScopeData) (seeds : List PlaceData) (table : OutcomeTable)
+    (page : PageData) : Type 0 where
   pub place : PlaceData
   pub bytes : List ℕ
   pub is_reachable : IsReachable scope seeds table place
@@ -50,28 +54,35 @@ is_outcome_of number event = is_find_of number event || is_failure_of number eve
 
 -- the last outcome of a number
 unfoldable pub last_outcome : List EventData → ℕ → Option EventData
-last_outcome events number = fold (λ last event. if is_outcome_of number event then Some event else last) None events
+last_outcome events number =
+    fold (λ last event. if is_outcome_of number event then Some event else last) None events
 
 -- the event is the outcome that the table gives for the place
 abbrev pub IsTold : ScopeData → PlaceData → Option OutcomeData → Option EventData → Type 0
-IsTold scope place outcome (Some (Found number page)) = (bytes : List ℕ) × (outcome ≡ Some (Fetched bytes)) × (page ≡ page_of scope place bytes)
+IsTold scope place outcome (Some (Found number page)) =
+    (bytes : List ℕ) × (outcome ≡ Some (Fetched bytes)) × (page ≡ page_of scope place bytes)
 IsTold scope place outcome (Some (Failed number why)) = outcome ≡ Some (Unfetched why)
 IsTold scope place outcome event = Unit {0}
 
 -- the last outcome of each known place is the table's
 abbrev pub Agrees : OpeningData → List EventData → OutcomeTable → Type 0
 Agrees opening events table =
-    (number : ℕ) (place : PlaceData) → slice_get (known opening events) number ≡ Some place → IsTold opening.scope place (table place) (last_outcome events number)
+    (number : ℕ) (place : PlaceData) → slice_get (known opening events) number ≡ Some place
+    → IsTold opening.scope place (table place) (last_outcome events number)
 
 -- the table gives every outcome in the record
 abbrev pub GivesEachOutcome : OpeningData → List EventData → OutcomeTable → Type 0
 GivesEachOutcome opening events table =
-    (k number : ℕ) (event : EventData) (place : PlaceData) → slice_get events k ≡ Some event → IsTrue (is_outcome_of number event) → slice_get (known opening events) number ≡ Some place → IsTold opening.scope place (table place) (Some event)
+    (k number : ℕ) (event : EventData) (place : PlaceData) → slice_get events k ≡ Some event
+    → IsTrue (is_outcome_of number event) → slice_get (known opening events) number ≡ Some place
+    → IsTold opening.scope place (table place) (Some event)
 
 -- with one try, a table agrees with the last outcomes exactly if it gives every outcome
 abbrev pub OneTryAgreesThroughout : Type 0
 OneTryAgreesThroughout =
-    (opening : OpeningData) (events : List EventData) (table : OutcomeTable) → IsLegal (Opened opening ∷ events) → opening.tries ≡ 1 → Agrees opening events table ↔ GivesEachOutcome opening events table
+    (opening : OpeningData) (events : List EventData) (table : OutcomeTable)
+    → IsLegal (Opened opening ∷ events) → opening.tries ≡ 1
+    → Agrees opening events table ↔ GivesEachOutcome opening events table
 
 -- ---- the law
 
@@ -81,20 +92,29 @@ pub record IsComplete (record_ : List EventData) : Type 0 where
   pub none_dropped : (status_of record_).dropped ≡ 0
 
 -- the known places are the reachable ones, all allowed and all done; the pages found are theirs
-pub record HoldsReach (opening : OpeningData) (events : List EventData) (table : OutcomeTable) : Type 0 where
-  pub known_reachable : (place : PlaceData) → IsTrue (is_among (known opening events) place) ↔ IsReachable opening.scope opening.seeds table place
-  pub reachable_allowed : (place : PlaceData) → IsReachable opening.scope opening.seeds table place → IsAllowed opening.scope place
+pub record HoldsReach (opening : OpeningData) (events : List EventData)
+    (table : OutcomeTable) : Type 0 where
+  pub known_reachable : (place : PlaceData)
+      → IsTrue (is_among (known opening events) place)
+      ↔ IsReachable opening.scope opening.seeds table place
+  pub reachable_allowed : (place : PlaceData) → IsReachable opening.scope opening.seeds table place
+      → IsAllowed opening.scope place
   pub all_done : done opening events ≡ numbers opening events
-  pub pages_reached : (page : PageData) → Contains (pages_found events) page ↔ IsReachedPage opening.scope opening.seeds table page
+  pub pages_reached : (page : PageData)
+      → Contains (pages_found events) page ↔ IsReachedPage opening.scope opening.seeds table page
 
 abbrev pub FinishedCrawlHoldsReach : Type 0
 FinishedCrawlHoldsReach =
-    (opening : OpeningData) (events : List EventData) (table : OutcomeTable) → IsLegal (Opened opening ∷ events) → IsComplete (Opened opening ∷ events) → Agrees opening events table → HoldsReach opening events table
+    (opening : OpeningData) (events : List EventData) (table : OutcomeTable)
+    → IsLegal (Opened opening ∷ events) → IsComplete (Opened opening ∷ events)
+    → Agrees opening events table → HoldsReach opening events table
 
 -- once this record is complete, it contains what can be reached, for each table that it agrees with
 abbrev pub HoldsReachOnceComplete : List EventData → Type 0
 HoldsReachOnceComplete record_ =
-    (opening : OpeningData) (events : List EventData) (table : OutcomeTable) → record_ ≡ Opened opening ∷ events → IsComplete record_ → Agrees opening events table → HoldsReach opening events table
+    (opening : OpeningData) (events : List EventData) (table : OutcomeTable)
+    → record_ ≡ Opened opening ∷ events → IsComplete record_ → Agrees opening events table
+    → HoldsReach opening events table
 
 -- both lists contain the same places, in any order and any number of times
 abbrev pub SamePlaces : List PlaceData → List PlaceData → Type 0
@@ -104,17 +124,24 @@ SamePlaces places places' = (place : PlaceData) → is_among places place ≡ is
 -- whatever the order of their seeds and events, their limits and their tries
 abbrev pub FinishedCrawlsAgree : Type 0
 FinishedCrawlsAgree =
-    (scope : ScopeData) (seeds seeds' : List PlaceData) (table : OutcomeTable) (limit tries limit' tries' : ℕ) (events events' : List EventData) →
-    let opening : OpeningData = record { scope = scope; seeds = seeds; limit = limit; tries = tries } in
-    let opening' : OpeningData = record { scope = scope; seeds = seeds'; limit = limit'; tries = tries' } in
+    (scope : ScopeData) (seeds seeds' : List PlaceData) (table : OutcomeTable)
+    (limit tries limit' tries' : ℕ) (events events' : List EventData) →
+    let opening : OpeningData =
+    record { scope = scope; seeds = seeds; limit = limit; tries = tries } in
+    let opening' : OpeningData =
+    record { scope = scope; seeds = seeds'; limit = limit'; tries = tries' } in
     SamePlaces seeds seeds' →
-    IsLegal (Opened opening ∷ events) → IsComplete (Opened opening ∷ events) → Agrees opening events table →
-    IsLegal (Opened opening' ∷ events') → IsComplete (Opened opening' ∷ events') → Agrees opening' events' table →
+    IsLegal (Opened opening ∷ events) → IsComplete (Opened opening ∷ events)
+    → Agrees opening events table →
+    IsLegal (Opened opening' ∷ events') → IsComplete (Opened opening' ∷ events')
+    → Agrees opening' events' table →
     SamePlaces (known opening events) (known opening' events') ×
     ((page : PageData) → Contains (pages_found events) page ↔ Contains (pages_found events') page)
 
 -- a record contains at most one page of each place
 abbrev pub EachPageIsFoundOnce : Type 0
 EachPageIsFoundOnce =
-    (opening : OpeningData) (events : List EventData) (i j : ℕ) (page other : PageData) → IsLegal (Opened opening ∷ events) →
-    slice_get (pages_found events) i ≡ Some page → slice_get (pages_found events) j ≡ Some other → page.place ≡ other.place → i ≡ j
+    (opening : OpeningData) (events : List EventData) (i j : ℕ) (page other : PageData)
+    → IsLegal (Opened opening ∷ events) →
+    slice_get (pages_found events) i ≡ Some page → slice_get (pages_found events) j ≡ Some other
+    → page.place ≡ other.place → i ≡ j

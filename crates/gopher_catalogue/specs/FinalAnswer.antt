@@ -21,10 +21,12 @@ use Rattle.gopher_catalogue.specs.Closure.{OutcomeTable, IsReachedPage, Agrees, 
 
 -- the hit of a page
 abbrev pub hit_at : List TermData → PageData → Hit
-hit_at query page = record { place = page.place; title = page.title; score = score query page.counts }
+hit_at query page =
+    record { place = page.place; title = page.title; score = score query page.counts }
 
 -- the hit of a page of this set that matches the query
-pub record IsHitAmong (IsPage : PageData → Type 0) (query : List TermData) (hit : Hit) : Type 0 where
+pub record IsHitAmong (IsPage : PageData → Type 0) (query : List TermData)
+    (hit : Hit) : Type 0 where
   pub page : PageData
   pub is_page : IsPage page
   pub is_match : IsTrue (matches query page.counts)
@@ -32,7 +34,8 @@ pub record IsHitAmong (IsPage : PageData → Type 0) (query : List TermData) (hi
 
 -- the first 50 hits of the matching pages of this set: by score, highest first, and hits of equal
 -- score in place order
-pub record IsAnswerAmong (IsPage : PageData → Type 0) (query : List TermData) (hits : List Hit) : Type 0 where
+pub record IsAnswerAmong (IsPage : PageData → Type 0) (query : List TermData)
+    (hits : List Hit) : Type 0 where
   pub all : List Hit
   pub members : (hit : Hit) → Contains all hit ↔ IsHitAmong IsPage query hit
   pub in_order : IsStrictlySortedBy rank_cmp all
@@ -41,37 +44,48 @@ pub record IsAnswerAmong (IsPage : PageData → Type 0) (query : List TermData) 
 -- ---- the occurrences over a set of pages
 
 -- the place of a page of this set that contains the word, with the number of times
-pub record IsOccurrenceAmong (IsPage : PageData → Type 0) (word : List ℕ) (occurrence : PlaceData × ℕ) : Type 0 where
+pub record IsOccurrenceAmong (IsPage : PageData → Type 0) (word : List ℕ)
+    (occurrence : PlaceData × ℕ) : Type 0 where
   pub page : PageData
   pub is_page : IsPage page
   pub some : 0 < count_meant false word page.counts
   pub is_occurrence : occurrence ≡ (page.place, count_meant false word page.counts)
 
 -- the occurrences of the word in the pages of this set, each place once, in place order
-pub record AreOccurrencesAmong (IsPage : PageData → Type 0) (word : List ℕ) (list : List (PlaceData × ℕ)) : Type 0 where
-  pub members : (occurrence : PlaceData × ℕ) → Contains list occurrence ↔ IsOccurrenceAmong IsPage word occurrence
+pub record AreOccurrencesAmong (IsPage : PageData → Type 0) (word : List ℕ)
+    (list : List (PlaceData × ℕ)) : Type 0 where
+  pub members : (occurrence : PlaceData × ℕ)
+      → Contains list occurrence ↔ IsOccurrenceAmong IsPage word occurrence
   pub in_order : IsStrictlySortedBy (on (λ occurrence. occurrence.0) place_cmp) list
 
 -- ---- the final answer
 
 -- the answer over the pages of the reachable places
-abbrev pub FinalAnswer : ScopeData → List PlaceData → OutcomeTable → List TermData → List Hit → Type 0
-FinalAnswer scope seeds table query hits = IsAnswerAmong (IsReachedPage scope seeds table) query hits
+abbrev pub FinalAnswer : ScopeData → List PlaceData → OutcomeTable → List TermData → List Hit
+    → Type 0
+FinalAnswer scope seeds table query hits =
+    IsAnswerAmong (IsReachedPage scope seeds table) query hits
 
 -- the occurrences in the pages of the reachable places
-abbrev pub FinalOccurrences : ScopeData → List PlaceData → OutcomeTable → List ℕ → List (PlaceData × ℕ) → Type 0
-FinalOccurrences scope seeds table word list = AreOccurrencesAmong (IsReachedPage scope seeds table) word list
+abbrev pub FinalOccurrences : ScopeData → List PlaceData → OutcomeTable → List ℕ
+    → List (PlaceData × ℕ) → Type 0
+FinalOccurrences scope seeds table word list =
+    AreOccurrencesAmong (IsReachedPage scope seeds table) word list
 
 -- a query has at most one final answer, and a word at most one final list of occurrences
 abbrev pub FinalAnswerIsOne : Type 0
 FinalAnswerIsOne =
-    (scope : ScopeData) (seeds : List PlaceData) (table : OutcomeTable) (query : List TermData) (hits other : List Hit) →
-    FinalAnswer scope seeds table query hits → FinalAnswer scope seeds table query other → hits ≡ other
+    (scope : ScopeData) (seeds : List PlaceData) (table : OutcomeTable) (query : List TermData)
+    (hits other : List Hit) →
+    FinalAnswer scope seeds table query hits → FinalAnswer scope seeds table query other
+    → hits ≡ other
 
 abbrev pub FinalOccurrencesAreOne : Type 0
 FinalOccurrencesAreOne =
-    (scope : ScopeData) (seeds : List PlaceData) (table : OutcomeTable) (word : List ℕ) (list other : List (PlaceData × ℕ)) →
-    FinalOccurrences scope seeds table word list → FinalOccurrences scope seeds table word other → list ≡ other
+    (scope : ScopeData) (seeds : List PlaceData) (table : OutcomeTable) (word : List ℕ)
+    (list other : List (PlaceData × ℕ)) →
+    FinalOccurrences scope seeds table word list → FinalOccurrences scope seeds table word other
+    → list ≡ other
 
 -- ---- the laws
 
@@ -87,13 +101,17 @@ AnswersAreOfPagesFound =
 -- once this record is complete, these hits are the final answer, for each table that it agrees with
 abbrev pub IsFinalOnceComplete : List EventData → List TermData → List Hit → Type 0
 IsFinalOnceComplete record_ query hits =
-    (opening : OpeningData) (events : List EventData) (table : OutcomeTable) → record_ ≡ Opened opening ∷ events →
-    IsComplete record_ → Agrees opening events table → FinalAnswer opening.scope opening.seeds table query hits
+    (opening : OpeningData) (events : List EventData) (table : OutcomeTable)
+    → record_ ≡ Opened opening ∷ events →
+    IsComplete record_ → Agrees opening events table
+    → FinalAnswer opening.scope opening.seeds table query hits
 
 abbrev pub AreFinalOnceComplete : List EventData → List ℕ → List (PlaceData × ℕ) → Type 0
 AreFinalOnceComplete record_ word list =
-    (opening : OpeningData) (events : List EventData) (table : OutcomeTable) → record_ ≡ Opened opening ∷ events →
-    IsComplete record_ → Agrees opening events table → FinalOccurrences opening.scope opening.seeds table word list
+    (opening : OpeningData) (events : List EventData) (table : OutcomeTable)
+    → record_ ≡ Opened opening ∷ events →
+    IsComplete record_ → Agrees opening events table
+    → FinalOccurrences opening.scope opening.seeds table word list
 
 -- the hits and the occurrences in the vectors that calls return
 abbrev pub AreFinalHits : List EventData → List TermData → Vec Hit → Type 0
@@ -105,25 +123,32 @@ AreFinalOccurrences record_ word list = AreFinalOnceComplete record_ word list.i
 -- a finished crawl gives the final answer to each query
 abbrev pub FinishedCrawlGivesFinalAnswers : Type 0
 FinishedCrawlGivesFinalAnswers =
-    (record_ : List EventData) (query : List TermData) → IsLegal record_ → IsFinalOnceComplete record_ query (answer_of (pages_found record_) query)
+    (record_ : List EventData) (query : List TermData) → IsLegal record_
+    → IsFinalOnceComplete record_ query (answer_of (pages_found record_) query)
 
 -- a finished crawl gives the final occurrences of each word
 abbrev pub FinishedCrawlGivesFinalOccurrences : Type 0
 FinishedCrawlGivesFinalOccurrences =
-    (record_ : List EventData) (word : List ℕ) → IsLegal record_ → AreFinalOnceComplete record_ word (occurrences_of (pages_found record_) word)
+    (record_ : List EventData) (word : List ℕ) → IsLegal record_
+    → AreFinalOnceComplete record_ word (occurrences_of (pages_found record_) word)
 
 -- two finished crawls with the same table, scope and seeds give equal answers to every query and
 -- equal occurrences of every word, whatever the order of their seeds and events, their limits and
 -- their tries
 abbrev pub FinishedCrawlsAnswerAlike : Type 0
 FinishedCrawlsAnswerAlike =
-    (scope : ScopeData) (seeds seeds' : List PlaceData) (table : OutcomeTable) (limit tries limit' tries' : ℕ) (events events' : List EventData) →
-    let opening : OpeningData = record { scope = scope; seeds = seeds; limit = limit; tries = tries } in
-    let opening' : OpeningData = record { scope = scope; seeds = seeds'; limit = limit'; tries = tries' } in
+    (scope : ScopeData) (seeds seeds' : List PlaceData) (table : OutcomeTable)
+    (limit tries limit' tries' : ℕ) (events events' : List EventData) →
+    let opening : OpeningData =
+    record { scope = scope; seeds = seeds; limit = limit; tries = tries } in
+    let opening' : OpeningData =
+    record { scope = scope; seeds = seeds'; limit = limit'; tries = tries' } in
     let pages : List PageData = pages_found (Opened opening ∷ events) in
     let pages' : List PageData = pages_found (Opened opening' ∷ events') in
     SamePlaces seeds seeds' →
-    IsLegal (Opened opening ∷ events) → IsComplete (Opened opening ∷ events) → Agrees opening events table →
-    IsLegal (Opened opening' ∷ events') → IsComplete (Opened opening' ∷ events') → Agrees opening' events' table →
+    IsLegal (Opened opening ∷ events) → IsComplete (Opened opening ∷ events)
+    → Agrees opening events table →
+    IsLegal (Opened opening' ∷ events') → IsComplete (Opened opening' ∷ events')
+    → Agrees opening' events' table →
     ((query : List TermData) → answer_of pages query ≡ answer_of pages' query) ×
     ((word : List ℕ) → occurrences_of pages word ≡ occurrences_of pages' word)

@@ -23,7 +23,8 @@ known opening events = take opening.limit (distinct (mentions opening events))
 
 -- the number of mentions of places that aren't known, with repeats
 unfoldable pub dropped : OpeningData → List EventData → ℕ
-dropped opening events = count_by (λ place. not (is_among (known opening events) place)) (mentions opening events)
+dropped opening events =
+    count_by (λ place. not (is_among (known opening events) place)) (mentions opening events)
 
 -- ---- events of one number
 
@@ -61,16 +62,19 @@ abbrev pub entered : OpeningData → List EventData → EventData → List ℕ
 entered opening before (Found number page) =
     let old = length (known opening before) in
     range_with_len old (length (known opening (before ++ Found number page ∷ [])) - old)
-entered opening before (Failed number why) = if nat_lt (claims before number) opening.tries then number ∷ [] else []
+entered opening before (Failed number why) =
+    if nat_lt (claims before number) opening.tries then number ∷ [] else []
 entered opening before event = []
 
 abbrev pub entered_along : OpeningData → List EventData → List EventData → List ℕ
 entered_along opening before [] = []
-entered_along opening before (event ∷ events) = entered opening before event ++ entered_along opening (before ++ event ∷ []) events
+entered_along opening before (event ∷ events) =
+    entered opening before event ++ entered_along opening (before ++ event ∷ []) events
 
 -- every number that ever entered the queue, in order: the seeds first
 unfoldable pub entries : OpeningData → List EventData → List ℕ
-entries opening events = range_with_len 0 (length (known opening [])) ++ entered_along opening [] events
+entries opening events =
+    range_with_len 0 (length (known opening [])) ++ entered_along opening [] events
 
 -- the numbers that wait to be claimed; each claim takes the first
 unfoldable pub waiting : OpeningData → List EventData → List ℕ
@@ -82,10 +86,12 @@ is_out events number = claims events number == finds events number + failures ev
 
 -- a number is done once it was found, or failed at its last try
 unfoldable pub is_done : OpeningData → List EventData → ℕ → Bool
-is_done opening events number = nat_lt 0 (finds events number) || nat_le opening.tries (failures events number)
+is_done opening events number =
+    nat_lt 0 (finds events number) || nat_le opening.tries (failures events number)
 
 unfoldable pub out : OpeningData → List EventData → List ℕ
 out opening events = filter (is_out events) (range_with_len 0 (length (known opening events)))
 
 unfoldable pub done : OpeningData → List EventData → List ℕ
-done opening events = filter (is_done opening events) (range_with_len 0 (length (known opening events)))
+done opening events =
+    filter (is_done opening events) (range_with_len 0 (length (known opening events)))

@@ -15,7 +15,8 @@ pub record Grown (before : RecordData) (event : EventData) (after : RecordData) 
 -- the opening, which the first event contains, and the events after it
 abbrev pub opening_in : List EventData → OpeningData
 opening_in (Opened opening ∷ events) = opening
-opening_in events = record { scope = record { allow = []; deny = [] }; seeds = []; limit = 0; tries = 0 }
+opening_in events =
+    record { scope = record { allow = []; deny = [] }; seeds = []; limit = 0; tries = 0 }
 
 abbrev pub later_in : List EventData → List EventData
 later_in (event ∷ events) = events

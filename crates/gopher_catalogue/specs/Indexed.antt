@@ -1,6 +1,7 @@
 -- The relation between the record and the tables that the catalogue keeps beside it.
 use Rattle.std.specs.Prelude.{◌≡◌, ℕ, ◌+◌, ◌*◌, ◌^◌, ◌<◌, ◌≤◌, List, length, map}
 use Rattle.std.specs.List.{range_with_len}
+use Rattle.gopher_text.specs.declared.reply_reader.TheConstants.{MAX_REPLY}
 use Rattle.gopher_frontier.specs.declared.known.Standing.{Standing}
 use Rattle.gopher_catalogue.specs.Event.{OpeningData, EventData}
 use Rattle.gopher_catalogue.specs.Frontier.{known, dropped, waiting, out, done, claims, is_out}
@@ -13,14 +14,16 @@ abbrev pub standing_of : List EventData → ℕ → Standing
 standing_of events number = record { claims = claims events number; is_out = is_out events number }
 
 -- the tables are those of the record; a page has at most 1,048,576 mentions
-pub record Tells (opening : OpeningData) (events : List EventData) (frontier : FrontierData) : Type 0 where
+pub record Tells (opening : OpeningData) (events : List EventData)
+    (frontier : FrontierData) : Type 0 where
   pub places_is : frontier.places ≡ known opening events
-  pub standings_is : frontier.standings ≡ map (standing_of events) (range_with_len 0 (length (known opening events)))
+  pub standings_is : frontier.standings
+      ≡ map (standing_of events) (range_with_len 0 (length (known opening events)))
   pub waiting_is : frontier.waiting ≡ waiting opening events
   pub out_is : frontier.out ≡ length (out opening events)
   pub done_is : frontier.done ≡ length (done opening events)
   pub dropped_is : frontier.dropped ≡ dropped opening events
-  pub few_dropped : frontier.dropped ≤ length opening.seeds + 1048576 * length events
+  pub few_dropped : frontier.dropped ≤ length opening.seeds + MAX_REPLY * length events
 
 -- the record is legal, the tables are its own, and the record and the queue have room for the
 -- outcome of each place that is out

@@ -11,11 +11,16 @@ use Rattle.gopher_catalogue.specs.Legal.{IsLegal}
 
 -- the scope allows each known place
 abbrev pub KnownPlacesAreAllowed : Type 0
-KnownPlacesAreAllowed = (opening : OpeningData) (events : List EventData) → IsLegal (Opened opening ∷ events) → All (IsAllowed opening.scope) (known opening events)
+KnownPlacesAreAllowed =
+    (opening : OpeningData) (events : List EventData) → IsLegal (Opened opening ∷ events)
+    → All (IsAllowed opening.scope) (known opening events)
 
 -- each known place has one number
 abbrev pub KnownPlacesAreDistinct : Type 0
-KnownPlacesAreDistinct = (opening : OpeningData) (events : List EventData) (i j : ℕ) (place : PlaceData) → slice_get (known opening events) i ≡ Some place → slice_get (known opening events) j ≡ Some place → i ≡ j
+KnownPlacesAreDistinct =
+    (opening : OpeningData) (events : List EventData) (i j : ℕ) (place : PlaceData)
+    → slice_get (known opening events) i ≡ Some place
+    → slice_get (known opening events) j ≡ Some place → i ≡ j
 
 -- ---- claims
 
@@ -27,17 +32,24 @@ outcomes events number = finds events number + failures events number
 -- two
 abbrev pub NoPlaceIsOutTwice : Type 0
 NoPlaceIsOutTwice =
-    (opening : OpeningData) (events : List EventData) (number : ℕ) → IsLegal (Opened opening ∷ events) → (claims events number ≤ outcomes events number + 1) × (outcomes events number ≤ claims events number)
+    (opening : OpeningData) (events : List EventData) (number : ℕ)
+    → IsLegal (Opened opening ∷ events)
+    → (claims events number ≤ outcomes events number + 1)
+    × (outcomes events number ≤ claims events number)
 
 -- a place that is claimed was not found before
 abbrev pub NoClaimAfterAFind : Type 0
 NoClaimAfterAFind =
-    (opening : OpeningData) (events : List EventData) (k number : ℕ) → IsLegal (Opened opening ∷ events) → slice_get events k ≡ Some (Claimed number) → finds (take k events) number ≡ 0
+    (opening : OpeningData) (events : List EventData) (k number : ℕ)
+    → IsLegal (Opened opening ∷ events) → slice_get events k ≡ Some (Claimed number)
+    → finds (take k events) number ≡ 0
 
 -- no place is found twice, and none is claimed more often than its tries
 abbrev pub NoMoreClaimsThanTries : Type 0
 NoMoreClaimsThanTries =
-    (opening : OpeningData) (events : List EventData) (number : ℕ) → IsLegal (Opened opening ∷ events) → (finds events number ≤ 1) × (claims events number ≤ opening.tries)
+    (opening : OpeningData) (events : List EventData) (number : ℕ)
+    → IsLegal (Opened opening ∷ events)
+    → (finds events number ≤ 1) × (claims events number ≤ opening.tries)
 
 -- ---- states
 
@@ -49,19 +61,26 @@ times_listed list number = count_by (λ other. number == other) list
 -- other number
 abbrev pub EachKnownPlaceHasOneState : Type 0
 EachKnownPlaceHasOneState =
-    (opening : OpeningData) (events : List EventData) (number : ℕ) → IsLegal (Opened opening ∷ events) →
-    times_listed (waiting opening events) number + times_listed (out opening events) number + times_listed (done opening events) number ≡ (if nat_lt number (length (known opening events)) then 1 else 0)
+    (opening : OpeningData) (events : List EventData) (number : ℕ)
+    → IsLegal (Opened opening ∷ events) →
+    times_listed (waiting opening events) number + times_listed (out opening events) number
+    + times_listed (done opening events) number
+    ≡ (if nat_lt number (length (known opening events)) then 1 else 0)
 
 -- the sizes of the three lists add up to the number of known places
 abbrev pub StateSizesAddUp : Type 0
 StateSizesAddUp =
-    (opening : OpeningData) (events : List EventData) → IsLegal (Opened opening ∷ events) → length (known opening events) ≡ length (waiting opening events) + length (out opening events) + length (done opening events)
+    (opening : OpeningData) (events : List EventData) → IsLegal (Opened opening ∷ events)
+    → length (known opening events) ≡ length (waiting opening events) + length (out opening events)
+    + length (done opening events)
 
 -- ---- one try
 
 -- with one try no place is claimed twice
 abbrev pub OneTryIsOneClaim : Type 0
-OneTryIsOneClaim = (opening : OpeningData) (events : List EventData) (number : ℕ) → IsLegal (Opened opening ∷ events) → opening.tries ≡ 1 → claims events number ≤ 1
+OneTryIsOneClaim =
+    (opening : OpeningData) (events : List EventData) (number : ℕ)
+    → IsLegal (Opened opening ∷ events) → opening.tries ≡ 1 → claims events number ≤ 1
 
 -- the numbers of the known places, in order
 abbrev pub numbers : OpeningData → List EventData → List ℕ
@@ -70,18 +89,25 @@ numbers opening events = range_with_len 0 (length (known opening events))
 -- the states with one try: a waiting place was never claimed, a place that is out was claimed and
 -- has no outcome, and a place that is done was found or failed
 pub record HasSimpleStates (opening : OpeningData) (events : List EventData) : Type 0 where
-  pub waiting_is : waiting opening events ≡ filter (λ number. claims events number == 0) (numbers opening events)
-  pub out_is : out opening events ≡ filter (λ number. nat_lt 0 (claims events number) && (outcomes events number == 0)) (numbers opening events)
-  pub done_is : done opening events ≡ filter (λ number. nat_lt 0 (outcomes events number)) (numbers opening events)
+  pub waiting_is : waiting opening events
+      ≡ filter (λ number. claims events number == 0) (numbers opening events)
+  pub out_is : out opening events
+      ≡ filter (λ number. nat_lt 0 (claims events number) && (outcomes events number == 0))
+      (numbers opening events)
+  pub done_is : done opening events
+      ≡ filter (λ number. nat_lt 0 (outcomes events number)) (numbers opening events)
 
 abbrev pub OneTryHasSimpleStates : Type 0
-OneTryHasSimpleStates = (opening : OpeningData) (events : List EventData) → IsLegal (Opened opening ∷ events) → opening.tries ≡ 1 → HasSimpleStates opening events
+OneTryHasSimpleStates =
+    (opening : OpeningData) (events : List EventData) → IsLegal (Opened opening ∷ events)
+    → opening.tries ≡ 1 → HasSimpleStates opening events
 
 -- ---- the record
 
 -- a prefix of a legal record that contains its opening is legal
 abbrev pub BeginningsAreLegal : Type 0
-BeginningsAreLegal = (record_ : List EventData) (n : ℕ) → IsLegal record_ → 1 ≤ n → IsLegal (take n record_)
+BeginningsAreLegal =
+    (record_ : List EventData) (n : ℕ) → IsLegal record_ → 1 ≤ n → IsLegal (take n record_)
 
 -- a legal record has at most 655,361 events
 abbrev pub RecordsAreShort : Type 0

@@ -11,4 +11,5 @@ pub record OpeningData : Type 0 where
   pub tries : ℕ
 
 abbrev pub opening_of : ScopeData → List PlaceData → ℕ → ℕ → OpeningData
-opening_of scope seeds limit tries = record { scope = scope; seeds = seeds; limit = limit; tries = tries }
+opening_of scope seeds limit tries =
+    record { scope = scope; seeds = seeds; limit = limit; tries = tries }

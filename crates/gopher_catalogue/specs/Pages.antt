@@ -3,6 +3,7 @@ use Rattle.std.specs.Prelude.{◌≡◌, ℕ, List, [], ◌∷◌, ◌++◌, tak
 use Rattle.std.specs.List.{flat_map}
 use Rattle.std.specs.Global.{Vec}
 use Rattle.gopher_item.specs.Place.{PlaceData}
+use Rattle.gopher_scope.specs.declared.limits.TheConstants.{MAX_PLACES}
 use Rattle.gopher_page.specs.Page.{PageData}
 use Rattle.gopher_page.specs.Query.{TermData}
 use Rattle.gopher_index.specs.declared.hit.Hit.{Hit}
@@ -19,11 +20,11 @@ pages_found events = flat_map page_of_event events
 
 -- the pages of an index, which contains at most 65,536, after one more event
 abbrev pub with_page_of : List PageData → EventData → List PageData
-with_page_of pages event = take 65536 (pages ++ page_of_event event)
+with_page_of pages event = take MAX_PLACES (pages ++ page_of_event event)
 
 -- the pages of a record that the index contains: all pages of a legal record
 abbrev pub pages_indexed : List EventData → List PageData
-pages_indexed events = take 65536 (pages_found events)
+pages_indexed events = take MAX_PLACES (pages_found events)
 
 -- the result of a search, and of a request for the occurrences of a word, over a record
 abbrev pub AreHitsIn : List EventData → List TermData → Vec Hit → Type 0

@@ -4,6 +4,7 @@ use Rattle.std.specs.Prelude.{◌≡◌, ℕ, ◌-◌, Bool, false, ◌&&◌, no
 use Rattle.std.specs.Option.{option_map, option_and_then, option_map_or}
 use Rattle.gopher_item.specs.Place.{PlaceData, same_place}
 use Rattle.gopher_scope.specs.Scope.{ScopeData, allows}
+use Rattle.gopher_scope.specs.declared.limits.TheConstants.{MAX_PLACES, MAX_TRIES}
 use Rattle.gopher_page.specs.Page.{PageData}
 use Rattle.gopher_catalogue.specs.declared.fault.OpenFault.{OpenFault}
 use Rattle.gopher_catalogue.specs.declared.fault.OpenFault.TheVariants.{SeedOutOfScope, BadPlaces, BadTries}
@@ -20,8 +21,10 @@ pub use Rattle.gopher_frontier.specs.declared.sizes.Status.{Status}
 -- the first fault of the arguments of an opening, if they have one
 abbrev pub open_fault : ScopeData → List PlaceData → ℕ → ℕ → Option OpenFault
 open_fault scope seeds limit tries =
-    option_map_or (λ index. Some (SeedOutOfScope index)) (position (λ seed. not (allows scope seed)) seeds)
-    (if not (nat_le 1 limit && nat_le limit 65536) then Some BadPlaces else (if not (nat_le 1 tries && nat_le tries 5) then Some BadTries else None))
+    option_map_or (λ index. Some (SeedOutOfScope index))
+    (position (λ seed. not (allows scope seed)) seeds)
+    (if not (nat_le 1 limit && nat_le limit MAX_PLACES) then Some BadPlaces
+    else (if not (nat_le 1 tries && nat_le tries MAX_TRIES) then Some BadTries else None))
 
 -- the record of a new crawl
 abbrev pub opened_record : ScopeData → List PlaceData → ℕ → ℕ → List EventData
@@ -41,11 +44,14 @@ pub data TurnData : Type 0 where
 -- the first waiting number, and its place
 abbrev pub next_claim : OpeningData → List EventData → Option (ℕ × PlaceData)
 next_claim opening events =
-    option_and_then (λ number. option_map (λ place. (number, place)) (slice_get (known opening events) number)) (slice_get (waiting opening events) 0)
+    option_and_then
+    (λ number. option_map (λ place. (number, place)) (slice_get (known opening events) number))
+    (slice_get (waiting opening events) 0)
 
 unfoldable pub turn_of : List EventData → TurnData
 turn_of (Opened opening ∷ events) =
-    option_map_or (λ claim. Take claim.0 claim.1) (next_claim opening events) (if length (out opening events) == 0 then Finished else Idle)
+    option_map_or (λ claim. Take claim.0 claim.1) (next_claim opening events)
+    (if length (out opening events) == 0 then Finished else Idle)
 turn_of events = Finished
 
 abbrev pub after_turn : List EventData → TurnData → List EventData
@@ -56,17 +62,20 @@ after_turn events turn = events
 
 -- the number is of a known place that is out
 unfoldable pub is_out_in : List EventData → ℕ → Bool
-is_out_in (Opened opening ∷ events) number = nat_lt number (length (known opening events)) && is_out events number
+is_out_in (Opened opening ∷ events) number =
+    nat_lt number (length (known opening events)) && is_out events number
 is_out_in events number = false
 
 -- the place is that of the number
 unfoldable pub is_place_in : List EventData → ℕ → PlaceData → Bool
-is_place_in (Opened opening ∷ events) number place = option_map_or (λ other. same_place other place) (slice_get (known opening events) number) false
+is_place_in (Opened opening ∷ events) number place =
+    option_map_or (λ other. same_place other place) (slice_get (known opening events) number) false
 is_place_in events number place = false
 
 abbrev pub found_fault : List EventData → ℕ → PlaceData → Option FoundFault
 found_fault events number place =
-    if not (is_out_in events number) then Some NotOut else (if not (is_place_in events number place) then Some WrongPlace else None)
+    if not (is_out_in events number) then Some NotOut
+    else (if not (is_place_in events number place) then Some WrongPlace else None)
 
 -- how many places a page adds to the known ones, and how many of its mentions are dropped
 unfoldable pub added_by : List EventData → ℕ → PageData → Added

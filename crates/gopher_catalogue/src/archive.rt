@@ -14,12 +14,13 @@ use crate::opening::Opening;
 use gopher_index::{Due, Index};
 use gopher_item::NoMemory;
 use gopher_page::Page;
+use gopher_scope::MAX_PLACES;
 use std::alloc::Global;
 use std::marker::Model;
 use std::sync::Arc;
 
 // The most pages that the index contains. No legal record finds more.
-const MOST_PAGES: usize = 65_536;
+const MAX_PAGES: usize = MAX_PLACES as usize;
 
 /// A record of events, with an index of the first 65,536 pages that they found.
 #[derive(Debug, Drop)]
@@ -43,14 +44,14 @@ impl Model for Archive {
 
 // Adds the page of an event to the index, unless the event has no page or the index is full.
 fn index_page(index: &mut Index, event: &Event) -> Result<(), NoMemory>
-    requires { length index.old ≤ 65536 }
+    requires { length index.old ≤ MAX_PAGES }
     ensures ok { OnOk result (index.new ≡ with_page_of index.old (event_data event.now)) }
     ensures err { OnErr result (index.new ≡ index.old) }
 {
     let Event::Found(_, page) = event else {
         return Ok(());
     };
-    if index.len() == MOST_PAGES {
+    if index.len() == MAX_PAGES {
         return Ok(());
     }
     index.add(page.clone()?)?;

@@ -23,7 +23,7 @@ use gopher_frontier::{Added, Frontier, Status};
 use gopher_index::{Due, Hit, Index};
 use gopher_item::{NoMemory, Place};
 use gopher_page::{Page, Query};
-use gopher_scope::Scope;
+use gopher_scope::{MAX_PLACES, MAX_TRIES, Scope};
 use std::alloc::Global;
 use std::marker::Model;
 use std::sync::Arc;
@@ -50,10 +50,6 @@ impl Model for Catalogue {
 
     ghost invariant = { λ c. IsIndexed c.archive c.frontier };
 }
-
-const MAX_PLACES: u32 = 65_536;
-
-const MAX_TRIES: u32 = 5;
 
 // The index of the first seed that the scope doesn't allow.
 fn first_outside(scope: &Scope, seeds: &[Place]) -> Option<usize>

@@ -15,10 +15,10 @@ pub enum OpenFault {
     #[error("seed {0} is out of scope")]
     SeedOutOfScope(usize),
     /// 51: the limit of places isn't 1 to 65,536.
-    #[error("the number of places is not 1 to 65536")]
+    #[error("the number of places isn't 1 to 65536")]
     BadPlaces,
     /// 54: the number of tries isn't 1 to 5.
-    #[error("the number of tries is not 1 to 5")]
+    #[error("the number of tries isn't 1 to 5")]
     BadTries,
     /// 90: out of memory.
     #[error("no memory")]
