@@ -26,8 +26,9 @@ USE = re.compile(r"use (Rattle|mathlib)\.([\w.]+?)(?:\.\{([^}]*)\}| as (\w+))")
 # a promise: its name, and its contracts as (crate, function, clauses); no clauses means all of them. Of several crates the
 # first that has the function counts.
 PROMISES = {
-    "search": [("gopher_crew", "Pass::begin", "legal hits"), ("gopher_index", "Search::step", "hits found")],
+    "search": [("gopher_crew", "Pass::begin", "legal after_seen hits"), ("gopher_index", "Search::step", "hits found")],
     "tries": [
+        ("gopher_crew", "Kept::claim", "legal"),
         ("gopher_catalogue", "laws::no_more_claims_than_tries", ""),
         ("gopher_catalogue", "laws::no_claim_after_a_find", ""),
         ("gopher_catalogue", "laws::known_places_are_allowed", ""),

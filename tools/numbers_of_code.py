@@ -90,7 +90,7 @@ def in_text():
     roots = [root for name in audit.PROMISES for root in audit.roots_of(tree, name)]
     first = audit.text_of(tree, audit.roots_of(tree, "search"))[1]
     return {
-        r"refuse each of ([\d,]+) deliberately wrong functions": [counted()["wrong bodies"]],
+        r"refuse each of ([\d,]+) edits that make a function wrong": [counted()["wrong bodies"]],
         r"([\d,]+) lines for the first promise and ([\d,]+) for all five": [first, audit.text_of(tree, roots)[1]],
     }
 
