@@ -1,10 +1,6 @@
-// Runs of pages that are given out before one is put in its place, and the page that an index has more than
-// another.
-ghost use Rattle.std.specs.Prelude.{◌≡◌};
-ghost use Rattle.gopher_index.specs.Index.{StandsIn};
-
+// The page that an index has more than another.
 use crate::merges::{add, merges};
-use gopher_index::{Due, Index};
+use gopher_index::Index;
 use std::alloc::Global;
 
 // An index of so many pages, none of which is in a segment.
@@ -14,39 +10,6 @@ fn loose(alloc: Global, pages: u32) -> Option<Index> {
         add(alloc, &mut index, number)?;
     }
     Some(index)
-}
-
-// Merges a run and puts it in its place.
-fn put(alloc: Global, index: &mut Index, due: Due) -> Option<()>
-    requires { StandsIn due index.old }
-    ensures { index.new ≡ index.old }
-{
-    let mut due = due;
-    let merged = due.merge(alloc).ok();
-    index.install(due);
-    merged
-}
-
-// Whether nothing is due once two runs are put in their places, the later one first.
-fn holds_the_later_run(alloc: Global) -> Option<bool> {
-    let mut index = loose(alloc, 128)?;
-    let Some(first) = index.due().ok()? else {
-        return None;
-    };
-    let Some(second) = index.due().ok()? else {
-        return None;
-    };
-    if index.due().ok()?.is_some() {
-        return Some(false);
-    }
-    put(alloc, &mut index, second)?;
-    put(alloc, &mut index, first)?;
-    Some(index.due().ok()?.is_none())
-}
-
-#[test]
-fn a_run_that_is_early_is_held(rt: HostRuntime) {
-    assert!(rt; holds_the_later_run(rt.alloc()) == Some(true));
 }
 
 // Whether an index has one page more than before, and no longer once its pages are in a segment.
