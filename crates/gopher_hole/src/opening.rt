@@ -1,4 +1,4 @@
-//! Opening a server: reading its settings, loading its folder, opening its desk.
+//! Opening a server: its settings, its folder and its desk.
 
 ghost use Rattle.std.specs.Prelude.{◌≡◌, []};
 
@@ -8,12 +8,15 @@ use gopher_crew::{Blank, Crew, Desk, Pass, Share};
 use gopher_item::{Home, Place};
 use gopher_replies::Replies;
 use gopher_scope::{Scope, Settings};
-use gopher_text::{MAX_REPLY, ReplyFault, Watched, read_reply};
+use gopher_text::{ReplyFault, Watched, read_reply};
 use gopher_tree::Tree;
 use std::alloc::Global;
 use std::fs::{self, Files};
 use std::str;
 use std::sync::Wait;
+
+// The most bytes of a settings file.
+const MAX_SETTINGS: usize = 1_048_576;
 
 /// A server with its desk, before it listens.
 #[derive(Drop)]
@@ -32,7 +35,7 @@ pub struct Opened<C: Crew, R: Wait + Drop> {
 ///
 /// # Errors
 ///
-/// - `SettingsUnreadable` (80): the file can't be read, or has over 1,048,576 bytes (`MAX_REPLY`).
+/// - `SettingsUnreadable` (80): the file can't be read, or has over 1,048,576 bytes (`MAX_SETTINGS`).
 /// - `NoMemory` (90).
 pub fn settings_bytes<R: Files>(
     rt: &R,
@@ -42,7 +45,7 @@ pub fn settings_bytes<R: Files>(
     let Ok(file) = fs::open(rt, path) else {
         return Err(ProgramFault::SettingsUnreadable);
     };
-    match read_reply(alloc, &mut Watched::new(file), MAX_REPLY) {
+    match read_reply(alloc, &mut Watched::new(file), MAX_SETTINGS) {
         Ok(bytes) => Ok(bytes),
         Err(ReplyFault::NoMemory) => Err(ProgramFault::NoMemory),
         Err(_) => Err(ProgramFault::SettingsUnreadable),
@@ -102,8 +105,8 @@ fn open_catalogue(
     }
 }
 
-/// Loads the folder and opens the desk of the crawl, with one pass for each server thread and one
-/// share for each worker.
+/// Loads the folder and opens the desk of the crawl, with one pass for each server thread and one share
+/// for each worker.
 ///
 /// # Errors
 ///

@@ -1,44 +1,51 @@
-//! `run`, the whole program: it does what its arguments ask, and returns the exit status.
+//! The program.
 
-ghost use Rattle.std.specs.Prelude.{◌≡◌, ◌≢◌, ◌≤◌, map, string_bytes, Result, IfErr};
+ghost use Rattle.std.specs.Prelude.{◌≡◌, ◌≢◌, ◌≤◌, map, string_bytes, Result};
 ghost use Rattle.std.specs.Bool.{OnTrue};
 ghost use Rattle.std.specs.Io.KnownBytes.{Keeps};
 ghost use Rattle.gopher_script.specs.declared.fault.ReplayFault.{ReplayFault};
+ghost use Rattle.gopher_script.specs.Replay.{Replays};
 ghost use Rattle.gopher_hole.specs.Fault.{fault_line};
-ghost use Rattle.gopher_hole.specs.Program.{asks_replay, said_of, status_of};
-ghost use Rattle.gopher_hole.specs.Program.{EndsAs, EndsWell, Replayed, ReplaysFrom, Shows};
-ghost use Rattle.gopher_hole.specs.Program.{Says, SaysFault};
+ghost use Rattle.gopher_hole.specs.Program.{asks_replay, status_of, said_of, Says, SaysFault};
 
 use crate::announcing::{send_text, write_fault};
 use crate::arguments::{Asked, Text, read_arguments};
 use crate::checking::check_site;
 use crate::crewing::serve;
 use crate::fault::ProgramFault;
-use crate::system::System;
 use gopher_crew::Blank;
+use gopher_log_writer::OpenLog;
 use gopher_script::{ReplayFault, replay, send_all};
 use gopher_text::Watched;
 use std::alloc::Global;
-use std::io::{Read, Write};
+use std::env::Env;
+use std::fs::{File, Files};
+use std::io::{Eprint, Read, Write};
 use std::marker::Brand;
+use std::net::{Net, TcpListener, TcpStream};
+use std::sync::Wait;
+use std::thread::Threads;
+use std::time::Clock;
 
-// Returns whether the one argument is `replay`.
-fn asks_replay(arguments: &[String]) -> bool
-    ensures { result ≡ asks_replay (map (λ argument. string_bytes argument) arguments.now) }
+fn asks_replay(words: &[String]) -> bool
+    ensures { result ≡ asks_replay (map (λ word. string_bytes word) words.now) }
 {
-    match arguments {
-        [argument] => argument.as_str() == "replay",
+    match words {
+        [word] => word.as_str() == "replay",
         _ => false,
     }
 }
 
-// Replays the script and flushes the output.
+/// Replays the script and flushes what was written.
 fn replay_all<R: Read, W: Write>(
     alloc: Global,
     input: &mut Watched<R>,
     output: &mut Watched<W>,
 ) -> Result<(), ReplayFault>
-    ensures { ReplaysFrom R.remaining W.contents input.old input.new output.old output.new result }
+    ensures { Replays (R.remaining input.old.device) (R.remaining input.new.device)
+        input.old.failures input.new.failures
+        (W.contents output.old.device) (W.contents output.new.device)
+        output.old.failures output.new.failures result }
 {
     if let Err(fault) = replay(alloc, input, output) {
         let _ = output.flush();
@@ -50,7 +57,7 @@ fn replay_all<R: Read, W: Write>(
     }
 }
 
-// Replays, writes the line of the fault if there is one, and returns the status.
+// Replays, and tells how that ended.
 fn run_replay<R: Read, W: Write, E: Write>(
     alloc: Global,
     input: &mut Watched<R>,
@@ -58,12 +65,16 @@ fn run_replay<R: Read, W: Write, E: Write>(
     error: &mut Watched<E>,
 ) -> u8
     ensures replays { (end : Result (Unit {0}) ReplayFault)
-        × ReplaysFrom R.remaining W.contents input.old input.new output.old output.new end
-        × (result ≡ status_of end) × Says E.contents (said_of end) error.old error.new }
+        × Replays (R.remaining input.old.device) (R.remaining input.new.device)
+        input.old.failures input.new.failures
+        (W.contents output.old.device) (W.contents output.new.device)
+        output.old.failures output.new.failures end
+        × (result ≡ status_of end)
+        × Says (said_of end) (E.contents error.old.device) (E.contents error.new.device)
+        error.old.failures error.new.failures }
     ensures well { result ≡ 0 → error.new ≡ error.old }
-    ensures replayed { result ≡ 0 → Replayed (W.contents output.old.device)
-        (W.contents output.new.device) }
-    ensures told { result ≢ 0 → SaysFault E.contents error.old error.new }
+    ensures told { result ≢ 0 → SaysFault (E.contents error.old.device)
+        (E.contents error.new.device) error.old.failures error.new.failures }
     ensures status { result ≤ 1 }
 {
     match replay_all(alloc, input, output) {
@@ -72,22 +83,21 @@ fn run_replay<R: Read, W: Write, E: Write>(
     }
 }
 
-// Writes the line of a fault, and returns the status.
+// Tells a fault, and gives its status.
 fn tell_fault<E: Write>(error: &mut Watched<E>, fault: ProgramFault) -> u8
     ensures status { result ≡ 1 }
-    ensures said { Says E.contents (fault_line fault) error.old error.new }
+    ensures said { Says (fault_line fault) (E.contents error.old.device)
+        (E.contents error.new.device) error.old.failures error.new.failures }
 {
     let _ = write_fault(error, fault);
     1
 }
 
-// Writes the line of the fault with which something ended, if there is one, and returns the
-// status.
+// Tells how a server, or the showing of a text, ended, and gives the status.
 fn tell_end<E: Write>(error: &mut Watched<E>, end: Result<(), ProgramFault>) -> u8
-    ensures status_of { result ≡ status_of end }
-    ensures fault { IfErr end (λ fault. Says E.contents (fault_line fault) error.old error.new) }
     ensures well { result ≡ 0 → error.new ≡ error.old }
-    ensures told { result ≢ 0 → SaysFault E.contents error.old error.new }
+    ensures told { result ≢ 0 → SaysFault (E.contents error.old.device)
+        (E.contents error.new.device) error.old.failures error.new.failures }
     ensures status { result ≤ 1 }
 {
     match end {
@@ -96,13 +106,11 @@ fn tell_end<E: Write>(error: &mut Watched<E>, end: Result<(), ProgramFault>) -> 
     }
 }
 
-// Writes a text to the output, or one about bad arguments to the error stream, and returns the
-// status.
+// Tells a text that answers the words, and gives the status.
 fn tell_text<W: Write, E: Write>(text: &Text, output: &mut Watched<W>, error: &mut Watched<E>) -> u8
     ensures well { result ≡ 0 → error.new ≡ error.old }
-    ensures shown { result ≡ 0 → Shows text.now (W.contents output.old.device)
-        (W.contents output.new.device) }
-    ensures told { result ≡ 1 → SaysFault E.contents error.old error.new }
+    ensures told { result ≡ 1 → SaysFault (E.contents error.old.device)
+        (E.contents error.new.device) error.old.failures error.new.failures }
     ensures refused { result ≡ 2 → output.new ≡ output.old }
     ensures status { result ≤ 2 }
 {
@@ -118,80 +126,81 @@ fn tell_text<W: Write, E: Write>(text: &Text, output: &mut Watched<W>, error: &m
     }
 }
 
-// Does what the arguments ask for, and returns the status.
-fn run_asked<S: System, R: Read, W: Write, E: Write>(
-    rt: &S,
-    asked: Asked<'_>,
+/// The program `hole` on its words, without its own name. Gives its status.
+///
+/// - The word `replay` alone replays the script that `input` holds, writes its output to `output`
+///   and flushes it: status 0. Where that fails, `error` gets the line of the fault, as `hole: 13`
+///   or, for a bad line, `hole: 70 line 7`, and the status is 1. A flush that fails is 13.
+/// - `serve SETTINGS`, with `--requests N` if it is to end, serves the folder of the settings, crawls,
+///   and answers searches. `output` gets the line `listening HOST PORT` once the server listens, and
+///   the sizes of the crawl at the end: status 0. Where that fails, `error` gets the line of the fault,
+///   as `hole: 33 port`, and the status is 1. With `--listen ADDRESS`, once or several times, it listens at
+///   these addresses, and not at those of the settings' host. With `--log FILE` a line for each request is appended to
+///   the file; with `--progress` the sizes of the crawl are told as it goes on. What is told while it
+///   serves, as that the log can't be written, goes to the error stream of `rt`, not to `error`.
+/// - `check SETTINGS` writes to `output` what is wrong with the settings or their folder, in words, and
+///   where, or what a sound site has and the addresses of its host: status 0. With `--listen` it tries to
+///   bind each of them for a moment, and writes what the system said. Where there is a fault, `error` gets
+///   the line that `serve` would write, and the status is 1.
+/// - `--help` and `--version` write their text to `output`: status 0.
+/// - Any other words read and write nothing, but for a text on `error` that says what is wrong with
+///   them: status 2.
+///
+/// A failure of `error` changes nothing.
+pub fn run<
+    H: Files<File = File>
+        + OpenLog
+        + Net<Listener = TcpListener, Stream = TcpStream>
+        + Threads
+        + Wait
+        + Clock
+        + Env
+        + Eprint
+        + AllocGlobal
+        + Clone
+        + Send
+        + Sync
+        + Drop
+        + 'static,
+    R: Read,
+    W: Write,
+    E: Write,
+>(
+    rt: &H,
+    words: &[String],
     input: &mut Watched<R>,
     output: &mut Watched<W>,
     error: &mut Watched<E>,
 ) -> u8
-    ensures well { result ≡ 0 → error.new ≡ error.old }
-    ensures ended { result ≡ 0 → EndsAs asked.entry (W.contents output.old.device)
-        (W.contents output.new.device) }
-    ensures told { result ≡ 1 → SaysFault E.contents error.old error.new }
+    ensures replays { OnTrue (asks_replay (map (λ word. string_bytes word) words.now))
+        ((end : Result (Unit {0}) ReplayFault)
+        × Replays (R.remaining input.old.device) (R.remaining input.new.device)
+        input.old.failures input.new.failures
+        (W.contents output.old.device) (W.contents output.new.device)
+        output.old.failures output.new.failures end
+        × (result ≡ status_of end)
+        × Says (said_of end) (E.contents error.old.device) (E.contents error.new.device)
+        error.old.failures error.new.failures) }
+    ensures well { result ≡ 0 → Keeps (E.contents error.old.device) (E.contents error.new.device) }
+    ensures told { result ≡ 1 → SaysFault (E.contents error.old.device)
+        (E.contents error.new.device) error.old.failures error.new.failures }
     ensures refused { result ≡ 2 → (input.new ≡ input.old) × (output.new ≡ output.old) }
     ensures status { result ≤ 2 }
 {
-    match asked {
-        Asked::Replay => run_replay(rt.alloc(), input, output, error),
-        Asked::Serve(serving) => {
-            let end = serve::<Brand, S, W>(rt, &serving, Blank::new(), output);
+    if asks_replay(words) {
+        return run_replay(rt.alloc(), input, output, error);
+    }
+    match read_arguments(rt.alloc(), words) {
+        Ok(Asked::Replay) => run_replay(rt.alloc(), input, output, error),
+        Ok(Asked::Serve(serving)) => {
+            let end = serve::<Brand, H, W>(rt, &serving, Blank::new(), output);
             tell_end(error, end)
         }
-        Asked::Check(checking) => {
+        Ok(Asked::Check(checking)) => {
             let end = check_site(rt, rt.alloc(), checking, output);
             tell_end(error, end)
         }
-        Asked::Told(text) => tell_text(&text, output, error),
-    }
-}
-
-/// Runs the program `hole` on its arguments, without its own name, and returns its exit status.
-///
-/// - `replay` alone replays the script in `input`, writes its output to `output` and flushes it:
-///   status 0. If that fails, `error` gets the line of the fault, for example `hole: 13`, or
-///   `hole: 70 line 7` for a bad line, and the status is 1. A flush that fails is 13.
-/// - `serve SETTINGS` serves the folder of the settings, crawls, and answers searches. `output`
-///   gets the line `listening HOST PORT` once the server listens, and the sizes of the crawl at the
-///   end: status 0. If that fails, `error` gets the line of the fault, for example `hole: 33 port`,
-///   and the status is 1. `--requests N` ends the server after N connections. `--listen ADDRESS`,
-///   once or several times, replaces the addresses of the settings' host. `--log FILE` appends a
-///   line for each request to the file. `--progress` prints the sizes of the crawl as it goes on.
-///   Messages of a running server, for example that the log can't be written, go to the error
-///   stream of `rt`, not to `error`.
-/// - `check SETTINGS` writes a report to `output`: what is wrong with the settings or their folder,
-///   and where, or what a sound site has and the addresses of its host: status 0. `--listen` tries
-///   to bind each of them for a moment, and reports what the system said. If there is a fault,
-///   `error` gets the line that `serve` would write, and the status is 1.
-/// - `--help` and `--version` write their text to `output`: status 0.
-/// - Any other arguments read and write nothing except a text on `error` that says what is wrong
-///   with them: status 2.
-///
-/// A failure of `error` changes nothing.
-pub fn run<S: System, R: Read, W: Write, E: Write>(
-    rt: &S,
-    arguments: &[String],
-    input: &mut Watched<R>,
-    output: &mut Watched<W>,
-    error: &mut Watched<E>,
-) -> u8
-    ensures replays { OnTrue (asks_replay (map (λ argument. string_bytes argument) arguments.now))
-        ((end : Result (Unit {0}) ReplayFault)
-        × ReplaysFrom R.remaining W.contents input.old input.new output.old output.new end
-        × (result ≡ status_of end) × Says E.contents (said_of end) error.old error.new) }
-    ensures well { result ≡ 0 → Keeps (E.contents error.old.device) (E.contents error.new.device) }
-    ensures ended { result ≡ 0 → EndsWell (W.contents output.old.device)
-        (W.contents output.new.device) }
-    ensures told { result ≡ 1 → SaysFault E.contents error.old error.new }
-    ensures refused { result ≡ 2 → (input.new ≡ input.old) × (output.new ≡ output.old) }
-    ensures status { result ≤ 2 }
-{
-    if asks_replay(arguments) {
-        return run_replay(rt.alloc(), input, output, error);
-    }
-    match read_arguments(rt.alloc(), arguments) {
-        Ok(asked) => run_asked(rt, asked, input, output, error),
+        Ok(Asked::Told(text)) => tell_text(&text, output, error),
         Err(_refused) => tell_fault(error, ProgramFault::NoMemory),
     }
 }

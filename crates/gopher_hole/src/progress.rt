@@ -95,8 +95,8 @@ fn crawl_until_over<
 }
 
 /// Crawls as `gopher_crew::crawl` does. Prints the sizes of the crawl on the error stream every ten
-/// seconds if they have changed, and at its end. If the system refuses a thread for that, prints
-/// them only at the end.
+/// seconds if they have changed, and at its end. If the system refuses a thread for that, prints them
+/// only at the end.
 pub fn crawl_and_tell<
     C: Crew + Send + Sync,
     R: Wait + Drop + Send + Sync,

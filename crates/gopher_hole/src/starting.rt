@@ -1,7 +1,4 @@
-//! Server threads: starting them, waiting for them, and how they ended.
-
-ghost use Rattle.std.specs.Prelude.{◌≡◌, true};
-ghost use Rattle.gopher_hole.specs.Ending.{after_thread};
+//! Server threads, as they are started.
 
 use gopher_crew::{Crew, Pass};
 use gopher_replies::Replies;
@@ -16,7 +13,7 @@ use std::time::Clock;
 /// The server threads that were started.
 #[derive(Drop)]
 pub struct Started {
-    /// The threads, each of which returns how it ended.
+    /// The threads, each of which tells how it ended.
     pub threads: Vec<JoinHandle<ThreadEnd>>,
     /// Whether one couldn't be started.
     pub is_short: bool,
@@ -25,13 +22,13 @@ pub struct Started {
 /// How server threads ended.
 #[derive(Clone, Copy, Debug, PartialEq, Eq)]
 pub struct ThreadsEnd {
-    /// Whether a listener of a thread broke, or the system refused to let one wait.
+    /// A listener of one was broken, or the system refused it to wait.
     pub failed: bool,
-    /// Whether one couldn't be started, or had no memory to begin.
+    /// One couldn't be started, or had no memory to begin.
     pub is_short: bool,
 }
 
-// Starts a server thread. `None` if the system refuses it, or memory runs out.
+// Starts a server thread. None if the system or memory refuses it.
 fn start_one<
     C: Crew + Send + Sync + 'static,
     R: Threads + Wait + Clock + Eprint + Clone + Send + Drop + 'static,
@@ -50,8 +47,8 @@ fn start_one<
     thread.ok()
 }
 
-/// Starts a server thread for each pass, with one of the setups. If a pass gets no thread, prints
-/// that on the error stream of `rt`, once.
+/// Starts a server thread for each pass, by one of the setups. If one of the passes gets none, that is
+/// told on the error stream of `rt`, once.
 pub fn start_threads<
     C: Crew + Send + Sync + 'static,
     R: Threads + Wait + Clock + Eprint + Clone + Send + Drop + 'static,
@@ -81,34 +78,18 @@ pub fn start_threads<
     Started { threads, is_short }
 }
 
-// Adds the end of one thread to those of the threads before it.
-fn after_thread(end: ThreadsEnd, thread: ThreadEnd) -> ThreadsEnd
-    ensures { result ≡ after_thread end thread }
-{
-    let ThreadsEnd { failed, is_short } = end;
-    match thread {
-        ThreadEnd::Served => end,
-        ThreadEnd::Failed => ThreadsEnd {
-            failed: true,
-            is_short,
-        },
-        ThreadEnd::LacksMemory => ThreadsEnd {
-            failed,
-            is_short: true,
-        },
-    }
-}
-
 /// Waits until each of the threads has ended.
-pub fn join_all<R: Threads>(rt: &R, started: Started) -> ThreadsEnd
-    ensures { started.is_short ≡ true → result.is_short ≡ true }
-{
+pub fn join_all<R: Threads>(rt: &R, started: Started) -> ThreadsEnd {
     let mut end = ThreadsEnd {
         failed: false,
         is_short: started.is_short,
     };
     for thread in started.threads {
-        end = after_thread(end, thread.join(rt));
+        match thread.join(rt) {
+            ThreadEnd::Served => {}
+            ThreadEnd::Failed => end.failed = true,
+            ThreadEnd::LacksMemory => end.is_short = true,
+        }
     }
     end
 }

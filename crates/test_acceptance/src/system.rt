@@ -1,13 +1,48 @@
 // The system of a test, as one on which the program runs.
-use gopher_hole::System;
+use gopher_hole::OpenLog;
 use std::alloc::{AllocError, Global};
-use std::net::{TcpListener, TcpStream};
+use std::env::Env;
+use std::fs::{File, Files};
+use std::net::{Net, TcpListener, TcpStream};
 use std::process::Abort;
+use std::sync::Wait;
+use std::thread::Threads;
+use std::time::Clock;
 
 /// A system on which the program runs, in a test.
-pub trait Host: System + Abort {}
+pub trait Host: Files<File = File>
+    + OpenLog
+    + Net<Listener = TcpListener, Stream = TcpStream>
+    + Threads
+    + Wait
+    + Clock
+    + Env
+    + Eprint
+    + AllocGlobal
+    + Clone
+    + Send
+    + Sync
+    + Drop
+    + Abort
+    + 'static {}
 
-impl<H: System + Abort> Host for H {}
+impl<
+    H: Files<File = File>
+        + OpenLog
+        + Net<Listener = TcpListener, Stream = TcpStream>
+        + Threads
+        + Wait
+        + Clock
+        + Env
+        + Eprint
+        + AllocGlobal
+        + Clone
+        + Send
+        + Sync
+        + Drop
+        + Abort
+        + 'static,
+> Host for H {}
 
 /// The sockets that a test has opened for itself.
 pub type Sockets = Option<(TcpListener, TcpStream)>;

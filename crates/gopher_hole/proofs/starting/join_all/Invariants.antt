@@ -1,8 +1,0 @@
-use Rattle.std.proofs.Common.{◌≡◌, true}
-use Rattle.gopher_hole.proofs.starting.join_all.Given as goal
-
-abbrev pub invariant-loop-thread : goal.invariant-loop-thread
-invariant-loop-thread g l =
-    (goal.iterator-loop-thread g).can_next l.thread-iterator
-    × (goal.iterator-loop-thread g).is_finite l.thread-iterator
-    × (l.fn.started.is_short ≡ true → l.end.is_short ≡ true)
