@@ -1,7 +1,7 @@
 """Scripts that are drawn: few hosts, selectors and words, so that places meet and scores are equal, and among them what is
 refused, what no rule allows, and lines that are no commands.
 """
-import model
+from models import model
 
 WORDS = [
     b"moon", b"moo", b"mood", b"m", b"sun", b"Sunny", b"rain", b"and", b"OR", b"not", b"a", b"\xc3\xa9t\xc3\xa9",

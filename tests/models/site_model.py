@@ -2,7 +2,7 @@
 
 A site is made of its files as section 9 lists them: a dict from paths (names joined by `/`) to bytes.
 """
-import model
+from models import model
 
 MOST_IN_LINE = 1024
 MOST_WITH_END = 1026

@@ -8,8 +8,8 @@ import time
 from collections import Counter
 
 from crawling import TEXTS_OF_A_MENU, Pages, Replying, seeded
-from model import Page, terms_of
-from server import HOST, ask
+from models.model import Page, terms_of
+from running.server import HOST, ask
 
 LETTERS = "abcdefghijklmnopqrstuvwxyz"
 PAIRS = [first + second for first in LETTERS for second in LETTERS]

@@ -9,7 +9,7 @@ import socket
 import subprocess
 import threading
 
-ROOT = pathlib.Path(__file__).resolve().parent.parent
+ROOT = pathlib.Path(__file__).resolve().parent.parent.parent
 PROGRAM = ROOT / "crates" / "hole" / "out" / "hole"
 HOST = "127.0.0.1"
 WAIT = 20.0
@@ -66,10 +66,10 @@ def ask(port, line, host=HOST):
 
 
 def refusing(folder, **variables):
-    """What starts a program with tests/refusing.c loaded before it, and these variables in its environment."""
+    """What starts a program with tests/preloads/refusing.c loaded before it, and these variables in its environment."""
     library = folder / "refusing.so"
     if not library.exists():
-        subprocess.run(["cc", "-O2", "-shared", "-fPIC", "-o", str(library), str(ROOT / "tests/refusing.c")], check=True)
+        subprocess.run(["cc", "-O2", "-shared", "-fPIC", "-o", str(library), str(ROOT / "tests/preloads/refusing.c")], check=True)
     return ("env", f"LD_PRELOAD={library}", *(f"{name}={value}" for name, value in variables.items()))
 
 

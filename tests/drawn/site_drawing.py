@@ -3,7 +3,7 @@ the owner's, and lines that ask for what is there, for what isn't, and for nothi
 """
 import os
 
-import drawing
+from drawn import drawing
 
 FOLDERS = [b"docs", b"docs/sub", b"with space", b"\xc3\xa9t\xc3\xa9", b"a..b", b"docs/search", b"~", b"docs/sub/" + b"d" * 90]
 NAMES = [
