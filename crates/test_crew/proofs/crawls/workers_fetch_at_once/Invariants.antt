@@ -1,4 +1,4 @@
-use Rattle.test_acceptance_crew.proofs.crawls.workers_try_again.Given as goal
+use Rattle.test_crew.proofs.crawls.workers_fetch_at_once.Given as goal
 
 -- the names of the blank that was made
 abbrev pub ghosts-crawled-C-Ledger : goal.ghosts-crawled-C-Ledger

@@ -1,4 +1,4 @@
-use Rattle.test_acceptance_serve.proofs.answers.lines_are_answered.Given as goal
+use Rattle.test_serve.proofs.answers.lines_are_answered.Given as goal
 
 -- the names of the blank that was made
 abbrev pub ghosts-answers_at_a_desk-C-Ledger : goal.ghosts-answers_at_a_desk-C-Ledger
