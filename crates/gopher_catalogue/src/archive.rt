@@ -88,12 +88,12 @@ impl Archive {
     }
 
     /// Copies the events and the index, which share their pages with `self`.
-    pub fn again(&self, alloc: Global) -> Result<Archive, NoMemory>
+    pub fn share(&self, alloc: Global) -> Result<Archive, NoMemory>
         ensures { IfOk result (λ archive. archive.events ≡ self.now.events) }
     {
         Ok(Archive {
-            history: self.history.again(alloc)?,
-            index: self.index.again(alloc)?,
+            history: self.history.clone(alloc)?,
+            index: self.index.share(alloc)?,
         })
     }
 
@@ -191,7 +191,7 @@ impl Archive {
         ensures err { OnErr result (self.new ≡ self.old) }
         ensures page_back { IfErr result (λ back. back ≡ page) }
     {
-        let Ok(back) = page.again() else {
+        let Ok(back) = page.share() else {
             return Err(page);
         };
         let Ok(page) = Arc::new(alloc, page) else {

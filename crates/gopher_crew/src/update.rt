@@ -48,7 +48,7 @@ fn add(alloc: Global, index: &mut Arc<Index>, page: Arc<Page>) -> Result<(), NoM
     if let Some(own) = Arc::get_mut(index) {
         return own.add(page);
     }
-    let mut own = index.again(alloc)?;
+    let mut own = index.share(alloc)?;
     own.add(page)?;
     *index = Arc::new(alloc, own)?;
     Ok(())
@@ -60,7 +60,7 @@ impl Change {
         ensures { IfOk result (λ change.
             (pages : List PageData) → pages_after change pages ≡ index.now) }
     {
-        Ok(Change::All(Arc::new(alloc, index.again(alloc)?)?))
+        Ok(Change::All(Arc::new(alloc, index.share(alloc)?)?))
     }
 
     /// The change of an index's pages to those of another, which begin with them.

@@ -255,7 +255,7 @@ impl Index {
     }
 
     /// Returns a copy that shares the segments and pages.
-    pub fn again(&self, alloc: Global) -> Result<Index, NoMemory>
+    pub fn share(&self, alloc: Global) -> Result<Index, NoMemory>
         ensures { IfOk result (λ index. index ≡ self.now) }
     {
         Ok(Index {

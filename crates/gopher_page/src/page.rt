@@ -129,7 +129,7 @@ impl Page {
     }
 
     /// Copies the page, which shares its parts with `self`.
-    pub fn again(&self) -> Result<Page, NoMemory>
+    pub fn share(&self) -> Result<Page, NoMemory>
         ensures { IfOk result (λ page. page ≡ self.now) }
     {
         Ok(Page {

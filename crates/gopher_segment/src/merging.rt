@@ -157,7 +157,7 @@ fn lowest_word<'a>(cursors: &[Cursor<'a>]) -> Option<(usize, Numbered<'a>)>
         }
     }
     match lowest {
-        Some(word) => Some((first, word.again())),
+        Some(word) => Some((first, word.clone())),
         None => None,
     }
 }

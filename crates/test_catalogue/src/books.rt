@@ -142,7 +142,7 @@ fn with_a_failure(alloc: Global) -> Option<Catalogue> {
 
 // Whether the event is that failure, once it is made again.
 fn is_failure_again(event: &Event) -> Option<bool> {
-    let again = event.again().ok()?;
+    let again = event.clone().ok()?;
     Some(matches!(&again, Event::Failed(1, Why::Write)))
 }
 
@@ -170,7 +170,7 @@ fn a_failure_is_an_event_without_a_page(rt: HostRuntime) {
 
 fn version_finds_root(alloc: Global, index: &Index) -> Option<bool> {
     let query = query(alloc)?;
-    let version = index.again(alloc).ok()?;
+    let version = index.share(alloc).ok()?;
     let hits = version.search(alloc, &query).ok()?;
     Some(is_root(&hits))
 }

@@ -15,7 +15,7 @@ fn loose(alloc: Global, pages: u32) -> Option<Index> {
 // Whether an index has one page more than before, and no longer once its pages are in a segment.
 fn has_one_page_more(alloc: Global) -> Option<bool> {
     let mut index = loose(alloc, 63)?;
-    let before = index.again(alloc).ok()?;
+    let before = index.share(alloc).ok()?;
     add(alloc, &mut index, 63)?;
     let has_more = index.page_after(&before).is_some();
     let count = merges(alloc, &mut index)?;

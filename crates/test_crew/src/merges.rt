@@ -37,7 +37,7 @@ fn finds_first_files<R: Abort>(rt: &R, answer: &Answer) {
 
 // All that was due to be merged was.
 fn is_merged<R: Abort + AllocGlobal>(rt: &R, catalogue: &Catalogue) -> bool {
-    let Ok(mut index) = catalogue.index().again(rt.alloc()) else {
+    let Ok(mut index) = catalogue.index().share(rt.alloc()) else {
         panic!(rt; "no memory");
     };
     matches!(index.due(), Ok(None))
