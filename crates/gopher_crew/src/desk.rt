@@ -185,7 +185,7 @@ impl<C: Crew, R: Wait + Drop> Desk<C, R> {
     /// record after it.
     ///
     /// # Errors
-    /// 90, only if a place waits.
+    /// `NoMemory` (90), only if a place waits.
     pub fn claim<W: Wait>(
         &self,
         rt: &W,

@@ -30,7 +30,7 @@ pub enum Change {
 /// What makes the next version: the change of its pages, and its record.
 #[derive(Drop)]
 pub struct Update {
-    /// Where a copy of an index is made.
+    /// The allocator for a copy of an index.
     pub(crate) alloc: Global,
     pub(crate) change: Change,
     pub(crate) prefix: RecordPrefix,
