@@ -43,7 +43,7 @@ pub fn claimed(catalogue: &mut Catalogue) -> Option<u32> {
     }
 }
 
-/// The page of the directory with this selector, as the catalogue's scope has it.
+/// The page of the directory with this selector, in the scope of the catalogue.
 pub fn page_of(alloc: Global, catalogue: &Catalogue, selector: &[u8], menu: &[u8]) -> Option<Page>
     requires { length menu.now ≤ 1048576 }
 {
