@@ -1,4 +1,5 @@
--- A conversation with one client, over all bytes that came in.
+-- A conversation with one client, over all bytes that came in: one line, and its reply (RFC 1436,
+-- section 2).
 use Rattle.std.specs.Prelude.{◌≡◌, ℕ, ◌+◌, Bool, true, false, ◌||◌, ◌⊎◌, List, [], ◌++◌, length, take, drop, nat_le, Option, None, Some, if◌then◌else◌}
 use Rattle.std.specs.Io.BufRead.{first_line}
 use Rattle.gopher_item.specs.declared.limits.TheConstants.{MAX_LINE}

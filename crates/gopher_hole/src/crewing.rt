@@ -171,8 +171,20 @@ fn end_log<R: Threads + Wait>(rt: &R, alloc: Global, log: Option<Log>) {
     }
 }
 
-/// Serves and crawls as the settings say. Writes the line `listening HOST PORT` once it listens,
-/// and the number of places in each state after the crawl.
+/// Serves and crawls as the settings say. Writes the line `listening HOST PORT` once it listens, and
+/// the number of places in each state after the crawl and the last connection.
+///
+/// `blank` is a new one, whose names are those of the crew `C`.
+///
+/// # Errors
+///
+/// Before it listens, those of `read_settings`, `open` and `listen`. Later:
+///
+/// - `ListenFailed` (81): a thread could no longer accept connections
+/// - `NoThread` (82): a server thread couldn't be started
+/// - `StrangeShare` (62): the workers' shares don't count the events of the crawl
+/// - `WriteFailed` (13): a line couldn't be written or flushed
+/// - `NoMemory` (90)
 pub fn serve<
     C: Crew + Send + Sync + 'static,
     R: Files<File = File>

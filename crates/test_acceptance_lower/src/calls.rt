@@ -99,7 +99,7 @@ fn a_refused_page_is_given_back(rt: HostRuntime) {
     assert!(rt; gives_the_page_back(rt.alloc()) == Some(true));
 }
 
-// A start that is refused since nothing is allowed.
+// A start that is refused because nothing is allowed.
 fn start_without_rules(alloc: Global, places: u32) -> Option<OpenRefused> {
     let seeds = directories(alloc, &[b""])?;
     let nothing = Scope::new(Vec::new(alloc), Vec::new(alloc));
