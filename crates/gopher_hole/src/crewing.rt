@@ -171,8 +171,8 @@ fn end_log<R: Threads + Wait>(rt: &R, alloc: Global, log: Option<Log>) {
     }
 }
 
-/// Serves and crawls as the settings say. Writes the line `listening HOST PORT` once it listens, and
-/// the number of places in each state after the crawl and the last connection.
+/// Serves and crawls as the settings say. Writes the line `listening HOST PORT` once it listens,
+/// and the number of places in each state after the crawl and the last connection.
 ///
 /// `blank` is a new one, whose names are those of the crew `C`.
 ///
