@@ -27,17 +27,17 @@ abbrev pub unknown_detail : List ℕ → List ℕ
 unknown_detail [] = []
 unknown_detail (byte ∷ key) = words_line (codes "key: ") (byte ∷ key)
 
-abbrev pub settings_detail : SettingsFault → List ℕ → List ℕ
-settings_detail (settings_fault.Missing key) unknown = words_line (codes "key: ") (key_name key)
-settings_detail (settings_fault.WrongKind key) unknown = words_line (codes "key: ") (key_name key)
-settings_detail (settings_fault.OutOfRange key) unknown = words_line (codes "key: ") (key_name key)
-settings_detail settings_fault.UnknownKey unknown = unknown_detail unknown
-settings_detail why unknown = []
+abbrev pub settings_words : SettingsFault → List ℕ → List ℕ
+settings_words (settings_fault.Missing key) unknown = words_line (codes "key: ") (key_name key)
+settings_words (settings_fault.WrongKind key) unknown = words_line (codes "key: ") (key_name key)
+settings_words (settings_fault.OutOfRange key) unknown = words_line (codes "key: ") (key_name key)
+settings_words settings_fault.UnknownKey unknown = unknown_detail unknown
+settings_words why unknown = []
 
 -- the line of the key or the seed that a fault names; `unknown` is a key that isn't known, or is
 -- given twice
 abbrev pub detail : SiteFault → List ℕ → List ℕ
-detail (fault.Settings why) unknown = settings_detail why unknown
+detail (fault.Settings why) unknown = settings_words why unknown
 detail (fault.SeedOutOfScope seed) unknown = number_line (codes "seed: ") seed
 detail fault.KeyTwice unknown = unknown_detail unknown
 detail why unknown = []

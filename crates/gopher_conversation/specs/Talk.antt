@@ -43,9 +43,9 @@ abbrev pub IsAnswered : Talk → Talk → List ℕ → Type 0
 IsAnswered old new reply = (line : List ℕ) → old ≡ Asks line → new ≡ Responds line reply 0
 
 -- the bytes are the line that is asked, if there is one
-abbrev pub IsLine : Talk → List ℕ → Type 0
-IsLine (Asks line) bytes = bytes ≡ line
-IsLine talk bytes = Unit {0}
+abbrev pub IsAskedLine : Talk → List ℕ → Type 0
+IsAskedLine (Asks line) bytes = bytes ≡ line
+IsAskedLine talk bytes = Unit {0}
 
 -- the line whose reply is asked for or sent, if there is one
 abbrev pub asked_of : Talk → Option (List ℕ)

@@ -6,7 +6,7 @@ ghost use mathlib.Core.List.{IsPrefix};
 ghost use Rattle.gopher_catalogue.specs.Legal.{IsLegal};
 ghost use Rattle.gopher_catalogue.specs.Turn.{turn_data};
 ghost use Rattle.gopher_crew.specs.Crew.{all_published};
-ghost use Rattle.gopher_crew.specs.Desk.{are_counts, shares_at, events_of, AllHaveSeen, AreJoined, ComesBack, IsDeskFault, HasAll};
+ghost use Rattle.gopher_crew.specs.Desk.{are_counts, shares_at, events_of, AllHaveSeen, CountTheSame, ComesBack, IsDeskFault, HasAll};
 ghost use Rattle.gopher_crew.specs.Kept.{RisesAt, NotesTurn, NotesFind, NotesFailure, AnswersTurn, AnswersFind, RefusesFind, IsOutOn, LetsClaim, BeginsWith, IsNotIdle, IsStatus};
 
 use crate::blank::Blank;
@@ -341,7 +341,7 @@ impl<C: Crew, R: Wait + Drop> Desk<C, R> {
     fn gathered(self, shares: Vec<Share<C>>) -> Result<Kept<C, R>, CloseRefused<C, R>>
         ensures counted { IfOk result (λ kept. length kept.events ≡ events_of shares.items + 1) }
         ensures events { IfErr result (λ refused. refused.events ≢ events_of shares.items) }
-        ensures joined { IfErr result (λ refused. AreJoined shares.items refused.shares.items) }
+        ensures joined { IfErr result (λ refused. CountTheSame shares.items refused.shares.items) }
         ensures whole { HasAll C.parts shares.items → IsOk result }
     {
         let Desk {
@@ -379,7 +379,7 @@ impl<C: Crew, R: Wait + Drop> Desk<C, R> {
         ensures counted { IfOk result (λ catalogue. length catalogue ≡ events_of shares.items + 1) }
         ensures legal { IfOk result (λ catalogue. IsLegal catalogue) }
         ensures events { IfErr result (λ refused. refused.events ≢ events_of shares.items) }
-        ensures joined { IfErr result (λ refused. AreJoined shares.items refused.shares.items) }
+        ensures joined { IfErr result (λ refused. CountTheSame shares.items refused.shares.items) }
         ensures whole { HasAll C.parts shares.items → IsOk result }
     {
         Ok(self.gathered(shares)?.end())
@@ -395,7 +395,7 @@ impl<C: Crew, R: Wait + Drop> Desk<C, R> {
         ensures legal { IfOk result (λ closed. IsLegal closed.0) }
         ensures noted { IfOk result (λ closed. IfSome closed.1 (λ note. note ≡ closed.0)) }
         ensures events { IfErr result (λ refused. refused.events ≢ events_of shares.items) }
-        ensures joined { IfErr result (λ refused. AreJoined shares.items refused.shares.items) }
+        ensures joined { IfErr result (λ refused. CountTheSame shares.items refused.shares.items) }
         ensures whole { HasAll C.parts shares.items → IsOk result }
     {
         Ok(self.gathered(shares)?.end_with_note())

@@ -45,13 +45,13 @@ impl<C: Crew, R: Wait + Drop> Model for Kept<C, R> {
     ghost use Rattle.std.specs.Prelude.{◌≡◌, ◌+◌, length};
     ghost use mathlib.Core.List.{IsPrefix};
     ghost use Rattle.gopher_catalogue.specs.Legal.{IsLegal};
-    ghost use Rattle.gopher_crew.specs.Crew.{KeptData, IsKept};
+    ghost use Rattle.gopher_crew.specs.Crew.{KeptData, KeepsRecord};
 
     ghost Value = { KeptData };
 
     ghost view = { λ k. record { events = k.catalogue; published = k.follower.published } };
 
-    ghost invariant = { λ k. IsKept k.catalogue k.follower k.book.total };
+    ghost invariant = { λ k. KeepsRecord k.catalogue k.follower k.book.total };
 }
 
 // Counts the event of a turn, for the share and in the book. Only a turn that took a place has one.

@@ -6,7 +6,7 @@ ghost use Rattle.std.specs.Io.KnownBytes.{Keeps};
 ghost use Rattle.gopher_script.specs.declared.fault.ReplayFault.{ReplayFault};
 ghost use Rattle.gopher_script.specs.Replay.{Replays};
 ghost use Rattle.gopher_hole.specs.Fault.{fault_line};
-ghost use Rattle.gopher_hole.specs.Program.{asks_replay, status_of, said_of, Says, SaysFault};
+ghost use Rattle.gopher_hole.specs.Program.{asks_replay, exit_status, said_of, SaysOnError, SaysFault};
 
 use crate::announcing::{send_text, write_fault};
 use crate::arguments::{Asked, Text, read_arguments};
@@ -69,8 +69,8 @@ fn run_replay<R: Read, W: Write, E: Write>(
         input.old.failures input.new.failures
         (W.contents output.old.device) (W.contents output.new.device)
         output.old.failures output.new.failures end
-        × (result ≡ status_of end)
-        × Says (said_of end) (E.contents error.old.device) (E.contents error.new.device)
+        × (result ≡ exit_status end)
+        × SaysOnError (said_of end) (E.contents error.old.device) (E.contents error.new.device)
         error.old.failures error.new.failures }
     ensures well { result ≡ 0 → error.new ≡ error.old }
     ensures told { result ≢ 0 → SaysFault (E.contents error.old.device)
@@ -86,7 +86,7 @@ fn run_replay<R: Read, W: Write, E: Write>(
 // Writes the line of a fault. Returns the exit status, 1.
 fn tell_fault<E: Write>(error: &mut Watched<E>, fault: ProgramFault) -> u8
     ensures status { result ≡ 1 }
-    ensures said { Says (fault_line fault) (E.contents error.old.device)
+    ensures said { SaysOnError (fault_line fault) (E.contents error.old.device)
         (E.contents error.new.device) error.old.failures error.new.failures }
 {
     let _ = write_fault(error, fault);
@@ -177,8 +177,8 @@ pub fn run<
         input.old.failures input.new.failures
         (W.contents output.old.device) (W.contents output.new.device)
         output.old.failures output.new.failures end
-        × (result ≡ status_of end)
-        × Says (said_of end) (E.contents error.old.device) (E.contents error.new.device)
+        × (result ≡ exit_status end)
+        × SaysOnError (said_of end) (E.contents error.old.device) (E.contents error.new.device)
         error.old.failures error.new.failures) }
     ensures well { result ≡ 0 → Keeps (E.contents error.old.device) (E.contents error.new.device) }
     ensures told { result ≡ 1 → SaysFault (E.contents error.old.device)

@@ -8,7 +8,7 @@ use Rattle.gopher_segment.specs.Segment.{SegmentData}
 use Rattle.gopher_segment.specs.declared.segment.Segment.{Segment}
 use Rattle.gopher_index.specs.declared.due.Run.{Run}
 use Rattle.gopher_index.specs.declared.due.Run.TheVariants.{Loose, Segments}
-use Rattle.gopher_index.specs.Index.{IsRun, run_data}
+use Rattle.gopher_index.specs.Index.{IsIndexRun, run_data}
 
 -- the segments of a run
 abbrev pub segments_in : Run → List SegmentData
@@ -26,5 +26,5 @@ due_data first run = run_data first (segments_in run) (loose_in run)
 
 -- a run of an index; if it was merged, the segment has its pages
 pub record IsDue (first : ℕ) (run : Run) (merged : Option (Arc Segment Global)) : Type 0 where
-  pub is_run : IsRun first (segments_in run) (loose_in run)
+  pub is_run : IsIndexRun first (segments_in run) (loose_in run)
   pub merged_is : IfSome merged (λ segment. arc_value segment ≡ due_data first run)

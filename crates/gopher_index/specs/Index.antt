@@ -13,7 +13,7 @@ pub record IsIndex (segments : List SegmentData) (loose : List PageData) (settle
   pub bound : settled + length loose ≤ 65536
 
 -- consecutive segments whose first page has the number `first`, and loose pages after them
-pub record IsRun (first : ℕ) (segments : List SegmentData) (loose : List PageData) : Type 0 where
+pub record IsIndexRun (first : ℕ) (segments : List SegmentData) (loose : List PageData) : Type 0 where
   pub consecutive : AreConsecutive first segments
   pub bound : first + length (pages_of segments) + length loose ≤ 65536
 
@@ -22,7 +22,7 @@ abbrev pub run_data : ℕ → List SegmentData → List PageData → SegmentData
 run_data first segments loose = record { first = first; pages = pages_of segments ++ loose }
 
 -- the pages of a run occur in sequence among these pages, the first at the index that is its number
-pub record StandsIn (run : SegmentData) (pages : List PageData) : Type 0 where
+pub record IsSliceOf (run : SegmentData) (pages : List PageData) : Type 0 where
   pub before : List PageData
   pub after : List PageData
   pub at : pages ≡ before ++ (run.pages ++ after)
@@ -30,7 +30,7 @@ pub record StandsIn (run : SegmentData) (pages : List PageData) : Type 0 where
 
 -- each of these runs occurs among the pages
 abbrev pub AllStandIn : List PageData → List SegmentData → Type 0
-AllStandIn pages runs = All (λ run. StandsIn run pages) runs
+AllStandIn pages runs = All (λ run. IsSliceOf run pages) runs
 
 -- this page is the last
 pub record EndsWith (pages : List PageData) (page : PageData) : Type 0 where

@@ -42,7 +42,7 @@ wanted_in [] = 0
 wanted_in (group ∷ groups) = group.wanted + wanted_in groups
 
 -- the groups match and score each page as the terms do
-pub record AreGroups (terms : List TermData) (groups : List Group) : Type 0 where
+pub record AreTermGroups (terms : List TermData) (groups : List Group) : Type 0 where
   pub matching : (counts : List (List ℕ × ℕ)) → matches terms counts ≡ is_match (verdict groups counts)
   pub scoring : (counts : List (List ℕ × ℕ)) → score terms counts ≡ total groups counts
   pub highest : (counts : List (List ℕ × ℕ)) → verdict groups counts ≤ 2 * length terms + 1
@@ -51,7 +51,7 @@ pub record AreGroups (terms : List TermData) (groups : List Group) : Type 0 wher
 -- the groups of a query's terms: at least one, and at most as many as there are terms
 pub record IsPlan (terms : List TermData) (groups : List Group) : Type 0 where
   pub query : IsQuery terms
-  pub groups_are : AreGroups terms groups
+  pub groups_are : AreTermGroups terms groups
   pub some : 0 < length groups
   pub most : length groups ≤ length terms
 

@@ -4,7 +4,7 @@ ghost use Rattle.std.specs.Prelude.{◌≡◌, ◌+◌, ◌<◌, ◌≤◌, [], 
 ghost use Rattle.std.specs.Arc.{arc_value};
 ghost use Rattle.gopher_index.specs.Answer.{answer_of, AreOccurrences};
 ghost use Rattle.gopher_index.specs.Begun.{begun_hits};
-ghost use Rattle.gopher_index.specs.Index.{EndsWith, StandsIn};
+ghost use Rattle.gopher_index.specs.Index.{EndsWith, IsSliceOf};
 
 use crate::begun::Begun;
 use crate::due::Due;
@@ -123,7 +123,7 @@ impl Index {
 
     // Returns a run of pages that is due to be merged and isn't being merged.
     fn untaken(&self) -> Result<Option<Due>, NoMemory>
-        ensures { IfOk result (λ due. IfSome due (λ run. StandsIn run self.now)) }
+        ensures { IfOk result (λ due. IfSome due (λ run. IsSliceOf run self.now)) }
     {
         let alloc = *self.loose.allocator();
         if let Some((start, end)) = due_loose(self.settled, self.loose.len(), &self.taken) {
@@ -147,7 +147,7 @@ impl Index {
     /// is due, the sizes of the segments follow from the number of pages alone.
     pub fn due(&mut self) -> Result<Option<Due>, NoMemory>
         ensures same { self.new ≡ self.old }
-        ensures stands { IfOk result (λ due. IfSome due (λ run. StandsIn run self.new)) }
+        ensures stands { IfOk result (λ due. IfSome due (λ run. IsSliceOf run self.new)) }
     {
         let Some(due) = self.untaken()? else {
             return Ok(None);
@@ -162,7 +162,7 @@ impl Index {
     /// If pages before the run aren't in a segment yet, the index holds it until they are. When out of
     /// memory, or if its pages were merged with others meanwhile, the run is dropped.
     pub fn install(&mut self, due: Due)
-        requires { StandsIn due self.old }
+        requires { IsSliceOf due self.old }
         ensures { self.new ≡ self.old }
     {
         if due.merged.is_some() && due.first > self.settled {
@@ -180,7 +180,7 @@ impl Index {
 
     // Holds a merged run until the pages before it are in segments. When out of memory, it is due again.
     fn hold(&mut self, due: Due)
-        requires { StandsIn due self.old }
+        requires { IsSliceOf due self.old }
         ensures { self.new ≡ self.old }
     {
         let first = due.first;
@@ -192,7 +192,7 @@ impl Index {
     // Takes a run out of `early` if the pages before it are in segments.
     fn take_early(&mut self) -> Option<Due>
         ensures same { self.new ≡ self.old }
-        ensures stands { IfSome result (λ due. StandsIn due self.old) }
+        ensures stands { IfSome result (λ due. IsSliceOf due self.old) }
     {
         let at = ready(&self.early, self.settled)?;
         Some(self.early.swap_remove(at))
@@ -200,7 +200,7 @@ impl Index {
 
     // Puts a merged run in its place, and leaves one that wasn't merged to be due again.
     fn put_run(&mut self, due: Due)
-        requires { StandsIn due self.old }
+        requires { IsSliceOf due self.old }
         ensures { self.new ≡ self.old }
     {
         let Due {
@@ -218,7 +218,7 @@ impl Index {
     fn put(&mut self, first: usize, merged: Arc<Segment>)
         requires first { (arc_value merged).first ≡ first }
         requires bound { first + length (arc_value merged).pages ≤ 65536 }
-        requires stands { StandsIn (arc_value merged) self.old }
+        requires stands { IsSliceOf (arc_value merged) self.old }
         ensures { self.new ≡ self.old }
     {
         let alloc = *self.loose.allocator();

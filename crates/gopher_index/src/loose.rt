@@ -5,7 +5,7 @@ ghost use Rattle.std.specs.Prelude.{◌≡◌, ◌≤◌, ◌∷◌, [], List, l
 ghost use Rattle.std.specs.Arc.{arc_value};
 ghost use Rattle.gopher_page.specs.Query.{TermData, is_not, matches, score};
 ghost use Rattle.gopher_index.specs.Best.{TakesIn};
-ghost use Rattle.gopher_index.specs.Plan.{AreGroups, wanted_in};
+ghost use Rattle.gopher_index.specs.Plan.{AreTermGroups, wanted_in};
 
 use crate::best::Best;
 use crate::plan::{Group, weigh_by_groups};
@@ -72,7 +72,7 @@ fn rank_page_by_groups<'a>(
     best: &mut Best<'a>,
 ) -> Result<(), NoMemory>
     requires { wanted_in groups.now ≤ 1024 }
-    ensures { (terms : List TermData) → AreGroups terms groups.now
+    ensures { (terms : List TermData) → AreTermGroups terms groups.now
         → OnOk result (TakesIn terms (arc_value page.now ∷ []) best.old best.new) }
 {
     let (is_match, score) = weigh_by_groups(groups, page);
@@ -89,7 +89,7 @@ pub(crate) fn rank_pages_by_groups<'a>(
     best: &mut Best<'a>,
 ) -> Result<(), NoMemory>
     requires { wanted_in groups.now ≤ 1024 }
-    ensures { (terms : List TermData) → AreGroups terms groups.now
+    ensures { (terms : List TermData) → AreTermGroups terms groups.now
         → OnOk result (TakesIn terms (map arc_value pages.now) best.old best.new) }
 {
     for page in pages {

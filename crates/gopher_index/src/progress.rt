@@ -7,7 +7,7 @@ ghost use Rattle.gopher_page.specs.Query.{IsQuery, TermData};
 ghost use Rattle.gopher_index.specs.Answer.{answer_of};
 ghost use Rattle.gopher_index.specs.Best.{TakesIn};
 ghost use Rattle.gopher_index.specs.Cells.{AreCells};
-ghost use Rattle.gopher_index.specs.Plan.{AreGroups, wanted_in};
+ghost use Rattle.gopher_index.specs.Plan.{AreTermGroups, wanted_in};
 ghost use Rattle.gopher_index.specs.Progress.{all_pages, steps_left, AddsPages, IsProgress, IsSameSearch};
 ghost use Rattle.gopher_segment.specs.Segment.{pages_of};
 
@@ -74,7 +74,7 @@ fn kept_with_pages(
     groups: &[Group],
 ) -> Result<Vec<Kept>, NoMemory>
     requires { wanted_in groups.now ≤ 1024 }
-    ensures { (terms : List TermData) → AreGroups terms groups.now
+    ensures { (terms : List TermData) → AreTermGroups terms groups.now
         → IfOk result (λ new. AddsPages terms (map arc_value pages.now) kept.now new.items) }
 {
     let mut best = Best::of(alloc, kept)?;

@@ -1,7 +1,7 @@
 -- Lines of requests that are gathered before they are written.
 use Rattle.std.specs.Prelude.{ℕ, ◌+◌, ◌&&◌, ◌==◌, Bool, List, [], ◌++◌, codes, length, min, nat_le, if◌then◌else◌}
 use Rattle.std.specs.Fmt.{decimal}
-use Rattle.gopher_log.specs.RequestLine.{RequestData, request_bytes}
+use Rattle.gopher_log.specs.RequestLine.{RequestData, logged_bytes}
 
 -- the lines, as bytes, and the number of requests that were dropped since the last of them
 pub record BatchData : Type 0 where
@@ -22,7 +22,7 @@ abbrev pub with_dropped : BatchData → BatchData
 with_dropped batch = record { written = batch.written; dropped = min (batch.dropped + 1) 18_446_744_073_709_551_615 }
 
 abbrev pub with_line : BatchData → RequestData → BatchData
-with_line batch request = record { written = batch.written ++ request_bytes request; dropped = batch.dropped }
+with_line batch request = record { written = batch.written ++ logged_bytes request; dropped = batch.dropped }
 
 -- a batch that is full takes no line
 abbrev pub with_request : BatchData → RequestData → BatchData

@@ -32,7 +32,7 @@ asked_bytes asked = escaped (selector_of asked) ++ codes "\t" ++ escaped (search
 abbrev pub numbers_bytes : ℕ → ℕ → List ℕ
 numbers_bytes sent micros = codes "\t" ++ decimal sent ++ codes "\t" ++ decimal micros
 
-abbrev pub request_bytes : RequestData → List ℕ
-request_bytes request =
+abbrev pub logged_bytes : RequestData → List ℕ
+logged_bytes request =
     moment_bytes request.ended ++ codes "\t" ++ escaped request.peer ++ codes "\t" ++ asked_bytes request.asked
     ++ numbers_bytes request.sent request.micros ++ codes "\n"

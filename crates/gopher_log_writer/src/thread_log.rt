@@ -3,7 +3,7 @@
 ghost use Rattle.std.specs.Prelude.{◌≡◌, not};
 ghost use Rattle.std.specs.Option.{is_some};
 ghost use Rattle.gopher_log.specs.Batch.{is_empty, no_lines};
-ghost use Rattle.gopher_log_writer.specs.Batches.{AddsLine, AddsTo, IsHandedOn};
+ghost use Rattle.gopher_log_writer.specs.Batches.{AddsLine, AddsRequestTo, IsHandedOn};
 
 use crate::queue::LogQueue;
 use crate::timing::{is_due, kept_until, max_kept, micros_of, moment_at};
@@ -108,7 +108,7 @@ impl ThreadLog {
 
     // Adds the line of a request, or counts the request as dropped.
     fn add_request(&mut self, request: &RequestLine<'_>)
-        ensures { AddsTo request.now self.old.batch self.new.batch }
+        ensures { AddsRequestTo request.now self.old.batch self.new.batch }
     {
         let _refused = self.batch.add(request);
     }

@@ -2,7 +2,7 @@
 
 ghost use Rattle.std.specs.Prelude.{◌≡◌, ◌≤◌, ◌⊎◌, [], All, length};
 ghost use Rattle.gopher_script.specs.Statement.{HasSmallReply};
-ghost use Rattle.gopher_script.specs.Script.{run_of, script_output, first_stage};
+ghost use Rattle.gopher_script.specs.Script.{run_statements, script_output, first_stage};
 ghost use Rattle.gopher_script.specs.Replay.{RunEnds, AnswerEnds, StatementEnds, Replays};
 
 use crate::draft::Draft;

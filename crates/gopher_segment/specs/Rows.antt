@@ -130,14 +130,14 @@ abbrev pub AllBefore : List (List ℕ) → List ℕ → Type 0
 AllBefore words word = AllByRecursion (λ earlier. slice_cmp nat_cmp earlier word ≡ Less) words
 
 -- all words come before this one, if there is one
-abbrev pub AreBefore : List (List ℕ) → Option (List ℕ) → Type 0
-AreBefore words None = Unit {0}
-AreBefore words (Some word) = AllBefore words word
+abbrev pub AllBeforeNext : List (List ℕ) → Option (List ℕ) → Type 0
+AllBeforeNext words None = Unit {0}
+AllBeforeNext words (Some word) = AllBefore words word
 
 -- all words come before the first word of each table
 abbrev pub ComeBefore : List (List ℕ) → List (List (List ℕ × List (ℕ × ℕ))) → Type 0
 ComeBefore words [] = Unit {0}
-ComeBefore words (rows ∷ tables) = AreBefore words (first_word rows) × ComeBefore words tables
+ComeBefore words (rows ∷ tables) = AllBeforeNext words (first_word rows) × ComeBefore words tables
 
 -- ---- joining rows
 

@@ -67,7 +67,7 @@ pub record SeesOn (old new : PassData) : Type 0 where
 
 -- the hits are the answer over one legal record, which begins with the records that the pass had
 -- seen and was told
-pub record Finds (old new : PassData) (terms : List TermData) (hits : List Hit) : Type 0 where
+pub record FindsHits (old new : PassData) (terms : List TermData) (hits : List Hit) : Type 0 where
   pub legal : IsLegal new.seen
   pub hits_are : hits ≡ hits_of new.seen terms
   pub after_seen : IsPrefix old.seen new.seen
@@ -78,7 +78,7 @@ pub record Finds (old new : PassData) (terms : List TermData) (hits : List Hit) 
 abbrev pub Searches : PassData → PassData → List TermData → Option (List Hit) → Type 0
 Searches old new [] outcome = new ≡ old
 Searches old new (term ∷ terms) None = SeesOn old new
-Searches old new (term ∷ terms) (Some hits) = Finds old new (term ∷ terms) hits
+Searches old new (term ∷ terms) (Some hits) = FindsHits old new (term ∷ terms) hits
 
 -- the reply to a search for these terms
 pub record AnswersTerms (home : HomeData) (old new : PassData) (terms : List TermData) (reply : List ℕ) : Type 0 where

@@ -19,5 +19,5 @@ line_data line =
     }
 
 -- both are the same line, or neither is a line
-abbrev pub IsLine : Option WrittenLineData → Option WrittenLine → Type 0
-IsLine wanted line = option_map line_data line ≡ wanted
+abbrev pub IsWrittenLine : Option WrittenLineData → Option WrittenLine → Type 0
+IsWrittenLine wanted line = option_map line_data line ≡ wanted
