@@ -34,7 +34,8 @@ fn pairs<C: Crew>(
     Some(pairs)
 }
 
-// Crawls the host with so many workers: the nanoseconds, the bytes that it holds, and how many places are done.
+// Crawls the host with `workers` workers. Returns the nanoseconds, the bytes of memory that the
+// crawl holds, and the number of places that are done.
 fn crawled<C: Crew + Send + Sync, R: Runtime + AllocGlobal + Threads + Wait + Sync>(
     rt: &R,
     blank: Blank,
@@ -58,7 +59,8 @@ fn crawled<C: Crew + Send + Sync, R: Runtime + AllocGlobal + Threads + Wait + Sy
     Some((span, held, desk.status(rt).done))
 }
 
-// Prints the best of several crawls by so many workers, and what the first holds: later ones use again what it gave back.
+// Prints the best of several crawls by `workers` workers, and the memory of the first one: later
+// ones use again what it gave back.
 fn measure_by<R: Runtime + AllocGlobal + Threads + Wait + Sync>(
     rt: &R,
     host: &Host,

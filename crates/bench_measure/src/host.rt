@@ -13,7 +13,7 @@ pub struct Host {
     replies: Vec<Vec<u8>>,
 }
 
-// A menu of so many places, from this number on.
+// A menu of `count` places, numbered from `first`.
 fn menu(alloc: Global, kind: char, first: usize, count: usize) -> Result<Vec<u8>, AllocError> {
     let mut text = String::new(alloc);
     for offset in 0..count {

@@ -185,7 +185,7 @@ impl<C: Crew, R: Wait + Drop> Desk<C, R> {
     /// record after it.
     ///
     /// # Errors
-    /// 90, only if a place waits.
+    /// `NoMemory` (90), only if a place waits.
     pub fn claim<W: Wait>(
         &self,
         rt: &W,
@@ -235,7 +235,7 @@ impl<C: Crew, R: Wait + Drop> Desk<C, R> {
     /// The note, if there is one, is of a legal record that ends with the failure.
     ///
     /// # Errors
-    /// 52: the number isn't out on a legal record.
+    /// `FailRefused` (52): the number isn't out on a legal record.
     pub fn fail<W: Wait>(
         &self,
         rt: &W,
@@ -282,7 +282,7 @@ impl<C: Crew, R: Wait + Drop> Desk<C, R> {
     /// was merged since the last page.
     ///
     /// # Errors
-    /// 90, only if a place waits.
+    /// `NoMemory` (90), only if a place waits.
     pub(crate) fn next<W: Wait>(
         &self,
         rt: &W,
@@ -373,8 +373,8 @@ impl<C: Crew, R: Wait + Drop> Desk<C, R> {
     /// fails.
     ///
     /// # Errors
-    /// 62: the shares don't count all events of the record after the first. The error has the desk,
-    /// and the shares merged into one.
+    /// `CloseRefused` (62): the shares don't count all events of the record after the first. The
+    /// error has the desk, and the shares merged into one.
     pub fn close(self, shares: Vec<Share<C>>) -> Result<Catalogue, CloseRefused<C, R>>
         ensures counted { IfOk result (λ catalogue. length catalogue ≡ events_of shares.items + 1) }
         ensures legal { IfOk result (λ catalogue. IsLegal catalogue) }

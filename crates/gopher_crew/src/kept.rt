@@ -95,7 +95,7 @@ impl<C: Crew, R: Wait + Drop> Kept<C, R> {
     /// published yet. Returns a note exactly if the whole record is published as the call ends.
     ///
     /// # Errors
-    /// 90, only if a place waits. Nothing changes then.
+    /// `NoMemory` (90), only if a place waits. Nothing changes then.
     #[tactic(auto, using(crate::proofs::Keeping::turn_keeps, crate::proofs::Keeping::turn_counts))]
     pub fn claim(&mut self, share: &mut Share<C>) -> Result<(Turn, Option<Note<C>>), NoMemory>
         ensures turn { IfOk result (λ reply. turn_data reply.0 ≡ turn_of self.old.events) }
@@ -160,7 +160,7 @@ impl<C: Crew, R: Wait + Drop> Kept<C, R> {
     /// published as the call ends.
     ///
     /// # Errors
-    /// 52: the number isn't out. Nothing changes then.
+    /// `FailRefused` (52): the number isn't out. Nothing changes then.
     pub fn fail(
         &mut self,
         share: &mut Share<C>,

@@ -30,7 +30,7 @@ pub enum Change {
 /// What makes the next version: the change of its pages, and its record.
 #[derive(Drop)]
 pub struct Update {
-    /// Where a copy of an index is made.
+    /// The allocator for a copy of an index.
     pub(crate) alloc: Global,
     pub(crate) change: Change,
     pub(crate) prefix: RecordPrefix,
@@ -80,7 +80,8 @@ impl Change {
     /// Changes the pages of an index. If a search shares the index, another index takes its place.
     ///
     /// # Errors
-    /// 90, also if the index would have more than 65,536 pages. The pages are then as before.
+    /// `NoMemory` (90): out of memory, or the index would have more than 65,536 pages. The pages
+    /// are then as before.
     pub fn apply(&self, alloc: Global, index: &mut Arc<Index>) -> Result<(), NoMemory>
         ensures { MatchResult result
             (λ _. arc_value index.new ≡ pages_after self.now (arc_value index.old))

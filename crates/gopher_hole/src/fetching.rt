@@ -18,7 +18,7 @@ pub struct TcpFetch {
 }
 
 impl TcpFetch {
-    /// Makes a fetcher that has fetched nothing yet. Takes no memory.
+    /// Makes a fetcher that has fetched nothing yet.
     pub fn new() -> TcpFetch
         ensures { result.calls ≡ 0 }
     {

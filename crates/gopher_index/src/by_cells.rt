@@ -122,8 +122,8 @@ fn rank_segments<'a>(
     Ok(())
 }
 
-// Returns the best of the first segment. If `wanted` is given, the least score is a guess of what so
-// many pages reach.
+// Returns the best of the first segment. If `wanted` is given, the least score is a guess of the
+// score that this many pages reach.
 fn best_of_first<'a>(
     alloc: Global,
     segment: &'a Segment,

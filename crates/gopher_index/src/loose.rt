@@ -13,7 +13,7 @@ use gopher_item::NoMemory;
 use gopher_page::{Page, Term};
 use std::sync::Arc;
 
-// Returns what a term with so many occurrences adds to the score.
+// Returns what a term with `count` occurrences adds to the score.
 fn scored(term: &Term, count: u32) -> u32
     ensures { result ≡ if is_not term.now.operator then 0 else count }
 {

@@ -1,5 +1,5 @@
-//! Pages that tie with the last of the best: the ranks of their places tell which of them can't get among
-//! the best, so that most of these pages aren't read.
+//! Pages that tie with the last of the best: the ranks of their places show which of them can't get
+//! among the best, so that most of these pages aren't read.
 
 ghost use Rattle.std.specs.Prelude.{◌≡◌, ◌<◌, Some, length, map, slice_get, OnOk};
 ghost use Rattle.std.specs.Arc.{arc_value};

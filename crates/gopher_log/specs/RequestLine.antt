@@ -6,7 +6,8 @@ use Rattle.gopher_log.specs.declared.moment.Moment.{Moment}
 use Rattle.gopher_log.specs.Moment.{moment_bytes}
 use Rattle.gopher_log.specs.Escaped.{escaped}
 
--- a request: when it came to its end, who asked, the line, how many bytes were sent, and for how many microseconds it was served
+-- a request: when it ended, the client's address, the line that was asked, the number of bytes that
+-- were sent, and the microseconds that it took
 pub record RequestData : Type 0 where
   pub ended : Moment
   pub peer : List ℕ

@@ -11,7 +11,8 @@ IsHandedOn before after = (after ≡ no_lines) ⊎ (after ≡ before)
 abbrev pub AddsRequestTo : RequestData → BatchData → BatchData → Type 0
 AddsRequestTo request before after = (after ≡ with_request before request) ⊎ (after ≡ with_dropped before)
 
--- the line of a request with this line asked and this many bytes sent was added to a batch, or to the one after it
+-- the line of a request, with this line asked and this many bytes sent, was added to a batch or to
+-- the next one
 abbrev pub AddsRequest : List ℕ → ℕ → BatchData → BatchData → Type 0
 AddsRequest asked sent before after =
     (request : RequestData) × (request.asked ≡ asked) × (request.sent ≡ sent)

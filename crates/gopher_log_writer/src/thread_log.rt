@@ -54,8 +54,8 @@ impl ThreadLog {
         }
     }
 
-    /// Notes that a connection from an address is accepted now. Returns `None` if nothing is logged, or
-    /// the clock can't be read.
+    /// Records that a connection from an address is accepted now. Returns `None` if nothing is
+    /// logged, or the clock can't be read.
     pub fn accept(&self, clock: &impl Clock, peer: IpAddr) -> Option<Accepted> {
         if self.queue.is_none() {
             return None;

@@ -78,7 +78,7 @@ impl LogWriter {
         }
     }
 
-    // Waits for the next batch, if all of the last is written. False if no more come.
+    // Waits for the next batch, if all of the last is written. Returns false if no more come.
     fn take_next(
         &mut self,
         rt: &impl Wait,

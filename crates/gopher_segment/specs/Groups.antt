@@ -24,7 +24,7 @@ head_words heads = map (λ head. head.0) heads
 abbrev pub LackWord : List ℕ → List (List ℕ) → Type 0
 LackWord word words = AllByRecursion (λ other. same_word other word ≡ false) words
 
--- each head's list is one of so many lists
+-- each head's list is one of `lists` lists
 abbrev pub HaveLists : ℕ → List (List ℕ × ℕ) → Type 0
 HaveLists lists heads = AllByRecursion (λ head. head.1 < lists) heads
 

@@ -18,14 +18,14 @@ pub record AreNumbered (pages : List PageData) (placed : List (PlaceData × ℕ)
   pub place : (k : ℕ) (d : PageData) (e : PlaceData × ℕ) → k < length pages
       → (slice_index_or placed k e).0 ≡ (slice_index_or pages k d).place
 
--- the rank of an index is a position at which it stands
+-- the rank of an index is one of its positions in the list, at most 65,535
 pub record HasPosition (sorted : List (PlaceData × ℕ)) (ranks : List ℕ) (index : ℕ) : Type 0 where
   pub at : ℕ
   pub within : at < length sorted
   pub here : (e : PlaceData × ℕ) → (slice_index_or sorted at e).1 ≡ index
   pub rank : slice_index ranks index ≡ min at 65535
 
--- the same for each index that stands in the list
+-- the rank of each index in the list is one of its positions
 pub record AreScattered (sorted : List (PlaceData × ℕ)) (ranks : List ℕ) : Type 0 where
   pub each : length ranks ≡ length sorted
   pub positions : (k : ℕ) (e : PlaceData × ℕ) → k < length sorted

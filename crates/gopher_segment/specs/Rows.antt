@@ -26,7 +26,7 @@ rows_count test page [] = 0
 rows_count test page (row ∷ rows) =
     (if test row.0 then count_in page row.1 else 0) + rows_count test page rows
 
--- the postings of a word, or none if no row has it
+-- the postings of a word; none if no row has the word
 abbrev pub postings_of : List ℕ → List (List ℕ × List (ℕ × ℕ)) → List (ℕ × ℕ)
 postings_of word [] = []
 postings_of word (row ∷ rows) =
@@ -141,8 +141,8 @@ ComeBefore words (rows ∷ tables) = AllBeforeNext words (first_word rows) × Co
 
 -- ---- joining rows
 
--- two lists of rows count the same for each page and each test of words, and have the same postings
--- of each word
+-- two lists of rows give equal counts for each page and each test of words, and equal postings of
+-- each word
 pub record TellAlike (rows others : List (List ℕ × List (ℕ × ℕ))) : Type 0 where
   pub counts : (test : List ℕ → Bool) (page : ℕ)
       → rows_count test page others ≡ rows_count test page rows

@@ -1,4 +1,4 @@
--- What a tree's replies and a pass answer, one line after another.
+-- A tree's replies and a pass, which answer one line after another.
 use Rattle.std.specs.Prelude.{◌≡◌, ℕ, List, [], ◌∷◌, refl}
 use Rattle.std.proofs.Common.{◌∙◌, subst, sym}
 use mathlib.Core.List.{IsPrefix}
@@ -9,7 +9,7 @@ use Rattle.gopher_crew.proofs.Prefixes.{prefix_self, prefix_trans}
 use Rattle.gopher_conversation.specs.Leads.{IsChain, Leads}
 use Rattle.gopher_serve.specs.Answer.{AnswersLine, SeesOn}
 
--- a tree's files, the server's address, and what its pass has seen and was told of
+-- a tree's files, the server's address, and the records that its pass has seen and was told
 pub record SiteData : Type 0 where
   pub files : List File
   pub home : HomeData
@@ -18,7 +18,8 @@ pub record SiteData : Type 0 where
 abbrev pub site_with : List File → HomeData → PassData → SiteData
 site_with files home pass = record { files = files; home = home; pass = pass }
 
--- the site is the same, but for what its pass knows more; this holds of one answer, and of any number
+-- the site is the same, except that its pass may have seen a longer record; this is true after one
+-- answer and after any number of answers
 pub record LeadsOn (old new : SiteData) : Type 0 where
   pub files : new.files ≡ old.files
   pub home : new.home ≡ old.home

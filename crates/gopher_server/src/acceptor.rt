@@ -11,7 +11,7 @@ use std::sync::Arc;
 // For how many milliseconds a thread accepts nothing if descriptors or memory are short.
 const PAUSE: u64 = 100;
 
-// How a thread stands toward the listeners.
+// Whether a thread accepts connections, and if not, why.
 #[derive(Clone, Copy, PartialEq, Eq)]
 enum Accepting {
     // It accepts what waits.

@@ -1,4 +1,4 @@
--- A line of a menu file as the code has it, with its parts borrowed from the file.
+-- A line of a menu file as a value of the program. Its parts borrow from the file.
 use Rattle.std.specs.Prelude.{◌≡◌, ℕ, List, Option}
 use Rattle.std.specs.Option.{option_map}
 use Rattle.std.specs.Borrow.{Bor}

@@ -63,7 +63,7 @@ fn finds_root(alloc: Global, book: &Book) -> Option<bool> {
     Some(is_root(&hits))
 }
 
-// The word stands once, in the page of the root.
+// The word occurs once, in the page of the root.
 fn has_word_in_root(book: &Book) -> Option<bool> {
     let list = book.occurrences(b"docs").ok()?;
     match list.as_slice() {

@@ -43,7 +43,7 @@ pub fn claimed(catalogue: &mut Catalogue) -> Option<u32> {
     }
 }
 
-/// The page of the directory with this selector, as the catalogue's scope has it.
+/// The page of the directory with this selector, in the scope of the catalogue.
 pub fn page_of(alloc: Global, catalogue: &Catalogue, selector: &[u8], menu: &[u8]) -> Option<Page>
     requires { length menu.now ≤ 1048576 }
 {
@@ -99,7 +99,7 @@ fn a_refused_page_is_given_back(rt: HostRuntime) {
     assert!(rt; gives_the_page_back(rt.alloc()) == Some(true));
 }
 
-// A start that is refused since nothing is allowed.
+// A start that is refused because nothing is allowed.
 fn start_without_rules(alloc: Global, places: u32) -> Option<OpenRefused> {
     let seeds = directories(alloc, &[b""])?;
     let nothing = Scope::new(Vec::new(alloc), Vec::new(alloc));

@@ -4,7 +4,8 @@ ghost use Rattle.std.specs.Prelude.{◌≡◌, length, IfOk};
 use std::io;
 use std::io::{Error, ErrorKind, Read, Write};
 
-/// Gives the bytes one a read, each after so many reads that are interrupted; then it is at its end, or fails.
+/// Returns one byte at each read, after a number of interrupted reads. Then its input ends, or it
+/// fails.
 #[derive(Drop)]
 pub struct Slow<'a> {
     pub bytes: &'a [u8],
@@ -52,8 +53,8 @@ pub enum Ending {
     Fails,
 }
 
-/// Takes `room` bytes, which have to be those that `left` begins with, is interrupted so many times, and then
-/// goes on as `ending` says.
+/// Takes `room` bytes, which have to be a prefix of `left`, then is interrupted some times, and
+/// then goes on as `ending` says.
 #[derive(Drop)]
 pub struct Narrow<'a> {
     pub left: &'a [u8],

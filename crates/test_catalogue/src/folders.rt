@@ -166,7 +166,7 @@ fn trees_are_refused(rt: HostRuntime) {
     assert!(rt; tree_of(rt.alloc(), FITTING).is_ok());
 }
 
-/// A file of so many bytes, all of them this one.
+/// A file of `size` bytes, all of them `byte`.
 pub fn file_of(alloc: Global, path: &[u8], byte: u8, size: usize) -> Option<(Vec<u8>, Vec<u8>)> {
     let path = Vec::from_slice(alloc, path).ok()?;
     let bytes = vec![in alloc; byte; size].ok()?;
@@ -182,7 +182,7 @@ pub fn only(alloc: Global, file: Option<(Vec<u8>, Vec<u8>)>) -> Option<Vec<(Vec<
 
 const TOO_BIG: TreeFault = TreeFault::TooBig { file: 0 };
 
-// The fault, if any, of a file of so many zeros.
+// The fault, if any, of a file of `size` zeros.
 fn fault_of_size(alloc: Global, size: usize) -> Option<Option<TreeFault>> {
     let files = only(alloc, file_of(alloc, b"a", 0, size))?;
     Some(Tree::of_files(alloc, files).err())

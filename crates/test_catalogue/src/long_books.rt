@@ -5,7 +5,7 @@ use std::alloc::Global;
 
 const FILES: u32 = 600;
 
-// The menu of so many files.
+// The menu of the files.
 fn menu(alloc: Global) -> Option<Vec<u8>> {
     let mut menu = Vec::new(alloc);
     for number in 0..FILES {

@@ -123,7 +123,8 @@ fn reads_menus(rt: HostRuntime) {
     }
 }
 
-// Whether a line with this type byte is an item of that type, but for the bytes that end a field or a line.
+// Whether a line with this type byte is an item of that type. Bytes that end a field or a line are
+// no type.
 fn is_read_by_type(alloc: Global, kind: u8) -> bool {
     let bytes = [
         kind, b'x', b'\t', b'/', b's', b'\t', b'h', b'\t', b'7', b'0', b'\r', b'\n',

@@ -1,4 +1,4 @@
-// The pages of an index are merged, so often as its number of pages tells.
+// How often the pages of an index are merged depends on their number alone.
 use gopher_index::Index;
 use gopher_item::Place;
 use gopher_page::Page;
@@ -26,7 +26,7 @@ pub fn add(alloc: Global, index: &mut Index, number: u32) -> Option<()> {
     index.add(page(alloc, number)?).ok()
 }
 
-// Merges one run of pages, if one is due, and puts it in its place: whether it did.
+// Merges one run of pages, if one is due, and puts it in its place. Returns whether it did.
 fn merges_one(alloc: Global, index: &mut Index) -> Option<bool> {
     let Some(mut due) = index.due().ok()? else {
         return Some(false);
@@ -46,7 +46,7 @@ pub fn merges(alloc: Global, index: &mut Index) -> Option<u32> {
     None
 }
 
-// How often pages are merged in an index that so many are added to, one by one.
+// How often pages are merged in an index to which `pages` pages are added one by one.
 fn merges_of(alloc: Global, pages: u32) -> Option<u32> {
     let mut index = Index::new(alloc);
     let mut count = 0_u32;

@@ -74,7 +74,7 @@ fn pages_have_titles(rt: HostRuntime) {
 /// A text of four words.
 pub const SUN: &[u8] = b"The sun and the moon.\r\n..moon moon\r\n.\r\n";
 
-// The words of that text, in order, each with how often it stands there.
+// The words of that text, in order, each with how often it occurs.
 const COUNTS: &[(&[u8], u32)] = &[(b"and", 1), (b"moon", 3), (b"sun", 1), (b"the", 2)];
 
 // Whether a page has these counts, and no others.

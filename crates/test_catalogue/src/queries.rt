@@ -10,7 +10,7 @@ fn query(alloc: Global, text: &[u8]) -> Result<Query, QueryFault> {
     Query::read(alloc, text)
 }
 
-// A query, the reply of a page, and its score where it matches.
+// A query, the reply of a page, and the score of the page if it matches.
 const ROWS: &[(&[u8], &[u8], Option<u64>)] = &[
     (b"moon or sun not rain", b"sun rain\r\n.\r\n", None),
     (b"moon or sun not rain", b"moon\r\n.\r\n", Some(1)),
@@ -42,7 +42,7 @@ fn queries_match_pages(rt: HostRuntime) {
     }
 }
 
-// A query, and the words that it wants, each with whether it stands for those that begin with it.
+// A query, and the words that it wants, each with whether it is a prefix.
 const WANTS: &[(&[u8], &[(&[u8], bool)])] = &[
     (
         b"moon or sun not rain",

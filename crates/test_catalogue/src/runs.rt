@@ -3,7 +3,7 @@ use crate::merges::{add, merges};
 use gopher_index::Index;
 use std::alloc::Global;
 
-// An index of so many pages, none of which is in a segment.
+// An index of `pages` pages, none of which is in a segment.
 fn loose(alloc: Global, pages: u32) -> Option<Index> {
     let mut index = Index::new(alloc);
     for number in 0..pages {

@@ -9,7 +9,7 @@ const WORKED: &str =
 const STATED: &str =
     "host = 'h'\nroot = 'r'\nplaces = 65536\nworkers = 16\nthreads = 8\ntries = 5\nseeds = [{ host = 'a' }, { host = 'B', type = '0', port = 65535, selector = '/x' }]\n";
 
-// The numbers of a server that are stated or stand where none is.
+// The numbers of a server, each as the settings state it or the value for a missing key.
 fn numbers(settings: &Settings) -> [u32; 5] {
     [
         u32::from(settings.home.port()),

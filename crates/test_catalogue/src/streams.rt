@@ -1,4 +1,4 @@
-// Lines and replies read from streams, and bytes sent: where they end, and which failure is which.
+// Lines and replies read from streams, and bytes sent: how each ends, and with which fault.
 ghost use Rattle.std.specs.Prelude.{◌≤◌};
 
 use crate::devices::{Ending, Narrow, Slow};
@@ -18,7 +18,7 @@ fn line_of(alloc: Global, slow: Slow) -> (Result<usize, u8>, usize, u64) {
     (end, reader.into_inner().bytes.len(), failures)
 }
 
-// Whether a line that ends so, behind so many times the byte `a`, is read so.
+// Whether a line of `count` times the byte `a` with this end is read as wanted.
 fn bounds_a_line(
     alloc: Global,
     count: usize,
@@ -70,8 +70,8 @@ fn a_read_that_fails_ends_a_line_at_each_place(rt: HostRuntime) {
     assert!(rt; line_of(rt.alloc(), Slow::new(line, 0, true)) == (Ok(6), 0, 0));
 }
 
-// Whether the bytes are read as a reply of at most so many, or the number of the fault; and whether they are the
-// first that the reader had, of which so many are left.
+// Whether reading a reply of at most `limit` bytes succeeds or fails as wanted, returns the first
+// bytes that the reader had, and leaves `left` bytes.
 fn reply_of(alloc: Global, slow: Slow, limit: usize, wanted: Result<(), u8>, left: usize) -> bool
     requires { limit ≤ 1048576 }
 {
@@ -85,8 +85,8 @@ fn reply_of(alloc: Global, slow: Slow, limit: usize, wanted: Result<(), u8>, lef
     end == wanted && reader.into_inner().bytes.len() == left
 }
 
-// So many bytes, how many reads are interrupted before each, how the reading of a mebibyte at most ends, and how
-// many bytes are left.
+// The number of bytes, the number of interrupted reads before each, how the reading of at most a
+// mebibyte ends, and the number of bytes that are left.
 const MEBIBYTES: &[(usize, u32, Result<(), u8>, usize)] = &[
     (1_048_575, 1, Ok(()), 0),
     (1_048_576, 1, Err(11), 0),

@@ -35,7 +35,7 @@ pub struct EndedCrawl {
     pub least_calls: u64,
 }
 
-// Two files, by so many workers.
+// A crawl of two files by `workers` workers.
 fn two_files(workers: u8, tries: u32, fate: Fate<'_>) -> Plan<'_> {
     Plan {
         root: TWO_FILES,
@@ -125,8 +125,8 @@ fn closed<C: Crew, R: Wait + Abort + AllocGlobal, F: Drop>(
     catalogue
 }
 
-// The crawl is through: so many places, and these files are found by `moon`, by the pass as in the
-// catalogue.
+// The crawl has finished with `known` places, and both the pass and the catalogue find these files
+// by `moon`.
 fn has_files<R: Abort + AllocGlobal>(rt: &R, crawled: &EndedCrawl, known: u32, letters: &[u8]) {
     let status = crawled.catalogue.status();
     assert!(rt; (status.known, status.done, status.dropped) == (known, known, 0));

@@ -1,4 +1,4 @@
-// Crawls of so many pages that some of them are merged while they go on.
+// Crawls with enough pages that some of them are merged while the crawl goes on.
 use crate::crawls::{Plan, crawled};
 use crate::tables::{Fate, MOON};
 use gopher_catalogue::Catalogue;
@@ -15,7 +15,8 @@ fn digits(number: u32) -> [u8; 4] {
     [digit(1_000), digit(100), digit(10), digit(1)]
 }
 
-// The menu of files `/1000` and on. Those that come first in the order of places stand all over it.
+// The menu of files from `/1000` on. Those that come first in place order are spread over all of
+// it.
 fn menu(alloc: Global) -> Result<Vec<u8>, AllocError> {
     let mut menu = Vec::new(alloc);
     for step in 0..FILES {

@@ -43,7 +43,7 @@ const LATE: u64 = 300;
 pub enum Fate<'a> {
     /// Nothing.
     Answered,
-    /// So many fetches of `/a`, of all fetchers together, can't be read.
+    /// This many fetches of `/a`, of all fetchers together, can't be read.
     Failing(&'a AtomicU64),
     /// Fetches of `/a` are late, and are refused for this reason, if there is one.
     Late(Option<Why>),
@@ -75,7 +75,8 @@ fn takes_failure(failures: &AtomicU64) -> bool {
     })
 }
 
-// Waits until so many files were answered, and counts one more. A file that waits in vain can't be read.
+// Waits until `before` files were answered, and counts one more. A file that waits in vain can't be
+// read.
 fn hold(clock: &impl Clock, answered: &AtomicU64, before: u64) -> Result<(), Why> {
     for _look in 0..LOOKS {
         if answered.load(Ordering::SeqCst) >= before {
@@ -139,7 +140,7 @@ pub fn place<R: Abort + AllocGlobal>(rt: &R, kind: u8, selector: &[u8], host: &[
     place
 }
 
-/// A crawl of a host at port 70 that begins in its root and knows so many places at most.
+/// A crawl of a host at port 70 that begins in its root and knows at most `places` places.
 pub fn catalogue<R: Abort + AllocGlobal>(
     rt: &R,
     host: &[u8],

@@ -1,4 +1,4 @@
-// The program flushes what it wrote, and tells where that fails.
+// The program flushes what it wrote, and reports a flush that fails.
 use crate::system::{Host, system, words};
 use gopher_hole::run;
 use gopher_text::Watched;
@@ -6,7 +6,7 @@ use std::io;
 use std::io::{Error, ErrorKind, Write};
 use std::test::Fail;
 
-/// A writer that takes all, and counts it. Each of its flushes fails where it is stuck.
+/// A writer that takes all bytes and counts them. If it is stuck, each of its flushes fails.
 #[derive(Clone, Copy)]
 struct Counter {
     taken: usize,

@@ -47,8 +47,8 @@ impl<
 /// The sockets that a test has opened for itself.
 pub type Sockets = Option<(TcpListener, TcpStream)>;
 
-/// The system of a test, as one on which the program runs. The types of its sockets have to be named
-/// where it is handed on.
+/// The system of a test, as one on which the program runs. A caller has to name the types of its
+/// sockets.
 pub fn system<H>(rt: &H) -> (&H, Sockets) {
     (rt, None)
 }

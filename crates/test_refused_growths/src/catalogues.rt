@@ -47,7 +47,7 @@ fn sizes(catalogue: &Catalogue) -> Sizes {
     (catalogue.record().len(), catalogue.status())
 }
 
-// Whether a catalogue is as it was: so many pages have the word that each page has.
+// Whether a catalogue is unchanged: its sizes, and the number of pages with the word of every page.
 fn is_as_before(catalogue: &Catalogue, query: &Query, before: Sizes, pages: usize) -> bool {
     match catalogue.search(query) {
         Ok(hits) => sizes(catalogue) == before && hits.len() == pages,
@@ -209,7 +209,8 @@ fn query(alloc: Global, text: &[u8]) -> Checked<Query> {
     }
 }
 
-// How many pages a search finds, and the score of the first; and in how many the word `moon` stands.
+// The number of pages that a search finds, the score of the first, and the number of pages that
+// contain the word `moon`.
 fn found_by(catalogue: &Catalogue, query: &Query) -> Option<(usize, u64, usize)> {
     let hits = catalogue.search(query).ok()?;
     let score = match hits.first() {

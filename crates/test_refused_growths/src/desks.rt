@@ -101,7 +101,7 @@ fn found<C: Crew, R: Wait>(
     }
 }
 
-// Whether a pass sees so many events at least, and the page from the third event on.
+// Whether a pass sees at least `at_least` events, and the page from the third event on.
 fn sees<C: Crew>(pass: &mut Pass<C>, query: &Query, at_least: u32) -> Checked<()> {
     let answer = searched(pass, query)?;
     let is_found = answer.hits.len() == 1;

@@ -28,7 +28,7 @@ fn scope(alloc: Global) -> Option<Scope> {
     Some(Scope::new(allow, deny))
 }
 
-/// The scope of one host, but for what is private, in one of two tries.
+/// The scope of one host without its private part, made in one of two tries.
 pub fn scope_at_last(alloc: Global) -> Checked<Scope> {
     match scope(alloc) {
         Some(scope) => Ok(scope),

@@ -73,7 +73,7 @@ fn end_so(
         && served(alloc, reader, writer) == (wanted, left)
 }
 
-// Whether these bytes, in pieces of each size, are replied to so, or refused as too long where the reply is empty.
+// Whether these bytes, in pieces of each size, get this reply or, if it is empty, fail as too long.
 fn replies_so(alloc: Global, bytes: &[u8], reply: &[u8]) -> bool {
     let wanted = if reply.is_empty() {
         Some(ServeFault::LineTooLong)
@@ -90,7 +90,7 @@ fn replies_so(alloc: Global, bytes: &[u8], reply: &[u8]) -> bool {
     true
 }
 
-// So many times the byte `a`, what follows it, and the reply.
+// The number of bytes `a`, what follows them, and the reply.
 const LINES: &[(usize, &[u8], &[u8])] = &[
     (0, b"/a.txt\r\n/b\r\n", HELLO),
     (0, b"", ROOT),
@@ -151,7 +151,8 @@ fn a_read_that_fails_ends_a_conversation_at_each_place(rt: HostRuntime) {
     }
 }
 
-// What a conversation is given, the room that it has, how it stands then, and what it has sent in all.
+// The bytes that a conversation gets, the room for its reply, its progress then, and the number of
+// bytes that it has sent in all.
 const STEPS: &[(&[u8], usize, Progress, usize)] = &[
     (b"/a.", 100, Progress::Waits, 0),
     (b"", 100, Progress::Waits, 0),

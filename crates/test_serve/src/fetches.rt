@@ -8,7 +8,7 @@ use std::alloc::Global;
 
 const REQUEST: &[u8] = b"/moon\r\n";
 
-// What is fetched of `/moon` over a stream that gives these bytes and takes so many of the request.
+// Fetches `/moon` over a stream that returns these bytes and takes `room` bytes of the request.
 fn fetched(
     alloc: Global,
     bytes: &[u8],

@@ -83,7 +83,7 @@ fn page(alloc: Global) -> Option<Page> {
     Page::of(alloc, &scope, &root, DOCS).ok()
 }
 
-/// Whether the page of that root is fetched, and the pass is told of it.
+/// Whether the page of that root is recorded, and the pass hears its note.
 pub fn finds_docs<C: Crew, R: Wait>(
     rt: &R,
     alloc: Global,

@@ -49,7 +49,7 @@ impl<'a> Stream<'a> {
         }
     }
 
-    /// One that takes so many of these bytes, three at a time.
+    /// One that takes `room` of these bytes, three at a time.
     pub fn taking(left: &'a [u8], room: usize, ending: Ending) -> Stream<'a> {
         Stream {
             bytes: b"",
