@@ -1,8 +1,8 @@
 //! `Catalogue`: the steps of a crawl, open, claim, found and fail, and its searches.
 
-ghost use Rattle.std.specs.Prelude.{◌≡◌, ℕ, true, false, None, Some, [], ◌∷◌, ◌++◌, map, not, position, slice_get, IfOk, IfErr, IfSome, OnOk, OnErr};
+ghost use Rattle.std.specs.Prelude.{◌≡◌, ℕ, true, false, None, Some, [], ◌∷◌, ◌++◌, map, slice_get, IfOk, IfErr, IfSome, OnOk, OnErr};
 ghost use Rattle.std.specs.Arc.{arc_value};
-ghost use Rattle.gopher_scope.specs.Scope.{allows};
+ghost use Rattle.gopher_scope.specs.Scope.{first_outside};
 ghost use Rattle.gopher_index.specs.Index.{IsSliceOf};
 ghost use Rattle.gopher_catalogue.specs.Event.{EventData, Opened, Claimed, Found, Failed};
 ghost use Rattle.gopher_catalogue.specs.EventOf.{event_data};
@@ -53,7 +53,7 @@ impl Model for Catalogue {
 
 // The index of the first seed that the scope doesn't allow.
 fn first_outside(scope: &Scope, seeds: &[Place]) -> Option<usize>
-    ensures { result ≡ position (λ seed. not (allows scope.now seed)) seeds.now }
+    ensures { result ≡ first_outside scope.now seeds.now }
 {
     seeds.iter().position(|seed| !scope.allows(seed))
 }

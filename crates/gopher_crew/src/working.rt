@@ -11,11 +11,9 @@ use crate::share::Share;
 use gopher_catalogue::{Claim, Turn, Why};
 use gopher_page::Page;
 use gopher_scope::Scope;
+use gopher_text::MAX_REPLY;
 use std::alloc::Global;
 use std::sync::Wait;
-
-// The most bytes of a reply.
-const MAX_REPLY: usize = 1_048_576;
 
 /// Why a worker stopped.
 #[derive(Clone, Copy, Debug, PartialEq, Eq)]
