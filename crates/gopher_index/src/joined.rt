@@ -9,7 +9,7 @@ ghost use Rattle.gopher_index.specs.declared.plan.Group.{Group};
 
 use crate::cells::spread_term;
 use crate::plan::{Group, higher};
-use gopher_item::NoMemory;
+use gopher_item::{MAX_LINE, NoMemory};
 use gopher_segment::{Segment, words_len};
 use std::alloc::Global;
 
@@ -47,7 +47,7 @@ fn raise_verdicts(group: &Group, verdicts: &mut [u32], counts: &[u32])
 // Adds each count `times` times.
 fn add_times(times: u32, scores: &mut [u32], counts: &[u32])
     requires same { length scores.old ≡ length counts.now }
-    requires times { times ≤ 1024 }
+    requires times { times ≤ MAX_LINE }
     requires room { All (λ score. score ≤ 2 ^ 31) scores.old }
     requires few { All (λ count. count ≤ 1048576) counts.now }
     ensures { scores.new ≡ zipped (λ score count. score + times * count) scores.old counts.now }
@@ -65,7 +65,7 @@ fn join_group(
     verdicts: &mut [u32],
     scores: &mut [u32],
 )
-    requires times { group.now.wanted ≤ 1024 }
+    requires times { group.now.wanted ≤ MAX_LINE }
     requires counts { length counts.old ≡ length segment.now.pages }
     requires verdicts { length verdicts.old ≡ length segment.now.pages }
     requires scores { length scores.old ≡ length segment.now.pages }
@@ -89,7 +89,7 @@ fn join_groups(
     verdicts: &mut [u32],
     scores: &mut [u32],
 )
-    requires few { wanted_in groups.now ≤ 1024 }
+    requires few { wanted_in groups.now ≤ MAX_LINE }
     requires counts { length counts.old ≡ length segment.now.pages }
     requires verdicts { length verdicts.old ≡ length segment.now.pages }
     requires scores { length scores.old ≡ length segment.now.pages }
@@ -177,7 +177,8 @@ impl Joined {
     fn begin(&mut self, segment: &Segment) -> Result<(), NoMemory>
         ensures groups { self.new.groups ≡ self.old.groups }
         ensures cells { MatchResult result (λ _. (groups : List Group)
-            → AreBegun groups segment.now.pages self.old → AreJoined groups segment.now.pages self.new)
+            → AreBegun groups segment.now.pages self.old
+            → AreJoined groups segment.now.pages self.new)
             (λ _. self.new.groups ≡ 0) }
     {
         if self.groups > 0 {
@@ -197,7 +198,7 @@ impl Joined {
     ///
     /// After an error no group is joined.
     pub fn advance(&mut self, segment: &Segment, groups: &[Group]) -> Result<(), NoMemory>
-        requires few { wanted_in groups.now ≤ 1024 }
+        requires few { wanted_in groups.now ≤ MAX_LINE }
         requires ahead { self.old.groups < length groups.now }
         requires begun { AreBegun groups.now segment.now.pages self.old }
         ensures cells { OnOk result (AreJoined groups.now segment.now.pages self.new) }

@@ -27,8 +27,11 @@
 //! the segment show which these are (`ties`). So most pages of one score are never read. Loose
 //! pages are searched by their own counts (`loose`).
 //!
-//! To skip more, a short search first guesses a score that 50 pages reach (`likely`). If fewer than 50
-//! hits reach it, the search runs again without a guess. No contract depends on the guess.
+//! A query has at most as many terms as its line has bytes, 1,024 (`MAX_LINE`). So scores fit in a
+//! `u32`.
+//!
+//! To skip more, a short search first guesses a score that 50 pages reach (`likely`). If fewer than
+//! 50 hits reach it, the search runs again without a guess. No contract depends on the guess.
 //!
 //! Any other search becomes a `Search`, which shares the pages and goes on in steps (`progress`). Its
 //! first step groups equal terms (`plan`). Each further step does one of three things. It joins groups

@@ -9,7 +9,7 @@ ghost use Rattle.gopher_index.specs.Plan.{AreTermGroups, wanted_in};
 
 use crate::best::Best;
 use crate::plan::{Group, weigh_by_groups};
-use gopher_item::NoMemory;
+use gopher_item::{MAX_LINE, NoMemory};
 use gopher_page::{Page, Term};
 use std::sync::Arc;
 
@@ -22,7 +22,7 @@ fn scored(term: &Term, count: u32) -> u32
 
 // Returns whether a page matches, and its score.
 fn weigh_by_terms(terms: &[Term], page: &Page) -> (bool, u64)
-    requires { length terms.now ≤ 1024 }
+    requires { length terms.now ≤ MAX_LINE }
     ensures truth { result.0 ≡ matches terms.now page.now.counts }
     ensures score { result.1 ≡ score terms.now page.now.counts }
 {
@@ -41,7 +41,7 @@ fn rank_loose_page<'a>(
     terms: &[Term],
     best: &mut Best<'a>,
 ) -> Result<(), NoMemory>
-    requires { length terms.now ≤ 1024 }
+    requires { length terms.now ≤ MAX_LINE }
     ensures { OnOk result (TakesIn terms.now (arc_value page.now ∷ []) best.old best.new) }
 {
     let (truth, score) = weigh_by_terms(terms, page);
@@ -57,7 +57,7 @@ pub(crate) fn rank_loose_pages<'a>(
     terms: &[Term],
     best: &mut Best<'a>,
 ) -> Result<(), NoMemory>
-    requires { length terms.now ≤ 1024 }
+    requires { length terms.now ≤ MAX_LINE }
     ensures { OnOk result (TakesIn terms.now (map arc_value loose.now) best.old best.new) }
 {
     for page in loose {
@@ -71,7 +71,7 @@ fn rank_page_by_groups<'a>(
     groups: &[Group],
     best: &mut Best<'a>,
 ) -> Result<(), NoMemory>
-    requires { wanted_in groups.now ≤ 1024 }
+    requires { wanted_in groups.now ≤ MAX_LINE }
     ensures { (terms : List TermData) → AreTermGroups terms groups.now
         → OnOk result (TakesIn terms (arc_value page.now ∷ []) best.old best.new) }
 {
@@ -88,7 +88,7 @@ pub(crate) fn rank_pages_by_groups<'a>(
     groups: &[Group],
     best: &mut Best<'a>,
 ) -> Result<(), NoMemory>
-    requires { wanted_in groups.now ≤ 1024 }
+    requires { wanted_in groups.now ≤ MAX_LINE }
     ensures { (terms : List TermData) → AreTermGroups terms groups.now
         → OnOk result (TakesIn terms (map arc_value pages.now) best.old best.new) }
 {

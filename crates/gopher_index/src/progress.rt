@@ -17,7 +17,7 @@ use crate::hit::Hit;
 use crate::joined::{Joined, truths_of};
 use crate::loose::rank_pages_by_groups;
 use crate::plan::{Group, copied, groups_of};
-use gopher_item::NoMemory;
+use gopher_item::{MAX_LINE, NoMemory};
 use gopher_page::{Page, Term};
 use gopher_segment::{Segment, shared};
 use std::alloc::Global;
@@ -73,7 +73,7 @@ fn kept_with_pages(
     pages: &[Arc<Page>],
     groups: &[Group],
 ) -> Result<Vec<Kept>, NoMemory>
-    requires { wanted_in groups.now ≤ 1024 }
+    requires { wanted_in groups.now ≤ MAX_LINE }
     ensures { (terms : List TermData) → AreTermGroups terms groups.now
         → IfOk result (λ new. AddsPages terms (map arc_value pages.now) kept.now new.items) }
 {
