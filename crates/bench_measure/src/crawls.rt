@@ -1,4 +1,5 @@
-//! A crew that crawls a host in memory: pages a second, the best of several rounds, and its memory for each page.
+//! A crew that crawls a host in memory: pages a second, the best of several rounds, and its memory
+//! for each page.
 
 ghost use Rattle.std.specs.Prelude.{◌≡◌, []};
 

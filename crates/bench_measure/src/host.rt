@@ -6,8 +6,8 @@ use test_tables::Table;
 
 const TEXTS_OF_A_MENU: usize = 128;
 
-/// The replies of a host. Its selectors are their numbers, after a slash: first the menu of menus, then
-/// these, then the texts.
+/// The replies of a host. Its selectors are their numbers, after a slash: first the menu of menus,
+/// then these, then the texts.
 #[derive(Drop)]
 pub struct Host {
     replies: Vec<Vec<u8>>,

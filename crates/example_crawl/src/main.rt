@@ -1,5 +1,5 @@
-//! How a program of your own uses the library: it opens a desk, crawls three replies in memory by two
-//! workers, searches them, and closes the desk.
+//! How a program of your own uses the library: it opens a desk, crawls three replies in memory by
+//! two workers, searches them, and closes the desk.
 //!
 //! What a desk is opened with:
 //!
@@ -70,8 +70,8 @@ fn pairs<C: Crew>(alloc: Global, shares: Vec<Share<C>>) -> Result<Vec<(Burrow, S
     Ok(pairs)
 }
 
-// A search takes no lock: it could as well run in another thread, while the workers crawl. The text of a
-// query has at most 1,024 bytes.
+// A search takes no lock: it could as well run in another thread, while the workers crawl. The text
+// of a query has at most 1,024 bytes.
 fn print_hits<C: Crew, R: Print + AllocGlobal>(
     rt: &R,
     pass: &mut Pass<C>,

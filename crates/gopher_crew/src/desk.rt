@@ -313,9 +313,9 @@ impl<C: Crew, R: Wait + Drop> Desk<C, R> {
         unreachable!()
     }
 
-    /// Limits the memory that the pages of workers may take, in bytes as `Page::size` counts them. A
-    /// worker fails a page past it with `NoMemory` (5), as if out of memory. Without a call of this
-    /// there is no limit.
+    /// Limits the memory that the pages of workers may take, in bytes as `Page::size` counts them.
+    /// A worker fails a page past it with `NoMemory` (5), as if out of memory. Without a call of
+    /// this there is no limit.
     pub fn limit_memory(&self, bytes: u64) {
         self.memory.set_limit(bytes);
     }

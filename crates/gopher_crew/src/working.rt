@@ -167,8 +167,8 @@ impl<F: Drop, C: Crew> WorkEnd<F, C> {
     }
 }
 
-// Claims the next place, fetches it and reports its outcome. Returns why the worker stops if there is no
-// place to claim.
+// Claims the next place, fetches it and reports its outcome. Returns why the worker stops if there
+// is no place to claim.
 fn work_once<C: Crew, R: Wait + Drop, W: Wait, F: Fetch<W> + Drop>(
     rt: &W,
     alloc: Global,

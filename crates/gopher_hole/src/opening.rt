@@ -106,8 +106,8 @@ fn open_catalogue(
     }
 }
 
-/// Loads the folder and opens the desk of the crawl, with one pass for each server thread and one share
-/// for each worker.
+/// Loads the folder and opens the desk of the crawl, with one pass for each server thread and one
+/// share for each worker.
 ///
 /// # Errors
 ///

@@ -33,8 +33,8 @@ fn any_reaches(scores: &[u32], lowest: u32) -> bool
     is_reached
 }
 
-// Inserts the pages from `start` to `end` that match into the best. A page is read only if its score is
-// high enough.
+// Inserts the pages from `start` to `end` that match into the best. A page is read only if its
+// score is high enough.
 fn rank_block<'a>(
     ties: &mut Ties<'a>,
     truths: &[bool],
@@ -67,8 +67,8 @@ fn rank_block<'a>(
     Ok(())
 }
 
-/// Inserts the pages of a segment that match into the best. Skips blocks without a score that is high
-/// enough.
+/// Inserts the pages of a segment that match into the best. Skips blocks without a score that is
+/// high enough.
 pub(crate) fn rank_cells<'a>(
     segment: &'a Segment,
     truths: &[bool],

@@ -95,8 +95,8 @@ impl Index {
 
     /// Appends a page. The index has at most 65,535 pages before.
     ///
-    /// The page is loose until it is merged into a segment (`due`, `settle`). If there are 512 loose
-    /// pages, everything that is due is merged first.
+    /// The page is loose until it is merged into a segment (`due`, `settle`). If there are 512
+    /// loose pages, everything that is due is merged first.
     pub fn add(&mut self, page: Arc<Page>) -> Result<(), NoMemory>
         requires { length self.old < 65536 }
         ensures { MatchResult result (λ _. self.new ≡ self.old ++ arc_value page ∷ [])
@@ -138,13 +138,14 @@ impl Index {
         Ok(Some(due))
     }
 
-    /// Returns a run of pages that is due to be merged, if there is one, and marks it as taken until
-    /// `install`.
+    /// Returns a run of pages that is due to be merged, if there is one, and marks it as taken
+    /// until `install`.
     ///
-    /// Two kinds of runs are due: 64 loose pages, and four segments of the same number of pages. The
-    /// first segment must begin at a multiple of four times that number, and one segment must be able to
-    /// hold all four. If they have 1,024 pages or more, a fifth of their size must follow. So if nothing
-    /// is due, the sizes of the segments follow from the number of pages alone.
+    /// Two kinds of runs are due: 64 loose pages, and four segments of the same number of pages.
+    /// The first segment must begin at a multiple of four times that number, and one segment must
+    /// be able to hold all four. If they have 1,024 pages or more, a fifth of their size must
+    /// follow. So if nothing is due, the sizes of the segments follow from the number of pages
+    /// alone.
     pub fn due(&mut self) -> Result<Option<Due>, NoMemory>
         ensures same { self.new ≡ self.old }
         ensures stands { IfOk result (λ due. IfSome due (λ run. IsSliceOf run self.new)) }
@@ -159,8 +160,8 @@ impl Index {
     /// Puts a merged run in the place of its pages. A run that wasn't merged becomes due again. The
     /// pages are what they were.
     ///
-    /// If pages before the run aren't in a segment yet, the index holds it until they are. When out of
-    /// memory, or if its pages were merged with others meanwhile, the run is dropped.
+    /// If pages before the run aren't in a segment yet, the index holds it until they are. When out
+    /// of memory, or if its pages were merged with others meanwhile, the run is dropped.
     pub fn install(&mut self, due: Due)
         requires { IsSliceOf due self.old }
         ensures { self.new ≡ self.old }
@@ -178,7 +179,8 @@ impl Index {
         }
     }
 
-    // Holds a merged run until the pages before it are in segments. When out of memory, it is due again.
+    // Holds a merged run until the pages before it are in segments. When out of memory, it is due
+    // again.
     fn hold(&mut self, due: Due)
         requires { IsSliceOf due self.old }
         ensures { self.new ≡ self.old }
@@ -268,8 +270,8 @@ impl Index {
         })
     }
 
-    /// Returns the last page if this index is `before` with one loose page more, judged by the numbers of
-    /// its segments and pages.
+    /// Returns the last page if this index is `before` with one loose page more, judged by the
+    /// numbers of its segments and pages.
     ///
     /// Returns `None` if `before` has 512 loose pages, because `add` merges them first.
     pub fn page_after(&self, before: &Index) -> Option<&Arc<Page>>
@@ -286,10 +288,11 @@ impl Index {
         self.loose.last()
     }
 
-    /// Begins a search. Returns the hits if the search is short, and otherwise a `Search` that finds them
-    /// in steps.
+    /// Begins a search. Returns the hits if the search is short, and otherwise a `Search` that
+    /// finds them in steps.
     ///
-    /// The hits are the first 50 pages that match the query, by descending score, then in place order.
+    /// The hits are the first 50 pages that match the query, by descending score, then in place
+    /// order.
     pub fn begin(&self, alloc: Global, query: &Query) -> Result<Begun, NoMemory>
         ensures { IfOk result (λ begun. begun_hits begun ≡ answer_of self.now query.now) }
     {
@@ -312,8 +315,8 @@ impl Index {
         }
     }
 
-    /// Returns the places of the pages that contain `word`, with how often it occurs in each, in place
-    /// order.
+    /// Returns the places of the pages that contain `word`, with how often it occurs in each, in
+    /// place order.
     pub fn occurrences(&self, alloc: Global, word: &[u8]) -> Result<Vec<(Place, u32)>, NoMemory>
         ensures { IfOk result (λ list. AreOccurrences self.now word.now list.items) }
     {

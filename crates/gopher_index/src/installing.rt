@@ -78,8 +78,8 @@ pub(crate) fn put_for_segments(
     Ok(())
 }
 
-/// Appends the segment of the first loose pages to the segments, and removes these pages from the loose
-/// ones.
+/// Appends the segment of the first loose pages to the segments, and removes these pages from the
+/// loose ones.
 pub(crate) fn put_for_loose(
     alloc: Global,
     merged: Arc<Segment>,

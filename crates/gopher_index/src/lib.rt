@@ -11,8 +11,8 @@
 //! or fewer if one can't hold all their words. `due` shares the pages of a run, so `merging` works
 //! without the index. `installing` puts the new segment in place of its pages. Runs that are being
 //! merged are marked, and several can be merged at once. A segment can't follow loose pages, so the
-//! index holds one that is merged too early. At 512 loose pages, `add` merges everything that is due
-//! itself and forgets all marks. Single-threaded callers call `settle` to merge segments.
+//! index holds one that is merged too early. At 512 loose pages, `add` merges everything that is
+//! due itself and forgets all marks. Single-threaded callers call `settle` to merge segments.
 //!
 //! # Searches
 //!
@@ -33,12 +33,12 @@
 //! To skip more, a short search first guesses a score that 50 pages reach (`likely`). If fewer than
 //! 50 hits reach it, the search runs again without a guess. No contract depends on the guess.
 //!
-//! Any other search becomes a `Search`, which shares the pages and goes on in steps (`progress`). Its
-//! first step groups equal terms (`plan`). Each further step does one of three things. It joins groups
-//! to the matches and scores of one segment's pages, spreading the counts of each group once (`joined`).
-//! Or it inserts the pages of a segment that match among the best. Or it inserts up to eight loose
-//! pages. A step that joins groups goes through at most 262,144 cells and postings, or those of one
-//! group if that has more: at most all postings of one segment.
+//! Any other search becomes a `Search`, which shares the pages and goes on in steps (`progress`).
+//! Its first step groups equal terms (`plan`). Each further step does one of three things. It joins
+//! groups to the matches and scores of one segment's pages, spreading the counts of each group once
+//! (`joined`). Or it inserts the pages of a segment that match among the best. Or it inserts up to
+//! eight loose pages. A step that joins groups goes through at most 262,144 cells and postings, or
+//! those of one group if that has more: at most all postings of one segment.
 //!
 //! # Errors
 //!

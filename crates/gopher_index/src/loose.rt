@@ -1,5 +1,5 @@
-//! Searching loose pages, by the counts of each: term by term in short searches, and by groups of equal
-//! terms in searches that are done in steps.
+//! Searching loose pages, by the counts of each: term by term in short searches, and by groups of
+//! equal terms in searches that are done in steps.
 
 ghost use Rattle.std.specs.Prelude.{◌≡◌, ◌≤◌, ◌∷◌, [], List, length, map, OnOk, if◌then◌else◌};
 ghost use Rattle.std.specs.Arc.{arc_value};

@@ -8,12 +8,12 @@ use gopher_item::{MAX_LINE, NoMemory};
 use gopher_page::{Operator, Page, Term};
 use std::alloc::Global;
 
-// Returns the verdict of a term on a page. `number` is the term's index, and `holds` says whether the
-// page contains a word that the term matches.
+// Returns the verdict of a term on a page. `number` is the term's index, and `holds` says whether
+// the page contains a word that the term matches.
 //
-// Terms are joined from left to right, so the last term that changes the result decides: an `and` that
-// doesn't hold, or an `or` or `not` that does. Its verdict is 2 * number + 2, plus 1 if the page
-// matches. The verdict of a term that changes nothing is 0. So the highest verdict decides.
+// Terms are joined from left to right, so the last term that changes the result decides: an `and`
+// that doesn't hold, or an `or` or `not` that does. Its verdict is 2 * number + 2, plus 1 if the
+// page matches. The verdict of a term that changes nothing is 0. So the highest verdict decides.
 fn verdict_of(operator: Operator, number: usize, holds: bool) -> u32
     requires { number < MAX_LINE }
     ensures { result ≡ verdict_of operator number holds }
@@ -60,7 +60,8 @@ impl Group {
         self.fails = higher(self.fails, verdict_of(operator, number, false));
     }
 
-    /// Returns the highest verdict of these terms on a page that contains their words `count` times.
+    /// Returns the highest verdict of these terms on a page that contains their words `count`
+    /// times.
     pub fn verdict(&self, count: u32) -> u32
         ensures { result ≡ verdict_by self.now count }
     {

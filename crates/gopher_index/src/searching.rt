@@ -17,8 +17,8 @@ use std::sync::Arc;
 
 /// A search that is done in steps, so that a thread can serve others in between.
 ///
-/// It shares the pages that the index had at `Index::begin`. If the index changes meanwhile, the hits stay
-/// those of these pages.
+/// It shares the pages that the index had at `Index::begin`. If the index changes meanwhile, the
+/// hits stay those of these pages.
 #[derive(Debug, Drop)]
 pub struct Search {
     progress: Progress,

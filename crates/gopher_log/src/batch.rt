@@ -94,7 +94,8 @@ impl Batch {
         self.dropped = self.dropped.saturating_add(1);
     }
 
-    /// Appends a line with the number of dropped requests, if there are any, and sets the number to 0.
+    /// Appends a line with the number of dropped requests, if there are any, and sets the number to
+    /// 0.
     ///
     /// # Errors
     ///

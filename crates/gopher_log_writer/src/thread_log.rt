@@ -14,7 +14,8 @@ use std::sync::{Arc, Wait};
 use std::thread;
 use std::time::{Clock, Duration, Instant, SystemTime, UNIX_EPOCH};
 
-// How often a server thread that ends tries to hand on its lines, and the milliseconds between two tries.
+// How often a server thread that ends tries to hand on its lines, and the milliseconds between two
+// tries.
 const MAX_TRIES: u32 = 20;
 
 const REST: u64 = 50;
@@ -26,14 +27,15 @@ pub struct Accepted {
     began: Instant,
 }
 
-// Returns the present moment, or `None` if the clock can't be read, or is set before 1970 or after 9999.
+// Returns the present moment, or `None` if the clock can't be read, or is set before 1970 or after
+// 9999.
 fn moment_now(clock: &impl Clock) -> Option<Moment> {
     let now = SystemTime::now(clock).ok()?;
     moment_at(now.duration_since(UNIX_EPOCH).ok()?)
 }
 
-/// A server thread's part of the log. It never waits for the thread that writes: if the queue is full,
-/// it keeps its lines, and counts the requests for which it has no room.
+/// A server thread's part of the log. It never waits for the thread that writes: if the queue is
+/// full, it keeps its lines, and counts the requests for which it has no room.
 #[derive(Drop)]
 pub struct ThreadLog {
     batch: Batch,

@@ -4,7 +4,8 @@ use Rattle.std.specs.Ordering.{is_lt}
 use Rattle.gopher_item.specs.Place.{PlaceData, place_cmp}
 use Rattle.gopher_page.specs.Page.{PageData}
 
--- each page has a rank; of two pages, the one with the higher rank doesn't come first in place order
+-- each page has a rank; of two pages, the one with the higher rank doesn't come first in place
+-- order
 pub record AreRanks (pages : List PageData) (ranks : List ℕ) : Type 0 where
   pub each : length ranks ≡ length pages
   pub ordered : (i j : ℕ) (d : PageData) → i < length pages → j < length pages

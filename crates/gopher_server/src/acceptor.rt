@@ -99,7 +99,8 @@ impl Acceptor {
         Some(listener.accept())
     }
 
-    /// Accepts nothing for 100 ms, and wakes the other threads, which may have connections to close.
+    /// Accepts nothing for 100 ms, and wakes the other threads, which may have connections to
+    /// close.
     pub(crate) fn pause(&mut self, poll: &Poll, now: u64) {
         self.unwatch(poll);
         self.accepting = Accepting::Pauses(now.saturating_add(PAUSE));

@@ -1,5 +1,5 @@
-// Trees of lists of files: their replies, and lists that are refused. What folders are loaded as is shown by
-// tests/check.py and tests/requests.py.
+// Trees of lists of files: their replies, and lists that are refused. What folders are loaded as is
+// shown by tests/check.py and tests/requests.py.
 use gopher_item::Home;
 use gopher_tree::{Node, Tree, TreeFault, error_reply};
 use std::alloc::{AllocError, Global};

@@ -1,5 +1,5 @@
-//! Tests of the crates up to the catalogue: worked examples with their bytes, devices that fail, and what calls of the
-//! catalogue and the book hand out and give back, as no script can show.
+//! Tests of the crates up to the catalogue: worked examples with their bytes, devices that fail,
+//! and what calls of the catalogue and the book hand out and give back, as no script can show.
 #![tactic(auto)]
 
 #[cfg(test)]

@@ -5,7 +5,8 @@ use std::alloc::Global;
 /// What an entry is read as.
 #[derive(Clone, Copy)]
 enum Wanted<'a> {
-    /// The type, display, selector, host and port of an item, and the host of its place, if it has one.
+    /// The type, display, selector, host and port of an item, and the host of its place, if it has
+    /// one.
     Item(u8, &'a [u8], &'a [u8], &'a [u8], u16, Option<&'a [u8]>),
     Odd(&'a [u8]),
 }
@@ -202,8 +203,8 @@ fn writes_what_it_read(rt: HostRuntime) {
     assert!(rt; is_written_as(rt.alloc(), only_line(rt.alloc(), ABOUT), wanted));
 }
 
-// The type, display, selector, host and port of a line that is made, and what it is written as, or the
-// number of its fault.
+// The type, display, selector, host and port of a line that is made, and what it is written as, or
+// the number of its fault.
 const MADE: &[(u8, &[u8], &[u8], &[u8], u16, Result<&[u8], u8>)] = &[
     (
         b'0',

@@ -57,7 +57,8 @@ fn merges_of(alloc: Global, pages: u32) -> Option<u32> {
     Some(count)
 }
 
-// Segments of 64 pages, of 256, of 1,024, of 4,096 once 1,024 follow, and of 16,384 once 4,096 follow.
+// Segments of 64 pages, of 256, of 1,024, of 4,096 once 1,024 follow, and of 16,384 once 4,096
+// follow.
 #[test]
 fn pages_are_merged(rt: HostRuntime) {
     assert!(rt; merges_of(rt.alloc(), 63) == Some(0));

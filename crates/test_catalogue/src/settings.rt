@@ -1,4 +1,5 @@
-// Settings: what the worked text states. Refused texts, and other values, are shown by tests/check.py.
+// Settings: what the worked text states. Refused texts, and other values, are shown by
+// tests/check.py.
 use gopher_item::Place;
 use gopher_scope::Settings;
 use std::alloc::Global;

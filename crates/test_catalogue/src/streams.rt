@@ -6,8 +6,8 @@ use gopher_text::{Watched, read_line_from, read_reply, send};
 use std::alloc::Global;
 use std::io::{Read, Write};
 
-// The length of the line that a reader gives, or the number of its fault; how many bytes it has left, and how
-// many of its reads failed.
+// The length of the line that a reader gives, or the number of its fault; how many bytes it has
+// left, and how many of its reads failed.
 fn line_of(alloc: Global, slow: Slow) -> (Result<usize, u8>, usize, u64) {
     let mut reader = Watched::new(slow);
     let end = match read_line_from(alloc, &mut reader) {
@@ -31,9 +31,9 @@ fn bounds_a_line(
     Some(line_of(alloc, Slow::new(&bytes, interruptions, false)) == wanted)
 }
 
-// A count of letters, what follows them, how many reads are interrupted before each byte; the length of the line
-// or the number of its fault, how many bytes are left, and how many reads failed. With three interruptions each,
-// 4,096 reads reach the LF after 1,023 bytes.
+// A count of letters, what follows them, how many reads are interrupted before each byte; the
+// length of the line or the number of its fault, how many bytes are left, and how many reads
+// failed. With three interruptions each, 4,096 reads reach the LF after 1,023 bytes.
 const LINES: &[(usize, &[u8], u32, (Result<usize, u8>, usize, u64))] = &[
     (6, b"\r\nextra", 0, (Ok(6), 5, 0)),
     (1, b"\r\r\n\n", 0, (Ok(2), 1, 0)),
@@ -112,8 +112,8 @@ fn reads_replies(rt: HostRuntime) {
     assert!(rt; reply_of(rt.alloc(), Slow::new(b"aa", 3, true), 3, Err(10), 0));
 }
 
-// How many bytes are sent before the fault, if there is one; how many are left to be taken, and how many calls
-// failed, of which the last is a flush.
+// How many bytes are sent before the fault, if there is one; how many are left to be taken, and how
+// many calls failed, of which the last is a flush.
 fn sent(bytes: &[u8], narrow: Narrow) -> (Option<(u8, usize)>, usize, u64) {
     let mut writer = Watched::new(narrow);
     let fault = match send(&mut writer, bytes) {

@@ -26,8 +26,8 @@ pub struct Plan<'a> {
     pub tries: u32,
 }
 
-/// A crawl that ended: its catalogue, what a pass answered to `moon` before the desk was closed, and how
-/// often the fetcher fetched that did so least.
+/// A crawl that ended: its catalogue, what a pass answered to `moon` before the desk was closed,
+/// and how often the fetcher fetched that did so least.
 #[derive(Drop)]
 pub struct EndedCrawl {
     pub catalogue: Catalogue,
@@ -177,8 +177,8 @@ fn late_outcomes_end_a_crawl(rt: HostRuntime) {
     }
 }
 
-// A root whose directory leads back to it, and to a file that can't be read: three places are known and
-// done, and the second one's page alone has `b` and `home`.
+// A root whose directory leads back to it, and to a file that can't be read: three places are known
+// and done, and the second one's page alone has `b` and `home`.
 #[test]
 fn a_circle_of_links_ends(rt: HostRuntime) {
     for workers in 1..3u8 {
@@ -213,8 +213,8 @@ fn files_for(workers: u8) -> (&'static [u8], &'static [u8]) {
     }
 }
 
-// Two workers, and four, must all fetch at once, and each does: a file is answered only after those behind
-// it were.
+// Two workers, and four, must all fetch at once, and each does: a file is answered only after those
+// behind it were.
 #[test]
 fn workers_fetch_at_once(rt: HostRuntime) {
     for workers in [2u8, 4] {

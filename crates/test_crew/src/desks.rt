@@ -76,7 +76,8 @@ fn finds_docs<C: Crew, R: Abort + AllocGlobal>(rt: &R, pass: &mut Pass<C>, at: u
     assert!(rt; answer.hits[0].title.as_slice() == b"Docs".as_slice());
 }
 
-// The first pass hears that a page was found, and the second finds it too. Then the page's directory fails.
+// The first pass hears that a page was found, and the second finds it too. Then the page's
+// directory fails.
 fn crawl_docs<C: Crew, R: Wait + Abort + AllocGlobal>(rt: &R, blank: Blank) -> Catalogue
     requires name { blank.name ≡ C.name }
     requires parts { blank.parts ≡ C.parts }

@@ -29,8 +29,8 @@ pub const ONE_DIRECTORY: &[u8] = b"1A\t/a\th\t70\r\n.\r\n";
 
 pub const HOME_AND_FILE: &[u8] = b"1Home\t\th\t70\r\n0B\t/b\th\t70\r\n.\r\n";
 
-// How often a fetch that is held looks whether it may go on, and for how many milliseconds it sleeps
-// between: ten seconds in all.
+// How often a fetch that is held looks whether it may go on, and for how many milliseconds it
+// sleeps between: ten seconds in all.
 const LOOKS: u32 = 1_000;
 
 const SLEEP: u64 = 10;
@@ -47,8 +47,8 @@ pub enum Fate<'a> {
     Failing(&'a AtomicU64),
     /// Fetches of `/a` are late, and are refused for this reason, if there is one.
     Late(Option<Why>),
-    /// A fetch of a file is held until the files between it and this last letter were answered, of which
-    /// these are counted.
+    /// A fetch of a file is held until the files between it and this last letter were answered, of
+    /// which these are counted.
     Held(&'a AtomicU64, u8),
     /// `/b` can't be read.
     Unread,

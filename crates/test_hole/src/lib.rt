@@ -1,4 +1,5 @@
-//! Tests of the program's library over streams and sockets of a test: what the built program can't show.
+//! Tests of the program's library over streams and sockets of a test: what the built program can't
+//! show.
 #![tactic(auto)]
 
 #[cfg(test)]

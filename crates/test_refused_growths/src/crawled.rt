@@ -39,8 +39,8 @@ fn is_whole(known: u32, done: u32, failed: u32) -> bool {
     wanted && done == known && failed <= 1
 }
 
-// Whether a pass answers from the whole record, with a claim and an outcome of each place, and finds each file that
-// didn't fail.
+// Whether a pass answers from the whole record, with a claim and an outcome of each place, and
+// finds each file that didn't fail.
 fn sees_all<C: Crew>(pass: &mut Pass<C>, query: &Query, known: u32, failed: u32) -> Checked<()> {
     let answer = searched(pass, query)?;
     let files = known.saturating_sub(1).saturating_sub(failed) as usize;

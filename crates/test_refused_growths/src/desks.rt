@@ -111,7 +111,8 @@ fn sees<C: Crew>(pass: &mut Pass<C>, query: &Query, at_least: u32) -> Checked<()
     Ok(())
 }
 
-// Hands in the page of the root. Without a note it isn't seen before the next claim, which gives one.
+// Hands in the page of the root. Without a note it isn't seen before the next claim, which gives
+// one.
 fn finds<C: Crew, R: Wait + AllocGlobal>(
     rt: &R,
     desk: &Desk<C, &R>,
@@ -150,7 +151,8 @@ fn work_at<C: Crew, R: Wait + AllocGlobal>(
     sees(second, &query, 3)
 }
 
-/// Claims the root, hands in its page, and searches by two passes, of which the first hears the note.
+/// Claims the root, hands in its page, and searches by two passes, of which the first hears the
+/// note.
 pub fn check<C: Crew, R: Wait + AllocGlobal>(rt: &R, blank: Blank) -> Checked<()>
     requires name { blank.name ≡ C.name }
     requires parts { blank.parts ≡ C.parts }

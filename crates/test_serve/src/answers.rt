@@ -1,5 +1,5 @@
-// Lines answered by the tree and the desk of the worked rows, before and after its page was found, and once the desk
-// is closed.
+// Lines answered by the tree and the desk of the worked rows, before and after its page was found,
+// and once the desk is closed.
 ghost use Rattle.std.specs.Prelude.{◌≡◌, []};
 
 use crate::sites::{
@@ -80,7 +80,8 @@ fn bounds_a_line<C: Crew>(alloc: Global, site: &mut Site<'_, C>) -> bool {
     has_reply(alloc, site, &line[..1_024], HELLO) && has_reply(alloc, site, &line, BAD_REQUEST)
 }
 
-// How `serve_one` ends, how much of these bytes it leaves unread, and how much of the reply it leaves unsent.
+// How `serve_one` ends, how much of these bytes it leaves unread, and how much of the reply it
+// leaves unsent.
 fn served<C: Crew>(
     alloc: Global,
     replies: &Replies,
@@ -105,7 +106,8 @@ fn served<C: Crew>(
     )
 }
 
-// Whether one line is served and the rest isn't read, and a line too long or a read that fails writes nothing.
+// Whether one line is served and the rest isn't read, and a line too long or a read that fails
+// writes nothing.
 fn serves<C: Crew>(alloc: Global, replies: &Replies, pass: &mut Pass<C>) -> bool {
     let one = (b"/a.txt\r\nextra".as_slice(), Ending::Ends);
     let long = ([b'a'; 1_026], Ending::Ends);

@@ -131,7 +131,8 @@ fn a_write_that_fails_ends_a_conversation_at_each_place(rt: HostRuntime) {
     }
 }
 
-// Whether a reader that fails after these bytes ends both, and one that would wait lets a conversation wait.
+// Whether a reader that fails after these bytes ends both, and one that would wait lets a
+// conversation wait.
 fn stops_reading(alloc: Global, bytes: &[u8]) -> bool {
     let broken = Stream::giving(bytes, 9, Ending::Fails);
     let waiting = Stream::giving(bytes, 9, Ending::Waits);

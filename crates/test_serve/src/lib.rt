@@ -1,4 +1,5 @@
-//! Tests of answers, fetches and conversations: worked rows with their bytes, and streams that fail.
+//! Tests of answers, fetches and conversations: worked rows with their bytes, and streams that
+//! fail.
 #![tactic(auto)]
 
 #[cfg(test)]

@@ -24,8 +24,8 @@ impl Ending {
     }
 }
 
-/// Gives `bytes` and takes `room` bytes, which have to be those that `left` begins with, at most `size` a call, of
-/// which every other is interrupted. Then it goes on as `ending` says.
+/// Gives `bytes` and takes `room` bytes, which have to be those that `left` begins with, at most
+/// `size` a call, of which every other is interrupted. Then it goes on as `ending` says.
 #[derive(Clone, Copy)]
 pub struct Stream<'a> {
     pub bytes: &'a [u8],
