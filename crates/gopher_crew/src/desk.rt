@@ -19,6 +19,7 @@ use crate::opening::{cut, publisher_with_passes};
 use crate::pass::Pass;
 use crate::publisher::Publisher;
 use crate::record_follower::RecordFollower;
+use crate::refusals::{CloseRefused, DeskRefused};
 use crate::share::Share;
 use gopher_catalogue::{Added, Catalogue, FailRefused, FoundRefused, Opening, Status, Turn, Why};
 use gopher_item::NoMemory;
@@ -32,38 +33,6 @@ pub struct Desk<C: Crew, R: Wait + Drop> {
     kept: Mutex<Kept<C, R>>,
     outcomes: Condvar,
     memory: PageMemory,
-}
-
-/// The error of `Desk::open`, with the arguments that it was given.
-#[derive(Drop)]
-pub struct DeskRefused {
-    /// Why the desk wasn't opened.
-    pub fault: DeskFault,
-    /// The catalogue.
-    pub catalogue: Catalogue,
-    /// The blank. Part of the catalogue's record may have been entered into its history.
-    pub blank: Blank,
-}
-
-/// The error of `Desk::close` (62): the shares don't count all events of the record after the
-/// first.
-#[derive(Drop)]
-pub struct CloseRefused<C: Crew, R: Wait + Drop> {
-    /// The desk, still open.
-    pub desk: Desk<C, R>,
-    /// The shares, merged into one.
-    pub shares: Vec<Share<C>>,
-    /// The number of events in the record after the first.
-    pub events: u64,
-}
-
-impl<C: Crew, R: Wait + Drop> CloseRefused<C, R> {
-    /// Returns the number of this fault, 62.
-    pub fn code(&self) -> u8
-        ensures { result ≡ 62 }
-    {
-        62
-    }
 }
 
 fn are_counts(passes: u32, shares: u32) -> bool
