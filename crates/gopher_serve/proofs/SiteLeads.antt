@@ -1,7 +1,10 @@
 -- What one answer leaves of a site, any number of answers leaves of it.
-use Rattle.std.proofs.Common.{◌≡◌, List, [], ◌∷◌, refl, ◌∙◌, subst, sym}
+use Rattle.std.specs.Prelude.{◌≡◌, ℕ, List, [], ◌∷◌, refl}
+use Rattle.std.proofs.Common.{◌∙◌, subst, sym}
+use mathlib.Core.List.{IsPrefix}
 use Rattle.gopher_crew.proofs.Prefixes.{prefix_self, prefix_trans}
 use Rattle.gopher_conversation.specs.Leads.{IsChain, Leads}
+use Rattle.gopher_serve.specs.Answer.{SeesOn}
 use Rattle.gopher_serve.specs.Site.{SiteData, LeadsOn}
 
 leads_on-stays : (a : SiteData) → LeadsOn a a
