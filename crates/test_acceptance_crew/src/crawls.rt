@@ -26,8 +26,8 @@ pub struct Plan<'a> {
     pub tries: u32,
 }
 
-/// A crawl that ended: its catalogue, its sizes and what a pass answered to `moon` before the desk was
-/// closed, and how often the fetcher fetched that did so least.
+/// A crawl that ended: its catalogue, the sizes and the answer to `moon` before the desk was closed,
+/// and the fewest calls of a fetcher.
 #[derive(Drop)]
 pub struct EndedCrawl {
     pub catalogue: Catalogue,
@@ -92,8 +92,8 @@ pub fn crawled<C: Crew + Send + Sync, R: Threads + Wait + Clock + Abort + AllocG
     }
 }
 
-// How often the fetcher fetched that did so least. The ends are in the order of the pairs, and each fetch
-// was found or failed.
+// The fewest calls of a fetcher. The ends are in the order of the pairs, and each call was counted
+// as found or failed.
 fn least_calls<C: Crew, R: Clock + Abort>(
     rt: &R,
     ends: &[WorkEnd<Fetcher<Host<'_, R>>, C>],
@@ -109,8 +109,8 @@ fn least_calls<C: Crew, R: Clock + Abort>(
     least
 }
 
-// Closes a desk with the shares of its workers, after it was refused without them. The record has as many
-// events as the refusal told, and as many pages as the workers found.
+// Closes a desk with the shares of its workers, after it was refused without them. The record has
+// as many events as the refusal told, and as many pages as the workers found.
 fn closed<C: Crew, R: Wait + Abort + AllocGlobal, F: Drop>(
     rt: &R,
     desk: Desk<C, &R>,
