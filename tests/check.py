@@ -83,6 +83,21 @@ WORKED_REPORT = [
     "may visit: localhost 7070 ", "may not visit: localhost 7070 /private", "sound",
 ]
 
+# Each key, and what seeds and rules have if nothing is stated.
+STATED = """host = "LocalHost"
+root = "ROOT"
+places = 65536
+workers = 16
+threads = 8
+tries = 5
+seeds = [{ host = "a" }, { host = "B", type = "0", port = 65535, selector = "/x" }]
+allow = [{ host = "A" }, { host = "b", port = 65535 }]
+"""
+STATED_REPORT = [
+    "address: LocalHost 70", "root: ROOT", "files: 0", "menu files: 0", "bytes: 0", "seed: 1 a 70 ", "seed: 0 b 65535 /x",
+    "may visit: a 70 ", "may visit: b 65535 ", "sound",
+]
+
 RULES = """
 [[seeds]]
 host = "Localhost"
@@ -271,6 +286,10 @@ FAULTS |= {
         lambda site: [site.add(path) for path in (b"a/.menu", b"a/x", b"a.txt", b"b\tc")], "20 file 3",
         report(20, "ROOT/b\\tc", BAD_NAME),
     ),
+    "a folder before a file whose path comes before its files": (
+        lambda site: [put(b"a/.menu", b"Welcome\n0x\ta\tb")(site), put(b"a.txt")(site)], "24 file 0 line 2",
+        report(24, "ROOT/a/.menu", BAD_LINE, "line: 2"),
+    ),
     "a link to its own folder": (put_link("a", "."), "22 file 0", report(22, "ROOT/" + "/".join("a" * 128), LONG)),
 }
 # Settings, and the line of their fault.
@@ -365,6 +384,16 @@ def check_limits(tally, program):
         tally.expect("the most folders and a file", site.check()[1:], (b"hole: 23 file 0\n", 1))
     with tempfile.TemporaryDirectory() as place:
         site = Checked(pathlib.Path(place), program)
+        for number in range(MOST_NODES - 2):
+            site.add(b"folder/%d" % number)
+        tally.expect("the most files", site.check()[1:], (b"", 0))
+        site.add(b"folder/last")
+        tally.expect("the most files and another", site.check()[1:], (b"hole: 23 file %d\n" % (MOST_NODES - 2), 1))
+        site.add(b"folder/.menu", b"x\ta\tb")
+        say(HEAD + 'root = "ROOT/"\n')(site)
+        tally.expect("a root that ends with a slash", site.check()[1:], (b"hole: 24 file 0 line 1\n", 1))
+    with tempfile.TemporaryDirectory() as place:
+        site = Checked(pathlib.Path(place), program)
         put_sparse(*[LARGEST_FILE] * (MOST_BYTES // LARGEST_FILE), 0)(site)
         tally.expect("the most bytes, and an empty file", site.check()[1:], (b"", 0))
     with tempfile.TemporaryDirectory() as place:
@@ -382,9 +411,10 @@ def check_sound(tally, program):
         empty = f"settings: {site.settings}\naddress: LocalHost 70\nroot: {site.root}\nfiles: 0\nmenu files: 0\nbytes: 0\nsound\n"
         say('host = "LocalHost"\nroot = "ROOT"\n')(site)
         tally.expect("an empty site", site.check(), (empty.encode(), b"", 0))
-        say(WORKED)(site)
-        worked = f"settings: {site.settings}\n" + "".join(line.replace("ROOT", str(site.root)) + "\n" for line in WORKED_REPORT)
-        tally.expect("worked settings", site.check(), (worked.encode(), b"", 0))
+        for name, text, lines in (("worked", WORKED, WORKED_REPORT), ("stated", STATED, STATED_REPORT)):
+            say(text)(site)
+            wanted = f"settings: {site.settings}\n" + "".join(line.replace("ROOT", str(site.root)) + "\n" for line in lines)
+            tally.expect(f"{name} settings", site.check(), (wanted.encode(), b"", 0))
         say('host = "LocalHost"\nport = 7070\nroot = "ROOT"\n' + RULES)(site)
         for path, content in {b".menu": b"Welcome\n", b"a/.menu": b"", b"a/b.txt": b"12345", b"a/.hidden": b"no"}.items():
             site.add(path, content)

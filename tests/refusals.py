@@ -219,6 +219,28 @@ def check_requests(refusals, program, folder, root):
         refusals.tally.expect("server: is still up", server.process.poll(), None)
 
 
+def check_crawl(refusals, program, folder, root):
+    """A crawl that is refused its workers: the server answers its requests, of which the crawl makes none, and 90 is told."""
+    ends, more = [], "threads = 1\nworkers = 1\n" + RULES
+
+    def end_of(refused):
+        """Whether both requests were answered, and how the server ended; none if it didn't come to listen."""
+        before = ("env", f"LD_PRELOAD={refusals.library}", f"REFUSED={refused}", f"COUNTED={refusals.counted}")
+        with Server(program, folder, root, more=more, words=("--requests", "2"), before=before) as server:
+            if not server.started():
+                return None
+            replies = [asked(server.port, b"") for _ in range(2)]
+            return replies == [requests(server.port)[b""]] * 2, server.end()
+
+    end_of(0)
+    refused = int(refusals.counted.read_text())
+    while refused and (end := end_of(refused)):
+        ends.append(end)
+        refused -= 1
+    is_told = (True, (b"", b"hole: 90\n", 1)) in ends
+    refusals.tally.expect(f"a crawl without workers is told in one of {len(ends)} runs", is_told, True)
+
+
 def check_growths(refusals):
     """The program that makes each refused call again."""
     if not os.access(GROWN, os.X_OK):
@@ -238,6 +260,7 @@ def main():
         check_replays(refusals, program)
         check_starts(refusals, program, folder, root)
         check_requests(refusals, program, folder, root)
+        check_crawl(refusals, program, folder, root)
     return tally.status()
 
 

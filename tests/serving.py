@@ -95,6 +95,10 @@ def check_lines(folder, root):
 
 # Folders by their files, each with lines and their replies; WHERE stands for the host and port, between TABs, and CR LF.
 ROOT_MENU = b"7Search\t/searchWHERE0a.txt\t/a.txtWHERE.\r\n"
+TYPES_MENU = (
+    b"7Search\t/searchWHEREga.GIF\t/a.GIFWHERE0a.gif.txt\t/a.gif.txtWHEREIa.png\t/a.pngWHEREIb.jPg\t/b.jPgWHERE"
+    b"9gif\t/gifWHEREIjpeg.jpeg\t/jpeg.jpegWHERE.\r\n"
+)
 WELCOME = b"iWelcome\tWHERE0Read\t/a.txtWHERE1Far\t\tfar.example\t70\r\n.\r\n"
 WORKED = [
     ({"a.txt": b"hello\n"}, [
@@ -107,6 +111,13 @@ WORKED = [
     ({"a.txt": b"hello\n", "docs/b.gif": b"GIF89a\n.\n", "docs/.menu": b"Welcome\n0Read\t/a.txt\n1Far\t\tfar.example\t70\n"}, [
         (b"/\r\n", b"7Search\t/searchWHERE0a.txt\t/a.txtWHERE1docs\t/docsWHERE.\r\n"), (b"/docs\r\n", WELCOME),
         (b"/docs/b.gif\r\n", b"GIF89a\n.\n"), (b"/docs/.menu\r\n", b"3Not found\tWHERE.\r\n"),
+    ]),
+    ({".menu": b".\r\n\n0x\ta\t b \t 70 \n0y\ta\tb\t0"}, [
+        (b"\r\n", b"i.\tWHEREi\tWHERE0x\ta\tb\t70\r\n0y\ta\tb\t0\r\n.\r\n"), (b"/.menu\r\n", b"3Not found\tWHERE.\r\n"),
+    ]),
+    ({"a.GIF": b"x", "a.gif.txt": b"a", "a.png": b"\0", "b.jPg": b"", "jpeg.jpeg": b"\0.\n", "gif": b"a\0"}, [
+        (b"\r\n", TYPES_MENU), (b"/a.png\r\n", b"\0"), (b"/jpeg.jpeg\r\n", b"\0.\n"), (b"/gif\r\n", b"a\0"),
+        (b"/a.gif.txt\r\n", b"a\r\n.\r\n"), (b"/b.jPg\r\n", b""),
     ]),
 ]
 
@@ -167,7 +178,7 @@ def check_silent(folder, root, silent=300, asked=100):
 def check_crawl(folder, root):
     """A server crawls itself, and answers searches of what it found."""
     rules = f'seeds = [{{ host = "{HOST}", port = PORT }}]\nallow = [{{ host = "{HOST}", port = PORT }}]\n'
-    with Server(folder, root, more=rules, words=("--requests", "8")) as server:
+    with Server(folder, root, more=rules, words=("--progress", "--requests", "8")) as server:
         server.started()
         port = server.port
         hit = f"0hello\t/a.txt\t{HOST}\t{port}\r\n.\r\n".encode()
@@ -181,7 +192,10 @@ def check_crawl(folder, root):
         for _ in range(5 - asked):
             ask(port, b"\r\n")
         output, error, status = server.end()
-        expect("the crawl", (output, error, status), (b"known 3 waiting 0 out 0 done 3 dropped 0\n", b"", 0))
+        sizes = b"known 3 waiting 0 out 0 done 3 dropped 0\n"
+        expect("the crawl", (output, status), (sizes, 0))
+        lines = error.splitlines(True)
+        expect("its progress", (lines[-1:], all(line.startswith(b"known ") for line in lines)), ([sizes], True))
 
 
 def check_hits(folder, _root):

@@ -39,11 +39,11 @@ class Streams:
         ran = subprocess.run([self.program, *words], input=script, capture_output=True, timeout=6 * WAIT, env=os.environ | names)
         return ran.stdout, ran.stderr, ran.returncode
 
-    def counted(self, script):
-        """What a replay writes, and how many reads of its input and writes to its output it makes."""
+    def counted(self, words, script):
+        """What these words write, and how many reads of their input and writes to their output they make."""
         calls = self.folder / "calls"
-        calls.unlink(missing_ok=True)
-        output, _, _ = self.run(["replay"], script, calls=calls)
+        calls.write_text("")
+        output, _, _ = self.run(words, script, calls=calls)
         return output, calls.read_text().count("r"), calls.read_text().count("w")
 
 
@@ -58,7 +58,7 @@ def check_reads(tally, streams):
     tally.expect("each read is interrupted", ended, (b"", b"hole: 11\n", 1))
     for length, wanted in ((MEBIBYTE, (b"", b"", 0)), (MEBIBYTE + 1, (b"", b"hole: 12\n", 1))):
         tally.expect(f"a script of {length} bytes", streams.run(["replay"], b"#" * length), wanted)
-    tally.expect("a mebibyte is read in large parts", streams.counted(b"#" * MEBIBYTE)[1] < 1_000, True)
+    tally.expect("a mebibyte is read in large parts", streams.counted(["replay"], b"#" * MEBIBYTE)[1] < 1_000, True)
 
 
 def check_writes(tally, streams):
@@ -68,7 +68,7 @@ def check_writes(tally, streams):
         ended = streams.run(["replay"], script, fails_1=count)
         tally.expect(f"a write fails after {count} bytes", ended, (output[:count], b"hole: 13\n", 1))
     tally.expect("the whole output has room", streams.run(["replay"], script, fails_1=len(output)), (output, b"", 0))
-    output, _, writes = streams.counted(b"start\t2\nstatus\nclaim\n")
+    output, _, writes = streams.counted(["replay"], b"start\t2\nstatus\nclaim\n")
     wanted = b"ok\nknown 0 waiting 0 out 0 done 0 dropped 0\nfinished\n"
     tally.expect("each of three answers goes out in a write of its own", (output, writes), (wanted, 3))
 
@@ -80,9 +80,12 @@ def check_errors(tally, streams):
     for count in range(len(told)):
         ended = streams.run(["replay"], script, fails_2=count)
         tally.expect(f"a fault's line fails after {count} bytes", ended, (output, told[:count], 1))
+    ended = streams.run(["replay"], script, fails_1=3, fails_2=0)
+    tally.expect("the output and the error stream fail", ended, (output[:3], b"", 1))
     for words in BAD_WORDS:
         output, text, status = streams.run(words, b"claim\n")
         tally.expect(f"{words}: are refused", (output, bool(text), status), (b"", True, 2))
+        tally.expect(f"{words}: nothing is read", streams.counted(words, b"claim\n"), (b"", 0, 0))
         for count in (0, 1, 7):
             ended = streams.run(words, b"claim\n", fails_2=count)
             tally.expect(f"{words}: with room for {count} bytes", ended, (b"", text[:count], 2))

@@ -132,6 +132,7 @@ const FITTING: Rows = &[(&[b'a'; 254], b"")];
 // Lists of files, and their faults.
 const REFUSED: &[(Rows, TreeFault)] = &[
     (&[(b"a//b", b"")], TreeFault::BadName { file: 0 }),
+    (&[(b".a", b"")], TreeFault::BadName { file: 0 }),
     (
         &[(b"a", b""), (b".menu/a", b"")],
         TreeFault::BadName { file: 1 },
@@ -143,6 +144,7 @@ const REFUSED: &[(Rows, TreeFault)] = &[
         &[(b".menu", b"0x\ta\tb")],
         TreeFault::BadMenuLine { file: 0, line: 1 },
     ),
+    (&[(b"a", b""), (b"a", b"")], TreeFault::Twice { file: 1 }),
     (&[(b"a", b""), (b"a/b", b"")], TreeFault::Twice { file: 1 }),
     (
         &[(b"a/b/c", b""), (b"a/b", b"")],
@@ -192,6 +194,19 @@ fn fault_of_size(alloc: Global, size: usize) -> Option<Option<TreeFault>> {
 fn a_file_has_at_most_16_mebibytes(rt: HostRuntime) {
     assert!(rt; fault_of_size(rt.alloc(), 16_777_216) == Some(None));
     assert!(rt; fault_of_size(rt.alloc(), 16_777_217) == Some(Some(TOO_BIG)));
+}
+
+// Whether the fault is told so.
+fn is_told(alloc: Global, fault: TreeFault, wanted: &str) -> Result<bool, AllocError> {
+    Ok(format!(in alloc; "{fault}")?.as_str().starts_with(wanted))
+}
+
+#[test]
+fn a_fault_tells_its_file_and_line(rt: HostRuntime) {
+    let fault = TreeFault::BadMenuLine { file: 3, line: 7 };
+    assert!(rt; fault.code() == 24);
+    let is_told = is_told(rt.alloc(), fault, "file 3: line 7 ");
+    assert!(rt; is_told == Ok(true));
 }
 
 // Whether a folder is found as one, and a file with its type.

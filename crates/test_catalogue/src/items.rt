@@ -1,6 +1,6 @@
-// Places, homes and requests: their parts and their refusals.
-use gopher_item::{Home, Place, read_request};
-use std::alloc::Global;
+// Places, homes and requests: their parts and their refusals. The lines of bytes.
+use gopher_item::{EachLine, Home, Place, lines, read_request};
+use std::alloc::{AllocError, Global};
 
 const LONG: &[u8] = &[b's'; 256];
 
@@ -105,4 +105,30 @@ fn bounds_request_lines(rt: HostRuntime) {
     let request: (&[u8], Option<&[u8]>) = (b"/search", Some(&line[8..1_024]));
     assert!(rt; is_read_as(rt.alloc(), &line[..1_024], Ok(request)));
     assert!(rt; is_read_as(rt.alloc(), &line, Err(7)));
+}
+
+// The lines of these bytes, one by one.
+fn each_line(alloc: Global, bytes: &[u8]) -> Result<Vec<&[u8]>, AllocError> {
+    let mut each = Vec::new(alloc);
+    for line in EachLine::of(bytes) {
+        each.push(line)?;
+    }
+    Ok(each)
+}
+
+const CUT: &[&[u8]] = &[b"a", b"", b"b\r", b"c\r"];
+
+// Whether these are the lines, where memory wasn't refused.
+fn are_cut<E: Drop>(lines: &Result<Vec<&[u8]>, E>) -> bool {
+    match lines {
+        Ok(lines) => lines.as_slice() == CUT,
+        Err(_refused) => false,
+    }
+}
+
+#[test]
+fn cuts_lines(rt: HostRuntime) {
+    let bytes = b"a\r\n\nb\r\r\nc\r";
+    assert!(rt; are_cut(&lines(rt.alloc(), bytes)));
+    assert!(rt; are_cut(&each_line(rt.alloc(), bytes)));
 }

@@ -5,7 +5,7 @@ use crate::tables::{
     FOUR_FILES, Fate, HOME_AND_FILE, Host, MOON, ONE_DIRECTORY, TWO_FILES, answered, are_files,
     catalogue, hits, opened,
 };
-use gopher_catalogue::{Catalogue, Event, Why};
+use gopher_catalogue::{Catalogue, Event, Status, Why};
 use gopher_crew::{Answer, Blank, Crew, Desk, Fetch, Stop, WorkEnd, crawl};
 use std::marker::Brand;
 use std::process::Abort;
@@ -26,11 +26,12 @@ pub struct Plan<'a> {
     pub tries: u32,
 }
 
-/// A crawl that ended: its catalogue, what a pass answered to `moon` before the desk was closed,
-/// and how often the fetcher fetched that did so least.
+/// A crawl that ended: its catalogue, the sizes and the answer to `moon` before the desk was closed,
+/// and the fewest calls of a fetcher.
 #[derive(Drop)]
 pub struct EndedCrawl {
     pub catalogue: Catalogue,
+    pub status: Status,
     pub moons: Answer,
     pub least_calls: u64,
 }
@@ -82,14 +83,17 @@ pub fn crawled<C: Crew + Send + Sync, R: Threads + Wait + Clock + Abort + AllocG
         panic!(rt; "no pass");
     };
     let moons = answered(rt, pass, b"moon");
+    let status = desk.status(rt);
     EndedCrawl {
         catalogue: closed(rt, desk, ends),
+        status,
         moons,
         least_calls,
     }
 }
 
-// How often the fetcher fetched that did so least. The ends are in the order of the pairs.
+// The fewest calls of a fetcher. The ends are in the order of the pairs, and each call was counted
+// as found or failed.
 fn least_calls<C: Crew, R: Clock + Abort>(
     rt: &R,
     ends: &[WorkEnd<Fetcher<Host<'_, R>>, C>],
@@ -98,19 +102,24 @@ fn least_calls<C: Crew, R: Clock + Abort>(
     for (number, end) in ends.iter().enumerate() {
         assert!(rt; end.fetcher.table.number as usize == number);
         assert!(rt; end.stop == Stop::Finished);
-        least = least.min(Fetch::<R>::calls(&end.fetcher));
+        let calls = Fetch::<R>::calls(&end.fetcher);
+        assert!(rt; calls == u64::from(end.found) + u64::from(end.failed));
+        least = least.min(calls);
     }
     least
 }
 
-// Closes a desk with the shares of its workers, after it was refused without them.
+// Closes a desk with the shares of its workers, after it was refused without them. The record has
+// as many events as the refusal told, and as many pages as the workers found.
 fn closed<C: Crew, R: Wait + Abort + AllocGlobal, F: Drop>(
     rt: &R,
     desk: Desk<C, &R>,
     ends: Vec<WorkEnd<F, C>>,
 ) -> Catalogue {
     let mut shares = Vec::new(rt.alloc());
+    let mut found = 0_u64;
     for end in ends {
+        found = found.saturating_add(u64::from(end.found));
         let Ok(()) = shares.push(end.share) else {
             panic!(rt; "no memory");
         };
@@ -119,17 +128,26 @@ fn closed<C: Crew, R: Wait + Abort + AllocGlobal, F: Drop>(
         panic!(rt; "the desk is closed without its shares");
     };
     assert!(rt; refused.code() == 62);
+    let events = refused.events;
     let Ok(catalogue) = refused.desk.close(shares) else {
         panic!(rt; "the desk isn't closed");
     };
+    assert!(rt; catalogue.record().len() as u64 == events.saturating_add(1));
+    assert!(rt; catalogue.index().len() as u64 == found);
     catalogue
 }
 
 // The crawl has finished with `known` places, and both the pass and the catalogue find these files
 // by `moon`.
 fn has_files<R: Abort + AllocGlobal>(rt: &R, crawled: &EndedCrawl, known: u32, letters: &[u8]) {
-    let status = crawled.catalogue.status();
-    assert!(rt; (status.known, status.done, status.dropped) == (known, known, 0));
+    let wanted = Status {
+        known,
+        waiting: 0,
+        out: 0,
+        done: known,
+        dropped: 0,
+    };
+    assert!(rt; crawled.status == wanted && crawled.catalogue.status() == wanted);
     assert!(rt; are_files(&crawled.moons.hits, letters));
     assert!(rt; are_files(&hits(rt, &crawled.catalogue, b"moon"), letters));
 }

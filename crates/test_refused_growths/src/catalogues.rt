@@ -66,8 +66,8 @@ fn opened_again(alloc: Global, refused: OpenRefused) -> Checked<Catalogue> {
 }
 
 fn opened(alloc: Global) -> Checked<Catalogue> {
-    let scope = scope_at_last(alloc)?;
-    let seeds = seeds_at_last(alloc)?;
+    let scope = scope_at_last(alloc, b"h")?;
+    let seeds = seeds_at_last(alloc, b"h")?;
     match Catalogue::open(alloc, scope, seeds, 64, 1) {
         Ok(catalogue) => Ok(catalogue),
         Err(refused) => opened_again(alloc, refused),

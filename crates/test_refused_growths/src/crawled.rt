@@ -4,7 +4,7 @@ ghost use Rattle.std.specs.Prelude.{◌≡◌, []};
 
 use crate::desks::{query, searched};
 use crate::opening::{Checked, opened};
-use gopher_catalogue::{Event, Why};
+use gopher_catalogue::{Event, Status, Why};
 use gopher_crew::{Blank, Crew, Pass, Stop, work};
 use gopher_page::Query;
 use std::sync::Wait;
@@ -34,9 +34,17 @@ fn has_other_failure(record: &[Event]) -> bool {
 }
 
 // Whether all that is known was done: three places, or the root alone if it failed.
-fn is_whole(known: u32, done: u32, failed: u32) -> bool {
-    let wanted = if known == 1 { failed == 1 } else { known == 3 };
-    wanted && done == known && failed <= 1
+fn is_whole(status: Status, failed: u32) -> bool {
+    let known = status.known;
+    let wanted = Status {
+        known,
+        waiting: 0,
+        out: 0,
+        done: known,
+        dropped: 0,
+    };
+    let is_all = if known == 1 { failed == 1 } else { known == 3 };
+    is_all && failed <= 1 && status == wanted
 }
 
 // Whether a pass answers from the whole record, with a claim and an outcome of each place, and
@@ -58,13 +66,13 @@ pub fn check<C: Crew, R: Wait + AllocGlobal>(rt: &R, blank: Blank) -> Checked<()
     requires history { blank.history ≡ C.history }
     requires begun { blank.begun ≡ [] }
 {
-    let (desk, mut passes, mut shares) = opened::<C, R>(rt, blank)?;
+    let (desk, mut passes, mut shares) = opened::<C, R>(rt, b"h", blank)?;
     let mut pass = passes.pop().ok_or("no pass")?;
     let share = shares.pop().ok_or("no share")?;
     let end = work(rt, rt.alloc(), &desk, Fetcher::new(TwoFiles), share);
     if end.stop == Stop::Finished {
         let status = desk.status(rt);
-        if !is_whole(status.known, status.done, end.failed) {
+        if !is_whole(status, end.failed) {
             return Err("a crawl stops before its end");
         }
         let query = query(rt.alloc(), b"moon")?;

@@ -3,11 +3,13 @@
 ghost use Rattle.std.specs.Prelude.{◌≡◌, []};
 
 use crate::opening::{Checked, opened, scope_at_last, seeds_at_last};
-use gopher_catalogue::{Added, Status, Turn};
+use gopher_catalogue::{Added, Hit, Status, Turn};
 use gopher_crew::{Answer, Blank, Crew, Desk, Note, Pass, SearchFault, Share};
 use gopher_page::{Page, Query};
 use std::alloc::Global;
 use std::sync::Wait;
+
+const HOST: &[u8] = b"localhost";
 
 /// The answer of a search, in one of two tries.
 pub fn searched<C: Crew>(pass: &mut Pass<C>, query: &Query) -> Checked<Answer> {
@@ -69,10 +71,16 @@ fn claims<C: Crew, R: Wait>(
 
 // The page of the root, which leads to one directory.
 fn page(alloc: Global) -> Checked<Option<Page>> {
-    let scope = scope_at_last(alloc)?;
-    let mut seeds = seeds_at_last(alloc)?;
+    let scope = scope_at_last(alloc, HOST)?;
+    let mut seeds = seeds_at_last(alloc, HOST)?;
     let root = seeds.pop().ok_or("no root")?;
-    Ok(Page::of(alloc, &scope, &root, b"1Docs\t/docs\th\t70\r\n.\r\n").ok())
+    Ok(Page::of(
+        alloc,
+        &scope,
+        &root,
+        b"1Docs\t/docs\tlocalhost\t70\r\n.\r\n",
+    )
+    .ok())
 }
 
 fn page_at_last(alloc: Global) -> Checked<Page> {
@@ -101,14 +109,43 @@ fn found<C: Crew, R: Wait>(
     }
 }
 
-// Whether a pass sees at least `at_least` events, and the page from the third event on.
-fn sees<C: Crew>(pass: &mut Pass<C>, query: &Query, at_least: u32) -> Checked<()> {
+// Whether the page of the root is the one hit.
+fn is_docs(hits: &[Hit]) -> bool {
+    match hits {
+        [hit] => {
+            hit.place.selector().is_empty()
+                && hit.title.as_slice() == b"Docs".as_slice()
+                && hit.score == 1
+        }
+        _ => false,
+    }
+}
+
+// Whether a pass sees `at` events, and the page from the third event on.
+fn sees<C: Crew>(pass: &mut Pass<C>, query: &Query, at: u32) -> Checked<()> {
     let answer = searched(pass, query)?;
-    let is_found = answer.hits.len() == 1;
-    if answer.at < at_least || is_found != (answer.at >= 3) {
+    if answer.at != at || is_docs(&answer.hits) != (at >= 3) {
         return Err("a search answers something else");
     }
     Ok(())
+}
+
+// Whether a pass sees no page, of one event or of two.
+fn sees_nothing<C: Crew>(pass: &mut Pass<C>, query: &Query) -> Checked<()> {
+    let answer = searched(pass, query)?;
+    if answer.at == 0 || answer.at > 2 || !answer.hits.is_empty() {
+        return Err("a page without a note is seen");
+    }
+    Ok(())
+}
+
+// A note of `at` events.
+fn noted<C: Crew>(note: Option<Note<C>>, at: u32) -> Checked<Note<C>> {
+    match note {
+        Some(note) if note.at() == at => Ok(note),
+        Some(_note) => Err("a note of another record"),
+        None => Err("no note with ample memory"),
+    }
 }
 
 // Hands in the page of the root. Without a note it isn't seen before the next claim, which gives
@@ -124,13 +161,11 @@ fn finds<C: Crew, R: Wait + AllocGlobal>(
     if added.fresh != 1 {
         return Err("a page adds something else");
     }
-    if let Some(note) = note {
-        return Ok(note);
+    if note.is_some() {
+        return noted(note, 3);
     }
-    if searched(pass, query)?.at > 2 {
-        return Err("a page without a note is seen");
-    }
-    claims(rt, desk, share, 1)?.ok_or("no note with ample memory")
+    sees_nothing(pass, query)?;
+    noted(claims(rt, desk, share, 1)?, 4)
 }
 
 // The first of two passes hears of the page, and both see it.
@@ -148,7 +183,7 @@ fn work_at<C: Crew, R: Wait + AllocGlobal>(
     let at = note.at();
     first.hear(note);
     sees(first, &query, at)?;
-    sees(second, &query, 3)
+    sees(second, &query, at)
 }
 
 /// Claims the root, hands in its page, and searches by two passes, of which the first hears the
@@ -159,7 +194,7 @@ pub fn check<C: Crew, R: Wait + AllocGlobal>(rt: &R, blank: Blank) -> Checked<()
     requires history { blank.history ≡ C.history }
     requires begun { blank.begun ≡ [] }
 {
-    let (desk, mut passes, mut shares) = opened::<C, R>(rt, blank)?;
+    let (desk, mut passes, mut shares) = opened::<C, R>(rt, HOST, blank)?;
     let mut share = shares.pop().ok_or("no share")?;
     let (Some(mut second), Some(mut first)) = (passes.pop(), passes.pop()) else {
         return Err("no passes");

@@ -15,60 +15,62 @@ pub type Checked<T> = Result<T, &'static str>;
 /// A desk, with its passes and its shares.
 pub type Opened<'a, C, R> = (Desk<C, &'a R>, Vec<Pass<C>>, Vec<Share<C>>);
 
-fn rules(alloc: Global, prefix: &[u8]) -> Option<Vec<Rule>> {
-    let rule = Rule::new(alloc, b"h", 70, prefix).ok()?;
+fn rules(alloc: Global, host: &[u8], prefix: &[u8]) -> Option<Vec<Rule>> {
+    let rule = Rule::new(alloc, host, 70, prefix).ok()?;
     let mut rules = Vec::new(alloc);
     rules.push(rule).ok()?;
     Some(rules)
 }
 
-fn scope(alloc: Global) -> Option<Scope> {
-    let allow = rules(alloc, b"")?;
-    let deny = rules(alloc, b"/private")?;
+fn scope(alloc: Global, host: &[u8]) -> Option<Scope> {
+    let allow = rules(alloc, host, b"")?;
+    let deny = rules(alloc, host, b"/private")?;
     Some(Scope::new(allow, deny))
 }
 
 /// The scope of one host without its private part, made in one of two tries.
-pub fn scope_at_last(alloc: Global) -> Checked<Scope> {
-    match scope(alloc) {
+pub fn scope_at_last(alloc: Global, host: &[u8]) -> Checked<Scope> {
+    match scope(alloc, host) {
         Some(scope) => Ok(scope),
-        None => scope(alloc).ok_or("no scope"),
+        None => scope(alloc, host).ok_or("no scope"),
     }
 }
 
-// The root of the host.
-fn seeds(alloc: Global) -> Option<Vec<Place>> {
-    let root = Place::new(alloc, b'1', b"", b"h", 70).ok()?;
+// The root of a host.
+fn seeds(alloc: Global, host: &[u8]) -> Option<Vec<Place>> {
+    let root = Place::new(alloc, b'1', b"", host, 70).ok()?;
     let mut seeds = Vec::new(alloc);
     seeds.push(root).ok()?;
     Some(seeds)
 }
 
 /// The root alone, in one of two tries.
-pub fn seeds_at_last(alloc: Global) -> Checked<Vec<Place>> {
-    match seeds(alloc) {
+pub fn seeds_at_last(alloc: Global, host: &[u8]) -> Checked<Vec<Place>> {
+    match seeds(alloc, host) {
         Some(seeds) => Ok(seeds),
-        None => seeds(alloc).ok_or("no seeds"),
+        None => seeds(alloc, host).ok_or("no seeds"),
     }
 }
 
-// A crawl that begins in the root.
-fn catalogue(alloc: Global) -> Option<Catalogue> {
-    let seeds = seeds(alloc)?;
-    let scope = scope(alloc)?;
+// A crawl that begins in the root of a host.
+fn catalogue(alloc: Global, host: &[u8]) -> Option<Catalogue> {
+    let seeds = seeds(alloc, host)?;
+    let scope = scope(alloc, host)?;
     Catalogue::open(alloc, scope, seeds, 10, 1).ok()
 }
 
-fn catalogue_at_last(alloc: Global) -> Checked<Catalogue> {
-    match catalogue(alloc) {
+fn catalogue_at_last(alloc: Global, host: &[u8]) -> Checked<Catalogue> {
+    match catalogue(alloc, host) {
         Some(catalogue) => Ok(catalogue),
-        None => catalogue(alloc).ok_or("a catalogue isn't opened"),
+        None => catalogue(alloc, host).ok_or("a catalogue isn't opened"),
     }
 }
 
-/// A desk with two passes and one share; a refusal gives back what was handed in.
+/// A desk over a crawl of a host, with two passes and one share. A refusal gives back what was
+/// handed in.
 pub fn opened<'a, C: Crew, R: Wait + AllocGlobal>(
     rt: &'a R,
+    host: &[u8],
     blank: Blank,
 ) -> Checked<Opened<'a, C, R>>
     requires name { blank.name ≡ C.name }
@@ -77,7 +79,7 @@ pub fn opened<'a, C: Crew, R: Wait + AllocGlobal>(
     requires begun { blank.begun ≡ [] }
 {
     let alloc = rt.alloc();
-    let catalogue = catalogue_at_last(alloc)?;
+    let catalogue = catalogue_at_last(alloc, host)?;
     let refused = match Desk::<C, &R>::open(rt, alloc, catalogue, 2, 1, blank) {
         Ok(opened) => return Ok(opened),
         Err(refused) => refused,

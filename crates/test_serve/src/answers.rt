@@ -149,6 +149,7 @@ fn answers_at_a_desk<C: Crew, R: Wait + AllocGlobal>(
     let is_made = makes_all(alloc, replies, &mut pass, EARLY);
     let is_served = serves(alloc, replies, &mut pass);
     let is_found = finds_docs(rt, alloc, &desk, &mut share, &mut pass);
+    let is_late = makes_all(alloc, replies, &mut pass, LATE);
     let mut site = Site::new(replies, pass);
     let late = answers_all(alloc, &mut site, LATE);
     let is_closed = closes(alloc, desk, share);
@@ -157,7 +158,7 @@ fn answers_at_a_desk<C: Crew, R: Wait + AllocGlobal>(
         is_bounded,
         is_made,
         is_served,
-        is_found && late,
+        is_found && is_late && late,
         is_closed,
         answers_all(alloc, &mut site, CLOSED),
     ])
