@@ -41,7 +41,7 @@ class Documents(unittest.TestCase):
     def test_the_pictures_are_current(self):
         for name, draw in draw_crates.PICTURES.items():
             self.assertEqual((ROOT / name).read_text(), draw(), f"run tools/draw_crates.py for {name}")
-        self.assertEqual(draw_ratios.PICTURE.read_text(), draw_ratios.picture(draw_ratios.ratios()), "run tools/draw_ratios.py")
+        self.assertEqual(draw_ratios.PICTURE.read_text(), draw_ratios.picture(draw_ratios.ratios(), draw_ratios.measured()), "run tools/draw_ratios.py")
 
     def test_the_list_of_files_is_current(self):
         page = list_files.PAGE.read_text()
