@@ -16,8 +16,9 @@ import list_files
 
 ROOT = pathlib.Path(__file__).resolve().parent.parent
 PAGES = [*sorted(ROOT.glob("*.md")), *sorted(ROOT.glob("docs/*.md"))]
-# words of an older dialect, each with a plain one: out of memory, if, as many, fails with 90
-AVOIDED = re.compile(r"(?i)\b(?:want of memory|whoever|so many|answers 90|refused only where)\b")
+# words of an older dialect; plain ones are: out of memory, if, as many, fails with 90
+AVOIDED = re.compile(r"(?i)\b(?:want of memory|whoever|so many|answers 90|refused only where|memory is refused)\b")
+COMMENT = re.compile(r"(?m)^ *(?://[/!]?|--) (.*)$")
 
 
 class Documents(unittest.TestCase):
@@ -37,6 +38,8 @@ class Documents(unittest.TestCase):
     def test_avoided_words_stay_away(self):
         for page in [*PAGES, *sorted(ROOT.glob("man/*")), *sorted(ROOT.glob("packaging/*.md"))]:
             self.assertEqual(AVOIDED.findall(page.read_text()), [], page.name)
+        for path in [*ROOT.glob("crates/*/src/**/*.rt"), *ROOT.glob("crates/*/specs/**/*.antt")]:
+            self.assertEqual(AVOIDED.findall("\n".join(COMMENT.findall(path.read_text()))), [], str(path))
 
     def test_the_pictures_are_current(self):
         for name, draw in draw_crates.PICTURES.items():
