@@ -1,12 +1,12 @@
 # The commands of the README, the wrong bodies of one crate, and the timings of bench/.
 
 # Serves the example's site on localhost, built without its proofs, and prints how to ask it. Ctrl-C ends it.
-# make run SETTINGS=my.toml serves a folder of one's own.
+# make run SETTINGS=my.toml serves your own folder.
 .PHONY: run
 run:
 	tools/run_example.py $(SETTINGS)
 
-# Proves everything that the program stands on, and leaves it in crates/hole/out/hole.
+# Proves the program and everything that it uses, and leaves it in crates/hole/out/hole.
 .PHONY: build
 build:
 	cd crates/hole && rt run -- --version
@@ -21,7 +21,7 @@ test:
 quick:
 	tools/gate.py --quick
 
-# The program beside the plain models of tests/, on scripts, folders and request lines that are drawn anew each time.
+# Compares the program with the plain models of tests/, on scripts, folders and request lines that are drawn anew each time.
 # If there is no proved program, it begins with an hour of proofs.
 .PHONY: fuzz
 fuzz: crates/hole/out/hole
@@ -33,7 +33,7 @@ fuzz: crates/hole/out/hole
 wrong-bodies:
 	tools/wrong_bodies.py --reasons $(CRATE)
 
-# What has to be read to believe a promise: its clauses and the definitions that they reach. make audit PROMISE=search
+# Prints what to read to believe a promise: its clauses and the definitions that they reach. make audit PROMISE=search
 .PHONY: audit
 audit:
 	@tools/audit.py $(PROMISE)
@@ -47,7 +47,7 @@ documents:
 	tools/draw_crates.py
 	tools/draw_ratios.py
 
-# Gopher clients that are installed, each asking a server of the example's site for a menu, a text, a search and an image.
+# Lets each installed Gopher client ask a server of the example's site for a menu, a text, a search and an image.
 # If there is no proved program, it begins with an hour of proofs.
 .PHONY: clients
 clients: crates/hole/out/hole
@@ -62,7 +62,7 @@ bench:
 	bench/run.sh $(OUTPUT)
 
 # Installs the program that `make build` left, its pages of the manual, its documents and examples, and its unit for systemd,
-# under PREFIX, below DESTDIR where it is given. Nothing is built.
+# under PREFIX, below DESTDIR if that is given. Nothing is built.
 PREFIX = /usr/local
 DESTDIR =
 PROGRAM = crates/hole/out/hole
@@ -91,7 +91,7 @@ install:
 	$(WITH_PREFIX) packaging/hole.service > $(UNITS)/hole.service
 	chmod 644 $(UNITS)/hole.service
 
-# Takes away what `make install` with the same PREFIX and DESTDIR put there, and nothing else: no settings, no site.
+# Removes what `make install` with the same PREFIX and DESTDIR installed, and nothing else: no settings, no site.
 .PHONY: uninstall
 uninstall:
 	rm -f $(DESTDIR)$(PREFIX)/bin/hole $(DESTDIR)$(PREFIX)/bin/gophermap_to_menu

@@ -26,6 +26,8 @@ SERVED = (
     ("300 texts", "300 texts in turn", "requests"),
     ("text of 1 MB", "texts of 1 MB", "MB"),
 )
+# how many idle clients Hole has beside those that ask; the C server has none
+IDLE = (100, 1_000)
 
 
 def number(text, pattern):
@@ -44,6 +46,13 @@ def served(text):
         yield shown, "bytes a second" if unit == "MB" else "requests a second", rate, 1 / processor
 
 
+def idled(text):
+    """The rows of small menus while other clients are idle."""
+    for count in IDLE:
+        rate = number(text, rf"(?m)^small menu beside {count} silent clients, requests a second: .*, quotient ([\d.]+)")
+        yield f"small menus, {count:,} idle clients", "requests a second", rate, None
+
+
 def searched(text):
     """The rows of searches and of making and adding pages. The C program's packing counts as adding."""
     ours, plain = text[: text.index("the plain C program:")], text[text.index("the plain C program:") :]
@@ -59,7 +68,7 @@ def searched(text):
 def table(text):
     """The table of ratios to plain C."""
     menus = number(text, r"(?m)^menu: read at (\d+) MB/s") / number(text, r"(?m)^split in plain C: (\d+) MB/s")
-    rows = [*served(text), *searched(text), ("reading menus", "bytes a second", menus, None)]
+    rows = [*served(text), *idled(text), *searched(text), ("reading menus", "bytes a second", menus, None)]
     head = ["| measured | unit | rate, Hole / C | processor time, C / Hole |", "|---|---|---|---|"]
     shown = [f"| {name} | {unit} | {rate:.2f} | {'' if spent is None else f'{spent:.2f} '}|" for name, unit, rate, spent in rows]
     return "\n".join(head + shown) + "\n"

@@ -11,7 +11,7 @@ from html import escape
 
 ROOT = pathlib.Path(__file__).resolve().parent.parent
 PAGE, PICTURE = ROOT / "docs/TIMINGS.md", ROOT / "docs/ratios.svg"
-WIDTH, LEFT, RIGHT, ROW, TOP = 760, 210, 80, 30, 44
+WIDTH, LEFT, RIGHT, ROW, TOP = 780, 230, 80, 30, 44
 STYLE = """<style>
 text { font: 13px sans-serif; fill: #7d8590 }
 .name { text-anchor: end }
@@ -35,9 +35,17 @@ def ratios():
     return bars + [(f"{cells[0]}, small menus", float(cells[1]), "other") for cells in rows_of("peers")]
 
 
-def picture(rows):
-    """Bars from the left, with a line where both are as fast."""
-    height = TOP + ROW * len(rows) + 14
+def measured():
+    """When and on what the ratios were measured together, or nothing if they weren't."""
+    words = re.search(r"(?m)^Measured: <!-- measured: bench/table.py -->(.*)$", PAGE.read_text())[1].strip()
+    return words if words[:1].isdigit() else ""
+
+
+def picture(rows, when):
+    """Bars from the left, with a line where both are as fast, and below them when they were measured."""
+    foot = 22 if when else 0
+    bottom = TOP + ROW * len(rows) + 4
+    height = bottom + 10 + foot
     scale = (WIDTH - LEFT - RIGHT) / max(1.4, *(ratio for _, ratio, _ in rows))
     one = LEFT + scale
     title = "Speed relative to plain C: longer is faster"
@@ -46,7 +54,7 @@ def picture(rows):
         f"<title>{title}</title>",
         STYLE,
         f'<text class="middle" x="{one:g}" y="20">plain C = 1</text>',
-        f'<path d="M{one:g} 28V{height - 10}"/>',
+        f'<path d="M{one:g} 28V{bottom}"/>',
     ]
     for number, (name, ratio, whose) in enumerate(rows):
         y = TOP + ROW * number
@@ -56,11 +64,13 @@ def picture(rows):
         inside = ratio > 0.3
         place = f'class="in" x="{end - 8:.1f}"' if inside else f'x="{end + 8:.1f}"'
         parts.append(f'<text {place} y="{y + 14}">{f"{ratio:.2f}" if inside else f"{ratio:g}"}</text>')
+    if when:
+        parts.append(f'<text class="middle" x="{WIDTH // 2}" y="{bottom + 18}">{escape(when)}</text>')
     return "\n".join([*parts, "</svg>"]) + "\n"
 
 
 def main(words):
-    drawn = picture(ratios())
+    drawn = picture(ratios(), measured())
     if words == []:
         PICTURE.write_text(drawn)
         return 0

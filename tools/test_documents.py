@@ -16,8 +16,9 @@ import list_files
 
 ROOT = pathlib.Path(__file__).resolve().parent.parent
 PAGES = [*sorted(ROOT.glob("*.md")), *sorted(ROOT.glob("docs/*.md"))]
-# words of an older dialect, each with a plain one: out of memory, if, as many, fails with 90
-AVOIDED = re.compile(r"(?i)\b(?:want of memory|whoever|so many|answers 90|refused only where)\b")
+# words of an older dialect; plain ones are: out of memory, if, as many, fails with 90
+AVOIDED = re.compile(r"(?i)\b(?:want of memory|whoever|so many|answers 90|refused only where|memory is refused)\b")
+COMMENT = re.compile(r"(?m)^ *(?://[/!]?|--) (.*)$")
 
 
 class Documents(unittest.TestCase):
@@ -37,11 +38,13 @@ class Documents(unittest.TestCase):
     def test_avoided_words_stay_away(self):
         for page in [*PAGES, *sorted(ROOT.glob("man/*")), *sorted(ROOT.glob("packaging/*.md"))]:
             self.assertEqual(AVOIDED.findall(page.read_text()), [], page.name)
+        for path in [*ROOT.glob("crates/*/src/**/*.rt"), *ROOT.glob("crates/*/specs/**/*.antt")]:
+            self.assertEqual(AVOIDED.findall("\n".join(COMMENT.findall(path.read_text()))), [], str(path))
 
     def test_the_pictures_are_current(self):
         for name, draw in draw_crates.PICTURES.items():
             self.assertEqual((ROOT / name).read_text(), draw(), f"run tools/draw_crates.py for {name}")
-        self.assertEqual(draw_ratios.PICTURE.read_text(), draw_ratios.picture(draw_ratios.ratios()), "run tools/draw_ratios.py")
+        self.assertEqual(draw_ratios.PICTURE.read_text(), draw_ratios.picture(draw_ratios.ratios(), draw_ratios.measured()), "run tools/draw_ratios.py")
 
     def test_the_list_of_files_is_current(self):
         page = list_files.PAGE.read_text()

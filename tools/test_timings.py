@@ -16,6 +16,7 @@ OUTPUT = (
     "menu: read at 300 MB/s, written at 747 MB/s\n"
     "split in plain C: 600 MB/s\n"
     + "".join(SERVED.format(name, unit) for name, _, unit in table.SERVED)
+    + "".join(f"small menu beside {count} silent clients, requests a second: 9,000 (C 10,000), quotient 0.90\n" for count in table.IDLE)
     + """65536 pages: 40000 ns a page to make, 50000 to claim and add, 2990 bytes a page with its postings
 moon: 50 us, 50 hits, 100 the sum of their scores
 moon and sun: 50 us, 50 hits, 100 the sum of their scores
@@ -37,6 +38,7 @@ class Timings(unittest.TestCase):
     def test_the_table_has_what_was_printed(self):
         rows = dict(re.findall(r"(?m)^\| ([^|]+) \| [^|]+ \| ([\d.]+ \|(?: [\d.]+)? \|)$", table.table(OUTPUT)))
         self.assertEqual(rows["small menus"], "2.00 | 2.00 |")
+        self.assertEqual(rows["small menus, 1,000 idle clients"], "0.90 | |")
         self.assertEqual(rows["searches of 65,536 pages"], "1.00 | |")
         self.assertEqual((rows["making pages"], rows["adding pages to the index"]), ("1.00 | |", "0.50 | |"))
         self.assertEqual(rows["reading menus"], "0.50 | |")
@@ -66,7 +68,10 @@ class Timings(unittest.TestCase):
             ],
             "bench/splits.c": ['"split in plain C: %.0f MB/s'],
             "bench/postings.c": ["making: %.1f us a page", "adding: %.1f us a page", "packing: %.1f us a page", '"%s: %.0f us, %zu hits'],
-            "bench/speeds.py": [f'"{name}, requests a second"' for name, _, unit in table.SERVED if "one client" in name],
+            "bench/speeds.py": [
+                *(f'"{name}, requests a second"' for name, _, unit in table.SERVED if "one client" in name),
+                '"small menu beside {silent} silent clients, requests a second"',
+            ],
             "bench/peers.py": ['"small menus of {name}: {rate:,.0f} a second (C '],
         }
         for file, formats in printed.items():
