@@ -20,7 +20,7 @@ import threading
 import time
 
 sys.path.insert(0, str(pathlib.Path(__file__).resolve().parent.parent / "tests"))
-from server import HOST, PROGRAM, ask, free_port
+from running.server import HOST, PROGRAM, ask, free_port
 
 CLIENTS, BYTES, REST, BACKLOG = 4, 4_096, 0.5, 4_096
 TEXT = b"a line of a text, of sixty-four bytes with its end, as many are\n" * (BYTES // 64)

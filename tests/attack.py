@@ -28,9 +28,9 @@ import threading
 import time
 from concurrent.futures import ThreadPoolExecutor
 
-from heavy import Flood, Heavy, heavy_texts
-from server import HOST, PROGRAM, WAIT, Server, Tally, ask, connect, read_all
-from site_model import Site
+from running.heavy import Flood, Heavy, heavy_texts
+from running.server import HOST, PROGRAM, WAIT, Server, Tally, ask, connect, read_all
+from models.site_model import Site
 
 SILENT, SLOW, DEAF, ORDINARY, HEAVY = 1_000, 200, 50, 4, 64
 RESETS_A_SECOND = 15

@@ -17,7 +17,7 @@ import subprocess
 import sys
 import tempfile
 
-from server import PROGRAM, WAIT, Tally, free_port
+from running.server import PROGRAM, WAIT, Tally, free_port
 
 NOBODY = 65_534
 LARGEST_FILE, MOST_BYTES, MOST_NODES, MOST_SETTINGS = 16_777_216, 67_108_864, 4_096, 1_048_576

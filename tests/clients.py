@@ -25,7 +25,7 @@ import tempfile
 import termios
 import time
 
-from server import HOST, PROGRAM, ROOT, WAIT, Server, Tally, ask
+from running.server import HOST, PROGRAM, ROOT, WAIT, Server, Tally, ask
 
 QUIET = 1.0
 SOUGHT = "water not rain"

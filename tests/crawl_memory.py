@@ -12,7 +12,7 @@ import sys
 import tempfile
 import time
 
-from server import HOST, PROGRAM, Server, Tally, ask
+from running.server import HOST, PROGRAM, Server, Tally, ask
 
 TEXTS, WORDS = 20, 100
 # As many searches as the crawl may need to its end, at half a second each. The server ends after them.

@@ -14,7 +14,7 @@ import tempfile
 import threading
 import time
 
-from server import HOST, PROGRAM, Server, Tally, ask
+from running.server import HOST, PROGRAM, Server, Tally, ask
 
 TEXTS_OF_A_MENU = 128
 MOST_SECONDS = 300.0

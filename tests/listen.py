@@ -13,7 +13,7 @@ import subprocess
 import sys
 import tempfile
 
-from server import HOST, PROGRAM, WAIT, Server, Tally, ask, free_port
+from running.server import HOST, PROGRAM, WAIT, Server, Tally, ask, free_port
 
 OTHER, REPLY = "127.0.0.2", b"hello\r\n.\r\n"
 NO_ADDRESSES = (

@@ -1,6 +1,6 @@
 #!/usr/bin/env python3
 """Has the built program read folders with what is neither a regular file nor a folder, with files of the kernel, and with
-names that vanish while they are read (tests/vanishing.c).
+names that vanish while they are read (preloads/vanishing.c).
 
     tests/load.py [PROGRAM]
 
@@ -14,7 +14,7 @@ import subprocess
 import sys
 import tempfile
 
-from server import PROGRAM, ROOT, WAIT, Tally, free_port
+from running.server import PROGRAM, ROOT, WAIT, Tally, free_port
 
 
 class Site:
@@ -71,7 +71,7 @@ def check_kernel(tally, site):
 def check_vanishing(tally, site):
     """A file or a folder that vanishes between its listing and its opening is left out, and so is what turns into a folder."""
     library = site.settings.with_name("vanishing.so")
-    subprocess.run(["cc", "-O2", "-shared", "-fPIC", "-o", library, ROOT / "tests" / "vanishing.c"], check=True)
+    subprocess.run(["cc", "-O2", "-shared", "-fPIC", "-o", library, ROOT / "tests/preloads/vanishing.c"], check=True)
     (site.root / "b").mkdir()
     (site.root / "b" / "vanishing.txt").write_text("gone\n")
     (site.root / "b" / "turning.txt").write_text("gone\n")

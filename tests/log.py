@@ -26,7 +26,7 @@ import tempfile
 import time
 from concurrent.futures import ThreadPoolExecutor
 
-from server import HOST, PROGRAM, ROOT, WAIT, Server, Tally, ask, connect, refusing
+from running.server import HOST, PROGRAM, ROOT, WAIT, Server, Tally, ask, connect, refusing
 
 LARGE = bytes(range(256)) * 32_768
 LINE = re.compile(rb"(\d{4})-(\d\d)-(\d\d)T(\d\d):(\d\d):(\d\d)\.(\d{6})Z\t([^\t]*)\t([^\t]*)\t([^\t]*)\t(\d+)\t(\d+)")

@@ -20,7 +20,7 @@ import sys
 import tempfile
 import time
 
-from server import PROGRAM, ROOT, WAIT, Tally, ask
+from running.server import PROGRAM, ROOT, WAIT, Tally, ask
 
 DIST = ROOT / "packaging" / "dist.py"
 SITE = ROOT / "packaging" / "site"

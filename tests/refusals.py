@@ -1,5 +1,5 @@
 #!/usr/bin/env python3
-"""Refuses each allocation of a program in turn, until a run meets none, by a library that is loaded before it (refusals.c).
+"""Refuses each allocation of a program in turn, until a run meets none, by a library that is loaded before it (preloads/refusals.c).
 
     tests/refusals.py [PROGRAM]
 
@@ -21,8 +21,8 @@ import sys
 import tempfile
 import time
 
-import model
-from server import HOST, PROGRAM, ROOT, WAIT, Server, Tally, ask, free_port
+from models import model
+from running.server import HOST, PROGRAM, ROOT, WAIT, Server, Tally, ask, free_port
 
 CRATE = ROOT / "crates" / "test_refused_growths"
 GROWN = CRATE / "out" / "test_refused_growths"
@@ -64,7 +64,7 @@ class Refusals:
     def __init__(self, folder, tally):
         self.folder, self.tally, self.library = folder, tally, folder / "refusals.so"
         self.counted, self.left = folder / "counted", folder / "left"
-        subprocess.run(["cc", "-O2", "-shared", "-fPIC", "-o", self.library, ROOT / "tests/refusals.c"], check=True)
+        subprocess.run(["cc", "-O2", "-shared", "-fPIC", "-o", self.library, ROOT / "tests/preloads/refusals.c"], check=True)
 
     def run(self, words, given, refused):
         """What a run writes, its errors and its status, and how many allocations it asked for."""

@@ -1,7 +1,7 @@
 #!/usr/bin/env python3
 """Crawls to which memory is refused: each of them ends, and by itself.
 
-The program serves a folder of 150 texts and crawls itself, while a library that is loaded before it (refusals.c) refuses
+The program serves a folder of 150 texts and crawls itself, while a library that is loaded before it (preloads/refusals.c) refuses
 every allocation of at least so many bytes, or one of these. Merging 64 pages takes the largest ones, of over 100,000 bytes:
 without them the crawl finds all pages, with one worker and with several. A crawl that isn't over after 6 seconds fails.
 """
@@ -13,7 +13,7 @@ import sys
 import tempfile
 import time
 
-from server import HOST, PROGRAM, ROOT, Tally, ask, free_port
+from running.server import HOST, PROGRAM, ROOT, Tally, ask, free_port
 
 TEXTS = 150
 WORDS = 100
@@ -56,7 +56,7 @@ class Crawls:
     def __init__(self, program, folder):
         self.program, self.folder, self.root = program, folder, folder / "site"
         self.library, self.counted = folder / "refusals.so", folder / "counted"
-        subprocess.run(["cc", "-O2", "-shared", "-fPIC", "-o", self.library, ROOT / "tests/refusals.c"], check=True)
+        subprocess.run(["cc", "-O2", "-shared", "-fPIC", "-o", self.library, ROOT / "tests/preloads/refusals.c"], check=True)
         make_texts(self.root)
 
     def start(self, port, workers, least, refused):

@@ -1,5 +1,5 @@
 #!/usr/bin/env python3
-"""Replays scripts with the built program, and compares all that it writes with the plain model of model.py.
+"""Replays scripts with the built program, and compares all that it writes with the plain model of models/model.py.
 
     tests/replays.py [--scripts N] [--seed S] [--pages N] [PROGRAM]
 
@@ -16,10 +16,10 @@ import subprocess
 import sys
 import tempfile
 
-import model
-from drawing import drawn_script
-from sizes import MOST_PAGES, scripts_of_limits, scripts_of_sizes
-from worked import SCRIPTS, WORKED
+from models import model
+from drawn.drawing import drawn_script
+from drawn.sizes import MOST_PAGES, scripts_of_limits, scripts_of_sizes
+from models.worked import SCRIPTS, WORKED
 
 ROOT = pathlib.Path(__file__).resolve().parent.parent
 

@@ -1,6 +1,6 @@
 #!/usr/bin/env python3
 """Serves folders that are drawn by the built program, asks it lines that are drawn, and compares each reply with the plain
-model of site_model.py.
+model of models/site_model.py.
 
     tests/requests.py [--lines N] [--seed S] [--site K] [PROGRAM]
 
@@ -19,10 +19,10 @@ import tempfile
 import time
 from concurrent.futures import ThreadPoolExecutor
 
-import model
-import site_drawing
-from server import HOST, MOST_SHOWN, PROGRAM, WAIT, Server, Tally, ask, connect, free_port, read_all
-from site_model import Site
+from models import model
+from drawn import site_drawing
+from running.server import HOST, MOST_SHOWN, PROGRAM, WAIT, Server, Tally, ask, connect, free_port, read_all
+from models.site_model import Site
 
 LINES_OF_A_SITE = 50
 AT_ONCE = 16

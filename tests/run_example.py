@@ -14,7 +14,7 @@ import sys
 import tempfile
 import time
 
-from server import HOST, PROGRAM, ROOT, WAIT, Tally, ask, free_port
+from running.server import HOST, PROGRAM, ROOT, WAIT, Tally, ask, free_port
 
 ENDS = (signal.SIGINT, signal.SIGTERM, signal.SIGHUP, signal.SIGKILL)
 

@@ -16,8 +16,8 @@ import tempfile
 import threading
 import time
 
-import server as serving
-from server import HOST, ROOT, WAIT, ask, connect, read_all
+from running import server as serving
+from running.server import HOST, ROOT, WAIT, ask, connect, read_all
 
 PROGRAM = sys.argv[1] if len(sys.argv) > 1 else str(serving.PROGRAM)
 Server = functools.partial(serving.Server, PROGRAM)

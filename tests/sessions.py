@@ -16,7 +16,7 @@ import tempfile
 import time
 import urllib.parse
 
-from server import PROGRAM, ROOT, WAIT, Tally, ask, free_port
+from running.server import PROGRAM, ROOT, WAIT, Tally, ask, free_port
 
 PORT = "7070"
 CURL = re.compile(r"curl '?gopher://localhost:(\d+)/(?:\w(/[^']*))?'?")

@@ -3,7 +3,7 @@
 
     tests/streams.py [PROGRAM]
 
-The library of streams.c stands between the program and the system. The last line is 'streams: N passed, M failed'.
+The library of preloads/streams.c stands between the program and the system. The last line is 'streams: N passed, M failed'.
 """
 import argparse
 import os
@@ -12,8 +12,8 @@ import subprocess
 import sys
 import tempfile
 
-from server import HOST, PROGRAM, ROOT, WAIT, Tally, free_port
-from worked import FIRST_CRAWL, REFUSED_START
+from running.server import HOST, PROGRAM, ROOT, WAIT, Tally, free_port
+from models.worked import FIRST_CRAWL, REFUSED_START
 
 MEBIBYTE = 1_048_576
 # Words that are none of the program's.
@@ -29,7 +29,7 @@ class Streams:
     def __init__(self, folder, program):
         self.folder, self.program = folder, str(program)
         self.library = folder / "streams.so"
-        compiler = ["cc", "-O2", "-shared", "-fPIC", "-o", str(self.library), str(ROOT / "tests" / "streams.c")]
+        compiler = ["cc", "-O2", "-shared", "-fPIC", "-o", str(self.library), str(ROOT / "tests/preloads/streams.c")]
         subprocess.run(compiler, check=True)
 
     def run(self, words, script=b"", **how):

@@ -1,4 +1,5 @@
-//! A crew that crawls a host in memory: pages a second, the best of several rounds, and its memory for each page.
+//! A crew that crawls a host in memory: pages a second, the best of several rounds, and its memory
+//! for each page.
 
 ghost use Rattle.std.specs.Prelude.{◌≡◌, []};
 
@@ -34,7 +35,8 @@ fn pairs<C: Crew>(
     Some(pairs)
 }
 
-// Crawls the host with so many workers: the nanoseconds, the bytes that it holds, and how many places are done.
+// Crawls the host with `workers` workers. Returns the nanoseconds, the bytes of memory that the
+// crawl holds, and the number of places that are done.
 fn crawled<C: Crew + Send + Sync, R: Runtime + AllocGlobal + Threads + Wait + Sync>(
     rt: &R,
     blank: Blank,
@@ -58,7 +60,8 @@ fn crawled<C: Crew + Send + Sync, R: Runtime + AllocGlobal + Threads + Wait + Sy
     Some((span, held, desk.status(rt).done))
 }
 
-// Prints the best of several crawls by so many workers, and what the first holds: later ones use again what it gave back.
+// Prints the best of several crawls by `workers` workers, and the memory of the first one: later
+// ones use again what it gave back.
 fn measure_by<R: Runtime + AllocGlobal + Threads + Wait + Sync>(
     rt: &R,
     host: &Host,

@@ -6,14 +6,14 @@ use test_tables::Table;
 
 const TEXTS_OF_A_MENU: usize = 128;
 
-/// The replies of a host. Its selectors are their numbers, after a slash: first the menu of menus, then
-/// these, then the texts.
+/// The replies of a host. Its selectors are their numbers, after a slash: first the menu of menus,
+/// then these, then the texts.
 #[derive(Drop)]
 pub struct Host {
     replies: Vec<Vec<u8>>,
 }
 
-// A menu of so many places, from this number on.
+// A menu of `count` places, numbered from `first`.
 fn menu(alloc: Global, kind: char, first: usize, count: usize) -> Result<Vec<u8>, AllocError> {
     let mut text = String::new(alloc);
     for offset in 0..count {

@@ -1,7 +1,7 @@
 //! Times the crates on a file: `bench_measure menu|text|search|crawl FILE`.
 //!
-//! A line gives the best of several rounds: for menus and texts in megabytes a second, for searches in microseconds, for
-//! crawls in pages a second. The building of a catalogue alone has one round.
+//! A line gives the best of several rounds: for menus and texts in megabytes a second, for searches
+//! in microseconds, for crawls in pages a second. The building of a catalogue alone has one round.
 #![tactic(auto)]
 
 mod crawls;

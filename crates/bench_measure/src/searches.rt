@@ -141,7 +141,8 @@ fn ask(rt: &HostRuntime, catalogue: &Catalogue, text: &str) -> Option<()> {
     .ok()
 }
 
-/// Prints how long the pages take to make and to add to a catalogue, its memory for each page, and how long searches take.
+/// Prints how long the pages take to make and to add to a catalogue, its memory for each page, and
+/// how long searches take.
 pub fn measure(rt: &HostRuntime, bytes: &[u8]) -> Option<()> {
     let texts = texts(rt.alloc(), bytes)?;
     let catalogue = built(rt, &texts)?;

@@ -22,7 +22,7 @@ pub fn since<R: Clock>(rt: &R, start: Instant) -> Option<u64>
     Some(u64::try_from(span.as_nanos()).unwrap_or(u64::MAX).max(1))
 }
 
-/// How many a second, of a span of so many nanoseconds with `count` of them.
+/// Returns how many a second there are if `count` of them take `nanoseconds`.
 pub fn per_second(count: usize, nanoseconds: u64) -> u64 {
     let billions = (count as u64).saturating_mul(1_000_000_000);
     billions.checked_div(nanoseconds).unwrap_or(0)

@@ -1,15 +1,15 @@
-//! How a program of your own uses the library: it opens a desk, crawls three replies in memory by two
-//! workers, searches them, and closes the desk.
+//! How a program of your own uses the library: it opens a desk, crawls three replies in memory by
+//! two workers, searches them, and closes the desk.
 //!
 //! What a desk is opened with:
 //!
 //! - A catalogue: a scope, the seeds, and the limits of places and tries.
 //! - How many passes search it, and how many shares, one for each worker.
-//! - A `Blank`, which names the crew. Contracts use the name to say which crew a record belongs to. A
-//!   new blank has no events and names of its own, so a caller needs two things. The functions that take
-//!   the blank are generic in the crew `C` and repeat the four conditions of `Desk::open`. And where
-//!   `main` makes the blank, it calls them with `C` as `Brand`, whose names `proofs/main` picks to be those
-//!   of the blank.
+//! - A `Blank`, which names the crew. Contracts use the name to say which crew a record belongs to.
+//!   A new blank has no events, and names of its own, so a caller needs two things. The functions
+//!   that take the blank are generic in the crew `C` and repeat the four conditions of
+//!   `Desk::open`. `main` makes the blank and calls them with `C` as `Brand`, and `proofs/main`
+//!   picks the names of the blank as those of `Brand`.
 #![tactic(auto)]
 
 ghost use Rattle.std.specs.Prelude.{◌≡◌, [], ◌≤◌, length};
@@ -29,7 +29,7 @@ use std::marker::Brand;
 use std::sync::Wait;
 use std::thread::Threads;
 
-// At most so many places become known; further links are counted as dropped.
+// The most places that become known. Further links are counted as dropped.
 const PLACES: u32 = 100;
 
 // A place whose fetch failed isn't claimed again.
@@ -70,8 +70,8 @@ fn pairs<C: Crew>(alloc: Global, shares: Vec<Share<C>>) -> Result<Vec<(Burrow, S
     Ok(pairs)
 }
 
-// A search takes no lock: it could as well run in another thread, while the workers crawl. The text of a
-// query has at most 1,024 bytes.
+// A search takes no lock: it could as well run in another thread, while the workers crawl. The text
+// of a query has at most 1,024 bytes.
 fn print_hits<C: Crew, R: Print + AllocGlobal>(
     rt: &R,
     pass: &mut Pass<C>,

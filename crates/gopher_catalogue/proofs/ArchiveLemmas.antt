@@ -12,7 +12,7 @@ use Rattle.std.proofs.lemmas.List.Concat.{flat_map-cons}
 use mathlib.Core.List.{IsPrefix}
 use Rattle.gopher_page.specs.Page.{PageData}
 use Rattle.gopher_segment.specs.Segment.{SegmentData}
-use Rattle.gopher_index.specs.Index.{StandsIn}
+use Rattle.gopher_index.specs.Index.{IsSliceOf}
 use Rattle.gopher_catalogue.specs.declared.event.Event.{Event}
 use Rattle.gopher_catalogue.specs.declared.event.Event.TheVariants.{Opened as OpenedEvent, Claimed as ClaimedEvent, Found as FoundEvent, Failed as FailedEvent}
 use Rattle.gopher_catalogue.specs.EventOf.{event_data}
@@ -43,7 +43,7 @@ unfolding pages_found
 pages-append events more = flat_map-append page_of_event events more
 
 -- a run of a record's pages is a run of the pages of each longer record
-pub stands_on : (run : SegmentData) (events more : List EventData) → IsPrefix events more → StandsIn run (pages_found events) → StandsIn run (pages_found more)
+pub stands_on : (run : SegmentData) (events more : List EventData) → IsPrefix events more → IsSliceOf run (pages_found events) → IsSliceOf run (pages_found more)
 stands_on run events more grows stands =
     let rest : List PageData = pages_found grows.0 in
     let all : pages_found events ++ rest ≡ pages_found more = sym (pages-append events grows.0) ∙ ap pages_found grows.1 in

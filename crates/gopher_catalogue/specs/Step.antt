@@ -1,9 +1,9 @@
 -- The sequential catalogue: the result of each call on a record, and the record after it, if memory
 -- suffices.
-use Rattle.std.specs.Prelude.{◌≡◌, ℕ, ◌-◌, Bool, false, ◌&&◌, not, List, [], ◌∷◌, ◌++◌, length, Option, None, Some, slice_get, position, ◌==◌, nat_lt, nat_le, if◌then◌else◌}
+use Rattle.std.specs.Prelude.{◌≡◌, ℕ, ◌-◌, Bool, false, ◌&&◌, not, List, [], ◌∷◌, ◌++◌, length, Option, None, Some, slice_get, ◌==◌, nat_lt, nat_le, if◌then◌else◌}
 use Rattle.std.specs.Option.{option_map, option_and_then, option_map_or}
 use Rattle.gopher_item.specs.Place.{PlaceData, same_place}
-use Rattle.gopher_scope.specs.Scope.{ScopeData, allows}
+use Rattle.gopher_scope.specs.Scope.{ScopeData, first_outside}
 use Rattle.gopher_scope.specs.declared.limits.TheConstants.{MAX_PLACES, MAX_TRIES}
 use Rattle.gopher_page.specs.Page.{PageData}
 use Rattle.gopher_catalogue.specs.declared.fault.OpenFault.{OpenFault}
@@ -22,7 +22,7 @@ pub use Rattle.gopher_frontier.specs.declared.sizes.Status.{Status}
 abbrev pub open_fault : ScopeData → List PlaceData → ℕ → ℕ → Option OpenFault
 open_fault scope seeds limit tries =
     option_map_or (λ index. Some (SeedOutOfScope index))
-    (position (λ seed. not (allows scope seed)) seeds)
+    (first_outside scope seeds)
     (if not (nat_le 1 limit && nat_le limit MAX_PLACES) then Some BadPlaces
     else (if not (nat_le 1 tries && nat_le tries MAX_TRIES) then Some BadTries else None))
 

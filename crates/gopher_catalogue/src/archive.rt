@@ -2,7 +2,7 @@
 
 ghost use Rattle.std.specs.Prelude.{◌≡◌, ◌+◌, ◌<◌, ◌≤◌, [], ◌∷◌, ◌++◌, length, map, IfOk, IfErr, IfSome, OnOk, OnErr};
 ghost use Rattle.std.specs.Arc.{arc_value};
-ghost use Rattle.gopher_index.specs.Index.{StandsIn};
+ghost use Rattle.gopher_index.specs.Index.{IsSliceOf};
 ghost use Rattle.gopher_catalogue.specs.Event.{Opened, Found};
 ghost use Rattle.gopher_catalogue.specs.EventOf.{event_data};
 ghost use Rattle.gopher_catalogue.specs.Pages.{page_of_event, pages_indexed, with_page_of};
@@ -88,12 +88,12 @@ impl Archive {
     }
 
     /// Copies the events and the index, which share their pages with `self`.
-    pub fn again(&self, alloc: Global) -> Result<Archive, NoMemory>
+    pub fn share(&self, alloc: Global) -> Result<Archive, NoMemory>
         ensures { IfOk result (λ archive. archive.events ≡ self.now.events) }
     {
         Ok(Archive {
-            history: self.history.again(alloc)?,
-            index: self.index.again(alloc)?,
+            history: self.history.clone(alloc)?,
+            index: self.index.share(alloc)?,
         })
     }
 
@@ -130,14 +130,14 @@ impl Archive {
     pub fn due(&mut self) -> Result<Option<Due>, NoMemory>
         ensures same { self.new ≡ self.old }
         ensures stands { IfOk result (λ due.
-            IfSome due (λ run. StandsIn run (pages_indexed self.old.events))) }
+            IfSome due (λ run. IsSliceOf run (pages_indexed self.old.events))) }
     {
         self.index.due()
     }
 
     /// Puts a merged run in its place in the index, as `Index::install` does.
     pub fn install(&mut self, due: Due)
-        requires { StandsIn due (pages_indexed self.old.events) }
+        requires { IsSliceOf due (pages_indexed self.old.events) }
         ensures { self.new ≡ self.old }
     {
         self.index.install(due);
@@ -191,7 +191,7 @@ impl Archive {
         ensures err { OnErr result (self.new ≡ self.old) }
         ensures page_back { IfErr result (λ back. back ≡ page) }
     {
-        let Ok(back) = page.again() else {
+        let Ok(back) = page.share() else {
             return Err(page);
         };
         let Ok(page) = Arc::new(alloc, page) else {

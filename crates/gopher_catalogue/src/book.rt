@@ -50,7 +50,7 @@ impl Book {
         ensures ok { OnOk result (self.new ≡ self.old ++ event_data event.now ∷ []) }
         ensures err { OnErr result (self.new ≡ self.old) }
     {
-        let event = event.again()?;
+        let event = event.clone()?;
         self.archive.reserve(1)?;
         self.archive.add(event)?;
         self.archive.settle();
@@ -63,7 +63,7 @@ impl Book {
     {
         Ok(Book {
             alloc: self.alloc,
-            archive: self.archive.again(self.alloc)?,
+            archive: self.archive.share(self.alloc)?,
         })
     }
 

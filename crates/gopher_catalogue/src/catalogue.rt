@@ -1,9 +1,9 @@
 //! `Catalogue`: the steps of a crawl, open, claim, found and fail, and its searches.
 
-ghost use Rattle.std.specs.Prelude.{◌≡◌, ℕ, true, false, None, Some, [], ◌∷◌, ◌++◌, map, not, position, slice_get, IfOk, IfErr, IfSome, OnOk, OnErr};
+ghost use Rattle.std.specs.Prelude.{◌≡◌, ℕ, true, false, None, Some, [], ◌∷◌, ◌++◌, map, slice_get, IfOk, IfErr, IfSome, OnOk, OnErr};
 ghost use Rattle.std.specs.Arc.{arc_value};
-ghost use Rattle.gopher_scope.specs.Scope.{allows};
-ghost use Rattle.gopher_index.specs.Index.{StandsIn};
+ghost use Rattle.gopher_scope.specs.Scope.{first_outside};
+ghost use Rattle.gopher_index.specs.Index.{IsSliceOf};
 ghost use Rattle.gopher_catalogue.specs.Event.{EventData, Opened, Claimed, Found, Failed};
 ghost use Rattle.gopher_catalogue.specs.EventOf.{event_data};
 ghost use Rattle.gopher_catalogue.specs.Fault.{HasOpenFault, HasFoundFault};
@@ -53,7 +53,7 @@ impl Model for Catalogue {
 
 // The index of the first seed that the scope doesn't allow.
 fn first_outside(scope: &Scope, seeds: &[Place]) -> Option<usize>
-    ensures { result ≡ position (λ seed. not (allows scope.now seed)) seeds.now }
+    ensures { result ≡ first_outside scope.now seeds.now }
 {
     seeds.iter().position(|seed| !scope.allows(seed))
 }
@@ -236,7 +236,7 @@ impl Catalogue {
     pub fn due(&mut self) -> Result<Option<Due>, NoMemory>
         ensures same { self.new ≡ self.old }
         ensures stands { IfOk result (λ due.
-            IfSome due (λ run. StandsIn run (pages_found self.old))) }
+            IfSome due (λ run. IsSliceOf run (pages_found self.old))) }
         ensures legal { IsLegal self.old }
     {
         self.archive.due()
@@ -246,7 +246,7 @@ impl Catalogue {
     ///
     /// Neither the record nor the result of any search changes. Runs may be installed in any order.
     pub fn install(&mut self, due: Due)
-        requires { StandsIn due (pages_found self.old) }
+        requires { IsSliceOf due (pages_found self.old) }
         ensures { self.new ≡ self.old }
     {
         self.archive.install(due);

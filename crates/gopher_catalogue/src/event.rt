@@ -54,7 +54,7 @@ pub enum Event {
 
 impl Event {
     /// Copies the event, which shares its opening or its page with `self`.
-    pub fn again(&self) -> Result<Event, NoMemory>
+    pub fn clone(&self) -> Result<Event, NoMemory>
         ensures { IfOk result (λ event. event_data event ≡ event_data self.now) }
     {
         match self {

@@ -42,12 +42,12 @@ impl History {
     }
 
     /// Copies the events.
-    pub fn again(&self, alloc: Global) -> Result<History, NoMemory>
+    pub fn clone(&self, alloc: Global) -> Result<History, NoMemory>
         ensures { IfOk result (λ history. history.events ≡ self.now.events) }
     {
         let mut events = Vec::with_capacity(alloc, self.events.len())?;
         for event in &self.events {
-            events.push(event.again()?)?;
+            events.push(event.clone()?)?;
         }
         Ok(History { events })
     }

@@ -1,10 +1,10 @@
 -- The reports of a check: of a fault, and of a site without one.
-use Rattle.std.specs.Prelude.{◌≡◌, ◌≢◌, ℕ, not, List, [], ◌∷◌, ◌++◌, codes, length, count_by, position, Option, None, Some, IfSome, Ok, Err}
+use Rattle.std.specs.Prelude.{◌≡◌, ◌≢◌, ℕ, List, [], ◌∷◌, ◌++◌, codes, length, count_by, Option, None, Some, IfSome, Ok, Err}
 use Rattle.std.specs.List.{flat_map}
 use Rattle.toml.specs.Parse.{parse_document}
 use Rattle.gopher_item.specs.Place.{PlaceData, HomeData}
 use Rattle.gopher_scope.specs.Rule.{RuleData}
-use Rattle.gopher_scope.specs.Scope.{ScopeData, allows}
+use Rattle.gopher_scope.specs.Scope.{first_outside}
 use Rattle.gopher_scope.specs.Rows.{key_name}
 use Rattle.gopher_scope.specs.Settings.{SettingsData, settings_of}
 use Rattle.gopher_scope.specs.declared.fault.SettingsFault.{SettingsFault}
@@ -27,17 +27,17 @@ abbrev pub unknown_detail : List ℕ → List ℕ
 unknown_detail [] = []
 unknown_detail (byte ∷ key) = words_line (codes "key: ") (byte ∷ key)
 
-abbrev pub settings_detail : SettingsFault → List ℕ → List ℕ
-settings_detail (settings_fault.Missing key) unknown = words_line (codes "key: ") (key_name key)
-settings_detail (settings_fault.WrongKind key) unknown = words_line (codes "key: ") (key_name key)
-settings_detail (settings_fault.OutOfRange key) unknown = words_line (codes "key: ") (key_name key)
-settings_detail settings_fault.UnknownKey unknown = unknown_detail unknown
-settings_detail why unknown = []
+abbrev pub settings_words : SettingsFault → List ℕ → List ℕ
+settings_words (settings_fault.Missing key) unknown = words_line (codes "key: ") (key_name key)
+settings_words (settings_fault.WrongKind key) unknown = words_line (codes "key: ") (key_name key)
+settings_words (settings_fault.OutOfRange key) unknown = words_line (codes "key: ") (key_name key)
+settings_words settings_fault.UnknownKey unknown = unknown_detail unknown
+settings_words why unknown = []
 
 -- the line of the key or the seed that a fault names; `unknown` is a key that isn't known, or is
 -- given twice
 abbrev pub detail : SiteFault → List ℕ → List ℕ
-detail (fault.Settings why) unknown = settings_detail why unknown
+detail (fault.Settings why) unknown = settings_words why unknown
 detail (fault.SeedOutOfScope seed) unknown = number_line (codes "seed: ") seed
 detail fault.KeyTwice unknown = unknown_detail unknown
 detail why unknown = []
@@ -90,22 +90,18 @@ site_report path settings files =
     ++ flat_map (rule_line (codes "may visit: ")) settings.scope.allow
     ++ flat_map (rule_line (codes "may not visit: ")) settings.scope.deny ++ codes "sound\n"
 
--- the index of the first seed that the scope doesn't allow
-abbrev pub seed_outside : ScopeData → List PlaceData → Option ℕ
-seed_outside scope seeds = position (λ seed. not (allows scope seed)) seeds
-
 -- the report on settings and a folder
 abbrev pub TellsSite : List ℕ → SettingsData → List ℕ → Option SiteFault → Type 0
 TellsSite path settings words None =
     (files : List File) × (files_fault files ≡ None)
-    × (seed_outside settings.scope settings.seeds ≡ None)
+    × (first_outside settings.scope settings.seeds ≡ None)
     × (words ≡ site_report path settings files)
 TellsSite path settings words (Some (fault.Tree why how)) =
     (below : List ℕ) × LoadsTo below (Err why)
     × (words ≡ fault_report (fault.Tree why how) (path_below settings.root below)
     (line_of_fault why) [])
 TellsSite path settings words (Some (fault.SeedOutOfScope seed)) =
-    (seed_outside settings.scope settings.seeds ≡ Some seed)
+    (first_outside settings.scope settings.seeds ≡ Some seed)
     × (words ≡ fault_report (fault.SeedOutOfScope seed) path None [])
 TellsSite path settings words (Some other) = ⊥
 

@@ -7,13 +7,13 @@ use Rattle.gopher_scope.specs.declared.settings.key.Key.{Key}
 use Rattle.gopher_scope.specs.declared.settings.key.Key.TheVariants as key
 
 -- the first name in a table, in its order, that passes a test
-abbrev pub first_key : (List ℕ → Bool) → Members → Option (List ℕ)
-first_key test no_members = None
-first_key test (member name value more) = if test name then Some name else first_key test more
+abbrev pub first_key_where : (List ℕ → Bool) → Members → Option (List ℕ)
+first_key_where test no_members = None
+first_key_where test (member name value more) = if test name then Some name else first_key_where test more
 
 -- the first name in a table that isn't a key of the settings
 abbrev pub own_key : Members → Option (List ℕ)
-own_key table = first_key (λ name. not (is_key_name name)) table
+own_key table = first_key_where (λ name. not (is_key_name name)) table
 
 -- the first key with an array that has a table with an unknown key
 abbrev pub array_key : Members → Option Key

@@ -3,11 +3,12 @@
 
 ghost use Rattle.std.specs.Prelude.{◌≡◌, ◌≢◌, ◌≤◌, [], length, None, Some, Err, IfOk, IfSome};
 ghost use Rattle.toml.specs.Parse.{parse_document};
+ghost use Rattle.gopher_scope.specs.Scope.{first_outside};
 ghost use Rattle.gopher_scope.specs.Settings.{settings_data, settings_of};
 ghost use Rattle.gopher_scope.specs.declared.fault.SettingsFault.TheVariants as settings_fault;
 ghost use Rattle.gopher_tree.specs.Fault.{files_fault};
 ghost use Rattle.gopher_check.specs.declared.fault.SiteFault.TheVariants.{SettingsUnreadable, KeyTwice};
-ghost use Rattle.gopher_check.specs.Report.{fault_report, line_of_fault, path_below, seed_outside, HasKey, HasLine, TellsSite, TellsText, TellsTwice};
+ghost use Rattle.gopher_check.specs.Report.{fault_report, line_of_fault, path_below, HasKey, HasLine, TellsSite, TellsText, TellsTwice};
 ghost use Rattle.gopher_check.specs.Text.{line_at, key_of, IsKeyOf, IsLineOf};
 
 use crate::fault::SiteFault;
@@ -48,8 +49,8 @@ pub fn unreadable(alloc: Global, path: &str) -> Result<Report, NoMemory>
 }
 
 // The index of the first seed that the scope doesn't allow.
-fn seed_outside(scope: &Scope, seeds: &[Place]) -> Option<usize>
-    ensures { result ≡ seed_outside scope.now seeds.now }
+fn first_outside(scope: &Scope, seeds: &[Place]) -> Option<usize>
+    ensures { result ≡ first_outside scope.now seeds.now }
 {
     seeds.iter().position(|seed| !scope.allows(seed))
 }
@@ -104,7 +105,7 @@ fn tree_report(
     ensures { IfOk result (λ report. TellsSite path.now (settings_data settings)
         report.words.items report.fault) }
 {
-    if let Some(seed) = seed_outside(&settings.scope, &settings.seeds) {
+    if let Some(seed) = first_outside(&settings.scope, &settings.seeds) {
         let fault = SiteFault::SeedOutOfScope(seed);
         let words = fault_report(alloc, fault, path.as_bytes(), None, b"")?;
         return Ok(Report {

@@ -1,7 +1,7 @@
 //! The report of a fault: number, path, line, key or seed, cause and remedy.
 
 ghost use Rattle.std.specs.Prelude.{◌≡◌, ◌++◌, IfOk, OnOk};
-ghost use Rattle.gopher_check.specs.Report.{unknown_detail, settings_detail, detail, line_detail, fault_report};
+ghost use Rattle.gopher_check.specs.Report.{unknown_detail, settings_words, detail, line_detail, fault_report};
 
 use crate::fault::SiteFault;
 use crate::lines::{push_number, push_words};
@@ -25,7 +25,7 @@ fn push_settings_detail(
     unknown: &[u8],
     out: &mut Vec<u8>,
 ) -> Result<(), AllocError>
-    ensures { OnOk result (out.new.items ≡ out.old.items ++ settings_detail fault unknown.now) }
+    ensures { OnOk result (out.new.items ≡ out.old.items ++ settings_words fault unknown.now) }
 {
     match fault {
         SettingsFault::Missing(key)

@@ -5,12 +5,12 @@ abbrev pub first_deadline : List (ℕ × ℕ) → Option ℕ
 first_deadline [] = None
 first_deadline (pair ∷ pairs) = Some pair.1
 
--- taking out the first deadline, which is the key's and isn't after now, leaves the rest
+-- the first deadline is that of the key and isn't after `now`; the others are left
 abbrev pub TakesDue : ℕ → List (ℕ × ℕ) → List (ℕ × ℕ) → ℕ → Type 0
 TakesDue now [] left key = ⊥
 TakesDue now (pair ∷ pairs) left key = (key ≡ pair.0) × (pair.1 ≤ now) × (left ≡ pairs)
 
--- no deadline is due: there is none, or the first is after now
+-- there is no deadline, or the first one is after `now`
 abbrev pub NoneIsDue : ℕ → List (ℕ × ℕ) → Type 0
 NoneIsDue now [] = Unit {0}
 NoneIsDue now (pair ∷ pairs) = now < pair.1

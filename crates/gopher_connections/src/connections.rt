@@ -10,7 +10,7 @@ use lru::LruCache;
 use std::alloc::{AllocError, Global};
 
 /// Connections that wait, each at a key of its own, in the order of their last use. Keys are
-/// numbers from 0 that aren't given twice.
+/// numbers from 0, and no key is used twice.
 ///
 /// Contracts see the pairs of keys and connections as `held.entries`, the most recently used first,
 /// and the next key as `next`.
@@ -21,11 +21,7 @@ pub struct Connections<T: Drop> {
 }
 
 impl<T: Drop> Connections<T> {
-    /// No connections.
-    ///
-    /// # Errors
-    ///
-    /// Out of memory (90).
+    /// Makes an empty collection.
     pub fn new(alloc: Global) -> Result<Connections<T>, AllocError>
         ensures none { IfOk result (λ none. none.held.entries ≡ []) }
         ensures next { IfOk result (λ none. none.next ≡ 0) }
@@ -36,25 +32,26 @@ impl<T: Drop> Connections<T> {
         })
     }
 
-    /// How many there are. Takes no memory.
+    /// Returns the number of connections.
     pub fn len(&self) -> usize
         ensures { result ≡ length self.now.held.entries }
     {
         self.held.len()
     }
 
-    /// Whether there are none. Takes no memory.
+    /// Returns whether there are no connections.
     pub fn is_empty(&self) -> bool
         ensures { result ≡ (length self.now.held.entries == 0) }
     {
         self.held.is_empty()
     }
 
-    /// Puts a connection at a new key, which it gives; the connection is the most recently used.
+    /// Adds a connection at a new key and returns the key. The connection is then the most recently
+    /// used.
     ///
     /// # Errors
     ///
-    /// The connection, if memory is refused. The others are as they were.
+    /// The connection that was passed in, if out of memory.
     pub fn put(&mut self, connection: T) -> Result<usize, T>
         ensures key { IfOk result (λ key. key ≡ self.old.next) }
         ensures named { IfOk result (λ key.
@@ -75,7 +72,7 @@ impl<T: Drop> Connections<T> {
         }
     }
 
-    /// The key of the connection that was used least recently. Takes no memory, and constant time.
+    /// Returns the key of the connection that was used least recently. Takes constant time.
     pub fn idle_longest(&self) -> Option<usize>
         ensures { result ≡ option_map (λ pair. pair.0) (last_entry self.now.held.entries) }
     {
@@ -85,8 +82,8 @@ impl<T: Drop> Connections<T> {
         }
     }
 
-    /// Notes that the connection at a key was used, and returns whether there is one. Takes no
-    /// memory, and constant time.
+    /// Makes the connection at a key the most recently used. Returns whether there is one. Takes
+    /// constant time.
     pub fn touch(&mut self, key: usize) -> bool
         ensures found { result ≡ is_some (lookup (nat_eq key) self.old.held.entries) }
         ensures first { self.new.held.entries ≡ promoted (nat_eq key) self.old.held.entries }
@@ -95,14 +92,14 @@ impl<T: Drop> Connections<T> {
         self.held.promote(&key)
     }
 
-    /// The connection at a key. Takes no memory.
+    /// Returns the connection at a key, or `None` if there is none.
     pub fn get_mut(&mut self, key: usize) -> Option<&mut T>
         ensures { option_copied_mut result ≡ lookup (nat_eq key) self.old.held.entries }
     {
         self.held.peek_mut(&key)
     }
 
-    /// Takes out the connection at a key. Takes no memory.
+    /// Removes and returns the connection at a key, or returns `None` if there is none.
     pub fn remove(&mut self, key: usize) -> Option<T>
         ensures taken { result ≡ lookup (nat_eq key) self.old.held.entries }
         ensures others { self.new.held.entries ≡ remove_entry (nat_eq key) self.old.held.entries }

@@ -6,8 +6,8 @@ ghost use Rattle.gopher_connections.specs.Deadlines.{NoneIsDue, TakesDue, first_
 use std::alloc::{AllocError, Global};
 use std::collections::VecDeque;
 
-/// The deadlines of connections, in the order in which they were set. All connections are given the
-/// same time, so that the first deadline is the earliest.
+/// The deadlines of connections, in the order in which they were set. Each connection gets the same
+/// time, so the first deadline is the earliest.
 ///
 /// Times are milliseconds by one clock.
 #[derive(Drop)]
@@ -16,7 +16,7 @@ pub struct Deadlines {
 }
 
 impl Deadlines {
-    /// No deadlines. Takes no memory.
+    /// Makes an empty list of deadlines.
     pub fn new(alloc: Global) -> Deadlines
         ensures { result.queue.items ≡ [] }
     {
@@ -25,11 +25,7 @@ impl Deadlines {
         }
     }
 
-    /// Sets the deadline of the connection at a key.
-    ///
-    /// # Errors
-    ///
-    /// Out of memory (90).
+    /// Appends the deadline of the connection at a key.
     pub fn set(&mut self, key: usize, deadline: u64) -> Result<(), AllocError>
         ensures set { OnOk result (self.new.queue.items
             ≡ self.old.queue.items ++ (key, deadline) ∷ []) }
@@ -39,7 +35,7 @@ impl Deadlines {
         Ok(())
     }
 
-    /// The first deadline. Takes no memory.
+    /// Returns the first deadline, or `None` if there is none.
     pub fn first(&self) -> Option<u64>
         ensures { result ≡ first_deadline self.now.queue.items }
     {
@@ -49,7 +45,7 @@ impl Deadlines {
         }
     }
 
-    /// Takes out the key of the first deadline, if it isn't after the time `now`. Takes no memory.
+    /// Removes the first deadline and returns its key, if the deadline isn't after the time `now`.
     pub fn take_due(&mut self, now: u64) -> Option<usize>
         ensures due { MatchOption result
             (NoneIsDue now self.old.queue.items × (self.new.queue.items ≡ self.old.queue.items))

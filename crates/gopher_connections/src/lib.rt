@@ -1,11 +1,13 @@
-//! The connections of a server that wait: which of them is the one idle longest, which are at their
-//! deadline, whose search is next, how many places there are, and how many connections are still
-//! accepted.
+//! The waiting connections of a server: which one was idle longest, which are past their deadline,
+//! whose search is next, how many connections the server may hold, and how many it still accepts.
 //!
-//! No socket, no thread and no clock appears here: a connection is whatever the server keeps, and
-//! times are numbers. The server rests on one promise: a key names what was put at it, the
-//! connection idle longest is the one that was touched least recently, nothing ends before its
-//! deadline, and searches are done first in, first out.
+//! No socket, thread or clock appears here: a connection is whatever the server keeps, and times
+//! are numbers. The server uses these contracts: a key returns the connection that was put at it,
+//! the connection idle longest is the one touched least recently, no connection ends before its
+//! deadline, and searches are served first in, first out.
+//!
+//! Error 90 (`AllocError`) means out of memory, and leaves everything unchanged. Calls that can't
+//! fail with it allocate nothing.
 #![tactic(auto)]
 
 mod connections;

@@ -1,22 +1,22 @@
-//! The places for connections that all server threads share, and what a thread may hold of them.
+//! How many connections all server threads may hold together, and the fair share of one thread.
 
 ghost use Rattle.std.specs.Prelude.{◌≡◌, ◌-◌, nat_lt, None, Some, if◌then◌else◌};
 ghost use Rattle.gopher_connections.specs.Places.{max_places as most, fair_share};
 
 use std::sync::atomic::{AtomicU64, Ordering};
 
-// How many files the rest of the program may hold open.
+// The number of open files that are left for the rest of the program.
 const OTHER_FILES: u64 = 64;
 
-// How many connections a server holds at most.
+// The most connections that a server holds.
 const MAX_CONNECTIONS: u64 = 16_384;
 
-// By how many connections a thread may hold more than its fair share before it leaves further ones
-// to the others.
+// A thread leaves new connections to other threads when it holds this many more than its fair
+// share.
 const MAX_ABOVE_SHARE: u64 = 16;
 
-/// How many connections a server holds at most whose process may open so many files: 1 to 16,384,
-/// and 64 files are left for the rest of the program.
+/// Returns the most connections that a server holds if its process may open `files` files: from 1
+/// to 16,384, with 64 files left for the rest of the program.
 pub fn max_places(files: u64) -> u64
     ensures { result ≡ most files }
 {
@@ -26,15 +26,16 @@ pub fn max_places(files: u64) -> u64
         .max(1)
 }
 
-// How many of so many connections a thread holds if each of so many holds as many.
+// The fair share of one of `threads` threads in `all` connections, at least 1.
 fn fair_share(all: u64, threads: u64) -> u64
     ensures { result ≡ fair_share all threads }
 {
     (all / threads.max(1)).max(1)
 }
 
-/// The places of all server threads together, and how many are taken. A thread that has none of its
-/// own takes one even if all are taken, so that there may be one connection more for each thread.
+/// The connections that all server threads may hold together (their places), and how many places
+/// are taken. A thread without a connection takes a place even if all are taken, so each thread can
+/// add one connection to the limit.
 #[derive(Drop)]
 pub struct Places {
     most: u64,
@@ -43,7 +44,7 @@ pub struct Places {
 }
 
 impl Places {
-    /// So many places, none of them taken, and no threads.
+    /// Makes `most` places, none of them taken, without a thread.
     pub fn new(most: u64) -> Places
         ensures { result.most ≡ most }
     {
@@ -59,18 +60,18 @@ impl Places {
         let _before = self.taken.fetch_add(1, Ordering::SeqCst);
     }
 
-    /// Gives a place back that was taken.
+    /// Gives back a place that was taken.
     pub fn give_back(&self) {
         let _before = self.taken.fetch_sub(1, Ordering::SeqCst);
     }
 
-    /// Whether more places are taken than there are.
+    /// Returns whether more places are taken than exist.
     pub fn are_exceeded(&self) -> bool {
         self.taken.load(Ordering::SeqCst) > self.most
     }
 
-    /// Gives a place back if more are taken than there are, and returns whether it did. Of the
-    /// threads that call it at once, as many give one back as there are too many.
+    /// Gives back a place if more are taken than exist, and returns whether it did. If several
+    /// threads call it at once, they give back exactly the excess.
     pub fn give_back_excess(&self) -> bool {
         let most = self.most;
         let fewer = self.taken.fetch_update(
@@ -81,31 +82,32 @@ impl Places {
         fewer.is_ok()
     }
 
-    /// Whether a thread that holds so many connections holds more than its share of the places.
+    /// Returns whether a thread that holds `held` connections holds more than its share of the
+    /// places.
     pub fn is_above_share(&self, held: u64) -> bool {
         held > fair_share(self.most, self.threads.load(Ordering::SeqCst))
     }
 
-    /// Whether a thread that holds so many connections leaves further ones to the others: it holds
-    /// over 16 more than its share of those that there are.
+    /// Returns whether a thread that holds `held` connections leaves new ones to other threads: it
+    /// holds over 16 (`MAX_ABOVE_SHARE`) more than its share of the places that are taken.
     pub fn leaves_to_others(&self, held: u64) -> bool {
         let taken = self.taken.load(Ordering::SeqCst);
         let share = fair_share(taken, self.threads.load(Ordering::SeqCst));
         held > share.saturating_add(MAX_ABOVE_SHARE)
     }
 
-    /// Notes that one thread more accepts connections.
+    /// Records that one more thread accepts connections.
     pub fn add_thread(&self) {
         let _before = self.threads.fetch_add(1, Ordering::SeqCst);
     }
 
-    /// Notes that one thread less accepts connections.
+    /// Records that one thread fewer accepts connections.
     pub fn lose_thread(&self) {
         let _before = self.threads.fetch_sub(1, Ordering::SeqCst);
     }
 }
 
-// One less of the places that are taken, if there are too many.
+// One fewer than `taken` if it is over `most`, otherwise `None`.
 fn one_less(taken: u64, most: u64) -> Option<u64>
     ensures { result ≡ (if nat_lt most taken then Some (taken - 1) else None) }
 {

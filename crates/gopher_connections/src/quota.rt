@@ -1,19 +1,19 @@
-//! How many connections a server still accepts.
+//! `AcceptQuota`: how many connections a server still accepts.
 
 ghost use Rattle.std.specs.Prelude.{◌≡◌, true, false, None, Some};
 ghost use Rattle.gopher_connections.specs.Places.{may_accept};
 
 use std::sync::atomic::{AtomicU64, Ordering};
 
-/// How many connections the threads of a server accept together. Each takes one of the quota before
-/// it accepts a connection.
+/// How many connections the threads of a server accept together. A thread takes one from the quota
+/// before it accepts a connection.
 #[derive(Drop)]
 pub struct AcceptQuota {
     most: Option<u64>,
     taken: AtomicU64,
 }
 
-// Whether one connection more may be accepted after so many.
+// Returns whether one more connection may be accepted after `accepted` connections.
 fn may_accept(most: Option<u64>, accepted: u64) -> bool
     ensures { result ≡ may_accept most accepted }
 {
@@ -24,7 +24,7 @@ fn may_accept(most: Option<u64>, accepted: u64) -> bool
 }
 
 impl AcceptQuota {
-    /// So many connections, or connections without an end.
+    /// Makes a quota of `most` connections, or of any number if `most` is `None`.
     pub fn new(most: Option<u64>) -> AcceptQuota
         ensures { result.most ≡ most }
     {
@@ -34,7 +34,7 @@ impl AcceptQuota {
         }
     }
 
-    /// Takes one of those that are left, and returns whether there was one.
+    /// Takes one from the quota, and returns whether one was left.
     pub fn take(&self) -> bool
         ensures unlimited { self.now.most ≡ None → result ≡ true }
         ensures none { self.now.most ≡ Some 0 → result ≡ false }

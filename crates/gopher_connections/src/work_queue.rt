@@ -15,7 +15,7 @@ pub struct WorkQueue {
 }
 
 impl WorkQueue {
-    /// Makes an empty queue. Takes no memory.
+    /// Makes an empty queue.
     pub fn new(alloc: Global) -> WorkQueue
         ensures { result.keys.items ≡ [] }
     {
@@ -24,11 +24,7 @@ impl WorkQueue {
         }
     }
 
-    /// Puts a key behind all others.
-    ///
-    /// # Errors
-    ///
-    /// Out of memory (90).
+    /// Appends a key.
     pub fn push(&mut self, key: usize) -> Result<(), AllocError>
         ensures last { OnOk result (self.new.keys.items ≡ self.old.keys.items ++ key ∷ []) }
         ensures refused { OnErr result (self.new.keys.items ≡ self.old.keys.items) }
@@ -37,14 +33,14 @@ impl WorkQueue {
         Ok(())
     }
 
-    /// Returns the first key. Takes no memory.
+    /// Returns the first key, or `None` if the queue is empty.
     pub fn first(&self) -> Option<usize>
         ensures { result ≡ first_key self.now.keys.items }
     {
         self.keys.front().copied()
     }
 
-    /// Removes a key; the others keep their order. Takes no memory.
+    /// Removes a key. The others keep their order.
     pub fn remove(&mut self, key: usize)
         ensures { self.new.keys.items ≡ without_key key self.old.keys.items }
     {

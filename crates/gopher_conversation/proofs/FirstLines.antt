@@ -1,19 +1,20 @@
 -- The first line of bytes, where it is at its end and where it isn't.
-use Rattle.std.proofs.Common.{◌≡◌, ℕ, zero, suc, ◌+◌, ◌-◌, ◌<◌, ◌≤◌, Bool, true, false, ◌||◌, ◌&&◌, eqb, cond, List, [], ◌∷◌, ◌++◌, length, get_or, take, drop, nat_le, nat_lt, refl, sym, ap, ◌∙◌, subst, arith, append-nil, append_assoc, length-append, length-take, take-append-drop}
-use Rattle.std.specs.Prelude.{◌==◌, slice_index, if◌then◌else◌}
+use Rattle.std.proofs.Common.{◌≡◌, ℕ, zero, suc, ◌+◌, ◌-◌, ◌<◌, ◌≤◌, Bool, true, false, ◌||◌, ◌&&◌, eqb, cond, List, [], ◌∷◌, ◌++◌, length, get_or, take, drop, nat_le, nat_lt, refl, sym, ap, ◌∙◌, subst, arith, append-nil, append_assoc, length-append, take-append-drop}
+use Rattle.std.specs.Prelude.{◌==◌, if◌then◌else◌}
 use Rattle.std.specs.Io.BufRead.{take_through, ends_with_byte, strip_last, first_line}
 use Rattle.std.proofs.Math.Seq.{take-append_seam, get_or-append_seam}
 use Rattle.std.proofs.lemmas.List.{take_all, take_at}
-use Rattle.std.proofs.lemmas.List.Folds.{list_any_at, list_any-append}
+use Rattle.std.proofs.lemmas.List.Folds.{list_any-append}
 use Rattle.std.proofs.lemmas.Bool.Decides.{nat_tests}
 use Rattle.gopher_text.specs.Line.{has_feed, without_end}
+use Rattle.gopher_text.proofs.LineLemmas.{length-without_end, unfed_end}
 use Rattle.gopher_conversation.specs.Talk.{Talk, Gathers, Asks, IsTooLong, is_known, known_line, talk_of}
 
 parts_false : (s t : Bool) → (s || t) ≡ false → (s ≡ false) × (t ≡ false)
 parts_false true t h = absurd cc
 parts_false false t h = (refl, h)
 
--- what stands before the first LF
+-- what there is before the first LF
 pub take_through_at_first : (bytes : List ℕ) (end : ℕ) → end < length bytes → has_feed (take end bytes) ≡ false → eqb (get_or bytes end 0) 10 ≡ true
     → take_through 10 bytes ≡ take end bytes ++ 10 ∷ []
 take_through_at_first [] end within unfed here = absurd (omega arith)
@@ -53,26 +54,7 @@ first_line-fed bytes front through =
     ∙ ap (λ b. if b then strip_last 13 (strip_last 10 (front ++ 10 ∷ [])) else strip_last 10 (front ++ 10 ∷ [])) (ends_pushed front 10)
     ∙ ap (strip_last 13) (strip_pushed front 10)
 
--- bytes without LF have no end
-both : (s t : Bool) → (s && t) ≡ true → (s ≡ true) × (t ≡ true)
-both true t e = (refl, e)
-both false t e = absurd (cc)
-
-true_false : true ≡ false → ⊥
-true_false e = cc
-
-pub unfed_end : (bytes : List ℕ) → has_feed bytes ≡ false → ends_with_byte 10 bytes ≡ false
-unfed_end bytes unfed = by (ends_with_byte 10 bytes) refl
-  where
-    by : (ends : Bool) → ends_with_byte 10 bytes ≡ ends → ends ≡ false
-    by true e =
-        let parts : (nat_lt 0 (length bytes) ≡ true) × ((slice_index bytes (length bytes - 1) == 10) ≡ true) = both _ _ e in
-        let filled = parts.0 in
-        let some : 0 < length bytes = grind (arith, nat_tests) in
-        absurd (true_false (sym (list_any_at (λ byte. byte == 10) bytes (length bytes - 1) 0 (omega arith) parts.1) ∙ unfed))
-    by false e = refl
-
--- and are a line as they stand
+-- bytes without LF are a line as they are
 pub first_line-unfed : (bytes : List ℕ) → has_feed bytes ≡ false → first_line bytes ≡ bytes
 first_line-unfed bytes unfed =
     let through : take_through 10 bytes ≡ bytes = sym (ap (take_through 10) (append-nil bytes)) ∙ take_through_unfed bytes [] unfed ∙ append-nil bytes in
@@ -81,21 +63,7 @@ first_line-unfed bytes unfed =
 
 -- ---- a line that is too long, whatever follows
 
-length-strip_last : (byte : ℕ) (bytes : List ℕ) → length bytes ≤ length (strip_last byte bytes) + 1
-length-strip_last byte bytes = by (ends_with_byte byte bytes)
-  where
-    by : (ends : Bool) → length bytes ≤ length (if ends then take (length bytes - 1) bytes else bytes) + 1
-    by true = omega (arith, length-take (length bytes - 1) bytes)
-    by false = omega arith
-
-length-without_end : (bytes : List ℕ) → length bytes ≤ length (without_end bytes) + 2
-length-without_end bytes = by (ends_with_byte 10 bytes)
-  where
-    by : (ends : Bool) → length bytes ≤ length (if ends then strip_last 13 (strip_last 10 bytes) else strip_last 10 bytes) + 2
-    by true = omega (arith, length-strip_last 10 bytes, length-strip_last 13 (strip_last 10 bytes))
-    by false = omega (arith, length-strip_last 10 bytes)
-
--- what stands up to the first LF, where there is one
+-- what there is up to the first LF, if there is one
 take_through_fed : (bytes rest : List ℕ) → has_feed bytes ≡ true → take_through 10 (bytes ++ rest) ≡ take_through 10 bytes
 take_through_fed [] rest fed = absurd cc
 take_through_fed (byte ∷ bytes) rest fed = by (byte == 10) refl (take_through_fed bytes rest)

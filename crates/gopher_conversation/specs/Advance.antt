@@ -16,13 +16,13 @@ use Rattle.gopher_conversation.specs.declared.advancing.Progress.TheVariants.{Do
 
 -- ---- one step
 
--- a call failed, and nothing was done
+-- a call failed and changed nothing except the count of failures
 pub record IsStill (old new : Talk) (before after : StreamData) : Type 0 where
   pub talk : new ≡ old
   pub bytes : Keeps before.bytes after.bytes
   pub count : CountsFailure before.failures after.failures
 
--- a piece was read and heard
+-- a piece was read and added to the conversation
 pub record HearsPiece (old new : Talk) (had left : StreamData) : Type 0 where
   pub piece : List ℕ
   pub some : 0 < length piece
@@ -30,14 +30,14 @@ pub record HearsPiece (old new : Talk) (had left : StreamData) : Type 0 where
   pub hears : Hears old piece new
   pub count : left.failures ≡ had.failures
 
--- the input is at its end
+-- a read reached the end of the input
 pub record HearsEnd (old new : Talk) (had left : StreamData) : Type 0 where
   pub read : Consumes had.bytes left.bytes []
   pub ended : IsAtEnd left.bytes
   pub hears : new ≡ heard true old []
   pub count : left.failures ≡ had.failures
 
--- one read, by the progress that it makes
+-- the effect of one read, by its progress
 abbrev pub Listens : Talk → Talk → StreamData → StreamData → Progress → Type 0
 Listens old new had left Done = ⊥
 Listens old new had left Paused = HearsPiece old new had left ⊎ (HearsEnd old new had left ⊎ IsStill old new had left)
@@ -45,13 +45,13 @@ Listens old new had left Works = ⊥
 Listens old new had left Waits = IsStill old new had left
 Listens old new had left (Failed fault) = (fault ≡ ReadFailed) × IsStill old new had left
 
--- a reply was given to the line
+-- the line was answered with a reply, of which nothing is sent yet
 pub record IsReplied {A : Type 0} (gives : A → A → List ℕ → List ℕ → Type 0) (before after : A) (line : List ℕ) (new : Talk) : Type 0 where
   pub reply : List ℕ
   pub given : gives before after line reply
   pub is : new ≡ Responds line reply 0
 
--- one question, by the progress that it makes
+-- the effect of asking for the reply, by its progress
 abbrev pub Replies : {A : Type 0} → (A → A → List ℕ → List ℕ → Type 0) → A → A → List ℕ → Talk → Progress → Type 0
 Replies gives before after line new Done = ⊥
 Replies gives before after line new Paused = IsReplied gives before after line new
@@ -59,7 +59,7 @@ Replies gives before after line new Works = IsReplied gives before after line ne
 Replies gives before after line new Waits = ⊥
 Replies gives before after line new (Failed fault) = (fault ≡ NoMemory) × (new ≡ Asks line)
 
--- so much more of the reply was written, and nothing else
+-- the next `count` bytes of the reply were written, and nothing else
 pub record SaysSome (old new : Talk) (before after : StreamData) : Type 0 where
   pub count : ℕ
   pub some : 0 < count
@@ -68,7 +68,7 @@ pub record SaysSome (old new : Talk) (before after : StreamData) : Type 0 where
   pub is : new ≡ said old count
   pub counted : after.failures ≡ before.failures
 
--- nothing was left to be written
+-- the whole reply was already written
 pub record IsSaid (old new : Talk) (before after : StreamData) : Type 0 where
   pub talk : new ≡ old
   pub none : unsent_of old ≡ []
@@ -79,11 +79,11 @@ pub record IsSilent (old new : Talk) (before after : StreamData) : Type 0 where
   pub talk : new ≡ old
   pub same : after ≡ before
 
--- why a reply is given up: a write failed, or a step of the search ran out of memory
+-- the reply fails because a write failed, or because a step of the search ran out of memory
 abbrev pub FailsToSay : Talk → Talk → StreamData → StreamData → ServeFault → Type 0
 FailsToSay old new before after fault = ((fault ≡ WriteFailed) × IsStill old new before after) ⊎ ((fault ≡ NoMemory) × IsSilent old new before after)
 
--- one write, or one step of the search for the reply, by the progress that it makes
+-- the effect of one write, or of one step of the search for the reply, by its progress
 abbrev pub Says : Talk → Talk → StreamData → StreamData → Progress → Type 0
 Says old new before after Done = IsSaid old new before after ⊎ (SaysSome old new before after × (unsent_of new ≡ []))
 Says old new before after Paused = SaysSome old new before after ⊎ IsStill old new before after
@@ -91,8 +91,8 @@ Says old new before after Works = IsSilent old new before after
 Says old new before after Waits = IsStill old new before after
 Says old new before after (Failed fault) = FailsToSay old new before after fault
 
--- one step, by how the conversation stood: the answers before and after, the reader before and after, the writer before
--- and after, and the progress
+-- one step, by the state of the conversation: the state before and after, the answers before and
+-- after, the reader before and after, the writer before and after, and the progress
 abbrev pub Steps : {A : Type 0} → (A → A → List ℕ → List ℕ → Type 0) → Talk → Talk → A → A → StreamData → StreamData → StreamData → StreamData → Progress → Type 0
 Steps gives (Gathers bytes) new a b had left before after progress = Listens (Gathers bytes) new had left progress × (b ≡ a) × (after ≡ before)
 Steps gives (Asks line) new a b had left before after progress = Replies gives a b line new progress × (left ≡ had) × (after ≡ before)
@@ -113,8 +113,8 @@ progress_after kind.Interrupted fault = Paused
 progress_after kind.WouldBlock fault = Waits
 progress_after why fault = Failed fault
 
--- how a conversation stands when it stops, by its progress: the conversation, how many calls of the reader had failed
--- before and after, and how many of the writer
+-- the state of a conversation when it stops, by its progress: the conversation, the number of
+-- failed calls of the reader before and after, and that of the writer before and after
 abbrev pub Stops : Talk → ℕ → ℕ → ℕ → ℕ → Progress → Type 0
 Stops talk had left before after Done = (stage_of talk ≡ stage.Responds) × (unsent_of talk ≡ [])
 Stops talk had left before after Paused = Unit {0}
@@ -128,7 +128,7 @@ Stops talk had left before after (Failed NoMemory) = Unit {0}
 
 -- ---- any number of steps
 
--- the reply was given to the line between a first state of what answers and a later one
+-- the line was answered with this reply between two states of the answers
 pub record IsGiven {A : Type 0} (leads_to : A → A → Type 0) (gives : A → A → List ℕ → List ℕ → Type 0) (start now : A) (line reply : List ℕ) : Type 0 where
   pub before : A
   pub after : A
@@ -136,14 +136,16 @@ pub record IsGiven {A : Type 0} (leads_to : A → A → Type 0) (gives : A → A
   pub given : gives before after line reply
   pub ends : leads_to after now
 
--- a reply was given to the first line of what came in, and so many bytes of it went out
+-- the first line of the bytes that came in was answered with this reply, and its first `count`
+-- bytes were sent
 pub record StandsAnswered (given : List ℕ → List ℕ → Type 0) (ended : Bool) (taken sent line reply : List ℕ) (count : ℕ) : Type 0 where
   pub asked_is : line ≡ first_line taken
   pub line_is : talk_of ended taken ≡ Asks (first_line taken)
   pub given_is : given (first_line taken) reply
   pub sent_is : sent ≡ take count reply
 
--- how a conversation stands, by all bytes that came in and all that went out
+-- the state of a conversation agrees with all bytes that came in and all bytes that were sent: they
+-- are a prefix of the reply to the first line
 abbrev pub Stands : (List ℕ → List ℕ → Type 0) → Bool → List ℕ → List ℕ → Talk → Type 0
 Stands given ended taken sent (Gathers bytes) = (talk_of ended taken ≡ Gathers bytes) × (taken ≡ bytes) × (sent ≡ [])
 Stands given ended taken sent (Asks line) = (talk_of ended taken ≡ Asks line) × (line ≡ first_line taken) × (sent ≡ [])
@@ -151,7 +153,8 @@ Stands given ended taken sent IsTooLong = (talk_of ended taken ≡ IsTooLong) ×
 Stands given ended taken sent LacksMemory = sent ≡ []
 Stands given ended taken sent (Responds line reply count) = StandsAnswered given ended taken sent line reply count
 
--- the same, by what the reader had at first and has left, and what the writer held at first and holds
+-- the state of a conversation agrees with the bytes that the reader had at first and has left, and
+-- with the bytes that the writer had at first and has now
 pub record Talks (given : List ℕ → List ℕ → Type 0) (had left old new : Option (List ℕ)) (talk : Talk) : Type 0 where
   pub taken : List ℕ
   pub sent : List ℕ
@@ -161,13 +164,13 @@ pub record Talks (given : List ℕ → List ℕ → Type 0) (had left old new : 
   pub all_taken : ended ≡ true → IfSome had (λ all. all ≡ taken)
   pub stands : Stands given ended taken sent talk
 
--- however a conversation came to where it stood, and whatever was answered to others since, it stands so after these
--- steps: by the answers, the reader and the writer before and after
+-- some steps keep this agreement, however the conversation reached its state and whatever others
+-- were answered since: the conversation, the answers, the reader and the writer, before and after
 pub record Advances {A : Type 0} (leads_to : A → A → Type 0) (gives : A → A → List ℕ → List ℕ → Type 0)
     (talk next : Talk) (before after : A) (left later new newer : Option (List ℕ)) : Type 0 where
   pub goes : (start seen : A) (had old : Option (List ℕ)) → leads_to start seen → leads_to seen before
       → Talks (IsGiven leads_to gives start seen) had left old new talk → Talks (IsGiven leads_to gives start after) had later old newer next
 
--- the same, where the answers may take any number of steps
+-- some steps keep this agreement, while the answers take any number of steps
 abbrev pub GoesOn : {A : Type 0} → (A → A → Type 0) → (A → A → List ℕ → List ℕ → Type 0) → Talk → Talk → A → A → Option (List ℕ) → Option (List ℕ) → Option (List ℕ) → Option (List ℕ) → Type 0
 GoesOn leads_to gives talk next before after left later new newer = Advances (Leads leads_to) gives talk next before after left later new newer

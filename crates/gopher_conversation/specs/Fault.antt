@@ -13,8 +13,8 @@ serve_fault_code WriteFailed = 13
 serve_fault_code NoMemory = 90
 
 -- what a line that wasn't read means for its conversation
-abbrev pub unread : line.LineFault → ServeFault
-unread line_fault.LineTooLong = LineTooLong
-unread line_fault.ReadFailed = ReadFailed
-unread line_fault.TooManyTurns = TooManyTurns
-unread line_fault.NoMemory = NoMemory
+abbrev pub fault_of_line : line.LineFault → ServeFault
+fault_of_line line_fault.LineTooLong = LineTooLong
+fault_of_line line_fault.ReadFailed = ReadFailed
+fault_of_line line_fault.TooManyTurns = TooManyTurns
+fault_of_line line_fault.NoMemory = NoMemory

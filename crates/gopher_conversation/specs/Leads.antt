@@ -2,7 +2,7 @@
 use Rattle.std.specs.Prelude.{◌≡◌, List, [], ◌∷◌, ◌++◌, refl}
 use Rattle.std.proofs.Common.{subst, sym}
 
--- each step leads from one state to the next, and the last to the end
+-- each step leads from one state to the next, and the last step to `to`
 abbrev pub IsChain : {A : Type 0} → (A → A → Type 0) → A → List A → A → Type 0
 IsChain step from [] to = to ≡ from
 IsChain step from (next ∷ states) to = step from next × IsChain step next states to

@@ -9,7 +9,8 @@ use Rattle.gopher_text.specs.declared.fault.LineFault.TheVariants as line_fault
 use Rattle.gopher_conversation.specs.declared.fault.ServeFault.{ServeFault}
 use Rattle.gopher_conversation.specs.declared.fault.ServeFault.TheVariants.{LineTooLong, ReadFailed, TooManyTurns, WriteFailed, NoMemory}
 
--- a stream: the bytes that it has left or holds, where they are known, and how many of its calls failed
+-- a stream: the bytes that are left to read or were written, if they are known, and the number of
+-- its failed calls
 pub record StreamData : Type 0 where
   pub bytes : Option (List ℕ)
   pub failures : ℕ
@@ -17,7 +18,7 @@ pub record StreamData : Type 0 where
 abbrev pub stream_of : {D : Type 0} → (D → Option (List ℕ)) → WatchedData D → StreamData
 stream_of known stream = record { bytes = known stream.device; failures = stream.failures }
 
--- the reply is one to the first line that the reader had left
+-- the reply answers the first line that the reader had left
 pub record RepliesTo (gives : List ℕ → List ℕ → Type 0) (had : Option (List ℕ)) (line reply : List ℕ) : Type 0 where
   pub line_is : IfSome had (λ bytes. line ≡ first_line bytes)
   pub given : gives line reply
@@ -30,7 +31,7 @@ pub record ServesAll (gives : List ℕ → List ℕ → Type 0) (had left old ne
   pub rest : DropsThrough had.bytes left.bytes 10
   pub written : Appends old.bytes new.bytes reply
 
--- a beginning of the reply was written, and then writes failed
+-- a prefix of the reply was written, and then a write failed
 pub record ServesPart (gives : List ℕ → List ℕ → Type 0) (had left old new : StreamData) : Type 0 where
   pub line : List ℕ
   pub reply : List ℕ
@@ -41,12 +42,12 @@ pub record ServesPart (gives : List ℕ → List ℕ → Type 0) (had left old n
   pub written : Appends old.bytes new.bytes (take sent reply)
   pub failed : HasFailed old.failures new.failures
 
--- no line was read, and the writer wasn't touched
+-- reading the line failed, and nothing was written
 pub record IsDeaf (had left old new : StreamData) (fault : line.LineFault) : Type 0 where
   pub refused : RefusesLine had.bytes left.bytes had.failures left.failures fault
   pub untouched : new ≡ old
 
--- the line was read, and the writer wasn't touched
+-- the line was read, and nothing was written
 pub record IsMute (had left old new : StreamData) : Type 0 where
   pub rest : DropsThrough had.bytes left.bytes 10
   pub untouched : new ≡ old
@@ -60,7 +61,7 @@ Serves gives had left old new (Err TooManyTurns) = IsDeaf had left old new line_
 Serves gives had left old new (Err WriteFailed) = ServesPart gives had left old new
 Serves gives had left old new (Err NoMemory) = IsMute had left old new
 
--- the faults at which nothing is asked
+-- the faults before the reply was asked for
 abbrev pub IsUnheard : ServeFault → Type 0
 IsUnheard LineTooLong = Unit {0}
 IsUnheard ReadFailed = Unit {0}

@@ -1,4 +1,5 @@
--- A conversation with one client, over all bytes that came in.
+-- A conversation with one client, over all bytes that came in: one line, and its reply (RFC 1436,
+-- section 2).
 use Rattle.std.specs.Prelude.{◌≡◌, ℕ, ◌+◌, Bool, true, false, ◌||◌, ◌⊎◌, List, [], ◌++◌, length, take, drop, nat_le, Option, None, Some, if◌then◌else◌}
 use Rattle.std.specs.Io.BufRead.{first_line}
 use Rattle.gopher_item.specs.declared.limits.TheConstants.{MAX_LINE}
@@ -6,8 +7,9 @@ use Rattle.gopher_text.specs.Line.{has_feed}
 use Rattle.gopher_conversation.specs.declared.conversation.Stage.{Stage}
 use Rattle.gopher_conversation.specs.declared.conversation.Stage.TheVariants as stage
 
--- how a conversation stands: it gathers these bytes; asks this line; is given up, since the line is too long or since
--- memory was refused for it; or answers this line with this reply, of which so many bytes were sent
+-- the state of a conversation: it has gathered these bytes; it asks for the reply to this line; the
+-- line is too long; it is out of memory for the line; or it answers this line with this reply, of
+-- which the first `sent` bytes were sent
 pub data Talk : Type 0 where
   Gathers : (bytes : List ℕ) → Talk
   Asks : (line : List ℕ) → Talk
@@ -15,42 +17,43 @@ pub data Talk : Type 0 where
   LacksMemory : Talk
   Responds : (line reply : List ℕ) (sent : ℕ) → Talk
 
--- whether the first line of what came in is known: at its LF, at the end of the input, and where it is too long
+-- whether the first line of the bytes that came in is known: it has its LF, the input has ended, or
+-- the line is too long
 abbrev pub is_known : Bool → List ℕ → Bool
 is_known ended bytes = ended || (has_feed bytes || nat_le (MAX_LINE + 2) (length bytes))
 
 abbrev pub known_line : List ℕ → Talk
 known_line line = if nat_le (length line) MAX_LINE then Asks line else IsTooLong
 
--- the conversation, by whether the input is at its end and by all bytes that came in
+-- the state of a conversation after all bytes that came in; `ended` says whether the input ended
 abbrev pub talk_of : Bool → List ℕ → Talk
 talk_of ended bytes = if is_known ended bytes then known_line (first_line bytes) else Gathers bytes
 
--- what it is after a piece more
+-- the state after one more piece
 abbrev pub heard : Bool → Talk → List ℕ → Talk
 heard ended (Gathers bytes) piece = talk_of ended (bytes ++ piece)
 heard ended talk piece = talk
 
--- memory may be refused for what is gathered
+-- the state after one more piece, unless the conversation is out of memory for it
 abbrev pub Hears : Talk → List ℕ → Talk → Type 0
 Hears old piece new = (new ≡ heard false old piece) ⊎ (((bytes : List ℕ) × (old ≡ Gathers bytes)) × (new ≡ LacksMemory))
 
--- the line that is asked, where one is, gets this reply
+-- the line that is asked, if there is one, gets this reply
 abbrev pub IsAnswered : Talk → Talk → List ℕ → Type 0
 IsAnswered old new reply = (line : List ℕ) → old ≡ Asks line → new ≡ Responds line reply 0
 
--- the line that is asked, where one is
-abbrev pub IsLine : Talk → List ℕ → Type 0
-IsLine (Asks line) bytes = bytes ≡ line
-IsLine talk bytes = Unit {0}
+-- the bytes are the line that is asked, if there is one
+abbrev pub IsAskedLine : Talk → List ℕ → Type 0
+IsAskedLine (Asks line) bytes = bytes ≡ line
+IsAskedLine talk bytes = Unit {0}
 
--- the line that was asked
+-- the line whose reply is asked for or sent, if there is one
 abbrev pub asked_of : Talk → Option (List ℕ)
 asked_of (Asks line) = Some line
 asked_of (Responds line reply sent) = Some line
 asked_of talk = None
 
--- how many bytes of the reply were sent
+-- the number of bytes of the reply that were sent
 abbrev pub sent_of : Talk → ℕ
 sent_of (Responds line reply sent) = sent
 sent_of talk = 0

@@ -1,4 +1,4 @@
--- How a conversation stands, by what it holds.
+-- The state of a conversation, from the fields that it keeps.
 use Rattle.std.specs.Prelude.{◌≡◌, ℕ, List, []}
 use Rattle.std.specs.Io.BufRead.{first_line}
 use Rattle.gopher_replies.specs.Answer.{answer_bytes}
@@ -14,11 +14,11 @@ talk_in gathered phase.TooLong sent = IsTooLong
 talk_in gathered phase.LacksMemory sent = LacksMemory
 talk_in gathered (phase.Answering answer) sent = Responds (first_line gathered) (answer_bytes answer) sent
 
--- the reply that a conversation holds, also if its search isn't at its end
+-- the reply of a conversation, also while its search goes on
 abbrev pub reply_in : Phase → List ℕ
 reply_in (phase.Answering answer) = answer_bytes answer
 reply_in phase = []
 
--- how far a conversation has come whose first line is known
+-- the phase of a conversation whose first line is known
 abbrev pub IsPhaseAt : List ℕ → Phase → Type 0
 IsPhaseAt gathered phase = (sent : ℕ) → talk_in gathered phase sent ≡ known_line (first_line gathered)

@@ -5,7 +5,7 @@ ghost use Rattle.std.specs.Option.{option_map};
 ghost use Rattle.std.specs.Io.BufRead.{first_line, strip_last};
 ghost use Rattle.gopher_text.specs.Line.{has_feed};
 ghost use Rattle.gopher_replies.specs.Answer.{answer_bytes};
-ghost use Rattle.gopher_conversation.specs.Talk.{Hears, IsAnswered, IsLine, asked_of, heard, is_known, said, sent_of, stage_of, unsent_of};
+ghost use Rattle.gopher_conversation.specs.Talk.{Hears, IsAnswered, IsAskedLine, asked_of, heard, is_known, said, sent_of, stage_of, unsent_of};
 ghost use Rattle.gopher_conversation.specs.Talk.{Gathers};
 ghost use Rattle.gopher_conversation.specs.TalkOf.{IsPhaseAt, reply_in};
 
@@ -188,7 +188,7 @@ impl<'a> Conversation<'a> {
 
     // The line that is asked, without its end.
     pub(crate) fn line(&self) -> &[u8]
-        ensures { IsLine self.now result.now }
+        ensures { IsAskedLine self.now result.now }
     {
         first_line(&self.gathered)
     }

@@ -1,7 +1,7 @@
 //! The faults of conversations, with their numbers.
 
 ghost use Rattle.std.specs.Prelude.{◌≡◌};
-ghost use Rattle.gopher_conversation.specs.Fault.{serve_fault_code, unread};
+ghost use Rattle.gopher_conversation.specs.Fault.{serve_fault_code, fault_of_line};
 
 use gopher_item::NoMemory;
 use gopher_text::{LineFault, SendFault};
@@ -44,9 +44,9 @@ impl ServeFault {
 }
 
 impl From<LineFault> for ServeFault {
-    ghost use Rattle.gopher_conversation.specs.Fault.{unread};
+    ghost use Rattle.gopher_conversation.specs.Fault.{fault_of_line};
 
-    ghost from_gives = { λ why fault. fault ≡ unread why };
+    ghost from_gives = { λ why fault. fault ≡ fault_of_line why };
 
     fn from(why: LineFault) -> ServeFault {
         match why {

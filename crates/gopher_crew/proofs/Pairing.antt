@@ -8,7 +8,8 @@ use Rattle.gopher_crew.specs.Crew.{ShareData}
 use Rattle.gopher_crew.specs.Work.{Works}
 use Rattle.gopher_crew.specs.declared.working.Stop.{Stop}
 
--- the first elements of a list belong to those of another; the others are still to be taken, the last of them first
+-- the first elements of a list belong to those of another; the others are still to be taken, the
+-- last of them first
 pub record Paired {A B : Type 0} (R : A → B → Type 0) (all rest : List A) (ys : List B) : Type 0 where
   pub done : List A
   pub all_is : done ++ reverse rest ≡ all

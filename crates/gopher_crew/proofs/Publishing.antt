@@ -8,7 +8,7 @@ use Rattle.atomic_table.proofs.Lists.{at_set, at_snoc}
 use Rattle.logbook.specs.Pages.{Book}
 use Rattle.gopher_catalogue.specs.declared.event.EventData.{EventData}
 use Rattle.gopher_crew.specs.declared.update.Update.{Update}
-use Rattle.gopher_crew.specs.Version.{VersionData, IsVersion, IsPublished, Sees, after_update, last_of, GoesOn}
+use Rattle.gopher_crew.specs.Version.{VersionData, IsVersion, IsPublished, Sees, after_update, last_of, FollowsVersion}
 use Rattle.gopher_crew.proofs.Prefixes.{prefix_self, prefix_none, prefix_trans}
 
 -- a reader that has seen nothing may come at any time
@@ -19,7 +19,7 @@ admits history x views h = record {
 }
 
 -- a version that goes on may take the place of the published one, and the one who shows it, or looks, sees it
-pub shows : (history : Book) (seat : ℕ) (v : List EventData) (x y : VersionData) → GoesOn history x y → TurnsAt (IsPublished history) seat v x y (Sees history)
+pub shows : (history : Book) (seat : ℕ) (v : List EventData) (x y : VersionData) → FollowsVersion history x y → TurnsAt (IsPublished history) seat v x y (Sees history)
 shows history seat v x y on views h at = (
   y.prefix.events,
   record {

@@ -65,6 +65,6 @@ pub record HasAll (parts : ℕ) (shares : List ShareData) : Type 0 where
   pub whole : parts_of shares ≡ parts
 
 -- other shares that count the same number of events, and have the same number of parts
-pub record AreJoined (old new : List ShareData) : Type 0 where
+pub record CountTheSame (old new : List ShareData) : Type 0 where
   pub events : events_of new ≡ events_of old
   pub parts : parts_of new ≡ parts_of old

@@ -9,9 +9,9 @@ pub record RecordPrefixData : Type 0 where
   pub events : List EventData
 
 -- if the event was added, it comes last
-abbrev pub AddsTo : Bool → EventData → RecordPrefixData → RecordPrefixData → Type 0
-AddsTo true event old new = new.events ≡ old.events ++ event ∷ []
-AddsTo false event old new = new ≡ old
+abbrev pub AddsEventTo : Bool → EventData → RecordPrefixData → RecordPrefixData → Type 0
+AddsEventTo true event old new = new.events ≡ old.events ++ event ∷ []
+AddsEventTo false event old new = new ≡ old
 
 -- ---- the rule
 
@@ -24,5 +24,5 @@ abbrev pub head_of : Book → Named
 head_of history = record { tracked = true; key = 0; book = history }
 
 -- if the word was as expected, the exchange added the event after all that was seen
-abbrev pub Adds : Step EventData → View EventData ℕ → ℕ → View EventData ℕ → Type 0
-Adds step before found after = MatchBool (found == step.old) (after.0 ≡ before.0 ++ step.ask ∷ []) (Unit {0})
+abbrev pub ExchangeAdds : Step EventData → View EventData ℕ → ℕ → View EventData ℕ → Type 0
+ExchangeAdds step before found after = MatchBool (found == step.old) (after.0 ≡ before.0 ++ step.ask ∷ []) (Unit {0})

@@ -65,8 +65,8 @@ abbrev pub IsSeenVersion : Book → List EventData → VersionData → Type 0
 IsSeenVersion history seen version = IsVersion history version × (version.prefix.events ≡ seen)
 
 -- the version is one of this history, and its record begins with that of the version before
-abbrev pub GoesOn : Book → VersionData → VersionData → Type 0
-GoesOn history before after = IsVersion history after × IsPrefix before.prefix.events after.prefix.events
+abbrev pub FollowsVersion : Book → VersionData → VersionData → Type 0
+FollowsVersion history before after = IsVersion history after × IsPrefix before.prefix.events after.prefix.events
 
 -- the records of the published version and of the next one
 abbrev pub publisher_data : VersionData → VersionData → PublisherData
@@ -75,7 +75,7 @@ publisher_data shown next = record { published = shown.prefix.events; next = nex
 -- the published version is one of this history, and the next one goes on from it
 pub record IsPublisher (history : Book) (shown next : VersionData) : Type 0 where
   pub is_version : IsVersion history shown
-  pub goes_on : GoesOn history shown next
+  pub goes_on : FollowsVersion history shown next
 
 -- whether the updates that waited were applied and published
 abbrev pub CatchesUp : Bool → VersionData → List Update → VersionData → List Update → Type 0

@@ -11,7 +11,8 @@ use gopher_catalogue::Catalogue;
 use std::marker::Model;
 use std::sync::ledger;
 
-/// What a desk is opened with: a ledger that counts nothing yet, and a history.
+/// What a desk is opened with: a ledger that counts nothing yet, and a history. The crate
+/// `example_crawl` shows how a caller makes one and opens a desk.
 ///
 /// The history of a new blank is empty. A blank that `DeskRefused` returned has a prefix of the
 /// catalogue's record in its history.

@@ -74,7 +74,7 @@ fn run_all<
 /// the caller's thread works for its pair.
 ///
 /// # Errors
-/// 90, before any thread starts: the error has the pairs.
+/// `CrawlRefused` (90): out of memory, before any thread starts. It has the pairs.
 pub fn crawl<
     C: Crew + Send + Sync,
     R: Wait + Drop + Send,

@@ -6,7 +6,7 @@ ghost use mathlib.Core.List.{IsPrefix};
 ghost use Rattle.gopher_catalogue.specs.Legal.{IsLegal};
 ghost use Rattle.gopher_catalogue.specs.Turn.{turn_data};
 ghost use Rattle.gopher_crew.specs.Crew.{all_published};
-ghost use Rattle.gopher_crew.specs.Desk.{are_counts, shares_at, events_of, AllHaveSeen, AreJoined, ComesBack, IsDeskFault, HasAll};
+ghost use Rattle.gopher_crew.specs.Desk.{are_counts, shares_at, events_of, AllHaveSeen, CountTheSame, ComesBack, IsDeskFault, HasAll};
 ghost use Rattle.gopher_crew.specs.Kept.{RisesAt, NotesTurn, NotesFind, NotesFailure, AnswersTurn, AnswersFind, RefusesFind, IsOutOn, LetsClaim, BeginsWith, IsNotIdle, IsStatus};
 
 use crate::blank::Blank;
@@ -19,6 +19,7 @@ use crate::opening::{cut, publisher_with_passes};
 use crate::pass::Pass;
 use crate::publisher::Publisher;
 use crate::record_follower::RecordFollower;
+use crate::refusals::{CloseRefused, DeskRefused};
 use crate::share::Share;
 use gopher_catalogue::{Added, Catalogue, FailRefused, FoundRefused, Opening, Status, Turn, Why};
 use gopher_item::NoMemory;
@@ -32,38 +33,6 @@ pub struct Desk<C: Crew, R: Wait + Drop> {
     kept: Mutex<Kept<C, R>>,
     outcomes: Condvar,
     memory: PageMemory,
-}
-
-/// The error of `Desk::open`, with the arguments that it was given.
-#[derive(Drop)]
-pub struct DeskRefused {
-    /// Why the desk wasn't opened.
-    pub fault: DeskFault,
-    /// The catalogue.
-    pub catalogue: Catalogue,
-    /// The blank. Part of the catalogue's record may have been entered into its history.
-    pub blank: Blank,
-}
-
-/// The error of `Desk::close` (62): the shares don't count all events of the record after the
-/// first.
-#[derive(Drop)]
-pub struct CloseRefused<C: Crew, R: Wait + Drop> {
-    /// The desk, still open.
-    pub desk: Desk<C, R>,
-    /// The shares, merged into one.
-    pub shares: Vec<Share<C>>,
-    /// The number of events in the record after the first.
-    pub events: u64,
-}
-
-impl<C: Crew, R: Wait + Drop> CloseRefused<C, R> {
-    /// Returns the number of this fault, 62.
-    pub fn code(&self) -> u8
-        ensures { result ≡ 62 }
-    {
-        62
-    }
 }
 
 fn are_counts(passes: u32, shares: u32) -> bool
@@ -185,7 +154,7 @@ impl<C: Crew, R: Wait + Drop> Desk<C, R> {
     /// record after it.
     ///
     /// # Errors
-    /// 90, only if a place waits.
+    /// `NoMemory` (90), only if a place waits.
     pub fn claim<W: Wait>(
         &self,
         rt: &W,
@@ -235,7 +204,7 @@ impl<C: Crew, R: Wait + Drop> Desk<C, R> {
     /// The note, if there is one, is of a legal record that ends with the failure.
     ///
     /// # Errors
-    /// 52: the number isn't out on a legal record.
+    /// `FailRefused` (52): the number isn't out on a legal record.
     pub fn fail<W: Wait>(
         &self,
         rt: &W,
@@ -282,7 +251,7 @@ impl<C: Crew, R: Wait + Drop> Desk<C, R> {
     /// was merged since the last page.
     ///
     /// # Errors
-    /// 90, only if a place waits.
+    /// `NoMemory` (90), only if a place waits.
     pub(crate) fn next<W: Wait>(
         &self,
         rt: &W,
@@ -313,9 +282,9 @@ impl<C: Crew, R: Wait + Drop> Desk<C, R> {
         unreachable!()
     }
 
-    /// Limits the memory that the pages of workers may take, in bytes as `Page::size` counts them. A
-    /// worker fails a page past it with `NoMemory` (5), as if out of memory. Without a call of this
-    /// there is no limit.
+    /// Limits the memory that the pages of workers may take, in bytes as `Page::size` counts them.
+    /// A worker fails a page past it with `NoMemory` (5), as if out of memory. Without a call of
+    /// this there is no limit.
     pub fn limit_memory(&self, bytes: u64) {
         self.memory.set_limit(bytes);
     }
@@ -341,7 +310,7 @@ impl<C: Crew, R: Wait + Drop> Desk<C, R> {
     fn gathered(self, shares: Vec<Share<C>>) -> Result<Kept<C, R>, CloseRefused<C, R>>
         ensures counted { IfOk result (λ kept. length kept.events ≡ events_of shares.items + 1) }
         ensures events { IfErr result (λ refused. refused.events ≢ events_of shares.items) }
-        ensures joined { IfErr result (λ refused. AreJoined shares.items refused.shares.items) }
+        ensures joined { IfErr result (λ refused. CountTheSame shares.items refused.shares.items) }
         ensures whole { HasAll C.parts shares.items → IsOk result }
     {
         let Desk {
@@ -373,13 +342,13 @@ impl<C: Crew, R: Wait + Drop> Desk<C, R> {
     /// fails.
     ///
     /// # Errors
-    /// 62: the shares don't count all events of the record after the first. The error has the desk,
-    /// and the shares merged into one.
+    /// `CloseRefused` (62): the shares don't count all events of the record after the first. The
+    /// error has the desk, and the shares merged into one.
     pub fn close(self, shares: Vec<Share<C>>) -> Result<Catalogue, CloseRefused<C, R>>
         ensures counted { IfOk result (λ catalogue. length catalogue ≡ events_of shares.items + 1) }
         ensures legal { IfOk result (λ catalogue. IsLegal catalogue) }
         ensures events { IfErr result (λ refused. refused.events ≢ events_of shares.items) }
-        ensures joined { IfErr result (λ refused. AreJoined shares.items refused.shares.items) }
+        ensures joined { IfErr result (λ refused. CountTheSame shares.items refused.shares.items) }
         ensures whole { HasAll C.parts shares.items → IsOk result }
     {
         Ok(self.gathered(shares)?.end())
@@ -395,7 +364,7 @@ impl<C: Crew, R: Wait + Drop> Desk<C, R> {
         ensures legal { IfOk result (λ closed. IsLegal closed.0) }
         ensures noted { IfOk result (λ closed. IfSome closed.1 (λ note. note ≡ closed.0)) }
         ensures events { IfErr result (λ refused. refused.events ≢ events_of shares.items) }
-        ensures joined { IfErr result (λ refused. AreJoined shares.items refused.shares.items) }
+        ensures joined { IfErr result (λ refused. CountTheSame shares.items refused.shares.items) }
         ensures whole { HasAll C.parts shares.items → IsOk result }
     {
         Ok(self.gathered(shares)?.end_with_note())

@@ -16,7 +16,8 @@ pub trait Fetch<R> {
     fn calls(&self) -> u64
         ensures { result ≡ called self.now };
 
-    /// Fetches the reply of a place, at most `limit` bytes. Returns the reason if there is none.
+    /// Fetches the reply of a place, at most `limit` bytes, which is at most 1,048,576 (`MAX_REPLY`
+    /// of gopher_text). Returns the reason if there is none.
     fn fetch(&mut self, rt: &R, alloc: Global, place: &Place, limit: usize) -> Result<Vec<u8>, Why>
         requires { limit ≤ 1048576 }
         ensures within { IfOk result (λ bytes. vec_len bytes ≤ limit) }

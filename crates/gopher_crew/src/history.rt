@@ -44,9 +44,9 @@ impl Gain<EventData, u64> for Nothing {
 pub struct Add;
 
 impl Play<EventData, u64> for Add {
-    ghost use Rattle.gopher_crew.specs.History.{Adds};
+    ghost use Rattle.gopher_crew.specs.History.{ExchangeAdds};
 
-    ghost then = { Adds };
+    ghost then = { ExchangeAdds };
 }
 
 /// What the step asks for: the event, as data.

@@ -45,13 +45,13 @@ impl<C: Crew, R: Wait + Drop> Model for Kept<C, R> {
     ghost use Rattle.std.specs.Prelude.{◌≡◌, ◌+◌, length};
     ghost use mathlib.Core.List.{IsPrefix};
     ghost use Rattle.gopher_catalogue.specs.Legal.{IsLegal};
-    ghost use Rattle.gopher_crew.specs.Crew.{KeptData, IsKept};
+    ghost use Rattle.gopher_crew.specs.Crew.{KeptData, KeepsRecord};
 
     ghost Value = { KeptData };
 
     ghost view = { λ k. record { events = k.catalogue; published = k.follower.published } };
 
-    ghost invariant = { λ k. IsKept k.catalogue k.follower k.book.total };
+    ghost invariant = { λ k. KeepsRecord k.catalogue k.follower k.book.total };
 }
 
 // Counts the event of a turn, for the share and in the book. Only a turn that took a place has one.
@@ -95,7 +95,7 @@ impl<C: Crew, R: Wait + Drop> Kept<C, R> {
     /// published yet. Returns a note exactly if the whole record is published as the call ends.
     ///
     /// # Errors
-    /// 90, only if a place waits. Nothing changes then.
+    /// `NoMemory` (90), only if a place waits. Nothing changes then.
     #[tactic(auto, using(crate::proofs::Keeping::turn_keeps, crate::proofs::Keeping::turn_counts))]
     pub fn claim(&mut self, share: &mut Share<C>) -> Result<(Turn, Option<Note<C>>), NoMemory>
         ensures turn { IfOk result (λ reply. turn_data reply.0 ≡ turn_of self.old.events) }
@@ -160,7 +160,7 @@ impl<C: Crew, R: Wait + Drop> Kept<C, R> {
     /// published as the call ends.
     ///
     /// # Errors
-    /// 52: the number isn't out. Nothing changes then.
+    /// `FailRefused` (52): the number isn't out. Nothing changes then.
     pub fn fail(
         &mut self,
         share: &mut Share<C>,

@@ -58,7 +58,7 @@
 //! | the history and its tokens | `history`, `record_prefix`, `entering` |
 //! | publishing | `record_follower`, `publisher`, `update`, `version` |
 //! | searching | `pass` |
-//! | names and faults | `crew`, `fault` |
+//! | names and faults | `crew`, `fault`, `refusals` |
 //!
 //! # Opening a desk
 //!
@@ -94,6 +94,7 @@ mod pass;
 mod publisher;
 mod record_follower;
 mod record_prefix;
+mod refusals;
 mod settling;
 mod share;
 mod update;
@@ -103,10 +104,11 @@ mod working;
 pub use blank::Blank;
 pub use crawling::{CrawlRefused, crawl};
 pub use crew::Crew;
-pub use desk::{CloseRefused, Desk, DeskRefused};
+pub use desk::Desk;
 pub use fault::{DeskFault, SearchFault};
 pub use fetch::Fetch;
 pub use note::Note;
 pub use pass::{Answer, Pass};
+pub use refusals::{CloseRefused, DeskRefused};
 pub use share::Share;
 pub use working::{Stop, WorkEnd, work};

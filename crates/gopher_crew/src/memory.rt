@@ -4,8 +4,8 @@ ghost use Rattle.std.specs.Prelude.{◌≡◌, ◌+◌, ◌≤◌, ◌<◌, true
 
 use std::sync::atomic::{AtomicU64, Ordering};
 
-/// How many bytes the pages of a crawl may take, and how many they take, as `Page::size` counts them.
-/// The workers of a desk share it.
+/// How many bytes the pages of a crawl may take, and how many they take, as `Page::size` counts
+/// them. The workers of a desk share it.
 #[derive(Drop)]
 pub(crate) struct PageMemory {
     limit: AtomicU64,

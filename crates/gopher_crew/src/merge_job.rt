@@ -1,7 +1,7 @@
 //! `MergeJob`: pages that a worker merges while it holds no lock.
 
 ghost use Rattle.std.specs.Prelude.{◌≡◌, IfSome};
-ghost use Rattle.gopher_index.specs.Index.{StandsIn};
+ghost use Rattle.gopher_index.specs.Index.{IsSliceOf};
 ghost use Rattle.gopher_catalogue.specs.Pages.{pages_found};
 
 use crate::crew::Crew;
@@ -33,7 +33,7 @@ impl<C: Crew> MergeJob<C> {
     /// The job to merge pages that a record found.
     pub fn new(due: Due, prefix: RecordPrefix) -> MergeJob<C>
         requires history { prefix.history ≡ C.history }
-        requires stands { StandsIn due (pages_found prefix.events) }
+        requires stands { IsSliceOf due (pages_found prefix.events) }
         ensures { result ≡ due }
     {
         MergeJob {
@@ -53,7 +53,7 @@ impl<C: Crew> MergeJob<C> {
     /// Returns the pages, if this record begins with the one that found them.
     pub fn due_in(self, prefix: &RecordPrefix) -> Option<Due>
         requires { prefix.now.history ≡ C.history }
-        ensures { IfSome result (λ due. StandsIn due (pages_found prefix.now.events)) }
+        ensures { IfSome result (λ due. IsSliceOf due (pages_found prefix.now.events)) }
     {
         let MergeJob {
             due,

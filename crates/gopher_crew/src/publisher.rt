@@ -6,7 +6,7 @@ ghost use Rattle.left_right.specs.Sides.{view};
 ghost use Rattle.gopher_catalogue.specs.Legal.{IsLegal};
 ghost use Rattle.gopher_catalogue.specs.Pages.{pages_found};
 ghost use Rattle.gopher_crew.specs.Crew.{all_published};
-ghost use Rattle.gopher_crew.specs.Version.{version_data, after_update, last_of, IsVersion, GoesOn, CatchesUp, Follows, Publishes};
+ghost use Rattle.gopher_crew.specs.Version.{version_data, after_update, last_of, IsVersion, FollowsVersion, CatchesUp, Follows, Publishes};
 
 use crate::crew::Crew;
 use crate::record_prefix::RecordPrefix;
@@ -60,7 +60,7 @@ impl<C: Crew, R: Wait + Drop> Drop for Publisher<C, R> {
 
 // Applies the updates that wait, and publishes the version that they make. Returns whether it did.
 fn publish_last<C: Crew, R: Wait>(writer: VersionWriter<C>, rt: &R) -> (VersionWriter<C>, bool)
-    requires { GoesOn C.history writer.desk.shown.value
+    requires { FollowsVersion C.history writer.desk.shown.value
         (last_of writer.desk.shown.value (drop writer.behind writer.log.items)) }
     ensures { CatchesUp result.1 writer.desk.shown.value (drop writer.behind writer.log.items)
         result.0.desk.shown.value (drop result.0.behind result.0.log.items) }
@@ -71,7 +71,7 @@ fn publish_last<C: Crew, R: Wait>(writer: VersionWriter<C>, rt: &R) -> (VersionW
 
 // Publishes the update that waits, if there is one. Returns whether none waits then.
 fn catch_up<C: Crew, R: Wait>(writer: &mut VersionWriter<C>, rt: &R) -> bool
-    requires { GoesOn C.history writer.old.desk.shown.value
+    requires { FollowsVersion C.history writer.old.desk.shown.value
         (last_of writer.old.desk.shown.value (drop writer.old.behind writer.old.log.items)) }
     ensures { CatchesUp result
         writer.old.desk.shown.value (drop writer.old.behind writer.old.log.items)
@@ -122,7 +122,7 @@ fn publish_next<C: Crew, R: Wait>(
 ) -> bool
     requires none { drop writer.old.behind writer.old.log.items ≡ [] }
     requires version { IsVersion C.history writer.old.desk.shown.value }
-    requires goes_on { GoesOn C.history writer.old.desk.shown.value
+    requires goes_on { FollowsVersion C.history writer.old.desk.shown.value
         (version_data index.now prefix.now) }
     ensures { Follows result (version_data index.now prefix.now) writer.old.desk.shown.value
         writer.new.desk.shown.value (drop writer.new.behind writer.new.log.items) }

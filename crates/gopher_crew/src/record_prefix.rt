@@ -3,7 +3,7 @@
 ghost use Rattle.std.specs.Prelude.{◌≡◌, ◌+◌, ◌<◌, ◌^◌, ◌⊎◌, false, [], length, IsTrue};
 ghost use mathlib.Core.List.{IsPrefix};
 ghost use Rattle.gopher_catalogue.specs.EventOf.{event_data};
-ghost use Rattle.gopher_crew.specs.History.{AddsTo};
+ghost use Rattle.gopher_crew.specs.History.{AddsEventTo};
 
 use crate::history::{Head, Law, exchange};
 use gopher_catalogue::{Event, EventData};
@@ -104,7 +104,7 @@ impl RecordPrefix {
         requires history { head.now ≡ self.old.history }
         requires room { length self.old.events + 1 < 2 ^ 32 }
         ensures history { self.new.history ≡ self.old.history }
-        ensures events { AddsTo result (event_data event.now) self.old self.new }
+        ensures events { AddsEventTo result (event_data event.now) self.old self.new }
     {
         let mut seen = self.seen.again();
         if !exchange(&head.word, self.len, &mut seen, event) {

@@ -7,17 +7,18 @@ use gopher_catalogue::Why;
 use gopher_item::Place;
 use gopher_page::Page;
 use gopher_scope::Scope;
+use gopher_text::MAX_REPLY;
 use std::alloc::Global;
 
-/// Makes the page of a fetched reply, which has at most 1,048,576 bytes. If there is none, returns
-/// the reason of the fetch, or `NoMemory`.
+/// Makes the page of a fetched reply, which has at most 1,048,576 bytes (`MAX_REPLY`). If
+/// there is none, returns the reason of the fetch, or `NoMemory`.
 pub fn settle(
     alloc: Global,
     scope: &Scope,
     place: &Place,
     fetched: Result<Vec<u8>, Why>,
 ) -> Result<Page, Why>
-    requires { IfOk fetched (λ bytes. vec_len bytes ≤ 1048576) }
+    requires { IfOk fetched (λ bytes. vec_len bytes ≤ MAX_REPLY) }
     ensures fetched { IfOk fetched (λ bytes. SettlesBytes scope.now place.now bytes.items result) }
     ensures unfetched { IfErr fetched (λ why. SettlesWhy why result) }
 {

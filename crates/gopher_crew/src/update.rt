@@ -13,7 +13,7 @@ use gopher_page::Page;
 use std::alloc::Global;
 use std::sync::Arc;
 
-// The most pages of an index.
+// The most pages of an index: as many as a crawl has places (`MAX_PLACES` of gopher_scope).
 const MAX_PAGES: usize = 65_536;
 
 /// What changes of a version's pages.
@@ -30,7 +30,7 @@ pub enum Change {
 /// What makes the next version: the change of its pages, and its record.
 #[derive(Drop)]
 pub struct Update {
-    /// Where a copy of an index is made.
+    /// The allocator for a copy of an index.
     pub(crate) alloc: Global,
     pub(crate) change: Change,
     pub(crate) prefix: RecordPrefix,
@@ -48,7 +48,7 @@ fn add(alloc: Global, index: &mut Arc<Index>, page: Arc<Page>) -> Result<(), NoM
     if let Some(own) = Arc::get_mut(index) {
         return own.add(page);
     }
-    let mut own = index.again(alloc)?;
+    let mut own = index.share(alloc)?;
     own.add(page)?;
     *index = Arc::new(alloc, own)?;
     Ok(())
@@ -60,7 +60,7 @@ impl Change {
         ensures { IfOk result (λ change.
             (pages : List PageData) → pages_after change pages ≡ index.now) }
     {
-        Ok(Change::All(Arc::new(alloc, index.again(alloc)?)?))
+        Ok(Change::All(Arc::new(alloc, index.share(alloc)?)?))
     }
 
     /// The change of an index's pages to those of another, which begin with them.
@@ -80,7 +80,8 @@ impl Change {
     /// Changes the pages of an index. If a search shares the index, another index takes its place.
     ///
     /// # Errors
-    /// 90, also if the index would have more than 65,536 pages. The pages are then as before.
+    /// `NoMemory` (90): out of memory, or the index would have more than 65,536 pages. The pages
+    /// are then as before.
     pub fn apply(&self, alloc: Global, index: &mut Arc<Index>) -> Result<(), NoMemory>
         ensures { MatchResult result
             (λ _. arc_value index.new ≡ pages_after self.now (arc_value index.old))

@@ -42,7 +42,7 @@ impl Version {
         ensures { IfOk result (λ version. version ≡ version_data index.now prefix.now) }
     {
         Ok(Version {
-            index: Arc::new(alloc, index.again(alloc)?)?,
+            index: Arc::new(alloc, index.share(alloc)?)?,
             prefix: prefix.copy(),
         })
     }

@@ -11,11 +11,9 @@ use crate::share::Share;
 use gopher_catalogue::{Claim, Turn, Why};
 use gopher_page::Page;
 use gopher_scope::Scope;
+use gopher_text::MAX_REPLY;
 use std::alloc::Global;
 use std::sync::Wait;
-
-// The most bytes of a reply.
-const MAX_REPLY: usize = 1_048_576;
 
 /// Why a worker stopped.
 #[derive(Clone, Copy, Debug, PartialEq, Eq)]
@@ -169,8 +167,8 @@ impl<F: Drop, C: Crew> WorkEnd<F, C> {
     }
 }
 
-// Claims the next place, fetches it and reports its outcome. Returns why the worker stops if there is no
-// place to claim.
+// Claims the next place, fetches it and reports its outcome. Returns why the worker stops if there
+// is no place to claim.
 fn work_once<C: Crew, R: Wait + Drop, W: Wait, F: Fetch<W> + Drop>(
     rt: &W,
     alloc: Global,

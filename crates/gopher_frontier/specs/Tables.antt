@@ -182,8 +182,8 @@ pub record Learns (limit : ℕ) (mentions : List PlaceData) (before after : Fron
   pub room : added.fresh + before.out ≤ after.room
 
 -- the counts of a frontier
-abbrev pub status_of : FrontierData → Status
-status_of frontier =
+abbrev pub frontier_status : FrontierData → Status
+frontier_status frontier =
     record {
       known = length frontier.places;
       waiting = length frontier.waiting;

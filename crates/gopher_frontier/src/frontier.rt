@@ -2,7 +2,7 @@
 
 ghost use Rattle.std.specs.Prelude.{◌≡◌, ◌+◌, ◌-◌, ◌^◌, ◌<◌, ◌≤◌, length, map, take, slice_get, MatchOption, Some, IfOk, OnOk, OnErr};
 ghost use Rattle.std.specs.Arc.{arc_value};
-ghost use Rattle.gopher_frontier.specs.Tables.{FrontierData, Begins, KeepsCounts, KeepsFrontier, Extends, known_part, MayLearn, Learns, allowed, IsNotOut, IsOutAs, is_place_at, status_of, after_claim, after_outcome, after_find, after_failure};
+ghost use Rattle.gopher_frontier.specs.Tables.{FrontierData, Begins, KeepsCounts, KeepsFrontier, Extends, known_part, MayLearn, Learns, allowed, IsNotOut, IsOutAs, is_place_at, frontier_status, after_claim, after_outcome, after_find, after_failure};
 
 use crate::known::{KnownPlaces, Standing};
 use crate::queue::Queue;
@@ -125,7 +125,7 @@ impl Frontier {
     pub fn status(&self) -> Status
         requires known { length self.now.places < 2 ^ 32 }
         requires waiting { length self.now.waiting < 2 ^ 32 }
-        ensures { result ≡ status_of self.now }
+        ensures { result ≡ frontier_status self.now }
     {
         Status {
             known: self.known.len() as u32,

@@ -1,4 +1,4 @@
--- The numbers of the program's faults, and the lines that tell them.
+-- The numbers of the program's faults, and the line that the program writes for each.
 use Rattle.std.specs.Prelude.{ℕ, List, [], ◌∷◌, ◌++◌, codes}
 use Rattle.std.specs.Fmt.{decimal}
 use Rattle.gopher_scope.specs.Rows.{key_name}
@@ -56,7 +56,7 @@ abbrev pub open_detail : OpenFault → Detail
 open_detail (open_fault.SeedOutOfScope seed) = detail.Seed seed
 open_detail why = detail.Nothing
 
--- what the line of a fault says beside its number
+-- what the line of a fault says after its number
 abbrev pub detail_of : ProgramFault → Detail
 detail_of (fault.Replay why) = replay_detail why
 detail_of (fault.Tree why) = tree_detail why
@@ -64,7 +64,7 @@ detail_of (fault.Settings why) = settings_detail why
 detail_of (fault.Open why) = open_detail why
 detail_of why = detail.Nothing
 
--- a word, and a number behind it
+-- a word followed by a number
 abbrev pub number_bytes : List ℕ → ℕ → List ℕ
 number_bytes front number = front ++ decimal number
 
@@ -76,7 +76,7 @@ detail_bytes (detail.FileLine file line) = number_bytes (codes " file ") file ++
 detail_bytes (detail.Seed seed) = number_bytes (codes " seed ") seed
 detail_bytes (detail.Line line) = number_bytes (codes " line ") line
 
--- a line of a number, and what is said beside
+-- the line of a number and a detail
 abbrev pub line_bytes : ℕ → Detail → List ℕ
 line_bytes code what = number_bytes (codes "hole: ") code ++ (detail_bytes what ++ codes "\n")
 

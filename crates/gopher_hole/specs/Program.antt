@@ -1,4 +1,4 @@
--- The program: its words, and how it ends.
+-- The program: its arguments, its exit status and its error stream.
 use Rattle.std.specs.Prelude.{◌≡◌, ℕ, ◌⊎◌, Bool, true, false, List, [], ◌∷◌, codes, nat_eq, Option, None, Some, Result, Ok, Err, if◌then◌else◌}
 use Rattle.std.specs.Cmp.Lexicographic.{pointwise}
 use Rattle.std.specs.Io.KnownBytes.{Appends}
@@ -9,29 +9,29 @@ use Rattle.gopher_hole.specs.Fault.{fault_line}
 use Rattle.gopher_hole.specs.declared.fault.ProgramFault.{ProgramFault}
 use Rattle.gopher_hole.specs.declared.fault.ProgramFault.TheVariants.{Replay, ListenFailed, NoThread, NoMemory}
 
--- the one word `replay`
+-- the only argument is `replay`
 abbrev pub asks_replay : List (List ℕ) → Bool
 asks_replay (word ∷ []) = pointwise nat_eq word (codes "replay")
 asks_replay words = false
 
--- the status of the program, by how a replay ended
-abbrev pub status_of : {T : Type 0} → Result T ReplayFault → ℕ
-status_of (Ok end) = 0
-status_of (Err why) = 1
+-- the exit status of the program, by how a replay ended
+abbrev pub exit_status : {T : Type 0} → Result T ReplayFault → ℕ
+exit_status (Ok end) = 0
+exit_status (Err why) = 1
 
 -- what the program writes to its error stream, by how a replay ended
 abbrev pub said_of : {T : Type 0} → Result T ReplayFault → List ℕ
 said_of (Ok end) = []
 said_of (Err why) = fault_line (Replay why)
 
--- bytes went out to the error stream, all of them unless a write failed: the stream's contents and its
--- count of failures come before and after
-abbrev pub Says : List ℕ → Option (List ℕ) → Option (List ℕ) → ℕ → ℕ → Type 0
-Says bytes old new before after = Appends old new bytes ⊎ (AppendsPart old new bytes × HasFailed before after)
+-- all of these bytes were written to the error stream or, if a write failed, a prefix of them: the
+-- stream's contents before and after, and its count of failures before and after
+abbrev pub SaysOnError : List ℕ → Option (List ℕ) → Option (List ℕ) → ℕ → ℕ → Type 0
+SaysOnError bytes old new before after = Appends old new bytes ⊎ (AppendsPart old new bytes × HasFailed before after)
 
--- the line of a fault went out
+-- the line of some fault was written
 abbrev pub SaysFault : Option (List ℕ) → Option (List ℕ) → ℕ → ℕ → Type 0
-SaysFault old new before after = (why : ProgramFault) × Says (fault_line why) old new before after
+SaysFault old new before after = (why : ProgramFault) × SaysOnError (fault_line why) old new before after
 
 -- the fault of a server, once its threads and its crawl have ended
 abbrev pub fault_at_end : Bool → Bool → Bool → Option ProgramFault

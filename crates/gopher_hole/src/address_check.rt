@@ -1,4 +1,4 @@
-//! The addresses of a server's host, as a check tells them.
+//! The addresses of a server's host, in the report of a check.
 
 use crate::announcing::send_text;
 use crate::fault::ProgramFault;
@@ -10,7 +10,8 @@ use std::io::{self, Write};
 use std::net::{Net, SocketAddr, ToSocketAddrs};
 use std::str;
 
-// Appends the line of an address at which a server could listen, or why it could not.
+// Appends a line that says whether a server can listen at an address, and if not, why. Returns
+// whether it can.
 fn push_bound(
     alloc: Global,
     address: SocketAddr,
@@ -31,7 +32,8 @@ fn push_bound(
     }
 }
 
-// Appends the lines of an address. True if it is to be bound, and was.
+// Appends the lines of an address. If `listens`, binds it for a moment. Returns whether it was
+// bound.
 fn push_address<R: Net>(
     rt: &R,
     alloc: Global,
@@ -47,7 +49,8 @@ fn push_address<R: Net>(
     push_bound(alloc, address, TcpListener::bind(rt, address), lines)
 }
 
-// Appends the lines of a host's addresses. True if they are to be bound, and one was.
+// Appends the lines of a host's addresses. If `listens`, binds each for a moment. Returns whether
+// one was bound.
 fn push_host<R: Net>(
     rt: &R,
     alloc: Global,
@@ -70,13 +73,14 @@ fn push_host<R: Net>(
     Ok(is_bound)
 }
 
-/// Tells the addresses of a server's host, a line each. If they are to be bound, each is for a moment,
-/// and what the system said of it is told.
+/// Writes the addresses of a server's host, a line each. If `listens`, binds each for a moment and
+/// writes whether that succeeded, or the system's error.
 ///
 /// # Errors
 ///
-/// - `ListenFailed` (81): addresses were to be bound, and none could be.
-/// - `WriteFailed` (13); `NoMemory` (90).
+/// - `ListenFailed` (81): the host isn't UTF-8, or `listens` is set and no address could be bound
+/// - `WriteFailed` (13): the lines couldn't be written or flushed
+/// - `NoMemory` (90)
 pub fn tell_addresses<R: Net, W: Write>(
     rt: &R,
     alloc: Global,

@@ -1,4 +1,4 @@
-//! What the program writes.
+//! What the program writes: its texts, the line after it listens, and the line of a fault.
 
 ghost use Rattle.std.specs.Prelude.{◌++◌, codes};
 ghost use Rattle.std.specs.Fmt.{decimal};
@@ -16,7 +16,11 @@ use itoa::Buffer;
 use std::alloc::Global;
 use std::io::Write;
 
-/// Sends a text to the output stream and flushes it. Refused (13) where either fails.
+/// Sends a text to the output stream and flushes it.
+///
+/// # Errors
+///
+/// `WriteFailed` (13): a write or the flush failed.
 pub fn send_text<W: Write>(output: &mut Watched<W>, text: &[u8]) -> Result<(), ProgramFault> {
     if send(output, text).is_err() {
         return Err(ProgramFault::WriteFailed);
@@ -27,7 +31,7 @@ pub fn send_text<W: Write>(output: &mut Watched<W>, text: &[u8]) -> Result<(), P
     }
 }
 
-// The line that tells where a server listens.
+// The line with the host and the port of a server that listens.
 fn listening_line(alloc: Global, home: &Home) -> Result<Vec<u8>, NoMemory> {
     let port = home.port();
     let mut line = Vec::from_slice(alloc, b"listening ")?;
@@ -36,7 +40,11 @@ fn listening_line(alloc: Global, home: &Home) -> Result<Vec<u8>, NoMemory> {
     Ok(line)
 }
 
-/// Tells where the server listens. Refused with 13 or 90.
+/// Writes the line with the server's host and port, once it listens.
+///
+/// # Errors
+///
+/// `WriteFailed` (13) as in `send_text`; `NoMemory` (90).
 pub fn tell_listening<W: Write>(
     alloc: Global,
     home: &Home,
@@ -46,7 +54,11 @@ pub fn tell_listening<W: Write>(
     send_text(output, &line)
 }
 
-/// Tells how the crawl ended. Refused with 13 or 90.
+/// Writes the line with the number of places in each state after the crawl.
+///
+/// # Errors
+///
+/// `WriteFailed` (13) as in `send_text`; `NoMemory` (90).
 pub fn tell_status<W: Write>(
     alloc: Global,
     status: Status,
@@ -119,7 +131,7 @@ fn write_file_line<E: Write>(
     write_number(error, b" line ", line)
 }
 
-// Writes what the line of a fault says beside its number.
+// Writes what the line of a fault says after its number.
 fn write_detail<E: Write>(error: &mut Watched<E>, detail: Detail) -> Result<(), ReplayFault>
     ensures { AnswerEnds (detail_bytes detail)
         (E.contents error.old.device) (E.contents error.new.device)
@@ -135,7 +147,7 @@ fn write_detail<E: Write>(error: &mut Watched<E>, detail: Detail) -> Result<(), 
     }
 }
 
-// Writes the rest of a line behind its number.
+// Writes the rest of a fault's line after its number.
 fn write_rest<E: Write>(error: &mut Watched<E>, detail: Detail) -> Result<(), ReplayFault>
     ensures { AnswerEnds (detail_bytes detail ++ codes "\n")
         (E.contents error.old.device) (E.contents error.new.device)
@@ -147,7 +159,7 @@ fn write_rest<E: Write>(error: &mut Watched<E>, detail: Detail) -> Result<(), Re
     send_all(error, b"\n")
 }
 
-// Writes a line of a number, and what is said beside.
+// Writes the line of a fault with this number and detail.
 fn write_line<E: Write>(
     error: &mut Watched<E>,
     code: usize,
@@ -163,7 +175,11 @@ fn write_line<E: Write>(
     write_rest(error, detail)
 }
 
-/// Writes the line of a fault: its number, and what it says beside. Refused with 13.
+/// Writes the line of a fault: its number, and what it says after the number.
+///
+/// # Errors
+///
+/// `WriteFailed` (13): a prefix of the line was written.
 pub fn write_fault<E: Write>(error: &mut Watched<E>, fault: ProgramFault) -> Result<(), ReplayFault>
     ensures { AnswerEnds (fault_line fault)
         (E.contents error.old.device) (E.contents error.new.device)

@@ -55,8 +55,9 @@ pub struct Serving<'a> {
     pub progress: bool,
     /// How many bytes the pages of the crawl may take; `None` if there is no limit.
     pub crawl_memory: Option<u64>,
-    /// Where the server listens: IP addresses, each with or without a port, for example `192.0.2.1:70`
-    /// or `::`. If there are none, it listens at the addresses of the settings' host.
+    /// Where the server listens: IP addresses, each with or without a port, for example
+    /// `192.0.2.1:70` or `::`. If there are none, it listens at the addresses of the settings'
+    /// host.
     pub addresses: Vec<&'a str>,
 }
 

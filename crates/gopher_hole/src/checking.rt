@@ -1,4 +1,4 @@
-//! A site that is checked, and what is told of it.
+//! The command `check`: the report on a site.
 
 ghost use Rattle.std.specs.Prelude.{◌≡◌};
 ghost use Rattle.gopher_check.specs.Fault.{site_fault_code};
@@ -20,10 +20,10 @@ use std::io::Write;
 use std::net::Net;
 use std::str;
 
-// The last line of a sound site's report.
+// The last line of the report on a site without a fault.
 const SOUND: &[u8] = b"sound\n";
 
-// The fault of the program that a fault of its site is.
+// The fault with which the server fails because of a fault of its site.
 fn program_fault(fault: SiteFault) -> ProgramFault
     ensures { program_fault_code result ≡ site_fault_code fault }
 {
@@ -36,7 +36,7 @@ fn program_fault(fault: SiteFault) -> ProgramFault
     }
 }
 
-// The report of the settings in a file.
+// The report on the settings in a file.
 fn file_report<R: Files>(rt: &R, alloc: Global, path: &str) -> Result<Report, NoMemory> {
     let bytes = match settings_bytes(rt, alloc, path) {
         Ok(bytes) => bytes,
@@ -49,14 +49,14 @@ fn file_report<R: Files>(rt: &R, alloc: Global, path: &str) -> Result<Report, No
     }
 }
 
-/// Checks the settings in a file and their folder as a server would, and sends what is told of them to
-/// the output. Of a sound site, the addresses of its host are told before the last line.
+/// Checks the settings in a file and their folder as a server would, and writes a report. For a
+/// site without a fault, the addresses of its host come before the last line.
 ///
 /// # Errors
 ///
-/// - Those of `serve` for the same fault: 80, 30 to 34, 20 to 26, 50, 90.
-/// - `ListenFailed` (81): addresses were to be bound, and none could be.
-/// - `WriteFailed` (13): a sound site's report couldn't be written.
+/// - those of `serve` for the same fault: 80, 30 to 34, 20 to 26, 50, 90
+/// - `ListenFailed` (81): `--listen` was given and no address of the host could be bound
+/// - `WriteFailed` (13): the report on a site without a fault couldn't be written
 pub fn check_site<R: Files + Net, W: Write>(
     rt: &R,
     alloc: Global,

@@ -27,7 +27,7 @@ use std::sync::{Arc, Wait};
 use std::thread::Threads;
 use std::time::Clock;
 
-// A fetcher for each share.
+// Pairs each share with a fetcher of its own.
 fn pairs_of<C: Crew>(
     alloc: Global,
     shares: Vec<Share<C>>,
@@ -43,7 +43,7 @@ fn pairs_of<C: Crew>(
     Ok(pairs)
 }
 
-// The fault of a server whose threads and crawl ended so.
+// The fault of a server by how its threads and its crawl ended, if there is one.
 fn fault_at_end(accept_failed: bool, is_short: bool, was_crawled: bool) -> Option<ProgramFault>
     ensures { result ≡ fault_at_end accept_failed is_short was_crawled }
 {
@@ -129,7 +129,7 @@ fn serve_and_crawl<
     }
 }
 
-// Closes the desk, and gives the sizes of its frontier.
+// Closes the desk. Returns the number of places in each state.
 fn close<C: Crew, R: Wait + Drop>(
     alloc: Global,
     desk: Desk<C, R>,
@@ -156,7 +156,7 @@ fn start_log_at<R: OpenLog + Threads + Wait + Clock + Eprint + Clone + Send + Dr
     start_log(rt, alloc, path?)
 }
 
-// Where server threads hand on the lines of a log.
+// The queue to which server threads hand on the lines of a log, if requests are logged.
 fn queue_of(log: &Option<Log>) -> Option<Arc<LogQueue>> {
     match log {
         Some(log) => log.queue(),
@@ -171,7 +171,20 @@ fn end_log<R: Threads + Wait>(rt: &R, alloc: Global, log: Option<Log>) {
     }
 }
 
-/// Serves and crawls as the settings say, and tells where it listens and how the crawl ended.
+/// Serves and crawls as the settings say. Writes the line `listening HOST PORT` once it listens,
+/// and the number of places in each state after the crawl and the last connection.
+///
+/// `blank` is a new one, whose names are those of the crew `C`.
+///
+/// # Errors
+///
+/// Before it listens, those of `read_settings`, `open` and `listen`. Later:
+///
+/// - `ListenFailed` (81): a thread could no longer accept connections
+/// - `NoThread` (82): a server thread couldn't be started
+/// - `StrangeShare` (62): the workers' shares don't count the events of the crawl
+/// - `WriteFailed` (13): a line couldn't be written or flushed
+/// - `NoMemory` (90)
 pub fn serve<
     C: Crew + Send + Sync + 'static,
     R: Files<File = File>

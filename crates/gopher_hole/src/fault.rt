@@ -131,8 +131,8 @@ impl ProgramFault {
         }
     }
 
-    /// Returns what its line says after its number: the key for 31 to 33, the file for 20 to 23 and 25, the
-    /// file and its line for 24, the seed for 50, the line for 70.
+    /// Returns what its line says after its number: the key for 31 to 33, the file for 20 to 23 and
+    /// 25, the file and its line for 24, the seed for 50, the line for 70.
     pub fn detail(self) -> Detail
         ensures { result ≡ detail_of self }
     {

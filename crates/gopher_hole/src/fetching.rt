@@ -18,7 +18,7 @@ pub struct TcpFetch {
 }
 
 impl TcpFetch {
-    /// Makes a fetcher that has fetched nothing yet. Takes no memory.
+    /// Makes a fetcher that has fetched nothing yet.
     pub fn new() -> TcpFetch
         ensures { result.calls ≡ 0 }
     {
@@ -26,8 +26,8 @@ impl TcpFetch {
     }
 }
 
-// Connects to the server of a place. `None` if the host's name isn't UTF-8 or has no address, or if no
-// server answers.
+// Connects to the server of a place. `None` if the host's name isn't UTF-8 or has no address, or if
+// no server answers.
 fn connect<R: Net<Listener = TcpListener, Stream = TcpStream>>(
     rt: &R,
     place: &Place,

@@ -126,11 +126,12 @@ fn listen_at_all<R: Net + Eprint>(
 }
 
 /// Listens at each of the addresses: an IP address or a host name, at the port of `home`, or an IP
-/// address with its own port, for example `127.0.0.1:7070` or `[::1]:7070`. Without addresses, listens at
-/// each address of the host of `home`. The `accept` of a listener never blocks.
+/// address with its own port, for example `127.0.0.1:7070` or `[::1]:7070`. Without addresses,
+/// listens at each address of the host of `home`. The `accept` of a listener never blocks.
 ///
-/// If systemd's socket activation hands sockets to the process, it uses these instead of addresses. It
-/// prints on the error stream of `rt` which address can't be bound, and why. One that can is enough.
+/// If systemd's socket activation hands sockets to the process, it uses these instead of addresses.
+/// It prints on the error stream of `rt` which address can't be bound, and why. One that can is
+/// enough.
 ///
 /// # Errors
 ///

@@ -35,8 +35,9 @@ pub struct Opened<C: Crew, R: Wait + Drop> {
 ///
 /// # Errors
 ///
-/// - `SettingsUnreadable` (80): the file can't be read, or has over 1,048,576 bytes (`MAX_SETTINGS`).
-/// - `NoMemory` (90).
+/// - `SettingsUnreadable` (80): the file can't be read, or has over 1,048,576 bytes
+///   (`MAX_SETTINGS`)
+/// - `NoMemory` (90)
 pub fn settings_bytes<R: Files>(
     rt: &R,
     alloc: Global,
@@ -56,9 +57,9 @@ pub fn settings_bytes<R: Files>(
 ///
 /// # Errors
 ///
-/// - `SettingsUnreadable` (80): the file can't be read, has over 1,048,576 bytes, or isn't UTF-8.
-/// - `Settings` (30 to 34, 90): as `Settings::read` fails.
-/// - `NoMemory` (90).
+/// - `SettingsUnreadable` (80): the file can't be read, has over 1,048,576 bytes, or isn't UTF-8
+/// - `Settings` (30 to 34, 90): as `Settings::read` fails
+/// - `NoMemory` (90)
 pub fn read_settings<R: Files>(
     rt: &R,
     alloc: Global,
@@ -105,17 +106,17 @@ fn open_catalogue(
     }
 }
 
-/// Loads the folder and opens the desk of the crawl, with one pass for each server thread and one share
-/// for each worker.
+/// Loads the folder and opens the desk of the crawl, with one pass for each server thread and one
+/// share for each worker.
 ///
 /// # Errors
 ///
 /// The first of these, in this order:
 ///
-/// - `Tree` (20 to 26, 90): as `Tree::load` fails.
-/// - `Open` (50, 51, 54, 90): as `Catalogue::open` fails.
-/// - `Desk` (60, 61, 90): as `Desk::open` fails.
-/// - `NoMemory` (90).
+/// - `Tree` (20 to 26, 90): as `Tree::load` fails
+/// - `Open` (50, 51, 54, 90): as `Catalogue::open` fails
+/// - `Desk` (60, 61, 90): as `Desk::open` fails
+/// - `NoMemory` (90)
 pub fn open<'r, C: Crew, R: Files + Wait>(
     rt: &'r R,
     alloc: Global,

@@ -1,4 +1,4 @@
-//! The program.
+//! `run`: the whole program, from its arguments to its exit status.
 
 ghost use Rattle.std.specs.Prelude.{◌≡◌, ◌≢◌, ◌≤◌, map, string_bytes, Result};
 ghost use Rattle.std.specs.Bool.{OnTrue};
@@ -6,7 +6,7 @@ ghost use Rattle.std.specs.Io.KnownBytes.{Keeps};
 ghost use Rattle.gopher_script.specs.declared.fault.ReplayFault.{ReplayFault};
 ghost use Rattle.gopher_script.specs.Replay.{Replays};
 ghost use Rattle.gopher_hole.specs.Fault.{fault_line};
-ghost use Rattle.gopher_hole.specs.Program.{asks_replay, status_of, said_of, Says, SaysFault};
+ghost use Rattle.gopher_hole.specs.Program.{asks_replay, exit_status, said_of, SaysOnError, SaysFault};
 
 use crate::announcing::{send_text, write_fault};
 use crate::arguments::{Asked, Text, read_arguments};
@@ -57,7 +57,7 @@ fn replay_all<R: Read, W: Write>(
     }
 }
 
-// Replays, and tells how that ended.
+// Replays the script, and writes the line of the fault if that fails. Returns the exit status.
 fn run_replay<R: Read, W: Write, E: Write>(
     alloc: Global,
     input: &mut Watched<R>,
@@ -69,8 +69,8 @@ fn run_replay<R: Read, W: Write, E: Write>(
         input.old.failures input.new.failures
         (W.contents output.old.device) (W.contents output.new.device)
         output.old.failures output.new.failures end
-        × (result ≡ status_of end)
-        × Says (said_of end) (E.contents error.old.device) (E.contents error.new.device)
+        × (result ≡ exit_status end)
+        × SaysOnError (said_of end) (E.contents error.old.device) (E.contents error.new.device)
         error.old.failures error.new.failures }
     ensures well { result ≡ 0 → error.new ≡ error.old }
     ensures told { result ≢ 0 → SaysFault (E.contents error.old.device)
@@ -83,17 +83,17 @@ fn run_replay<R: Read, W: Write, E: Write>(
     }
 }
 
-// Tells a fault, and gives its status.
+// Writes the line of a fault. Returns the exit status, 1.
 fn tell_fault<E: Write>(error: &mut Watched<E>, fault: ProgramFault) -> u8
     ensures status { result ≡ 1 }
-    ensures said { Says (fault_line fault) (E.contents error.old.device)
+    ensures said { SaysOnError (fault_line fault) (E.contents error.old.device)
         (E.contents error.new.device) error.old.failures error.new.failures }
 {
     let _ = write_fault(error, fault);
     1
 }
 
-// Tells how a server, or the showing of a text, ended, and gives the status.
+// Writes the line of the fault, if there is one. Returns the exit status.
 fn tell_end<E: Write>(error: &mut Watched<E>, end: Result<(), ProgramFault>) -> u8
     ensures well { result ≡ 0 → error.new ≡ error.old }
     ensures told { result ≢ 0 → SaysFault (E.contents error.old.device)
@@ -106,7 +106,7 @@ fn tell_end<E: Write>(error: &mut Watched<E>, end: Result<(), ProgramFault>) -> 
     }
 }
 
-// Tells a text that answers the words, and gives the status.
+// Writes a text to the stream where it belongs. Returns the exit status.
 fn tell_text<W: Write, E: Write>(text: &Text, output: &mut Watched<W>, error: &mut Watched<E>) -> u8
     ensures well { result ≡ 0 → error.new ≡ error.old }
     ensures told { result ≡ 1 → SaysFault (E.contents error.old.device)
@@ -126,27 +126,26 @@ fn tell_text<W: Write, E: Write>(text: &Text, output: &mut Watched<W>, error: &m
     }
 }
 
-/// The program `hole` on its words, without its own name. Gives its status.
+/// Runs the program `hole` with the arguments `words`, without its own name. Returns the exit
+/// status.
 ///
-/// - The word `replay` alone replays the script that `input` holds, writes its output to `output`
-///   and flushes it: status 0. Where that fails, `error` gets the line of the fault, as `hole: 13`
-///   or, for a bad line, `hole: 70 line 7`, and the status is 1. A flush that fails is 13.
-/// - `serve SETTINGS`, with `--requests N` if it is to end, serves the folder of the settings, crawls,
-///   and answers searches. `output` gets the line `listening HOST PORT` once the server listens, and
-///   the sizes of the crawl at the end: status 0. Where that fails, `error` gets the line of the fault,
-///   as `hole: 33 port`, and the status is 1. With `--listen ADDRESS`, once or several times, it listens at
-///   these addresses, and not at those of the settings' host. With `--log FILE` a line for each request is appended to
-///   the file; with `--progress` the sizes of the crawl are told as it goes on. What is told while it
-///   serves, as that the log can't be written, goes to the error stream of `rt`, not to `error`.
-/// - `check SETTINGS` writes to `output` what is wrong with the settings or their folder, in words, and
-///   where, or what a sound site has and the addresses of its host: status 0. With `--listen` it tries to
-///   bind each of them for a moment, and writes what the system said. Where there is a fault, `error` gets
-///   the line that `serve` would write, and the status is 1.
-/// - `--help` and `--version` write their text to `output`: status 0.
-/// - Any other words read and write nothing, but for a text on `error` that says what is wrong with
-///   them: status 2.
+/// - `replay` replays the script in `input` and writes its output to `output`.
+/// - `serve SETTINGS` serves the folder of the settings, crawls, and answers searches. It writes
+///   the line `listening HOST PORT` to `output` once it listens, and the number of places in each
+///   state at the end. Messages while it serves go to the error stream of `rt`, not to `error`.
+/// - `check SETTINGS` writes a report on the settings and their folder to `output`.
+/// - `--help` and `--version` write their text to `output`.
 ///
-/// A failure of `error` changes nothing.
+/// docs/SPECIFICATION.md describes the options.
+///
+/// # Exit status
+///
+/// - 0: the command succeeded, and `output` was flushed
+/// - 1: it failed; the line of the fault was written to `error`, for example `hole: 33 port`
+/// - 2: bad arguments; a text about them was written to `error`, and nothing else was read or
+///   written
+///
+/// If `error` can't be written, the exit status is the same.
 pub fn run<
     H: Files<File = File>
         + OpenLog
@@ -178,8 +177,8 @@ pub fn run<
         input.old.failures input.new.failures
         (W.contents output.old.device) (W.contents output.new.device)
         output.old.failures output.new.failures end
-        × (result ≡ status_of end)
-        × Says (said_of end) (E.contents error.old.device) (E.contents error.new.device)
+        × (result ≡ exit_status end)
+        × SaysOnError (said_of end) (E.contents error.old.device) (E.contents error.new.device)
         error.old.failures error.new.failures) }
     ensures well { result ≡ 0 → Keeps (E.contents error.old.device) (E.contents error.new.device) }
     ensures told { result ≡ 1 → SaysFault (E.contents error.old.device)

@@ -29,8 +29,8 @@ fn tell(rt: &impl Eprint, alloc: Global, status: Status) {
     }
 }
 
-/// Prints on the error stream that the crawl reached its limit of memory, if it did, and returns whether
-/// it did.
+/// Prints on the error stream that the crawl reached its limit of memory, if it did, and returns
+/// whether it did.
 pub fn tell_limit<C: Crew, R: Wait + Drop>(rt: &impl Eprint, desk: &Desk<C, R>) -> bool {
     let is_reached = desk.pages_past_limit() > 0;
     if is_reached {
@@ -50,8 +50,8 @@ fn wait_for_end(clock: &impl Clock, is_over: &AtomicBool) -> bool {
     is_over.load(Ordering::SeqCst)
 }
 
-// Prints the sizes every ten seconds if they have changed, and once the crawl is over. Prints once if
-// the crawl reaches its limit of memory.
+// Prints the sizes every ten seconds if they have changed, and once the crawl is over. Prints once
+// if the crawl reaches its limit of memory.
 fn tell_until_over<C: Crew, R: Wait + Drop, W: Wait + Clock + Eprint>(
     rt: &W,
     alloc: Global,
@@ -95,8 +95,8 @@ fn crawl_until_over<
 }
 
 /// Crawls as `gopher_crew::crawl` does. Prints the sizes of the crawl on the error stream every ten
-/// seconds if they have changed, and at its end. If the system refuses a thread for that, prints them
-/// only at the end.
+/// seconds if they have changed, and at its end. If the system refuses a thread for that, prints
+/// them only at the end.
 pub fn crawl_and_tell<
     C: Crew + Send + Sync,
     R: Wait + Drop + Send + Sync,

@@ -1,4 +1,4 @@
-//! Server threads, as they are started.
+//! Starting server threads, and waiting for their end.
 
 use gopher_crew::{Crew, Pass};
 use gopher_replies::Replies;
@@ -13,22 +13,22 @@ use std::time::Clock;
 /// The server threads that were started.
 #[derive(Drop)]
 pub struct Started {
-    /// The threads, each of which tells how it ended.
+    /// The threads. Each returns how it ended.
     pub threads: Vec<JoinHandle<ThreadEnd>>,
-    /// Whether one couldn't be started.
+    /// Whether a thread couldn't be started.
     pub is_short: bool,
 }
 
 /// How server threads ended.
 #[derive(Clone, Copy, Debug, PartialEq, Eq)]
 pub struct ThreadsEnd {
-    /// A listener of one was broken, or the system refused it to wait.
+    /// Whether a thread failed: a listener was broken, or the system refused to wait.
     pub failed: bool,
-    /// One couldn't be started, or had no memory to begin.
+    /// Whether a thread couldn't be started, or was out of memory before it accepted anything.
     pub is_short: bool,
 }
 
-// Starts a server thread. None if the system or memory refuses it.
+// Starts a server thread. Returns `None` if the system refuses it or memory runs out.
 fn start_one<
     C: Crew + Send + Sync + 'static,
     R: Threads + Wait + Clock + Eprint + Clone + Send + Drop + 'static,
@@ -47,8 +47,8 @@ fn start_one<
     thread.ok()
 }
 
-/// Starts a server thread for each pass, by one of the setups. If one of the passes gets none, that is
-/// told on the error stream of `rt`, once.
+/// Starts a server thread for each pass, with one of the setups. If a thread can't be started,
+/// prints that once on the error stream of `rt`.
 pub fn start_threads<
     C: Crew + Send + Sync + 'static,
     R: Threads + Wait + Clock + Eprint + Clone + Send + Drop + 'static,
@@ -78,7 +78,7 @@ pub fn start_threads<
     Started { threads, is_short }
 }
 
-/// Waits until each of the threads has ended.
+/// Waits until all threads have ended. Returns how they ended.
 pub fn join_all<R: Threads>(rt: &R, started: Started) -> ThreadsEnd {
     let mut end = ThreadsEnd {
         failed: false,

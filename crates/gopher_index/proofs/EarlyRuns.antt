@@ -9,10 +9,10 @@ use Rattle.std.specs.declared.sync.Arc.{Arc}
 use Rattle.gopher_page.specs.Page.{PageData}
 use Rattle.gopher_page.specs.declared.page.Page.{Page}
 use Rattle.gopher_segment.specs.Segment.{SegmentData, pages_of}
-use Rattle.gopher_index.specs.Index.{IsIndex, StandsIn, AllStandIn}
+use Rattle.gopher_index.specs.Index.{IsIndex, IsSliceOf, AllStandIn}
 
 -- a run stands among more pages, too
-pub stands_more : (pages more : List PageData) (run : SegmentData) → StandsIn run pages → StandsIn run (pages ++ more)
+pub stands_more : (pages more : List PageData) (run : SegmentData) → IsSliceOf run pages → IsSliceOf run (pages ++ more)
 stands_more pages more run stands = record {
   before = stands.before;
   after = stands.after ++ more;
@@ -24,7 +24,7 @@ stands_more pages more run stands = record {
 }
 
 pub all_stand_more : (pages more : List PageData) (runs : List SegmentData) → AllStandIn pages runs → AllStandIn (pages ++ more) runs
-all_stand_more pages more runs stand = All-weaker (λ run. StandsIn run pages) (λ run. StandsIn run (pages ++ more)) (stands_more pages more) runs stand
+all_stand_more pages more runs stand = All-weaker (λ run. IsSliceOf run pages) (λ run. IsSliceOf run (pages ++ more)) (stands_more pages more) runs stand
 
 pub all_stand_same : (pages pages' : List PageData) (runs : List SegmentData) → pages' ≡ pages → AllStandIn pages runs → AllStandIn pages' runs
 all_stand_same pages pages' runs same stand = subst (λ l. AllStandIn l runs) (sym same) stand
@@ -52,9 +52,9 @@ pushed_index segments loose loose' page settled more few index =
 module _ (pages : List PageData) (runs : List SegmentData) (at : ℕ) (less : at < length runs) (stand : AllStandIn pages runs) where
   pub others_stand : (run : SegmentData) → AllStandIn pages (swap_remove runs at run)
   others_stand run =
-      let P : SegmentData → Type 0 = λ r. StandsIn r pages in
+      let P : SegmentData → Type 0 = λ r. IsSliceOf r pages in
       let last = get_or runs (length runs - 1) run in
       All-take P (length runs - 1) (set runs at last) (All-set P runs at last (All-get_or P runs (length runs - 1) run (omega (arith, less)) stand) stand)
 
-  pub one_stands : (run : SegmentData) → run ≡ get_or runs at run → StandsIn run pages
-  one_stands run is = subst (λ r. StandsIn r pages) (sym is) (All-get_or (λ r. StandsIn r pages) runs at run less stand)
+  pub one_stands : (run : SegmentData) → run ≡ get_or runs at run → IsSliceOf run pages
+  one_stands run is = subst (λ r. IsSliceOf r pages) (sym is) (All-get_or (λ r. IsSliceOf r pages) runs at run less stand)

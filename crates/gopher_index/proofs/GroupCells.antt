@@ -8,7 +8,7 @@ use Rattle.gopher_page.specs.Page.{PageData}
 use Rattle.gopher_page.specs.Query.{TermData, count_of_term, score}
 use Rattle.gopher_index.specs.Cells.{AreCells, scores_of, term_counts, truths_of, zipped}
 use Rattle.gopher_index.specs.Joined.{AreJoined}
-use Rattle.gopher_index.specs.Plan.{is_match, verdict_by, verdict, total, wanted_in, AreGroups, AreGroupCells}
+use Rattle.gopher_index.specs.Plan.{is_match, verdict_by, verdict, total, wanted_in, AreTermGroups, AreGroupCells}
 use Rattle.gopher_index.specs.declared.joined.Joined.{Joined}
 use Rattle.gopher_index.specs.declared.plan.Group.{Group}
 use Rattle.gopher_index.proofs.Groups.{verdict_push, total_push, times_few}
@@ -55,7 +55,7 @@ group_few times (score ∷ scores) (count ∷ counts) bound few small =
     by rest (suc k) d less = rest k d (omega arith)
 
 -- what the groups of terms say is what the terms say
-pub groups_cells : (terms : List TermData) (groups : List Group) (pages : List PageData) (truths : List Bool) (verdicts scores : List ℕ) → AreGroups terms groups → truths ≡ map is_match verdicts
+pub groups_cells : (terms : List TermData) (groups : List Group) (pages : List PageData) (truths : List Bool) (verdicts scores : List ℕ) → AreTermGroups terms groups → truths ≡ map is_match verdicts
     → AreGroupCells groups pages verdicts scores → AreCells terms pages truths scores
 groups_cells terms groups pages truths verdicts scores are settled cells = record {
   matching =

@@ -8,7 +8,7 @@ use Rattle.gopher_page.specs.Query.{TermData, count_of_term, is_not, joined}
 use Rattle.gopher_page.specs.declared.query.Operator.{Operator}
 use Rattle.gopher_page.specs.declared.query.Operator.TheVariants.{And, Or, Not}
 use Rattle.gopher_page.proofs.OneMoreTerm.{matches_one_more, score_one_more, score_of_none, all_match}
-use Rattle.gopher_index.specs.Plan.{verdict_of, is_match, wanted_once, verdict_by, verdict, total, wanted_in, AreGroups, Joins, IsGroupOf, SayAlike, AddsTerm}
+use Rattle.gopher_index.specs.Plan.{verdict_of, is_match, wanted_once, verdict_by, verdict, total, wanted_in, AreTermGroups, Joins, IsGroupOf, SayAlike, AddsTerm}
 use Rattle.gopher_index.specs.declared.plan.Group.{Group}
 
 -- ---- the highest verdict decides
@@ -81,7 +81,7 @@ once_times Not count = grind arith
 
 -- ---- one term more
 
-pub no_groups : AreGroups [] []
+pub no_groups : AreTermGroups [] []
 no_groups = record {
   matching = λ counts. all_match counts;
   scoring = λ counts. score_of_none counts;
@@ -89,7 +89,7 @@ no_groups = record {
   few = omega arith;
 }
 
-pub one_term_more : (terms : List TermData) (term : TermData) (number : ℕ) (old new : List Group) → number ≡ length terms → AreGroups terms old → AddsTerm term number old new → AreGroups (terms ++ term ∷ []) new
+pub one_term_more : (terms : List TermData) (term : TermData) (number : ℕ) (old new : List Group) → number ≡ length terms → AreTermGroups terms old → AddsTerm term number old new → AreTermGroups (terms ++ term ∷ []) new
 one_term_more terms term number old new is groups adds =
     let long : length (terms ++ term ∷ []) ≡ length terms + 1 = omega (arith, length-append terms (term ∷ [])) in
     record {

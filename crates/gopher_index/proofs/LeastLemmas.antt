@@ -1,4 +1,5 @@
--- The best of those hits that reach a score, where they are as many as are answered, are the best of all.
+-- The best of those hits that reach a score, where they are as many as are answered, are the best
+-- of all.
 use Rattle.std.proofs.Common.{◌≡◌, ℕ, ◌≤◌, ◌<◌, Bool, true, false, cond, ◌||◌, ◌==◌, nat_le, List, [], ◌∷◌, ◌++◌, length, take, filter, refl, sym, ap, subst, ◌∙◌, arith}
 use Rattle.std.specs.List.{fold, AllByRecursion}
 use Rattle.std.specs.Ordering.{match_ordering, ordering_then}

@@ -5,7 +5,7 @@ use Rattle.std.proofs.Math.Seq.{drop-append_seam}
 use Rattle.gopher_page.specs.Page.{PageData}
 use Rattle.gopher_segment.specs.Segment.{SegmentData, pages_of}
 use Rattle.gopher_segment.specs.SegmentRows.{AreConsecutive}
-use Rattle.gopher_index.specs.Index.{IsIndex, IsRun, run_data, StandsIn}
+use Rattle.gopher_index.specs.Index.{IsIndex, IsIndexRun, run_data, IsSliceOf}
 
 pub pages_of-append : (a b : List SegmentData) → pages_of (a ++ b) ≡ pages_of a ++ pages_of b
 pages_of-append [] b = refl
@@ -54,7 +54,7 @@ module _ (segments : List SegmentData) (start end : ℕ) (merged : SegmentData) 
         let on : 0 + length (pages_of (take end segments)) ≡ 0 + length (pages_of (take start segments)) + length merged.pages = omega (arith, here, there) in
         consecutive_append 0 (take start segments) (merged ∷ drop end segments) front (from, subst (λ n. AreConsecutive n (drop end segments)) on back)
 
-    pub put_pages : (loose : List PageData) → StandsIn merged (pages_of segments ++ loose) → pages_of (take start segments ++ merged ∷ drop end segments) ≡ pages_of segments
+    pub put_pages : (loose : List PageData) → IsSliceOf merged (pages_of segments ++ loose) → pages_of (take start segments ++ merged ∷ drop end segments) ≡ pages_of segments
     put_pages loose stands =
         let first = pages_of (take start segments) in
         let last = pages_of (drop end segments) in
@@ -76,7 +76,7 @@ module _ (segments : List SegmentData) (loose : List PageData) (merged : Segment
       let from : merged.first ≡ 0 + length (pages_of segments) = omega (arith, here) in
       consecutive_append 0 segments (merged ∷ []) consecutive (from, tt)
 
-  pub push_pages : StandsIn merged (pages_of segments ++ loose) → pages_of (segments ++ merged ∷ []) ++ drop (length merged.pages) loose ≡ pages_of segments ++ loose
+  pub push_pages : IsSliceOf merged (pages_of segments ++ loose) → pages_of (segments ++ merged ∷ []) ++ drop (length merged.pages) loose ≡ pages_of segments ++ loose
   push_pages stands =
       let cut = cut_same (pages_of segments) loose stands.before (merged.pages ++ stands.after) stands.at (sym here ∙ sym stands.number) in
       let rest : drop (length merged.pages) loose ≡ stands.after = ap (drop (length merged.pages)) cut.1 ∙ drop-append_seam merged.pages stands.after in
@@ -103,7 +103,7 @@ module _ (segments : List SegmentData) (loose : List PageData) (settled start co
   pub pages_at_most : length (pages_of (take start segments)) ≤ 65536
   pages_at_most = omega (arith, index.settled_is, index.bound, rest_at start)
 
-  pub part_run : IsRun (length (pages_of (take start segments))) (take count (drop start segments)) []
+  pub part_run : IsIndexRun (length (pages_of (take start segments))) (take count (drop start segments)) []
   part_run =
       let rest : List SegmentData = drop start segments in
       let back = consecutive_rest 0 (take start segments) rest (subst (AreConsecutive 0) (sym (take-append-drop start segments)) index.consecutive) in
@@ -116,7 +116,7 @@ module _ (segments : List SegmentData) (loose : List PageData) (settled start co
         bound = omega (arith, index.settled_is, index.bound, rest_at start, long);
       }
 
-  pub part_stands : StandsIn (run_data (length (pages_of (take start segments))) (take count (drop start segments)) []) (pages_of segments ++ loose)
+  pub part_stands : IsSliceOf (run_data (length (pages_of (take start segments))) (take count (drop start segments)) []) (pages_of segments ++ loose)
   part_stands =
       let rest : List SegmentData = drop start segments in
       let first = pages_of (take start segments) in
@@ -133,13 +133,13 @@ module _ (segments : List SegmentData) (loose : List PageData) (settled start co
       }
 
   -- and so are so many loose pages from an index on
-  pub loose_run : start ≤ length loose → IsRun (settled + start) [] (take count (drop start loose))
+  pub loose_run : start ≤ length loose → IsIndexRun (settled + start) [] (take count (drop start loose))
   loose_run few = record {
     consecutive = tt;
     bound = omega (arith, few, index.bound, length-take count (drop start loose), length-drop start loose);
   }
 
-  pub loose_stands : start ≤ length loose → StandsIn (run_data (settled + start) [] (take count (drop start loose))) (pages_of segments ++ loose)
+  pub loose_stands : start ≤ length loose → IsSliceOf (run_data (settled + start) [] (take count (drop start loose))) (pages_of segments ++ loose)
   loose_stands few =
       let first = take start loose in
       let rest : List PageData = drop start loose in

@@ -1,4 +1,5 @@
--- What the steps of a search do to the pages that it went through, and to the number of those that are left.
+-- What the steps of a search do to the pages that it went through, and to the number of those that
+-- are left.
 use Rattle.std.proofs.Common.{◌≡◌, ℕ, zero, suc, ◌+◌, ◌-◌, ◌*◌, ◌<◌, ◌≤◌, List, ◌++◌, length, map, take, drop, get_or, refl, sym, ap, ◌∙◌, arith}
 use Rattle.std.proofs.lemmas.List.{append-nil, append_assoc, take_all}
 use Rattle.gopher_page.specs.Page.{PageData}

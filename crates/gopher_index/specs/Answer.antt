@@ -1,4 +1,4 @@
--- What a search answers, over the pages found.
+-- The results of searches over the pages found.
 use Rattle.std.specs.Prelude.{ℕ, false, List, [], ◌∷◌, take, nat_lt, if◌then◌else◌}
 use Rattle.std.specs.List.{fold, flat_map}
 use Rattle.std.specs.List.Sorted.{IsPermutation, IsSorted}
@@ -13,46 +13,46 @@ use Rattle.gopher_index.specs.declared.hit.Hit.{Hit}
 
 -- ---- searches
 
--- the order of hits: the highest score first, and hits of one score in place order
+-- the order of hits: by score, highest first, and hits of equal score in place order
 abbrev pub rank_cmp : Hit → Hit → Ordering
 rank_cmp = then_cmp (on (λ hit. hit.score) (flip_args nat_cmp)) (on (λ hit. hit.place) place_cmp)
 
--- the hit of a page, where the query matches it
+-- the hit of a page, if the query matches it
 abbrev pub hit_of : List TermData → PageData → List Hit
 hit_of query page = if matches query page.counts then (record { place = page.place; title = page.title; score = score query page.counts } ∷ []) else []
 
--- the pages that match, as hits
+-- the hits of the pages that match
 unfoldable pub hits_among : List TermData → List PageData → List Hit
 hits_among query pages = flat_map (hit_of query) pages
 
--- the hits as a set, in their order
+-- the distinct hits in their order
 unfoldable pub ranked : List Hit → List Hit
 ranked hits = fold (insert_key rank_cmp) [] hits
 
--- the answer to a query: the pages that match, each once, in the order of hits; the first 50
+-- the answer to a query: the first 50 of the pages that match, each once, in the order of hits
 unfoldable pub answer_of : List PageData → List TermData → List Hit
 answer_of pages query = take 50 (ranked (hits_among query pages))
 
 -- ---- occurrences
 
--- the place of a page and how often a word stands in it, where it does
+-- the place of a page with its number of occurrences of a word, if the page contains the word
 abbrev pub occurrence_of : List ℕ → PageData → List (PlaceData × ℕ)
 occurrence_of word page = if nat_lt 0 (count_meant false word page.counts) then ((page.place, count_meant false word page.counts) ∷ []) else []
 
--- the pages that have the word, as occurrences
+-- the occurrences in all pages that contain the word, in the order of the pages
 unfoldable pub occurrences_among : List ℕ → List PageData → List (PlaceData × ℕ)
 occurrences_among word pages = flat_map (occurrence_of word) pages
 
--- the occurrences of a word: the places of the pages that have it, each once, with how often, in place
--- order
+-- the occurrences of a word: the places of the pages that contain it, each once and in place order,
+-- with the number of times
 unfoldable pub occurrences_of : List PageData → List ℕ → List (PlaceData × ℕ)
 occurrences_of pages word = fold (insert_key (on (λ occurrence. occurrence.0) place_cmp)) [] (occurrences_among word pages)
 
--- place order, and for one place the order of counts
+-- place order, and for equal places the order of counts
 abbrev pub occurrence_cmp : (PlaceData × ℕ) → (PlaceData × ℕ) → Ordering
 occurrence_cmp = then_cmp (on (λ occurrence. occurrence.0) place_cmp) (on (λ occurrence. occurrence.1) nat_cmp)
 
--- the same as they are sorted
+-- the list contains these occurrences in that order
 pub record AreOccurrences (pages : List PageData) (word : List ℕ) (list : List (PlaceData × ℕ)) : Type 0 where
   pub permutation : IsPermutation (occurrences_among word pages) list
   pub sorted : IsSorted occurrence_cmp list

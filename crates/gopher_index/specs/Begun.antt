@@ -4,7 +4,7 @@ use Rattle.gopher_index.specs.declared.begun.Begun.{Begun}
 use Rattle.gopher_index.specs.declared.begun.Begun.TheVariants.{Found, Searching}
 use Rattle.gopher_index.specs.declared.hit.Hit.{Hit}
 
--- the hits that were found at once, or those that the search will give
+-- the hits of a short search, or those that a search in steps will find
 abbrev pub begun_hits : Begun → List Hit
 begun_hits (Found hits) = hits.items
 begun_hits (Searching search) = search.hits

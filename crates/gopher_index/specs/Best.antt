@@ -13,7 +13,7 @@ use Rattle.gopher_index.specs.declared.best.Kept.{Kept}
 use Rattle.gopher_index.specs.declared.best.Ranked.{Ranked}
 use Rattle.gopher_index.specs.declared.hit.Hit.{Hit}
 
--- the best hits, and the least score that they were asked to have
+-- the best hits so far, and the least score that a hit must have
 pub record BestData : Type 0 where
   pub least : ℕ
   pub hits : List Hit
@@ -26,60 +26,61 @@ hit_with score page = record { place = page.place; title = page.title; score = s
 abbrev pub ranked_hit : Ranked → Hit
 ranked_hit ranked = hit_with ranked.score (arc_value ranked.page.now)
 
--- the same of one that is kept
+-- a kept candidate as a hit
 abbrev pub kept_hit : Kept → Hit
 kept_hit kept = hit_with kept.score (arc_value kept.page)
 
--- the order of a candidate beside another
+-- the order of two candidates
 abbrev pub rank_of : Ranked → Ranked → Ordering
 rank_of candidate other = rank_cmp (ranked_hit candidate) (ranked_hit other)
 
--- whether the candidate comes behind the one of an index; where there is none, what is said for that case
+-- whether the candidate ranks after the one at an index; `otherwise` if there is none
 abbrev pub is_behind_at : Ranked → List Ranked → ℕ → Bool → Bool
 is_behind_at candidate best index otherwise = option_map_or (λ other. is_gt (rank_of candidate other)) (slice_get best index) otherwise
 
--- whether the one of an index has the rank of the candidate
+-- whether the one at an index has the same rank as the candidate
 abbrev pub is_equal_at : Ranked → List Ranked → ℕ → Bool
 is_equal_at candidate best index = option_map_or (λ other. is_eq (rank_of candidate other)) (slice_get best index) false
 
--- they stand in the order of hits
+-- the candidates are in the order of hits
 abbrev pub AreRanked : List Ranked → Type 0
 AreRanked best = IsStrictlySortedBy rank_cmp (map ranked_hit best)
 
--- among those that stand in their order, the candidate was put at its place
+-- if the candidates were in order, this one was inserted at its rank
 abbrev pub Inserts : Ranked → List Ranked → List Ranked → Type 0
 Inserts candidate old new = AreRanked old → map ranked_hit new ≡ insert_key rank_cmp (map ranked_hit old) (ranked_hit candidate)
 
 abbrev pub reaches : ℕ → Hit → Bool
 reaches least hit = nat_le least hit.score
 
--- the first 50 of those hits of pages that have at least such a score
+-- the first 50 hits of pages with a score of at least `least`
 unfoldable pub answer_from : ℕ → List PageData → List TermData → List Hit
 answer_from least pages terms = take 50 (ranked (filter (reaches least) (hits_among terms pages)))
 
--- the hits are the answer over some pages, of those that reach the least score
+-- the hits are the first 50 over these pages that reach the least score
 abbrev pub IsBestOf : List TermData → List PageData → BestData → Type 0
 IsBestOf terms pages best = best.hits ≡ answer_from best.least pages terms
 
--- whether the best of those are the best of all hits: each score is asked for, or there are 50 of them
+-- whether these are the best of all hits: there is no least score, or there are 50 of them
 abbrev pub is_whole : BestData → Bool
 is_whole best = (best.least == 0) || nat_le 50 (length best.hits)
 
--- the lowest score with which a page can come among the best: that of the last, where there are as many as are
--- answered, and in any case the least
+-- the lowest score with which a page can get among the best: the score of the 50th, if there are
+-- 50, and at least the least score
 abbrev pub lowest_score : BestData → ℕ
 lowest_score best = max best.least (option_map_or (λ last. last.score) (slice_get best.hits 49) 0)
 
--- whether a hit comes behind the 50th of the best
+-- whether a hit ranks after the 50th of the best
 abbrev pub is_beyond : Hit → BestData → Bool
 is_beyond hit best = option_map_or (λ last. is_gt (rank_cmp hit last)) (slice_get best.hits 49) false
 
--- where the old are the best of some hits, the new are the best of those and this one behind them
+-- if `old` has the best of some hits, `new` has the best of these hits and one more
 pub record TakesHit (hit : Hit) (old new : BestData) : Type 0 where
   pub least : new.least ≡ old.least
   pub hits : (hits : List Hit) → old.hits ≡ take 50 (ranked (filter (reaches old.least) hits)) → new.hits ≡ take 50 (ranked (filter (reaches old.least) (hits ++ hit ∷ [])))
 
--- where the old are the answer over some pages, the new are the answer over those and these behind them
+-- if `old` has the answer over some pages, `new` has the answer over these pages followed by
+-- `pages`
 pub record TakesIn (terms : List TermData) (pages : List PageData) (old new : BestData) : Type 0 where
   pub least : new.least ≡ old.least
   pub answers : (before : List PageData) → old.hits ≡ answer_from old.least before terms → new.hits ≡ answer_from new.least (before ++ pages) terms

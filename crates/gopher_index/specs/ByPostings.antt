@@ -14,8 +14,8 @@ abbrev pub is_again : List ℕ → ℕ → Bool
 is_again numbers zero = false
 is_again numbers (suc index) = slice_index numbers index == slice_index numbers (suc index)
 
--- the postings of a term up to an index were gone through: pages were taken in, and what is left of the
--- postings of the last of them stands before those of the pages ahead
+-- a walk through the postings of a term has reached an index: the pages passed were inserted, and
+-- the rest of the last one's postings comes before those of the pages ahead
 pub record Walk (term : TermData) (first : ℕ) (pages : List PageData) (numbers counts : List ℕ) (old now : BestData) (index : ℕ) : Type 0 where
   pub passed : List PageData
   pub ahead : List PageData
@@ -35,7 +35,7 @@ pub record ArePostingsIn (word : List ℕ) (segment : SegmentData) (postings : P
   pub run : zip postings.numbers.now postings.counts.now ≡ run_of postings.first (meant_counts false word segment.pages)
   pub beside : length postings.counts.now ≡ length postings.numbers.now
 
--- the same for each of several segments
+-- the postings of a word in each of several segments
 abbrev pub ArePostings : List ℕ → List SegmentData → List Postings → Type 0
 ArePostings word [] [] = Unit {0}
 ArePostings word [] (postings ∷ found) = ⊥

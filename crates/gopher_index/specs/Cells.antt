@@ -1,15 +1,15 @@
--- What the terms of a query say of pages: an array with an element for each page.
+-- The matches and scores of pages for the terms of a query: arrays with an element for each page.
 use Rattle.std.specs.Prelude.{◌≡◌, ℕ, Bool, List, [], ◌∷◌, map}
 use Rattle.gopher_page.specs.Page.{PageData}
 use Rattle.gopher_page.specs.Query.{TermData, count_of_term, matches, score}
 
--- each element as a step takes it on by the count at its place; those past the counts stay
+-- each element after a step with the count at its index; elements past the counts are unchanged
 abbrev pub zipped : {X : Type 0} → (X → ℕ → X) → List X → List ℕ → List X
 zipped step [] counts = []
 zipped step (x ∷ xs) [] = x ∷ xs
 zipped step (x ∷ xs) (count ∷ counts) = step x count ∷ zipped step xs counts
 
--- how often the words that a term speaks of stand in each page
+-- how often the words that a term matches occur in each page
 abbrev pub term_counts : TermData → List PageData → List ℕ
 term_counts term pages = map (λ page. count_of_term page.counts term) pages
 
@@ -21,7 +21,7 @@ truths_of terms pages = map (λ page. matches terms page.counts) pages
 abbrev pub scores_of : List TermData → List PageData → List ℕ
 scores_of terms pages = map (λ page. score terms page.counts) pages
 
--- both, for the pages of a segment
+-- the matches and the scores of the pages of a segment
 pub record AreCells (terms : List TermData) (pages : List PageData) (truths : List Bool) (scores : List ℕ) : Type 0 where
   pub matching : truths ≡ truths_of terms pages
   pub scoring : scores ≡ scores_of terms pages

@@ -8,14 +8,14 @@ use Rattle.gopher_segment.specs.Segment.{SegmentData}
 use Rattle.gopher_segment.specs.declared.segment.Segment.{Segment}
 use Rattle.gopher_index.specs.declared.due.Run.{Run}
 use Rattle.gopher_index.specs.declared.due.Run.TheVariants.{Loose, Segments}
-use Rattle.gopher_index.specs.Index.{IsRun, run_data}
+use Rattle.gopher_index.specs.Index.{IsIndexRun, run_data}
 
 -- the segments of a run
 abbrev pub segments_in : Run → List SegmentData
 segments_in (Loose loose) = []
 segments_in (Segments segments) = map arc_value segments.items
 
--- its pages that stand in no segment
+-- the loose pages of a run
 abbrev pub loose_in : Run → List PageData
 loose_in (Loose loose) = map arc_value loose.items
 loose_in (Segments segments) = []
@@ -24,7 +24,7 @@ loose_in (Segments segments) = []
 abbrev pub due_data : ℕ → Run → SegmentData
 due_data first run = run_data first (segments_in run) (loose_in run)
 
--- a run of an index; where it was merged, the segment is of its pages
+-- a run of an index; if it was merged, the segment has its pages
 pub record IsDue (first : ℕ) (run : Run) (merged : Option (Arc Segment Global)) : Type 0 where
-  pub is_run : IsRun first (segments_in run) (loose_in run)
+  pub is_run : IsIndexRun first (segments_in run) (loose_in run)
   pub merged_is : IfSome merged (λ segment. arc_value segment ≡ due_data first run)

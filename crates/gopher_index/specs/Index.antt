@@ -1,4 +1,4 @@
--- Pages in segments and, behind them, in none yet.
+-- The pages of an index: those in segments, then the loose ones.
 use Rattle.std.specs.Prelude.{ℕ, ◌+◌, ◌≤◌, ◌≡◌, List, [], ◌∷◌, ◌++◌, length, take}
 use Rattle.std.specs.List.{All}
 use Rattle.gopher_page.specs.Page.{PageData}
@@ -12,8 +12,8 @@ pub record IsIndex (segments : List SegmentData) (loose : List PageData) (settle
   pub settled_is : settled ≡ length (pages_of segments)
   pub bound : settled + length loose ≤ 65536
 
--- consecutive segments from a number on, and loose pages behind them
-pub record IsRun (first : ℕ) (segments : List SegmentData) (loose : List PageData) : Type 0 where
+-- consecutive segments whose first page has the number `first`, and loose pages after them
+pub record IsIndexRun (first : ℕ) (segments : List SegmentData) (loose : List PageData) : Type 0 where
   pub consecutive : AreConsecutive first segments
   pub bound : first + length (pages_of segments) + length loose ≤ 65536
 
@@ -21,26 +21,26 @@ pub record IsRun (first : ℕ) (segments : List SegmentData) (loose : List PageD
 abbrev pub run_data : ℕ → List SegmentData → List PageData → SegmentData
 run_data first segments loose = record { first = first; pages = pages_of segments ++ loose }
 
--- these pages stand next to each other among others, the first of them at its number
-pub record StandsIn (run : SegmentData) (pages : List PageData) : Type 0 where
+-- the pages of a run occur in sequence among these pages, the first at the index that is its number
+pub record IsSliceOf (run : SegmentData) (pages : List PageData) : Type 0 where
   pub before : List PageData
   pub after : List PageData
   pub at : pages ≡ before ++ (run.pages ++ after)
   pub number : length before ≡ run.first
 
--- each of these runs stands among the pages
+-- each of these runs occurs among the pages
 abbrev pub AllStandIn : List PageData → List SegmentData → Type 0
-AllStandIn pages runs = All (λ run. StandsIn run pages) runs
+AllStandIn pages runs = All (λ run. IsSliceOf run pages) runs
 
 -- this page is the last
 pub record EndsWith (pages : List PageData) (page : PageData) : Type 0 where
   pub before : List PageData
   pub at : pages ≡ before ++ page ∷ []
 
--- before the segment at an index stand so many pages
+-- the segments before this index have `pages` pages
 abbrev pub IsBorder : List SegmentData → ℕ → ℕ → Type 0
 IsBorder segments pages at = (at ≤ length segments) × (length (pages_of (take at segments)) ≡ pages)
 
--- from one place of a list of so many to a later one
+-- a span of a list of `count` items, from its start to its end
 abbrev pub IsSpan : ℕ → ℕ × ℕ → Type 0
 IsSpan count span = (span.0 ≤ span.1) × (span.1 ≤ count)

@@ -1,4 +1,4 @@
--- The terms of a query, those that are equal together.
+-- The terms of a query in groups of equal terms.
 use Rattle.std.specs.Prelude.{◌≡◌, ℕ, ◌+◌, ◌*◌, ◌%◌, ◌≤◌, ◌<◌, Bool, true, false, List, [], ◌∷◌, length, map, max, nat_lt, slice_index_or, ◌==◌, if◌then◌else◌}
 use Rattle.gopher_page.specs.Page.{PageData}
 use Rattle.gopher_page.specs.Query.{TermData, IsQuery, count_of_term, is_not, matches, score}
@@ -6,63 +6,63 @@ use Rattle.gopher_page.specs.declared.query.Operator.{Operator}
 use Rattle.gopher_page.specs.declared.query.Operator.TheVariants.{And, Or, Not}
 use Rattle.gopher_index.specs.declared.plan.Group.{Group}
 
--- what the term of a number says of a page, by whether the page has a word that it means: 0 where it
--- leaves open what the terms before it say, else an even number where the page doesn't match and an odd
--- one where it does; of two terms the later has the higher one
+-- the verdict of the term with this number on a page; `holds` says whether the page contains a word
+-- that the term matches. 0 if the term changes nothing, otherwise an odd number if the page matches
+-- and an even one if it doesn't; a later term has a higher verdict
 abbrev pub verdict_of : Operator → ℕ → Bool → ℕ
 verdict_of And number holds = if holds then 0 else 2 * number + 2
 verdict_of Or number holds = if holds then 2 * number + 3 else 0
 verdict_of Not number holds = if holds then 2 * number + 2 else 0
 
--- whether a page matches by the highest of what the terms say of it
+-- whether a page with this highest verdict matches
 abbrev pub is_match : ℕ → Bool
 is_match verdict = verdict % 2 == 1
 
--- how often a term is wanted: once, or never where `not` introduces it
+-- how often a term counts for the score: once, or never after `not`
 abbrev pub wanted_once : Operator → ℕ
 wanted_once operator = if is_not operator then 0 else 1
 
--- the highest of what the terms of a group say of a page with so many of their words
+-- the highest verdict of the terms of a group on a page that contains their words `count` times
 abbrev pub verdict_by : Group → ℕ → ℕ
 verdict_by group count = if nat_lt 0 count then group.holds else group.fails
 
--- the same of all groups; without one a page matches
+-- the highest verdict of all groups; without a group, a page matches
 abbrev pub verdict : List Group → List (List ℕ × ℕ) → ℕ
 verdict [] counts = 1
 verdict (group ∷ groups) counts = max (verdict_by group (count_of_term counts group.term)) (verdict groups counts)
 
--- what the terms of groups count together, each group's as often as its terms are wanted
+-- the score of a page by groups: each group's count, once for each of its terms that counts
 abbrev pub total : List Group → List (List ℕ × ℕ) → ℕ
 total [] counts = 0
 total (group ∷ groups) counts = group.wanted * count_of_term counts group.term + total groups counts
 
--- how many of the terms of groups are wanted
+-- the number of terms in groups that count for the score
 abbrev pub wanted_in : List Group → ℕ
 wanted_in [] = 0
 wanted_in (group ∷ groups) = group.wanted + wanted_in groups
 
--- terms in groups: what the groups say of each page is what the terms say
-pub record AreGroups (terms : List TermData) (groups : List Group) : Type 0 where
+-- the groups match and score each page as the terms do
+pub record AreTermGroups (terms : List TermData) (groups : List Group) : Type 0 where
   pub matching : (counts : List (List ℕ × ℕ)) → matches terms counts ≡ is_match (verdict groups counts)
   pub scoring : (counts : List (List ℕ × ℕ)) → score terms counts ≡ total groups counts
   pub highest : (counts : List (List ℕ × ℕ)) → verdict groups counts ≤ 2 * length terms + 1
   pub few : wanted_in groups ≤ length terms
 
--- the groups of a query's terms: one at least, and no more than there are terms
+-- the groups of a query's terms: at least one, and at most as many as there are terms
 pub record IsPlan (terms : List TermData) (groups : List Group) : Type 0 where
   pub query : IsQuery terms
-  pub groups_are : AreGroups terms groups
+  pub groups_are : AreTermGroups terms groups
   pub some : 0 < length groups
   pub most : length groups ≤ length terms
 
--- a group with one term more
+-- a group with one more term
 pub record Joins (term : TermData) (number : ℕ) (old new : Group) : Type 0 where
   pub same : new.term ≡ old.term
   pub wanted : new.wanted ≡ old.wanted + wanted_once term.operator
   pub holds : new.holds ≡ max old.holds (verdict_of term.operator number true)
   pub fails : new.fails ≡ max old.fails (verdict_of term.operator number false)
 
--- the group at an index means the words that a term means
+-- the group at an index is that of a term
 pub record IsGroupOf (term : TermData) (groups : List Group) (index : ℕ) : Type 0 where
   pub group : Group
   pub within : index < length groups
@@ -70,19 +70,19 @@ pub record IsGroupOf (term : TermData) (groups : List Group) (index : ℕ) : Typ
   pub word : group.term.word ≡ term.word
   pub prefix : group.term.is_prefix ≡ term.is_prefix
 
--- groups that say the same of each page
+-- both groups have equal verdicts and scores on each page
 pub record SayAlike (old new : List Group) : Type 0 where
   pub verdicts : (counts : List (List ℕ × ℕ)) → verdict new counts ≡ verdict old counts
   pub totals : (counts : List (List ℕ × ℕ)) → total new counts ≡ total old counts
   pub wanted : wanted_in new ≡ wanted_in old
 
--- groups with one term more
+-- groups with one more term
 pub record AddsTerm (term : TermData) (number : ℕ) (old new : List Group) : Type 0 where
   pub verdicts : (counts : List (List ℕ × ℕ)) → verdict new counts ≡ max (verdict old counts) (verdict_of term.operator number (nat_lt 0 (count_of_term counts term)))
   pub totals : (counts : List (List ℕ × ℕ)) → total new counts ≡ total old counts + wanted_once term.operator * count_of_term counts term
   pub wanted : wanted_in new ≡ wanted_in old + wanted_once term.operator
 
--- what groups say of the pages of a segment
+-- the verdicts and scores of the pages of a segment by groups
 pub record AreGroupCells (groups : List Group) (pages : List PageData) (verdicts scores : List ℕ) : Type 0 where
   pub deciding : verdicts ≡ map (λ page. verdict groups page.counts) pages
   pub scoring : scores ≡ map (λ page. total groups page.counts) pages

@@ -1,4 +1,4 @@
--- How far a search has come.
+-- The state of a search that is done in steps.
 use Rattle.std.specs.Prelude.{ℕ, ◌≡◌, ◌<◌, ◌≤◌, ◌+◌, ◌-◌, ◌*◌, List, ◌++◌, length, map, take, slice_index_or}
 use Rattle.std.specs.Arc.{arc_value}
 use Rattle.std.specs.Global.{Global}
@@ -17,20 +17,20 @@ use Rattle.gopher_segment.specs.declared.segment.Segment.{Segment}
 abbrev pub all_pages : Progress → List PageData
 all_pages progress = pages_of (map arc_value progress.segments.items) ++ map arc_value progress.loose.items
 
--- those that it went through
+-- the pages that were searched
 abbrev pub pages_done : Progress → List PageData
 pages_done progress = pages_of (map arc_value (take progress.segments_done progress.segments.items)) ++ map arc_value (take progress.loose_done progress.loose.items)
 
--- how many steps come before its end at most: one for each term in each segment, one for the pages of each segment,
--- one for each loose page, and one that groups the terms
+-- the most steps that are left: one for each term in each segment, one for the pages of each
+-- segment, one for each loose page, and one that groups the terms
 abbrev pub steps_left : Progress → ℕ
 steps_left progress =
     ((length progress.segments.items - progress.segments_done) * (length progress.terms.items + 1) - progress.joined.groups)
     + (length progress.loose.items - progress.loose_done)
     + (1 - length progress.groups.items)
 
--- what was kept is the answer over the pages that it went through, and the cells say what the groups that were joined
--- say of the segment that is under way
+-- the kept hits are the answer over the pages that were searched, and the cells are those of the
+-- current segment by the groups that were joined
 pub record IsProgress (progress : Progress) : Type 0 where
   pub query : IsQuery progress.terms.items
   pub plan : 0 < length progress.groups.items → IsPlan progress.terms.items progress.groups.items
@@ -42,12 +42,12 @@ pub record IsProgress (progress : Progress) : Type 0 where
   pub under_way : (segment : Arc Segment Global) → segment ≡ slice_index_or progress.segments.items progress.segments_done segment → AreBegun progress.groups.items (arc_value segment).pages progress.joined
   pub best : map kept_hit progress.kept.items ≡ answer_from 0 (pages_done progress) progress.terms.items
 
--- the same search, whatever it has come to
+-- the same search after some steps
 pub record IsSameSearch (old new : Progress) : Type 0 where
   pub is : IsProgress new
   pub pages : all_pages new ≡ all_pages old
   pub terms : new.terms.items ≡ old.terms.items
 
--- the new are the best of the old and of these pages
+-- if `old` has the best of some pages, `new` has the best of these pages followed by `pages`
 abbrev pub AddsPages : List TermData → List PageData → List Kept → List Kept → Type 0
 AddsPages terms pages old new = (before : List PageData) → map kept_hit old ≡ answer_from 0 before terms → map kept_hit new ≡ answer_from 0 (before ++ pages) terms

@@ -6,11 +6,11 @@ use Rattle.gopher_segment.specs.Ranks.{AreRanks}
 use Rattle.gopher_index.specs.Best.{BestData, hit_with, is_beyond}
 use Rattle.gopher_index.specs.declared.ties.Ties.{Ties}
 
--- whether the rank of a page says that it can't get among the best with a score
+-- whether the ranks show that the page at an index can't get among the best with this score
 abbrev pub is_covered : Ties → ℕ → ℕ → Bool
 is_covered ties index score = nat_lt score ties.below && nat_lt (slice_index ties.ranks.now ties.tied) (slice_index ties.ranks.now index)
 
--- each page of which this is said comes behind the 50th of the best
+-- each page of which the ranks show this ranks after the 50th of the best
 pub record AreTies (ties : Ties) (best : BestData) : Type 0 where
   pub ranks : AreRanks (map arc_value ties.pages.now) ties.ranks.now
   pub tied : 0 < length ties.pages.now → ties.tied < length ties.pages.now

@@ -198,7 +198,8 @@ impl<'a> Best<'a> {
         kept_of(alloc, &self.ranked)
     }
 
-    /// Returns whether these are the best of all hits: there is no least score, or there are 50 of them.
+    /// Returns whether these are the best of all hits: there is no least score, or there are 50 of
+    /// them.
     pub fn is_whole(&self) -> bool
         ensures { result ≡ is_whole self.now }
     {

@@ -13,7 +13,7 @@ use crate::best::Best;
 use crate::cells::Cells;
 use crate::likely::likely_hits;
 use crate::ties::Ties;
-use gopher_item::NoMemory;
+use gopher_item::{MAX_LINE, NoMemory};
 use gopher_page::Term;
 use gopher_segment::{Segment, pages_len};
 use std::alloc::Global;
@@ -33,8 +33,8 @@ fn any_reaches(scores: &[u32], lowest: u32) -> bool
     is_reached
 }
 
-// Inserts the pages from `start` to `end` that match into the best. A page is read only if its score is
-// high enough.
+// Inserts the pages from `start` to `end` that match into the best. A page is read only if its
+// score is high enough.
 fn rank_block<'a>(
     ties: &mut Ties<'a>,
     truths: &[bool],
@@ -67,8 +67,8 @@ fn rank_block<'a>(
     Ok(())
 }
 
-/// Inserts the pages of a segment that match into the best. Skips blocks without a score that is high
-/// enough.
+/// Inserts the pages of a segment that match into the best. Skips blocks without a score that is
+/// high enough.
 pub(crate) fn rank_cells<'a>(
     segment: &'a Segment,
     truths: &[bool],
@@ -99,7 +99,7 @@ fn rank_segment<'a>(
     cells: &mut Cells,
     best: &mut Best<'a>,
 ) -> Result<(), NoMemory>
-    requires { length terms.now ≤ 1024 }
+    requires { length terms.now ≤ MAX_LINE }
     ensures { OnOk result (TakesIn terms.now segment.now.pages best.old best.new) }
 {
     cells.fill(segment, terms)?;
@@ -112,7 +112,7 @@ fn rank_segments<'a>(
     cells: &mut Cells,
     best: &mut Best<'a>,
 ) -> Result<(), NoMemory>
-    requires { length terms.now ≤ 1024 }
+    requires { length terms.now ≤ MAX_LINE }
     ensures { OnOk result
         (TakesIn terms.now (pages_of (map arc_value segments.now)) best.old best.new) }
 {
@@ -122,8 +122,8 @@ fn rank_segments<'a>(
     Ok(())
 }
 
-// Returns the best of the first segment. If `wanted` is given, the least score is a guess of what so
-// many pages reach.
+// Returns the best of the first segment. If `wanted` is given, the least score is a guess of the
+// score that this many pages reach.
 fn best_of_first<'a>(
     alloc: Global,
     segment: &'a Segment,
@@ -131,7 +131,7 @@ fn best_of_first<'a>(
     cells: &mut Cells,
     wanted: Option<usize>,
 ) -> Result<Best<'a>, NoMemory>
-    requires { length terms.now ≤ 1024 }
+    requires { length terms.now ≤ MAX_LINE }
     ensures best { IfOk result (λ best. IsBestOf terms.now segment.now.pages best) }
     ensures plain { wanted ≡ None → IfOk result (λ best. best.least ≡ 0) }
 {
@@ -152,7 +152,7 @@ pub(crate) fn best_of_terms<'a>(
     terms: &[Term],
     is_guessed: bool,
 ) -> Result<Best<'a>, NoMemory>
-    requires { length terms.now ≤ 1024 }
+    requires { length terms.now ≤ MAX_LINE }
     ensures best { IfOk result (λ best.
         IsBestOf terms.now (pages_of (map arc_value segments.now)) best) }
     ensures plain { is_guessed ≡ false → IfOk result (λ best. best.least ≡ 0) }

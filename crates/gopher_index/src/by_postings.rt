@@ -44,8 +44,8 @@ fn is_again(numbers: &[u16], index: usize) -> bool
     numbers[index - 1] == numbers[index]
 }
 
-// Returns how often the word occurs in a page. `count` is that of its first posting: if it is 255, the
-// page may have further postings.
+// Returns how often the word occurs in a page. `count` is that of its first posting: if it is 255,
+// the page may have further postings.
 fn whole_count(page: &Page, term: &Term, count: u8) -> u32
     ensures { count ≡ min (count_of_term page.now.counts term.now) 255
         → result ≡ count_of_term page.now.counts term.now }
@@ -110,7 +110,8 @@ fn insert_postings<'a>(
     Ok(())
 }
 
-// Inserts the pages of a posting list into the best. Skips blocks without a count that is high enough.
+// Inserts the pages of a posting list into the best. Skips blocks without a count that is high
+// enough.
 fn rank_postings<'a>(
     segment: &'a Segment,
     term: &Term,

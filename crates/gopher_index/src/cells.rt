@@ -9,7 +9,7 @@ ghost use Rattle.gopher_segment.specs.Postings.{AreWithin, count_in};
 ghost use Rattle.gopher_segment.specs.Segment.{meant_counts};
 
 use crate::likely::Highest;
-use gopher_item::NoMemory;
+use gopher_item::{MAX_LINE, NoMemory};
 use gopher_page::{Operator, Term};
 use gopher_segment::{Postings, Segment};
 use std::alloc::Global;
@@ -164,7 +164,7 @@ fn join_more(
     truths: &mut [bool],
     scores: &mut [u32],
 )
-    requires few { length terms.now ≤ 1024 }
+    requires few { length terms.now ≤ MAX_LINE }
     requires counts { length counts.old ≡ length segment.now.pages }
     requires truths { length truths.old ≡ length segment.now.pages }
     requires scores { length scores.old ≡ length segment.now.pages }
@@ -185,7 +185,7 @@ fn join_terms(
     truths: &mut [bool],
     scores: &mut [u32],
 )
-    requires few { length terms.now ≤ 1024 }
+    requires few { length terms.now ≤ MAX_LINE }
     requires counts { length counts.old ≡ length segment.now.pages }
     requires truths { truths.old ≡ replicate (length segment.now.pages) true }
     requires scores { scores.old ≡ replicate (length segment.now.pages) 0 }
@@ -226,7 +226,7 @@ impl Cells {
 
     /// Computes the matches and scores of a segment's pages for terms, at most 1,024.
     pub fn fill(&mut self, segment: &Segment, terms: &[Term]) -> Result<(), NoMemory>
-        requires { length terms.now ≤ 1024 }
+        requires { length terms.now ≤ MAX_LINE }
         ensures { OnOk result
             (AreCells terms.now segment.now.pages self.new.truths.items self.new.scores.items) }
     {

@@ -2,7 +2,7 @@
 
 ghost use Rattle.std.specs.Prelude.{◌≡◌, [], map, IfOk};
 ghost use Rattle.std.specs.Arc.{arc_value};
-ghost use Rattle.gopher_index.specs.Index.{IsRun, run_data};
+ghost use Rattle.gopher_index.specs.Index.{IsIndexRun, run_data};
 
 use crate::merging::segment_of;
 use gopher_item::NoMemory;
@@ -47,7 +47,7 @@ impl Due {
         first: usize,
         loose: &[Arc<Page>],
     ) -> Result<Due, NoMemory>
-        requires { IsRun first [] (map arc_value loose.now) }
+        requires { IsIndexRun first [] (map arc_value loose.now) }
         ensures { IfOk result (λ due. due ≡ run_data first [] (map arc_value loose.now)) }
     {
         Ok(Due {
@@ -63,7 +63,7 @@ impl Due {
         first: usize,
         segments: &[Arc<Segment>],
     ) -> Result<Due, NoMemory>
-        requires { IsRun first (map arc_value segments.now) [] }
+        requires { IsIndexRun first (map arc_value segments.now) [] }
         ensures { IfOk result (λ due. due ≡ run_data first (map arc_value segments.now) []) }
     {
         Ok(Due {

@@ -4,7 +4,7 @@ ghost use Rattle.std.specs.Prelude.{◌≡◌, ◌+◌, ◌<◌, ◌≤◌, [], 
 ghost use Rattle.std.specs.Arc.{arc_value};
 ghost use Rattle.gopher_index.specs.Answer.{answer_of, AreOccurrences};
 ghost use Rattle.gopher_index.specs.Begun.{begun_hits};
-ghost use Rattle.gopher_index.specs.Index.{EndsWith, StandsIn};
+ghost use Rattle.gopher_index.specs.Index.{EndsWith, IsSliceOf};
 
 use crate::begun::Begun;
 use crate::due::Due;
@@ -95,8 +95,8 @@ impl Index {
 
     /// Appends a page. The index has at most 65,535 pages before.
     ///
-    /// The page is loose until it is merged into a segment (`due`, `settle`). If there are 512 loose
-    /// pages, everything that is due is merged first.
+    /// The page is loose until it is merged into a segment (`due`, `settle`). If there are 512
+    /// loose pages, everything that is due is merged first.
     pub fn add(&mut self, page: Arc<Page>) -> Result<(), NoMemory>
         requires { length self.old < 65536 }
         ensures { MatchResult result (λ _. self.new ≡ self.old ++ arc_value page ∷ [])
@@ -123,7 +123,7 @@ impl Index {
 
     // Returns a run of pages that is due to be merged and isn't being merged.
     fn untaken(&self) -> Result<Option<Due>, NoMemory>
-        ensures { IfOk result (λ due. IfSome due (λ run. StandsIn run self.now)) }
+        ensures { IfOk result (λ due. IfSome due (λ run. IsSliceOf run self.now)) }
     {
         let alloc = *self.loose.allocator();
         if let Some((start, end)) = due_loose(self.settled, self.loose.len(), &self.taken) {
@@ -138,16 +138,17 @@ impl Index {
         Ok(Some(due))
     }
 
-    /// Returns a run of pages that is due to be merged, if there is one, and marks it as taken until
-    /// `install`.
+    /// Returns a run of pages that is due to be merged, if there is one, and marks it as taken
+    /// until `install`.
     ///
-    /// Two kinds of runs are due: 64 loose pages, and four segments of the same number of pages. The
-    /// first segment must begin at a multiple of four times that number, and one segment must be able to
-    /// hold all four. If they have 1,024 pages or more, a fifth of their size must follow. So if nothing
-    /// is due, the sizes of the segments follow from the number of pages alone.
+    /// Two kinds of runs are due: 64 loose pages, and four segments of the same number of pages.
+    /// The first segment must begin at a multiple of four times that number, and one segment must
+    /// be able to hold all four. If they have 1,024 pages or more, a fifth of their size must
+    /// follow. So if nothing is due, the sizes of the segments follow from the number of pages
+    /// alone.
     pub fn due(&mut self) -> Result<Option<Due>, NoMemory>
         ensures same { self.new ≡ self.old }
-        ensures stands { IfOk result (λ due. IfSome due (λ run. StandsIn run self.new)) }
+        ensures stands { IfOk result (λ due. IfSome due (λ run. IsSliceOf run self.new)) }
     {
         let Some(due) = self.untaken()? else {
             return Ok(None);
@@ -159,10 +160,10 @@ impl Index {
     /// Puts a merged run in the place of its pages. A run that wasn't merged becomes due again. The
     /// pages are what they were.
     ///
-    /// If pages before the run aren't in a segment yet, the index holds it until they are. When out of
-    /// memory, or if its pages were merged with others meanwhile, the run is dropped.
+    /// If pages before the run aren't in a segment yet, the index holds it until they are. When out
+    /// of memory, or if its pages were merged with others meanwhile, the run is dropped.
     pub fn install(&mut self, due: Due)
-        requires { StandsIn due self.old }
+        requires { IsSliceOf due self.old }
         ensures { self.new ≡ self.old }
     {
         if due.merged.is_some() && due.first > self.settled {
@@ -178,9 +179,10 @@ impl Index {
         }
     }
 
-    // Holds a merged run until the pages before it are in segments. When out of memory, it is due again.
+    // Holds a merged run until the pages before it are in segments. When out of memory, it is due
+    // again.
     fn hold(&mut self, due: Due)
-        requires { StandsIn due self.old }
+        requires { IsSliceOf due self.old }
         ensures { self.new ≡ self.old }
     {
         let first = due.first;
@@ -192,7 +194,7 @@ impl Index {
     // Takes a run out of `early` if the pages before it are in segments.
     fn take_early(&mut self) -> Option<Due>
         ensures same { self.new ≡ self.old }
-        ensures stands { IfSome result (λ due. StandsIn due self.old) }
+        ensures stands { IfSome result (λ due. IsSliceOf due self.old) }
     {
         let at = ready(&self.early, self.settled)?;
         Some(self.early.swap_remove(at))
@@ -200,7 +202,7 @@ impl Index {
 
     // Puts a merged run in its place, and leaves one that wasn't merged to be due again.
     fn put_run(&mut self, due: Due)
-        requires { StandsIn due self.old }
+        requires { IsSliceOf due self.old }
         ensures { self.new ≡ self.old }
     {
         let Due {
@@ -218,7 +220,7 @@ impl Index {
     fn put(&mut self, first: usize, merged: Arc<Segment>)
         requires first { (arc_value merged).first ≡ first }
         requires bound { first + length (arc_value merged).pages ≤ 65536 }
-        requires stands { StandsIn (arc_value merged) self.old }
+        requires stands { IsSliceOf (arc_value merged) self.old }
         ensures { self.new ≡ self.old }
     {
         let alloc = *self.loose.allocator();
@@ -255,7 +257,7 @@ impl Index {
     }
 
     /// Returns a copy that shares the segments and pages.
-    pub fn again(&self, alloc: Global) -> Result<Index, NoMemory>
+    pub fn share(&self, alloc: Global) -> Result<Index, NoMemory>
         ensures { IfOk result (λ index. index ≡ self.now) }
     {
         Ok(Index {
@@ -268,8 +270,8 @@ impl Index {
         })
     }
 
-    /// Returns the last page if this index is `before` with one loose page more, judged by the numbers of
-    /// its segments and pages.
+    /// Returns the last page if this index is `before` with one loose page more, judged by the
+    /// numbers of its segments and pages.
     ///
     /// Returns `None` if `before` has 512 loose pages, because `add` merges them first.
     pub fn page_after(&self, before: &Index) -> Option<&Arc<Page>>
@@ -286,10 +288,11 @@ impl Index {
         self.loose.last()
     }
 
-    /// Begins a search. Returns the hits if the search is short, and otherwise a `Search` that finds them
-    /// in steps.
+    /// Begins a search. Returns the hits if the search is short, and otherwise a `Search` that
+    /// finds them in steps.
     ///
-    /// The hits are the first 50 pages that match the query, by descending score, then in place order.
+    /// The hits are the first 50 pages that match the query, by descending score, then in place
+    /// order.
     pub fn begin(&self, alloc: Global, query: &Query) -> Result<Begun, NoMemory>
         ensures { IfOk result (λ begun. begun_hits begun ≡ answer_of self.now query.now) }
     {
@@ -312,8 +315,8 @@ impl Index {
         }
     }
 
-    /// Returns the places of the pages that contain `word`, with how often it occurs in each, in place
-    /// order.
+    /// Returns the places of the pages that contain `word`, with how often it occurs in each, in
+    /// place order.
     pub fn occurrences(&self, alloc: Global, word: &[u8]) -> Result<Vec<(Place, u32)>, NoMemory>
         ensures { IfOk result (λ list. AreOccurrences self.now word.now list.items) }
     {

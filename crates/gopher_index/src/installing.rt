@@ -5,7 +5,7 @@ ghost use Rattle.std.specs.Arc.{arc_value};
 ghost use Rattle.gopher_page.specs.Page.{PageData};
 ghost use Rattle.gopher_segment.specs.Segment.{pages_of};
 ghost use Rattle.gopher_segment.specs.SegmentRows.{AreConsecutive};
-ghost use Rattle.gopher_index.specs.Index.{IsBorder, StandsIn};
+ghost use Rattle.gopher_index.specs.Index.{IsBorder, IsSliceOf};
 
 use crate::due::Due;
 use gopher_item::NoMemory;
@@ -63,7 +63,7 @@ pub(crate) fn put_for_segments(
     requires bound { first + length (arc_value merged).pages ≤ 65536 }
     requires consecutive { AreConsecutive 0 (map arc_value segments.old.items) }
     ensures consecutive { AreConsecutive 0 (map arc_value segments.new.items) }
-    ensures pages { (loose : List PageData) → StandsIn (arc_value merged)
+    ensures pages { (loose : List PageData) → IsSliceOf (arc_value merged)
         (pages_of (map arc_value segments.old.items) ++ loose)
         → pages_of (map arc_value segments.new.items)
         ≡ pages_of (map arc_value segments.old.items) }
@@ -78,8 +78,8 @@ pub(crate) fn put_for_segments(
     Ok(())
 }
 
-/// Appends the segment of the first loose pages to the segments, and removes these pages from the loose
-/// ones.
+/// Appends the segment of the first loose pages to the segments, and removes these pages from the
+/// loose ones.
 pub(crate) fn put_for_loose(
     alloc: Global,
     merged: Arc<Segment>,
@@ -90,7 +90,7 @@ pub(crate) fn put_for_loose(
     requires first { (arc_value merged).first
         ≡ length (pages_of (map arc_value segments.old.items)) }
     requires consecutive { AreConsecutive 0 (map arc_value segments.old.items) }
-    requires stands { StandsIn (arc_value merged)
+    requires stands { IsSliceOf (arc_value merged)
         (pages_of (map arc_value segments.old.items) ++ map arc_value loose.old.items) }
     ensures consecutive { AreConsecutive 0 (map arc_value segments.new.items) }
     ensures pages { pages_of (map arc_value segments.new.items) ++ map arc_value loose.new.items

@@ -1,4 +1,4 @@
-//! What the groups of a query's terms say of the pages of a segment, some groups at a time.
+//! The verdicts and scores of a segment's pages, joined group by group of a query's terms.
 
 ghost use Rattle.std.specs.Prelude.{◌≡◌, ℕ, ◌+◌, ◌*◌, ◌^◌, ◌≤◌, ◌<◌, ◌∷◌, [], ◌++◌, List, length, map, max, replicate, MatchResult, IfOk, OnOk};
 ghost use Rattle.std.specs.List.{All};
@@ -9,31 +9,31 @@ ghost use Rattle.gopher_index.specs.declared.plan.Group.{Group};
 
 use crate::cells::spread_term;
 use crate::plan::{Group, higher};
-use gopher_item::NoMemory;
+use gopher_item::{MAX_LINE, NoMemory};
 use gopher_segment::{Segment, words_len};
 use std::alloc::Global;
 
-// How many cells and postings a step goes through, unless one group alone has more.
+// The most cells and postings that a step goes through, unless one group alone has more.
 const STEP: usize = 262_144;
 
-// From how many pages on the words of a segment aren't counted, because each step takes one prefix then
-// anyway.
+// The words of a segment with at least this many pages aren't counted, because a step joins at most
+// one prefix then anyway.
 const MANY_PAGES: usize = 4_096;
 
-/// What the first groups of a query's terms say of the pages of a segment.
+/// The verdicts and scores of a segment's pages by the first groups of a query's terms.
 ///
-/// The memory serves segment after segment.
+/// Its memory is used for one segment after another.
 #[derive(Debug, Drop)]
 pub(crate) struct Joined {
     counts: Vec<u32>,
     pub verdicts: Vec<u32>,
     pub scores: Vec<u32>,
     words: usize,
-    /// How many groups were joined. At 0, what it says is of no segment.
+    /// The number of groups that were joined. At 0, the cells belong to no segment.
     pub groups: usize,
 }
 
-// Takes in what the terms of a group say of each page, by how often it has their words.
+// Raises the verdict of each page to that of a group, from how often the page contains its words.
 fn raise_verdicts(group: &Group, verdicts: &mut [u32], counts: &[u32])
     requires { length verdicts.old ≡ length counts.now }
     ensures { verdicts.new ≡ zipped (λ verdict count.
@@ -44,10 +44,10 @@ fn raise_verdicts(group: &Group, verdicts: &mut [u32], counts: &[u32])
     }
 }
 
-// Adds each count so many times.
+// Adds each count `times` times.
 fn add_times(times: u32, scores: &mut [u32], counts: &[u32])
     requires same { length scores.old ≡ length counts.now }
-    requires times { times ≤ 1024 }
+    requires times { times ≤ MAX_LINE }
     requires room { All (λ score. score ≤ 2 ^ 31) scores.old }
     requires few { All (λ count. count ≤ 1048576) counts.now }
     ensures { scores.new ≡ zipped (λ score count. score + times * count) scores.old counts.now }
@@ -57,7 +57,7 @@ fn add_times(times: u32, scores: &mut [u32], counts: &[u32])
     }
 }
 
-// What the groups before this one say, and what it says itself; the counts are overwritten.
+// Joins a group to the groups before it. Overwrites `counts`.
 fn join_group(
     segment: &Segment,
     group: &Group,
@@ -65,7 +65,7 @@ fn join_group(
     verdicts: &mut [u32],
     scores: &mut [u32],
 )
-    requires times { group.now.wanted ≤ 1024 }
+    requires times { group.now.wanted ≤ MAX_LINE }
     requires counts { length counts.old ≡ length segment.now.pages }
     requires verdicts { length verdicts.old ≡ length segment.now.pages }
     requires scores { length scores.old ≡ length segment.now.pages }
@@ -81,7 +81,7 @@ fn join_group(
     add_times(group.wanted, scores, counts);
 }
 
-// What the groups before these say, and what these say themselves; the counts are overwritten.
+// Joins several groups to the groups before them. Overwrites `counts`.
 fn join_groups(
     segment: &Segment,
     groups: &[Group],
@@ -89,7 +89,7 @@ fn join_groups(
     verdicts: &mut [u32],
     scores: &mut [u32],
 )
-    requires few { wanted_in groups.now ≤ 1024 }
+    requires few { wanted_in groups.now ≤ MAX_LINE }
     requires counts { length counts.old ≡ length segment.now.pages }
     requires verdicts { length verdicts.old ≡ length segment.now.pages }
     requires scores { length scores.old ≡ length segment.now.pages }
@@ -105,7 +105,8 @@ fn join_groups(
     }
 }
 
-// How many cells and postings a group goes through at most in a segment of so many pages and words.
+// The most cells and postings that a group goes through in a segment of `pages` pages with `words`
+// words.
 fn work_of(group: &Group, pages: usize, words: usize) -> usize {
     if group.term.is_prefix() {
         pages.saturating_add(words)
@@ -132,7 +133,7 @@ fn step_end(groups: &[Group], start: usize, pages: usize, words: usize) -> usize
     end
 }
 
-/// Whether each page matches, by what all groups say of it.
+/// Returns whether each page matches, by its verdict from all groups.
 pub(crate) fn truths_of(alloc: Global, verdicts: &[u32]) -> Result<Vec<bool>, NoMemory>
     ensures { IfOk result (λ truths. truths.items ≡ map is_match verdicts.now) }
 {
@@ -144,7 +145,7 @@ pub(crate) fn truths_of(alloc: Global, verdicts: &[u32]) -> Result<Vec<bool>, No
 }
 
 impl Joined {
-    /// No groups, and no memory yet.
+    /// Starts without groups, cells and memory.
     pub fn new(alloc: Global) -> Joined
         ensures { result.groups ≡ 0 }
     {
@@ -157,7 +158,7 @@ impl Joined {
         }
     }
 
-    // Cells of which none says anything yet.
+    // Resets the cells to those of no group and `size` pages.
     fn clear(&mut self, size: usize) -> Result<(), NoMemory>
         ensures groups { self.new.groups ≡ self.old.groups }
         ensures counts { OnOk result (length self.new.counts.items ≡ size) }
@@ -176,7 +177,8 @@ impl Joined {
     fn begin(&mut self, segment: &Segment) -> Result<(), NoMemory>
         ensures groups { self.new.groups ≡ self.old.groups }
         ensures cells { MatchResult result (λ _. (groups : List Group)
-            → AreBegun groups segment.now.pages self.old → AreJoined groups segment.now.pages self.new)
+            → AreBegun groups segment.now.pages self.old
+            → AreJoined groups segment.now.pages self.new)
             (λ _. self.new.groups ≡ 0) }
     {
         if self.groups > 0 {
@@ -192,11 +194,11 @@ impl Joined {
         Ok(())
     }
 
-    /// Joins some of the groups that aren't joined yet, one at least: no more than a step may take.
+    /// Joins the next groups: at least one, and otherwise as many as one step may go through.
     ///
-    /// After an error none is joined.
+    /// After an error no group is joined.
     pub fn advance(&mut self, segment: &Segment, groups: &[Group]) -> Result<(), NoMemory>
-        requires few { wanted_in groups.now ≤ 1024 }
+        requires few { wanted_in groups.now ≤ MAX_LINE }
         requires ahead { self.old.groups < length groups.now }
         requires begun { AreBegun groups.now segment.now.pages self.old }
         ensures cells { OnOk result (AreJoined groups.now segment.now.pages self.new) }

@@ -1,40 +1,44 @@
 //! The pages that a crawl found, in segments that snapshots share, and searches over them.
 //!
-//! The crates above rely on one contract: an `Index` is the list of its pages, an added page comes
-//! last, and a search answers from all pages. RFC 1436 doesn't define what a search answers; this
+//! The crates above use one contract: an `Index` is the list of its pages, an added page comes
+//! last, and a search covers all pages. RFC 1436 doesn't define the results of a search: this
 //! profile does.
 //!
 //! # Pages
 //!
 //! An added page is *loose*. A run of pages is due to be merged when there are 64 loose ones, or
 //! four segments of one size (`picking`). Segments have 64 pages, then 256 and so on up to 16,384,
-//! or fewer if one can't hold so many words. `due` shares the pages of a run, so `merging` works
+//! or fewer if one can't hold all their words. `due` shares the pages of a run, so `merging` works
 //! without the index. `installing` puts the new segment in place of its pages. Runs that are being
 //! merged are marked, and several can be merged at once. A segment can't follow loose pages, so the
-//! index holds one that is merged too early. At 512 loose pages, `add` merges everything that is due
-//! itself and forgets all marks. Single-threaded callers call `settle` to merge segments.
+//! index holds one that is merged too early. At 512 loose pages, `add` merges everything that is
+//! due itself and forgets all marks. Single-threaded callers call `settle` to merge segments.
 //!
 //! # Searches
 //!
-//! `Index::begin` runs a short search to its end (`search`): one of at most four terms whose prefixes
-//! go through at most 16,777,216 postings together. It goes through the segments in order. For several
-//! terms it spreads the counts of each term over an array with one element for each page, joins them
-//! to the matches so far, and adds them to the scores (`cells`, `by_cells`). A word behind `not` only
-//! removes pages. For a single word it goes through the posting list and skips blocks of 64 postings
-//! that can't reach the best 50 (`by_postings`). Pages that reach the lowest of the best scores are
-//! inserted among them (`best`). If a page of that score isn't among them, no page of the segment with
-//! that score and a later place is, and the ranks of places in the segment say which these are (`ties`).
-//! So most pages of one score are never read. Loose pages are searched by their own counts (`loose`).
+//! `Index::begin` runs a short search to its end (`search`): one of at most four terms whose
+//! prefixes go through at most 16,777,216 postings together. It goes through the segments in order.
+//! For several terms it spreads the counts of each term over an array with one element for each
+//! page, joins them to the matches so far, and adds them to the scores (`cells`, `by_cells`). A
+//! word after `not` only removes pages. For a single word it goes through the posting list and
+//! skips blocks of 64 postings that can't reach the best 50 (`by_postings`). Pages that reach the
+//! lowest of the best scores are inserted among them (`best`). If a page of that score isn't among
+//! them, no page of the segment with that score and a later place is, and the ranks of places in
+//! the segment show which these are (`ties`). So most pages of one score are never read. Loose
+//! pages are searched by their own counts (`loose`).
 //!
-//! To skip more, a short search first guesses a score that 50 pages reach (`likely`). If fewer than 50
-//! hits reach it, the search runs again without a guess. No contract depends on the guess.
+//! A query has at most as many terms as its line has bytes, 1,024 (`MAX_LINE`). So scores fit in a
+//! `u32`.
 //!
-//! Any other search becomes a `Search`, which shares the pages and goes on in steps (`progress`). Its
-//! first step groups equal terms (`plan`). Each further step does one of three things. It joins groups
-//! to the matches and scores of one segment's pages, spreading the counts of each group once (`joined`).
-//! Or it inserts the pages of a segment that match among the best. Or it inserts up to eight loose
-//! pages. A step that joins groups goes through at most 262,144 cells and postings, or those of one
-//! group if that has more: at most all postings of one segment.
+//! To skip more, a short search first guesses a score that 50 pages reach (`likely`). If fewer than
+//! 50 hits reach it, the search runs again without a guess. No contract depends on the guess.
+//!
+//! Any other search becomes a `Search`, which shares the pages and goes on in steps (`progress`).
+//! Its first step groups equal terms (`plan`). Each further step does one of three things. It joins
+//! groups to the matches and scores of one segment's pages, spreading the counts of each group once
+//! (`joined`). Or it inserts the pages of a segment that match among the best. Or it inserts up to
+//! eight loose pages. A step that joins groups goes through at most 262,144 cells and postings, or
+//! those of one group if that has more: at most all postings of one segment.
 //!
 //! # Errors
 //!

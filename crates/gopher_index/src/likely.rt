@@ -1,6 +1,7 @@
 //! Guessing a score that 50 pages reach, so that a search can skip pages that don't reach it.
 //!
-//! The hits don't depend on the guess: if too few pages reach it, the search runs again without one.
+//! The hits don't depend on the guess: if too few pages reach it, the search runs again without
+//! one.
 
 ghost use Rattle.std.specs.Prelude.{◌≡◌, length};
 
@@ -79,8 +80,8 @@ impl Highest {
     }
 }
 
-/// Guesses how many of the first 50 hits are among `some` of `all` pages: one and a half times their
-/// share.
+/// Guesses how many of the first 50 hits are among `some` of `all` pages: one and a half times
+/// their share.
 pub(crate) fn likely_hits(some: usize, all: usize) -> usize {
     let share = some.saturating_mul(MOST_HITS + MOST_HITS / 2) / all.max(1);
     share.clamp(1, MOST_HITS)

@@ -1,19 +1,19 @@
-//! Searching loose pages, by the counts of each: term by term in short searches, and by groups of equal
-//! terms in searches that are done in steps.
+//! Searching loose pages, by the counts of each: term by term in short searches, and by groups of
+//! equal terms in searches that are done in steps.
 
 ghost use Rattle.std.specs.Prelude.{◌≡◌, ◌≤◌, ◌∷◌, [], List, length, map, OnOk, if◌then◌else◌};
 ghost use Rattle.std.specs.Arc.{arc_value};
 ghost use Rattle.gopher_page.specs.Query.{TermData, is_not, matches, score};
 ghost use Rattle.gopher_index.specs.Best.{TakesIn};
-ghost use Rattle.gopher_index.specs.Plan.{AreGroups, wanted_in};
+ghost use Rattle.gopher_index.specs.Plan.{AreTermGroups, wanted_in};
 
 use crate::best::Best;
 use crate::plan::{Group, weigh_by_groups};
-use gopher_item::NoMemory;
+use gopher_item::{MAX_LINE, NoMemory};
 use gopher_page::{Page, Term};
 use std::sync::Arc;
 
-// Returns what a term with so many occurrences adds to the score.
+// Returns what a term with `count` occurrences adds to the score.
 fn scored(term: &Term, count: u32) -> u32
     ensures { result ≡ if is_not term.now.operator then 0 else count }
 {
@@ -22,7 +22,7 @@ fn scored(term: &Term, count: u32) -> u32
 
 // Returns whether a page matches, and its score.
 fn weigh_by_terms(terms: &[Term], page: &Page) -> (bool, u64)
-    requires { length terms.now ≤ 1024 }
+    requires { length terms.now ≤ MAX_LINE }
     ensures truth { result.0 ≡ matches terms.now page.now.counts }
     ensures score { result.1 ≡ score terms.now page.now.counts }
 {
@@ -41,7 +41,7 @@ fn rank_loose_page<'a>(
     terms: &[Term],
     best: &mut Best<'a>,
 ) -> Result<(), NoMemory>
-    requires { length terms.now ≤ 1024 }
+    requires { length terms.now ≤ MAX_LINE }
     ensures { OnOk result (TakesIn terms.now (arc_value page.now ∷ []) best.old best.new) }
 {
     let (truth, score) = weigh_by_terms(terms, page);
@@ -57,7 +57,7 @@ pub(crate) fn rank_loose_pages<'a>(
     terms: &[Term],
     best: &mut Best<'a>,
 ) -> Result<(), NoMemory>
-    requires { length terms.now ≤ 1024 }
+    requires { length terms.now ≤ MAX_LINE }
     ensures { OnOk result (TakesIn terms.now (map arc_value loose.now) best.old best.new) }
 {
     for page in loose {
@@ -71,8 +71,8 @@ fn rank_page_by_groups<'a>(
     groups: &[Group],
     best: &mut Best<'a>,
 ) -> Result<(), NoMemory>
-    requires { wanted_in groups.now ≤ 1024 }
-    ensures { (terms : List TermData) → AreGroups terms groups.now
+    requires { wanted_in groups.now ≤ MAX_LINE }
+    ensures { (terms : List TermData) → AreTermGroups terms groups.now
         → OnOk result (TakesIn terms (arc_value page.now ∷ []) best.old best.new) }
 {
     let (is_match, score) = weigh_by_groups(groups, page);
@@ -88,8 +88,8 @@ pub(crate) fn rank_pages_by_groups<'a>(
     groups: &[Group],
     best: &mut Best<'a>,
 ) -> Result<(), NoMemory>
-    requires { wanted_in groups.now ≤ 1024 }
-    ensures { (terms : List TermData) → AreGroups terms groups.now
+    requires { wanted_in groups.now ≤ MAX_LINE }
+    ensures { (terms : List TermData) → AreTermGroups terms groups.now
         → OnOk result (TakesIn terms (map arc_value pages.now) best.old best.new) }
 {
     for page in pages {

@@ -10,7 +10,7 @@ use std::alloc::Global;
 use std::slice::from_ref;
 use std::sync::Arc;
 
-// The most words that are put into one list. A word of two pages counts twice.
+// The most words that one list contains. A word of two pages counts twice.
 const MOST_WORDS: usize = 262_144;
 
 // Makes a segment of each page and merges these, which needs no list of all words. `first` is the

@@ -20,10 +20,11 @@ fn is_taken(taken: &[usize], first: usize) -> bool {
     taken.iter().any(|other| *other == first)
 }
 
-/// Returns the start and the end of the first 64 loose pages that are due to be merged, if there are any.
+/// Returns the start and the end of the first 64 loose pages that are due to be merged, if there
+/// are any.
 ///
-/// The start is a multiple of 64. `settled` is the number of the first loose page, and `taken` contains
-/// the numbers of the first pages of runs that are being merged.
+/// The start is a multiple of 64. `settled` is the number of the first loose page, and `taken`
+/// contains the numbers of the first pages of runs that are being merged.
 pub(crate) fn due_loose(settled: usize, loose: usize, taken: &[usize]) -> Option<(usize, usize)>
     ensures { IfSome result (IsSpan loose) }
 {
@@ -52,9 +53,9 @@ fn fit(segments: &[Arc<Segment>], size: Size) -> bool {
     sum.fits()
 }
 
-// Returns whether the first of these segments is due to be merged with the next three. `first` is the
-// number of its first page. All have the same number of pages, so the sizes of merged segments follow
-// from the number of pages alone.
+// Returns whether the first of these segments is due to be merged with the next three. `first` is
+// the number of its first page. All have the same number of pages, so the sizes of merged segments
+// follow from the number of pages alone.
 fn is_due(first: usize, segments: &[Arc<Segment>]) -> bool
     ensures { result ≡ true → 4 ≤ length segments.now }
 {
@@ -77,8 +78,8 @@ fn is_due(first: usize, segments: &[Arc<Segment>]) -> bool
     are_alike(&segments[1..needed], size.pages) && fit(&segments[1..MERGED], size)
 }
 
-/// Returns the start and the end of the first four segments that are due to be merged, if there are any.
-/// `taken` contains the numbers of the first pages of runs that are being merged.
+/// Returns the start and the end of the first four segments that are due to be merged, if there are
+/// any. `taken` contains the numbers of the first pages of runs that are being merged.
 pub(crate) fn due_span(segments: &[Arc<Segment>], taken: &[usize]) -> Option<(usize, usize)>
     ensures { IfSome result (IsSpan (length segments.now)) }
 {

@@ -4,18 +4,18 @@ ghost use Rattle.std.specs.Prelude.{◌≡◌, ◌+◌, ◌≤◌, ◌<◌, ◌+
 ghost use Rattle.gopher_page.specs.Query.{IsQuery};
 ghost use Rattle.gopher_index.specs.Plan.{verdict_of, verdict_by, verdict, total, is_match, wanted_in, AddsTerm, IsGroupOf, IsPlan, Joins, SayAlike};
 
-use gopher_item::NoMemory;
+use gopher_item::{MAX_LINE, NoMemory};
 use gopher_page::{Operator, Page, Term};
 use std::alloc::Global;
 
-// Returns the verdict of a term on a page. `number` is the term's index, and `holds` says whether the
-// page contains a word that the term matches.
+// Returns the verdict of a term on a page. `number` is the term's index, and `holds` says whether
+// the page contains a word that the term matches.
 //
-// Terms are joined from left to right, so the last term that changes the result decides: an `and` that
-// doesn't hold, or an `or` or `not` that does. Its verdict is 2 * number + 2, plus 1 if the page
-// matches. The verdict of a term that changes nothing is 0. So the highest verdict decides.
+// Terms are joined from left to right, so the last term that changes the result decides: an `and`
+// that doesn't hold, or an `or` or `not` that does. Its verdict is 2 * number + 2, plus 1 if the
+// page matches. The verdict of a term that changes nothing is 0. So the highest verdict decides.
 fn verdict_of(operator: Operator, number: usize, holds: bool) -> u32
-    requires { number < 1024 }
+    requires { number < MAX_LINE }
     ensures { result ≡ verdict_of operator number holds }
 {
     let later = 2 * number as u32 + 2;
@@ -50,8 +50,8 @@ pub(crate) struct Group {
 impl Group {
     // Adds a term. `number` is its index in the query.
     fn join(&mut self, term: &Term, number: usize)
-        requires number { number < 1024 }
-        requires wanted { self.old.wanted ≤ 1024 }
+        requires number { number < MAX_LINE }
+        requires wanted { self.old.wanted ≤ MAX_LINE }
         ensures { Joins term.now number self.old self.new }
     {
         let operator = term.operator();
@@ -60,7 +60,8 @@ impl Group {
         self.fails = higher(self.fails, verdict_of(operator, number, false));
     }
 
-    /// Returns the highest verdict of these terms on a page that contains their words `count` times.
+    /// Returns the highest verdict of these terms on a page that contains their words `count`
+    /// times.
     pub fn verdict(&self, count: u32) -> u32
         ensures { result ≡ verdict_by self.now count }
     {
@@ -107,7 +108,7 @@ fn index_of(groups: &mut Vec<Group>, term: &Term) -> Result<usize, NoMemory>
 
 // Adds a term to its group. `number` is its index in the query.
 fn add_term(groups: &mut Vec<Group>, term: &Term, number: usize) -> Result<(), NoMemory>
-    requires number { number < 1024 }
+    requires number { number < MAX_LINE }
     requires few { wanted_in groups.old.items ≤ number }
     ensures adds { OnOk result (AddsTerm term.now number groups.old.items groups.new.items) }
     ensures some { OnOk result (0 < length groups.new.items) }
@@ -143,7 +144,7 @@ pub(crate) fn copied(alloc: Global, terms: &[Term]) -> Result<Vec<Term>, NoMemor
 
 /// Returns whether a page matches, and its score, from the groups of a query's terms.
 pub(crate) fn weigh_by_groups(groups: &[Group], page: &Page) -> (bool, u64)
-    requires { wanted_in groups.now ≤ 1024 }
+    requires { wanted_in groups.now ≤ MAX_LINE }
     ensures truth { result.0 ≡ is_match (verdict groups.now page.now.counts) }
     ensures score { result.1 ≡ total groups.now page.now.counts }
 {

@@ -1,5 +1,5 @@
-//! How far a search has come: the pages and terms that it shares and owns, and the best of the pages that
-//! it went through.
+//! The state of a search that is done in steps: the pages that it shares, its terms, and the best
+//! of the pages that were searched.
 
 ghost use Rattle.std.specs.Prelude.{◌≡◌, ◌≤◌, ◌<◌, ◌++◌, ◌∷◌, [], None, Ok, List, length, map, IfOk, IfSome, OnOk};
 ghost use Rattle.std.specs.Arc.{arc_value};
@@ -7,7 +7,7 @@ ghost use Rattle.gopher_page.specs.Query.{IsQuery, TermData};
 ghost use Rattle.gopher_index.specs.Answer.{answer_of};
 ghost use Rattle.gopher_index.specs.Best.{TakesIn};
 ghost use Rattle.gopher_index.specs.Cells.{AreCells};
-ghost use Rattle.gopher_index.specs.Plan.{AreGroups, wanted_in};
+ghost use Rattle.gopher_index.specs.Plan.{AreTermGroups, wanted_in};
 ghost use Rattle.gopher_index.specs.Progress.{all_pages, steps_left, AddsPages, IsProgress, IsSameSearch};
 ghost use Rattle.gopher_segment.specs.Segment.{pages_of};
 
@@ -17,23 +17,24 @@ use crate::hit::Hit;
 use crate::joined::{Joined, truths_of};
 use crate::loose::rank_pages_by_groups;
 use crate::plan::{Group, copied, groups_of};
-use gopher_item::NoMemory;
+use gopher_item::{MAX_LINE, NoMemory};
 use gopher_page::{Page, Term};
 use gopher_segment::{Segment, shared};
 use std::alloc::Global;
 use std::sync::Arc;
 
-// How many loose pages a step takes in at most.
+// The most loose pages that a step searches.
 const MOST_PAGES: usize = 8;
 
-// How many words they have at most, unless one alone has more.
+// The most words of these pages together, unless one page alone has more.
 const MOST_WORDS: usize = 65_536;
 
-/// The pages and terms of a search, and how far it has come.
+/// The pages and terms of a search, and its state between two steps.
 ///
-/// It groups the terms in its first step, because that takes time that grows with the square of their
-/// number, and a caller that only begins a search doesn't wait for it. Then it goes through the segments
-/// in order, in each joins group after group and then ranks its pages, and then through the loose pages.
+/// The first step groups the terms. `new` doesn't, because the time grows with the square of their
+/// number, and beginning a search must be quick. The next steps go through the segments in order:
+/// they join one group after another, then rank the segment's pages. The last steps search the
+/// loose pages.
 #[derive(Debug, Drop)]
 pub(crate) struct Progress {
     alloc: Global,
@@ -47,7 +48,7 @@ pub(crate) struct Progress {
     loose_done: usize,
 }
 
-// The best of those that were kept and of the pages of a segment.
+// Returns the best of the kept candidates and the pages of a segment.
 fn kept_with_cells(
     alloc: Global,
     kept: &[Kept],
@@ -65,15 +66,15 @@ fn kept_with_cells(
     best.kept(alloc)
 }
 
-// The best of those that were kept and of loose pages.
+// Returns the best of the kept candidates and some loose pages.
 fn kept_with_pages(
     alloc: Global,
     kept: &[Kept],
     pages: &[Arc<Page>],
     groups: &[Group],
 ) -> Result<Vec<Kept>, NoMemory>
-    requires { wanted_in groups.now ≤ 1024 }
-    ensures { (terms : List TermData) → AreGroups terms groups.now
+    requires { wanted_in groups.now ≤ MAX_LINE }
+    ensures { (terms : List TermData) → AreTermGroups terms groups.now
         → IfOk result (λ new. AddsPages terms (map arc_value pages.now) kept.now new.items) }
 {
     let mut best = Best::of(alloc, kept)?;
@@ -81,7 +82,7 @@ fn kept_with_pages(
     best.kept(alloc)
 }
 
-// The first loose page that isn't taken in by the same step as the one at `start`.
+// Returns the index after the last loose page that one step searches from `start` on.
 fn pages_end(loose: &[Arc<Page>], start: usize) -> usize
     requires { start < length loose.now }
     ensures forward { start < result }
@@ -100,7 +101,7 @@ fn pages_end(loose: &[Arc<Page>], start: usize) -> usize
 }
 
 impl Progress {
-    /// The beginning of a search for the terms of a query.
+    /// Starts a search for the terms of a query. Shares the pages.
     pub fn new(
         alloc: Global,
         segments: &[Arc<Segment>],
@@ -137,7 +138,7 @@ impl Progress {
         Ok(())
     }
 
-    // Joins some groups in the segment that is under way.
+    // Joins the next groups in the current segment.
     fn join_groups(&mut self) -> Result<(), NoMemory>
         requires is { IsProgress self.old }
         requires segments { self.old.segments_done < length self.old.segments.items }
@@ -150,7 +151,8 @@ impl Progress {
         Ok(())
     }
 
-    // Takes in the pages of the segment that is under way, in which all groups were joined.
+    // Inserts the matching pages of the current segment, in which all groups were joined, into the
+    // best.
     fn rank_joined_segment(&mut self) -> Result<(), NoMemory>
         requires is { IsProgress self.old }
         requires segments { self.old.segments_done < length self.old.segments.items }
@@ -168,7 +170,7 @@ impl Progress {
         Ok(())
     }
 
-    // Takes in some loose pages.
+    // Searches the next loose pages.
     fn rank_next_loose(&mut self) -> Result<(), NoMemory>
         requires is { IsProgress self.old }
         requires segments { self.old.segments_done ≡ length self.old.segments.items }
@@ -185,7 +187,7 @@ impl Progress {
         Ok(())
     }
 
-    // The hits of all pages.
+    // Returns the hits of all pages.
     fn hits(&self) -> Result<Vec<Hit>, NoMemory>
         requires is { IsProgress self.now }
         requires segments { self.now.segments_done ≡ length self.now.segments.items }
@@ -196,7 +198,7 @@ impl Progress {
         Best::of(self.alloc, &self.kept)?.hits(self.alloc)
     }
 
-    /// Does a step: returns the hits once all pages were gone through.
+    /// Does one step. Returns the hits once all pages were searched.
     pub fn step(&mut self) -> Result<Option<Vec<Hit>>, NoMemory>
         requires { IsProgress self.old }
         ensures same { IsSameSearch self.old self.new }

@@ -1,5 +1,5 @@
-//! Short searches, which run to their end in one call: through posting lists (`by_postings`) or cells
-//! (`by_cells`), then through the loose pages (`loose`).
+//! Short searches, which run to their end in one call: through posting lists (`by_postings`) or
+//! cells (`by_cells`), then through the loose pages (`loose`).
 
 ghost use Rattle.std.specs.Prelude.{◌≡◌, ◌++◌, false, map, IfOk};
 ghost use Rattle.std.specs.Arc.{arc_value};

@@ -17,8 +17,8 @@ use std::sync::Arc;
 
 /// A search that is done in steps, so that a thread can serve others in between.
 ///
-/// It shares the pages that the index had at `Index::begin`. If the index changes meanwhile, the hits stay
-/// those of these pages.
+/// It shares the pages that the index had at `Index::begin`. If the index changes meanwhile, the
+/// hits stay those of these pages.
 #[derive(Debug, Drop)]
 pub struct Search {
     progress: Progress,
@@ -40,7 +40,8 @@ impl Model for Search {
 }
 
 impl Search {
-    /// The search for the terms of a query among the pages of segments and loose pages behind them.
+    /// Starts a search for the terms of a query in the pages of segments and the loose pages after
+    /// them.
     pub(crate) fn new(
         alloc: Global,
         segments: &[Arc<Segment>],
@@ -65,7 +66,7 @@ impl Search {
     ///
     /// # Errors
     ///
-    /// - `NoMemory` (90): the step wasn't done, and can be tried again
+    /// `NoMemory` (90): the step wasn't done, and can be tried again.
     pub fn step(&mut self) -> Result<Option<Vec<Hit>>, NoMemory>
         ensures hits { self.new.hits ≡ self.old.hits }
         ensures found { IfOk result (λ found. IfSome found (λ hits. hits.items ≡ self.old.hits)) }

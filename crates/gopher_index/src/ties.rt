@@ -1,5 +1,5 @@
-//! Pages that tie with the last of the best: the ranks of their places tell which of them can't get among
-//! the best, so that most of these pages aren't read.
+//! Pages that tie with the last of the best: the ranks of their places show which of them can't get
+//! among the best, so that most of these pages aren't read.
 
 ghost use Rattle.std.specs.Prelude.{◌≡◌, ◌<◌, Some, length, map, slice_get, OnOk};
 ghost use Rattle.std.specs.Arc.{arc_value};
@@ -16,8 +16,8 @@ use std::sync::Arc;
 
 /// The pages of a segment, and one of them that can't get among the best.
 ///
-/// A page with a higher rank and a score below `below` can't get among them either: its place doesn't come
-/// before the place of that page.
+/// A page with a higher rank and a score below `below` can't get among them either: its place
+/// doesn't come before the place of that page.
 #[derive(Drop)]
 pub(crate) struct Ties<'a> {
     pages: &'a [Arc<Page>],
@@ -97,8 +97,8 @@ impl<'a> Ties<'a> {
         Ok(())
     }
 
-    /// Inserts the page at an index of the segment, with its score, into the best. The page is read only
-    /// if it isn't known that it can't get among them.
+    /// Inserts the page at an index of the segment, with its score, into the best. The page is read
+    /// only if it isn't known that it can't get among them.
     pub fn insert(&mut self, index: usize, score: u64, best: &mut Best<'a>) -> Result<(), NoMemory>
         requires within { index < length self.old.pages.now }
         requires ties { AreTies self.old best.old }

@@ -2,9 +2,9 @@
 use Rattle.std.proofs.Common.{◌≡◌, ℕ, ◌+◌, ◌-◌, ◌≤◌, List, [], ◌∷◌, ◌++◌, length, drop, refl, sym, ap, ◌∙◌, append_assoc, arith}
 use Rattle.std.specs.Prelude.{slice_range}
 use Rattle.std.proofs.lemmas.List.{take_at, drop_at, drop-drop, length-append, length-drop}
-use Rattle.gopher_item.specs.MenuLine.{Cuts, AreCuts, line_in, menu_line_of, StandsAt, joined}
+use Rattle.gopher_item.specs.MenuLine.{Cuts, AreCuts, line_in, menu_line_of, StandsAt, tabbed}
 
-pub joined-append : (display selector host after : List ℕ) → joined display selector host ++ after ≡ display ++ 9 ∷ (selector ++ 9 ∷ (host ++ after))
+pub joined-append : (display selector host after : List ℕ) → tabbed display selector host ++ after ≡ display ++ 9 ∷ (selector ++ 9 ∷ (host ++ after))
 joined-append display selector host after =
     append_assoc display (9 ∷ (selector ++ 9 ∷ host)) after
     ∙ ap (λ (l : List ℕ). display ++ 9 ∷ l) (append_assoc selector (9 ∷ host) after)
@@ -39,19 +39,19 @@ cuts_of start display selector host = record {
   end = start + 1 + length display + 1 + length selector + 1 + length host;
 }
 
-from_display : (kind start : ℕ) (display selector host text : List ℕ) (stands : StandsAt text start (joined (kind ∷ display) selector host))
+from_display : (kind start : ℕ) (display selector host text : List ℕ) (stands : StandsAt text start (tabbed (kind ∷ display) selector host))
     → drop (start + 1) text ≡ display ++ 9 ∷ (selector ++ 9 ∷ (host ++ stands.0))
 from_display kind start display selector host text stands =
     follows text (kind ∷ []) _ start (start + 1) (stands.1 ∙ joined-append (kind ∷ display) selector host stands.0) refl
 
-from_selector : (kind start : ℕ) (display selector host text : List ℕ) (stands : StandsAt text start (joined (kind ∷ display) selector host))
+from_selector : (kind start : ℕ) (display selector host text : List ℕ) (stands : StandsAt text start (tabbed (kind ∷ display) selector host))
     → drop (start + 1 + length display + 1) text ≡ selector ++ 9 ∷ (host ++ stands.0)
 from_selector kind start display selector host text stands =
     let rest = selector ++ 9 ∷ (host ++ stands.0) in
     let tab = follows text display (9 ∷ rest) (start + 1) (start + 1 + length display) (from_display kind start display selector host text stands) refl in
     follows text (9 ∷ []) rest (start + 1 + length display) (start + 1 + length display + 1) tab refl
 
-from_host : (kind start : ℕ) (display selector host text : List ℕ) (stands : StandsAt text start (joined (kind ∷ display) selector host))
+from_host : (kind start : ℕ) (display selector host text : List ℕ) (stands : StandsAt text start (tabbed (kind ∷ display) selector host))
     → drop (start + 1 + length display + 1 + length selector + 1) text ≡ host ++ stands.0
 from_host kind start display selector host text stands =
     let rest = host ++ stands.0 in
@@ -59,7 +59,7 @@ from_host kind start display selector host text stands =
     let tab = follows text selector (9 ∷ rest) begin (begin + length selector) (from_selector kind start display selector host text stands) refl in
     follows text (9 ∷ []) rest (begin + length selector) (begin + length selector + 1) tab refl
 
-pub line_in-cuts_of : (kind port start : ℕ) (display selector host text : List ℕ) → StandsAt text start (joined (kind ∷ display) selector host)
+pub line_in-cuts_of : (kind port start : ℕ) (display selector host text : List ℕ) → StandsAt text start (tabbed (kind ∷ display) selector host)
     → line_in kind port (cuts_of start display selector host) text ≡ menu_line_of kind display selector host port
 line_in-cuts_of kind port start display selector host text stands =
     let first : slice_range text (start + 1) (start + 1 + length display) ≡ display =
@@ -72,7 +72,7 @@ line_in-cuts_of kind port start display selector host text stands =
     range_at text host stands.0 last (last + length host) (from_host kind start display selector host text stands) refl in
     λ i. record { kind = kind; display = first i; selector = second i; host = third i; port = port }
 
-pub within : (kind start : ℕ) (display selector host text : List ℕ) → StandsAt text start (joined (kind ∷ display) selector host)
+pub within : (kind start : ℕ) (display selector host text : List ℕ) → StandsAt text start (tabbed (kind ∷ display) selector host)
     → start + 1 + length display + 1 + length selector + 1 + length host ≤ length text
 within kind start display selector host text stands = omega (
   arith,
@@ -83,7 +83,7 @@ within kind start display selector host text stands = omega (
   length-append host stands.0,
 )
 
-pub are_cuts : (kind start : ℕ) (display selector host text : List ℕ) → StandsAt text start (joined (kind ∷ display) selector host)
+pub are_cuts : (kind start : ℕ) (display selector host text : List ℕ) → StandsAt text start (tabbed (kind ∷ display) selector host)
     → AreCuts (cuts_of start display selector host) text
 are_cuts kind start display selector host text stands = record {
   display = omega arith;

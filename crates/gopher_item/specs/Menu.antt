@@ -6,7 +6,7 @@ use Rattle.std.specs.Cmp.Lexicographic.{pointwise}
 use Rattle.gopher_bytes.specs.Lines.{lines_of}
 use Rattle.gopher_bytes.specs.Number.{number_of}
 use Rattle.gopher_bytes.specs.Trim.{trim_spaces}
-use Rattle.gopher_item.specs.MenuLine.{MenuLineData, StandsAt, joined, menu_line_of}
+use Rattle.gopher_item.specs.MenuLine.{MenuLineData, StandsAt, tabbed, menu_line_of}
 use Rattle.gopher_item.specs.declared.limits.TheConstants.{MAX_PORT}
 use Rattle.gopher_item.specs.declared.menu.Entry.{Entry}
 use Rattle.gopher_item.specs.declared.menu.Entry.TheVariants.{Item, Odd}
@@ -74,7 +74,7 @@ pub record HasFields (line first selector host port : List ℕ) : Type 0 where
   pub plain : has_return_or_nul line ≡ false
   pub more : List (List ℕ)
   pub fields : fields_of line ≡ first ∷ selector ∷ host ∷ port ∷ more
-  pub stands : StandsAt line 0 (joined first selector host)
+  pub stands : StandsAt line 0 (tabbed first selector host)
 
 -- the first of the fields
 abbrev pub first_field : List (List ℕ) → List ℕ

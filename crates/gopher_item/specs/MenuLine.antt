@@ -69,20 +69,20 @@ line_in kind port cuts text = record {
 }
 
 -- the fields at these positions are those of a menu line
-abbrev pub StandsIn : ℕ → ℕ → Cuts → List ℕ → Type 0
-StandsIn kind port cuts text = AreCuts cuts text × IsMenuLine (line_in kind port cuts text)
+abbrev pub AreCutsOfLine : ℕ → ℕ → Cuts → List ℕ → Type 0
+AreCutsOfLine kind port cuts text = AreCuts cuts text × IsMenuLine (line_in kind port cuts text)
 
 -- the text contains the bytes at `start`
 abbrev pub StandsAt : List ℕ → ℕ → List ℕ → Type 0
 StandsAt text start bytes = (after : List ℕ) × (drop start text ≡ bytes ++ after)
 
 -- three fields with a TAB between them
-abbrev pub joined : List ℕ → List ℕ → List ℕ → List ℕ
-joined display selector host = display ++ 9 ∷ (selector ++ 9 ∷ host)
+abbrev pub tabbed : List ℕ → List ℕ → List ℕ → List ℕ
+tabbed display selector host = display ++ 9 ∷ (selector ++ 9 ∷ host)
 
 -- a type, and three fields with a TAB between them
 abbrev pub joined_after : ℕ → List ℕ → List ℕ → List ℕ → List ℕ
-joined_after kind display selector host = joined (kind ∷ display) selector host
+joined_after kind display selector host = tabbed (kind ∷ display) selector host
 
 -- the bytes of a menu line: type, display, TAB, selector, TAB, host, TAB, port, CR LF (RFC 1436,
 -- appendix: DirEntity)

@@ -5,7 +5,7 @@ ghost use Rattle.std.specs.Arc.{arc_value};
 ghost use Rattle.gopher_item.specs.Special.{has_special};
 ghost use Rattle.gopher_bytes.specs.Lines.{has_feed};
 ghost use Rattle.gopher_item.specs.Menu.{BeginsWithField, HasFields, HasFirstField, IsItemOf, IsLastField, entry_of, fields_of, has_return_or_nul, item_of};
-ghost use Rattle.gopher_item.specs.MenuLine.{StandsAt, joined};
+ghost use Rattle.gopher_item.specs.MenuLine.{StandsAt, tabbed};
 
 use crate::limits::MAX_PORT;
 use crate::menu::Entry;
@@ -95,7 +95,7 @@ fn item_of_fields(
     host: &[u8],
     port: &[u8],
 ) -> Result<Option<MenuLine>, NoMemory>
-    requires stands { StandsAt (arc_value text.now) start (joined first.now selector.now host.now) }
+    requires stands { StandsAt (arc_value text.now) start (tabbed first.now selector.now host.now) }
     requires first { has_special first.now ≡ false }
     requires selector { has_special selector.now ≡ false }
     requires host { has_special host.now ≡ false }

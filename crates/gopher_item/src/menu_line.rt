@@ -38,14 +38,14 @@ pub struct MenuLine {
 
 impl Model for MenuLine {
     ghost use Rattle.std.specs.Arc.{arc_value};
-    ghost use Rattle.gopher_item.specs.MenuLine.{MenuLineData, StandsIn, cuts_at, line_in};
+    ghost use Rattle.gopher_item.specs.MenuLine.{MenuLineData, AreCutsOfLine, cuts_at, line_in};
 
     ghost Value = { MenuLineData };
 
     ghost view = { λ m. line_in m.kind m.port
         (cuts_at m.start m.display_end m.selector_end m.end) (arc_value m.text) };
 
-    ghost invariant = { λ m. StandsIn m.kind m.port
+    ghost invariant = { λ m. AreCutsOfLine m.kind m.port
         (cuts_at m.start m.display_end m.selector_end m.end) (arc_value m.text) };
 }
 

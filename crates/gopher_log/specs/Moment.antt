@@ -4,8 +4,8 @@ use Rattle.jiff_core.specs.declared.civil.date.Date.{Date}
 use Rattle.jiff_core.specs.Date.{epoch_day}
 use Rattle.gopher_log.specs.declared.moment.Moment.{Moment}
 
--- the moment this many microseconds after the beginning of 1970: a day of the calendar, a second of that day, and a
--- microsecond of that second
+-- the moment this many microseconds after the beginning of 1970: a day of the calendar, a second of
+-- that day, and a microsecond of that second
 pub record IsMomentAt (micros : ℕ) (moment : Moment) : Type 0 where
   pub day : epoch_day moment.date ≡ pos (micros / 86_400_000_000)
   pub second : moment.second ≡ micros / 1_000_000 % 86_400

@@ -6,7 +6,8 @@ use Rattle.gopher_log.specs.declared.moment.Moment.{Moment}
 use Rattle.gopher_log.specs.Moment.{moment_bytes}
 use Rattle.gopher_log.specs.Escaped.{escaped}
 
--- a request: when it came to its end, who asked, the line, how many bytes were sent, and for how many microseconds it was served
+-- a request: when it ended, the client's address, the line that was asked, the number of bytes that
+-- were sent, and the microseconds that it took
 pub record RequestData : Type 0 where
   pub ended : Moment
   pub peer : List ℕ
@@ -31,7 +32,7 @@ asked_bytes asked = escaped (selector_of asked) ++ codes "\t" ++ escaped (search
 abbrev pub numbers_bytes : ℕ → ℕ → List ℕ
 numbers_bytes sent micros = codes "\t" ++ decimal sent ++ codes "\t" ++ decimal micros
 
-abbrev pub request_bytes : RequestData → List ℕ
-request_bytes request =
+abbrev pub logged_bytes : RequestData → List ℕ
+logged_bytes request =
     moment_bytes request.ended ++ codes "\t" ++ escaped request.peer ++ codes "\t" ++ asked_bytes request.asked
     ++ numbers_bytes request.sent request.micros ++ codes "\n"

@@ -13,8 +13,8 @@ use std::mem::replace;
 // A batch of this many bytes takes no further line.
 const MAX_BYTES: usize = 65_536;
 
-/// Lines of requests, and the number of requests that were dropped since the last of them. Its lines
-/// have at most 65,536 bytes (`MAX_BYTES`) and one line more.
+/// Lines of requests, and the number of requests that were dropped since the last of them. A line
+/// is added only while there are fewer than 65,536 bytes (`MAX_BYTES`).
 #[derive(Drop)]
 pub struct Batch {
     written: Vec<u8>,
@@ -31,7 +31,7 @@ impl Model for Batch {
 }
 
 impl Batch {
-    /// Makes a batch without lines. Takes no memory.
+    /// Makes a batch without lines.
     pub fn new(alloc: Global) -> Batch
         ensures { result ≡ no_lines }
     {
@@ -42,14 +42,14 @@ impl Batch {
         }
     }
 
-    /// Returns whether it takes no further line, because it has 65,536 bytes or more. Takes no memory.
+    /// Returns whether it takes no further line, because it has 65,536 bytes (`MAX_BYTES`) or more.
     pub fn is_full(&self) -> bool
         ensures { result ≡ is_full self.now }
     {
         self.written.len() >= MAX_BYTES
     }
 
-    /// Returns whether it has no line and no dropped request. Takes no memory.
+    /// Returns whether it has no line and no dropped request.
     pub fn is_empty(&self) -> bool
         ensures { result ≡ is_empty self.now }
     {
@@ -94,7 +94,8 @@ impl Batch {
         self.dropped = self.dropped.saturating_add(1);
     }
 
-    /// Appends a line with the number of dropped requests, if there are any, and sets the number to 0.
+    /// Appends a line with the number of dropped requests, if there are any, and sets the number to
+    /// 0.
     ///
     /// # Errors
     ///
@@ -117,14 +118,14 @@ impl Batch {
         Ok(())
     }
 
-    /// Returns its lines. Takes no memory.
+    /// Returns its lines.
     pub fn lines(&self) -> &[u8]
         ensures { result.now ≡ self.now.written }
     {
         &self.written
     }
 
-    /// Returns all that it has, and leaves it empty. Takes no memory.
+    /// Returns its lines and its number of dropped requests as a batch, and leaves it empty.
     pub fn take(&mut self, alloc: Global) -> Batch
         ensures taken { result ≡ self.old }
         ensures emptied { self.new ≡ no_lines }

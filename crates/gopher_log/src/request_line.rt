@@ -2,7 +2,7 @@
 
 ghost use Rattle.std.specs.Prelude.{◌≡◌, ◌++◌, OnOk};
 ghost use Rattle.std.specs.Fmt.{decimal};
-ghost use Rattle.gopher_log.specs.RequestLine.{selector_of, search_of, asked_bytes, numbers_bytes, request_bytes};
+ghost use Rattle.gopher_log.specs.RequestLine.{selector_of, search_of, asked_bytes, numbers_bytes, logged_bytes};
 
 use crate::escaping::push_escaped;
 use crate::moment::{Moment, push_moment};
@@ -87,7 +87,7 @@ fn push_numbers(out: &mut Vec<u8>, sent: u64, micros: u64) -> Result<(), AllocEr
 ///
 /// Out of memory: a prefix of the line was appended.
 pub fn push_request(out: &mut Vec<u8>, request: &RequestLine<'_>) -> Result<(), AllocError>
-    ensures { OnOk result (out.new.items ≡ out.old.items ++ request_bytes request.now) }
+    ensures { OnOk result (out.new.items ≡ out.old.items ++ logged_bytes request.now) }
 {
     push_moment(out, request.ended)?;
     out.push(b'\t')?;

@@ -3,7 +3,7 @@ use Rattle.std.proofs.Common.{◌≡◌, ℕ, List, refl, ◌∙◌, inl, inr}
 use Rattle.gopher_log.specs.declared.moment.Moment.{Moment}
 use Rattle.gopher_log.specs.RequestLine.{request_with}
 use Rattle.gopher_log.specs.Batch.{BatchData}
-use Rattle.gopher_log_writer.specs.Batches.{AddsLine, AddsTo, IsHandedOn}
+use Rattle.gopher_log_writer.specs.Batches.{AddsLine, AddsRequestTo, IsHandedOn}
 
 -- lines were to be handed on twice
 pub handed_again : (a b c : BatchData) → IsHandedOn a b → IsHandedOn b c → IsHandedOn a c
@@ -13,6 +13,6 @@ handed_again a b c (inr kept) (inr stays) = inr (stays ∙ kept)
 
 -- a line was added, after room was made for it
 pub adds_line : (ended : Moment) (peer asked : List ℕ) (sent micros : ℕ) (before between after : BatchData)
-    → IsHandedOn before between → AddsTo (request_with ended peer asked sent micros) between after → AddsLine asked sent before after
+    → IsHandedOn before between → AddsRequestTo (request_with ended peer asked sent micros) between after → AddsLine asked sent before after
 adds_line ended peer asked sent micros before between after room adds =
     inr (request_with ended peer asked sent micros, refl, refl, (between, room, adds))

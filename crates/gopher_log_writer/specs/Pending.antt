@@ -30,7 +30,8 @@ advanced count pending =
     if nat_lt count (length (rest_of pending)) then record { batch = pending.batch; written = pending.written + count }
     else unwritten no_lines
 
--- one write of the bytes that remain: the writer's contents before and after, the batch before and after
+-- one write of the bytes that remain: the writer's contents before and after, and the batch before
+-- and after
 abbrev pub WritesRest : {E : Type 0} → Option (List ℕ) → Option (List ℕ) → PendingData → PendingData → Result ℕ E → Type 0
 WritesRest old new before after (Ok count) = Appends old new (take count (rest_of before)) × (after ≡ advanced count before)
 WritesRest old new before after (Err why) = Keeps old new × (after ≡ before)

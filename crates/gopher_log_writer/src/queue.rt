@@ -9,7 +9,7 @@ use std::alloc::Global;
 use std::sync::Wait;
 use std::sync::atomic::{AtomicBool, Ordering};
 
-// How many batches wait at most.
+// The most batches that wait.
 const MAX_BATCHES: usize = 64;
 
 /// The queue that leads from the server threads to the thread that writes.
@@ -48,7 +48,7 @@ impl LogQueue {
         }
     }
 
-    /// Notes that no more batches come. An empty one wakes the thread that writes.
+    /// Records that no more batches come, and wakes the thread that writes with an empty one.
     pub(crate) fn close(&self, rt: &impl Wait, alloc: Global) {
         self.is_closed.store(true, Ordering::SeqCst);
         let _gone = self.sender.send(rt, Batch::new(alloc));

@@ -44,8 +44,8 @@ impl Rests {
         is_closed && self.next == MAX_REST
     }
 
-    /// Returns how many milliseconds to rest, or `None` to give up. `is_closed` says whether no more
-    /// batches come.
+    /// Returns how many milliseconds to rest, or `None` to give up. `is_closed` says whether no
+    /// more batches come.
     pub(crate) fn next(&mut self, is_closed: bool) -> Option<u64>
         ensures rest { result ≡ next_rest is_closed self.old }
         ensures after { self.new ≡ rested is_closed self.old }

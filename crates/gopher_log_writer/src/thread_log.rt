@@ -3,7 +3,7 @@
 ghost use Rattle.std.specs.Prelude.{◌≡◌, not};
 ghost use Rattle.std.specs.Option.{is_some};
 ghost use Rattle.gopher_log.specs.Batch.{is_empty, no_lines};
-ghost use Rattle.gopher_log_writer.specs.Batches.{AddsLine, AddsTo, IsHandedOn};
+ghost use Rattle.gopher_log_writer.specs.Batches.{AddsLine, AddsRequestTo, IsHandedOn};
 
 use crate::queue::LogQueue;
 use crate::timing::{is_due, kept_until, max_kept, micros_of, moment_at};
@@ -14,7 +14,8 @@ use std::sync::{Arc, Wait};
 use std::thread;
 use std::time::{Clock, Duration, Instant, SystemTime, UNIX_EPOCH};
 
-// How often a server thread that ends tries to hand on its lines, and the milliseconds between two tries.
+// How often a server thread that ends tries to hand on its lines, and the milliseconds between two
+// tries.
 const MAX_TRIES: u32 = 20;
 
 const REST: u64 = 50;
@@ -26,14 +27,15 @@ pub struct Accepted {
     began: Instant,
 }
 
-// Returns the present moment, or `None` if the clock can't be read, or is set before 1970 or after 9999.
+// Returns the present moment, or `None` if the clock can't be read, or is set before 1970 or after
+// 9999.
 fn moment_now(clock: &impl Clock) -> Option<Moment> {
     let now = SystemTime::now(clock).ok()?;
     moment_at(now.duration_since(UNIX_EPOCH).ok()?)
 }
 
-/// A server thread's part of the log. It never waits for the thread that writes: if the queue is full,
-/// it keeps its lines, and counts the requests for which it has no room.
+/// A server thread's part of the log. It never waits for the thread that writes: if the queue is
+/// full, it keeps its lines, and counts the requests for which it has no room.
 #[derive(Drop)]
 pub struct ThreadLog {
     batch: Batch,
@@ -54,8 +56,8 @@ impl ThreadLog {
         }
     }
 
-    /// Notes that a connection from an address is accepted now. Returns `None` if nothing is logged, or
-    /// the clock can't be read.
+    /// Records that a connection from an address is accepted now. Returns `None` if nothing is
+    /// logged, or the clock can't be read.
     pub fn accept(&self, clock: &impl Clock, peer: IpAddr) -> Option<Accepted> {
         if self.queue.is_none() {
             return None;
@@ -108,7 +110,7 @@ impl ThreadLog {
 
     // Adds the line of a request, or counts the request as dropped.
     fn add_request(&mut self, request: &RequestLine<'_>)
-        ensures { AddsTo request.now self.old.batch self.new.batch }
+        ensures { AddsRequestTo request.now self.old.batch self.new.batch }
     {
         let _refused = self.batch.add(request);
     }

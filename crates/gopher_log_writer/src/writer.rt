@@ -37,9 +37,9 @@ struct LogWriter {
 /// A runtime that opens logs. It is a trait of its own, because what is known of a type parameter's
 /// `Files` isn't known in another thread.
 pub trait OpenLog {
-    /// Opens a log for appending, and makes the file if there is none. A pipe is opened for reading too,
-    /// so that it can be opened and written while nobody reads it. Calls of the file don't wait for a
-    /// reader.
+    /// Opens a log for appending, and makes the file if there is none. A pipe is opened for reading
+    /// too, so that it can be opened and written while nobody reads it. Calls of the file don't
+    /// wait for a reader.
     ///
     /// # Errors
     ///
@@ -78,7 +78,7 @@ impl LogWriter {
         }
     }
 
-    // Waits for the next batch, if all of the last is written. False if no more come.
+    // Waits for the next batch, if all of the last is written. Returns false if no more come.
     fn take_next(
         &mut self,
         rt: &impl Wait,
@@ -136,8 +136,8 @@ impl LogWriter {
     }
 }
 
-// Writes the batches of a queue until no more come. What the file doesn't take is tried again after a
-// rest; once no more batches come, it is given up after some tries.
+// Writes the batches of a queue until no more come. What the file doesn't take is tried again after
+// a rest; once no more batches come, it is given up after some tries.
 fn write_log<R: OpenLog + Wait + Clock + Eprint>(
     rt: &R,
     writer: LogWriter,
@@ -188,8 +188,8 @@ fn spawn_writer<R: OpenLog + Threads + Wait + Clock + Eprint + Clone + Send + Dr
     }
 }
 
-/// Starts the thread that writes the log at `path`. If it can't be started, prints that on the error
-/// stream and returns `None`; then nothing is logged.
+/// Starts the thread that writes the log at `path`. If it can't be started, prints that on the
+/// error stream and returns `None`; then nothing is logged.
 pub fn start_log<R: OpenLog + Threads + Wait + Clock + Eprint + Clone + Send + Drop + 'static>(
     rt: &R,
     alloc: Global,

@@ -2,22 +2,22 @@
 use Rattle.std.proofs.Common.{◌≡◌, ℕ, zero, suc, ◌+◌, ◌*◌, ◌≤◌, List, [], ◌∷◌, ◌++◌, length, take, slice_get, Some, None, refl, ap, ◌∙◌, arith}
 use Rattle.std.proofs.Math.ListN.{replicate}
 use Rattle.std.proofs.lemmas.List.{length-append, length-replicate, take_all}
-use Rattle.gopher_page.specs.Packed.{joined}
+use Rattle.gopher_page.specs.Packed.{joined_parts}
 
-pub length-joined : (base : ℕ) (lows highs : List ℕ) → length (joined base lows highs) ≡ length lows
+pub length-joined : (base : ℕ) (lows highs : List ℕ) → length (joined_parts base lows highs) ≡ length lows
 length-joined base lows [] = refl
 length-joined base [] (high ∷ highs) = refl
 length-joined base (low ∷ lows) (high ∷ highs) = ap suc (length-joined base lows highs)
 
 -- ---- a number by its index
 
-pub joined-none : (base : ℕ) (lows highs : List ℕ) (index low : ℕ) → slice_get lows index ≡ Some low → slice_get highs index ≡ None → slice_get (joined base lows highs) index ≡ Some low
+pub joined-none : (base : ℕ) (lows highs : List ℕ) (index low : ℕ) → slice_get lows index ≡ Some low → slice_get highs index ≡ None → slice_get (joined_parts base lows highs) index ≡ Some low
 joined-none base lows [] index low here none = here
 joined-none base [] (high ∷ highs) index low here none = absurd cc
 joined-none base (first ∷ lows) (high ∷ highs) zero low here none = absurd cc
 joined-none base (first ∷ lows) (high ∷ highs) (suc index) low here none = joined-none base lows highs index low here none
 
-pub joined-some : (base : ℕ) (lows highs : List ℕ) (index low high : ℕ) → slice_get lows index ≡ Some low → slice_get highs index ≡ Some high → slice_get (joined base lows highs) index ≡ Some (low + base * high)
+pub joined-some : (base : ℕ) (lows highs : List ℕ) (index low high : ℕ) → slice_get lows index ≡ Some low → slice_get highs index ≡ Some high → slice_get (joined_parts base lows highs) index ≡ Some (low + base * high)
 joined-some base lows [] index low high here some = absurd cc
 joined-some base [] (first ∷ highs) index low high here some = absurd cc
 joined-some base (l ∷ lows) (h ∷ highs) zero low high here some =
@@ -28,24 +28,24 @@ joined-some base (l ∷ lows) (h ∷ highs) (suc index) low high here some = joi
 
 -- ---- one more number
 
-pub joined-low : (base : ℕ) (lows highs : List ℕ) (count : ℕ) → length highs ≤ length lows → joined base (lows ++ count ∷ []) highs ≡ joined base lows highs ++ count ∷ []
+pub joined-low : (base : ℕ) (lows highs : List ℕ) (count : ℕ) → length highs ≤ length lows → joined_parts base (lows ++ count ∷ []) highs ≡ joined_parts base lows highs ++ count ∷ []
 joined-low base lows [] count short = refl
 joined-low base [] (high ∷ highs) count short = absurd (omega arith)
 joined-low base (low ∷ lows) (high ∷ highs) count short = ap (λ l. (low + base * high) ∷ l) (joined-low base lows highs count (omega arith))
 
-zeros : (base : ℕ) (lows : List ℕ) (n : ℕ) → n ≤ length lows → joined base lows (replicate n 0) ≡ lows
+zeros : (base : ℕ) (lows : List ℕ) (n : ℕ) → n ≤ length lows → joined_parts base lows (replicate n 0) ≡ lows
 zeros base lows zero short = refl
 zeros base [] (suc n) short = absurd (omega arith)
 zeros base (low ∷ lows) (suc n) short =
     let same : low + base * 0 ≡ low = omega arith in
     λ i. same i ∷ zeros base lows n (omega arith) i
 
-filled : (base : ℕ) (lows highs : List ℕ) (n : ℕ) → length highs + n ≤ length lows → joined base lows (highs ++ replicate n 0) ≡ joined base lows highs
+filled : (base : ℕ) (lows highs : List ℕ) (n : ℕ) → length highs + n ≤ length lows → joined_parts base lows (highs ++ replicate n 0) ≡ joined_parts base lows highs
 filled base lows [] n short = zeros base lows n (omega arith)
 filled base [] (high ∷ highs) n short = absurd (omega arith)
 filled base (low ∷ lows) (high ∷ highs) n short = ap (λ l. (low + base * high) ∷ l) (filled base lows highs n (omega arith))
 
-both : (base : ℕ) (lows highs : List ℕ) (low high : ℕ) → length highs ≡ length lows → joined base (lows ++ low ∷ []) (highs ++ high ∷ []) ≡ joined base lows highs ++ (low + base * high) ∷ []
+both : (base : ℕ) (lows highs : List ℕ) (low high : ℕ) → length highs ≡ length lows → joined_parts base (lows ++ low ∷ []) (highs ++ high ∷ []) ≡ joined_parts base lows highs ++ (low + base * high) ∷ []
 both base [] [] low high same = refl
 both base (first ∷ lows) [] low high same = absurd (omega arith)
 both base [] (first ∷ highs) low high same = absurd (omega arith)
@@ -53,12 +53,12 @@ both base (l ∷ lows) (h ∷ highs) low high same = ap (λ list. (l + base * h)
 
 -- a number with a high part, after zeros fill up the high parts
 pub joined-high : (base : ℕ) (lows highs room : List ℕ) (low high n : ℕ) → length highs ≤ length lows → length room ≡ length lows → room ≡ take (length lows) highs ++ replicate n 0
-    → joined base (lows ++ low ∷ []) (room ++ high ∷ []) ≡ joined base lows highs ++ (low + base * high) ∷ []
+    → joined_parts base (lows ++ low ∷ []) (room ++ high ∷ []) ≡ joined_parts base lows highs ++ (low + base * high) ∷ []
 joined-high base lows highs room low high n short size grown =
     let is : room ≡ highs ++ replicate n 0 = grown ∙ ap (λ l. l ++ replicate n 0) (take_all (length lows) highs short) in
     let long : length (highs ++ replicate {A = ℕ} n 0) ≡ length highs + length (replicate {A = ℕ} n 0) = length-append highs (replicate n 0) in
     let count : length (replicate {A = ℕ} n 0) ≡ n = length-replicate n 0 in
     let same : length room ≡ length (highs ++ replicate {A = ℕ} n 0) = ap length is in
     both base lows room low high size
-    ∙ ap (λ l. joined base lows l ++ (low + base * high) ∷ []) is
+    ∙ ap (λ l. joined_parts base lows l ++ (low + base * high) ∷ []) is
     ∙ ap (λ l. l ++ (low + base * high) ∷ []) (filled base lows highs n (omega (arith, long, count, same, size)))

@@ -3,7 +3,7 @@ use Rattle.std.proofs.Common.{◌≡◌, ◌⊎◌, ℕ, zero, suc, ◌+◌, ◌
 use Rattle.std.proofs.lemmas.Bool.{cases_lt}
 use Rattle.std.proofs.lemmas.List.{length-map, take_all}
 use Rattle.std.proofs.lemmas.List.Sums.{sum_by-cons, sum_by_more, sum_by_more_le_part, sum_by-take-drop}
-use Rattle.gopher_page.specs.Counts.{is_before, is_meant, word_at, AreBefore, NoneBefore, count_where, count_meant}
+use Rattle.gopher_page.specs.Counts.{is_before, is_meant, word_at, AreWordsBefore, NoneBefore, count_where, count_meant}
 use Rattle.gopher_page.specs.Packed.{AreCounts}
 use Rattle.gopher_page.proofs.Order.{meant_before, meant_past}
 use Rattle.gopher_page.proofs.Sought.{in_order, all_before as before_all, none_before_from as before_none}
@@ -11,7 +11,7 @@ use Rattle.gopher_page.proofs.Sought.{in_order, all_before as before_all, none_b
 abbrev words_in : List (List ℕ × ℕ) → List (List ℕ)
 words_in counts = map (λ entry. entry.0) counts
 
-pub all_before : (counts : List (List ℕ × ℕ)) (sought : List ℕ) (middle : ℕ) → AreCounts counts → middle < length counts → is_before (word_at counts middle) sought ≡ true → AreBefore counts (middle + 1) sought
+pub all_before : (counts : List (List ℕ × ℕ)) (sought : List ℕ) (middle : ℕ) → AreCounts counts → middle < length counts → is_before (word_at counts middle) sought ≡ true → AreWordsBefore counts (middle + 1) sought
 all_before counts sought middle sound within = before_all (words_in counts) sound.ordered sought middle (omega (arith, within, length-map counts (λ entry. entry.0)))
 
 pub none_before_from : (counts : List (List ℕ × ℕ)) (sought : List ℕ) (middle : ℕ) → AreCounts counts → is_before (word_at counts middle) sought ≡ false → NoneBefore counts middle sought
@@ -47,7 +47,7 @@ entry_at (first ∷ counts) (suc i) entry d e =
     (omega (arith, rest.0), rest.1, rest.2)
 
 module _ (is_prefix : Bool) (sought : List ℕ) (counts : List (List ℕ × ℕ)) (start : ℕ) (sound : AreCounts counts)
-    (before : AreBefore counts start sought) (after : NoneBefore counts start sought) where
+    (before : AreWordsBefore counts start sought) (after : NoneBefore counts start sought) where
   -- no word before the start of the run is counted
   pub meant_none : 0 ≡ count_where (is_meant is_prefix sought) (take start counts)
   meant_none = sym (nothing_before (is_meant is_prefix sought) start counts (λ k below within. meant_before is_prefix sought (word_at counts k) (before k below)))

@@ -26,8 +26,8 @@ run_lengths [] = []
 run_lengths (word ∷ words) = joined_run word 1 (run_lengths words)
 
 -- the words from `start` up to, not including, `end` are one run of equal words
-abbrev pub IsRun : List (List ℕ) → ℕ → ℕ → Type 0
-IsRun words start end =
+abbrev pub IsWordRun : List (List ℕ) → ℕ → ℕ → Type 0
+IsWordRun words start end =
     run_lengths (drop start words)
     ≡ (slice_index_or words start [], end - start) ∷ run_lengths (drop end words)
 
@@ -53,8 +53,8 @@ abbrev pub word_at : List (List ℕ × ℕ) → ℕ → List ℕ
 word_at counts index = slice_index_or (map (λ entry. entry.0) counts) index []
 
 -- the words before this index come before the sought one
-abbrev pub AreBefore : List (List ℕ × ℕ) → ℕ → List ℕ → Type 0
-AreBefore counts end sought = (k : ℕ) → k < end → is_before (word_at counts k) sought ≡ true
+abbrev pub AreWordsBefore : List (List ℕ × ℕ) → ℕ → List ℕ → Type 0
+AreWordsBefore counts end sought = (k : ℕ) → k < end → is_before (word_at counts k) sought ≡ true
 
 -- no word from this index on comes before the sought one
 abbrev pub NoneBefore : List (List ℕ × ℕ) → ℕ → List ℕ → Type 0

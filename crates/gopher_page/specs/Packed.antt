@@ -10,10 +10,10 @@ use Rattle.gopher_text.specs.declared.reply_reader.TheConstants.{MAX_REPLY}
 
 -- the numbers of these remainders and quotients by a base; quotients of 0 at the end can be left
 -- out
-abbrev pub joined : ℕ → List ℕ → List ℕ → List ℕ
-joined base lows [] = lows
-joined base [] (high ∷ highs) = []
-joined base (low ∷ lows) (high ∷ highs) = (low + base * high) ∷ joined base lows highs
+abbrev pub joined_parts : ℕ → List ℕ → List ℕ → List ℕ
+joined_parts base lows [] = lows
+joined_parts base [] (high ∷ highs) = []
+joined_parts base (low ∷ lows) (high ∷ highs) = (low + base * high) ∷ joined_parts base lows highs
 
 -- the words, each with its count
 abbrev pub unpack : List ℕ → List ℕ → List ℕ → List (List ℕ × ℕ)

@@ -6,7 +6,7 @@ ghost use Rattle.std.specs.List.Sorted.{IsSorted};
 ghost use Rattle.std.specs.Ordering.{nat_cmp};
 ghost use Rattle.std.specs.Cmp.Lexicographic.{slice_cmp};
 ghost use Rattle.gopher_page.specs.Words.{texts, same_word};
-ghost use Rattle.gopher_page.specs.Counts.{is_meant, count_meant, counts_of, is_before, word_at, AreBefore, NoneBefore, IsRun};
+ghost use Rattle.gopher_page.specs.Counts.{is_meant, count_meant, counts_of, is_before, word_at, AreWordsBefore, NoneBefore, IsWordRun};
 ghost use Rattle.gopher_bytes.specs.Parts.{ArePacked, start_at};
 ghost use Rattle.gopher_page.specs.Packed.{AreCounts, part_at};
 
@@ -91,7 +91,7 @@ fn end_of_run(words: &[&[u8]], start: usize) -> usize
     requires { start < length words.now }
     ensures after { start < result }
     ensures within { result ≤ length words.now }
-    ensures run { IsRun (texts words.now) start result }
+    ensures run { IsWordRun (texts words.now) start result }
 {
     let word = words[start];
     let mut end = start + 1;
@@ -190,7 +190,7 @@ impl Counts {
     // How many words come before `sought` in byte order.
     fn words_before(&self, sought: &[u8]) -> usize
         ensures within { result ≤ length self.now }
-        ensures before { AreBefore self.now result sought.now }
+        ensures before { AreWordsBefore self.now result sought.now }
         ensures after { NoneBefore self.now result sought.now }
     {
         let mut low = 0;

@@ -20,9 +20,9 @@ impl Model for Ends {
 
     ghost Value = { List ℕ };
 
-    ghost use Rattle.gopher_page.specs.Packed.{joined};
+    ghost use Rattle.gopher_page.specs.Packed.{joined_parts};
 
-    ghost view = { λ e. joined 65536 e.low.items e.high.items };
+    ghost view = { λ e. joined_parts 65536 e.low.items e.high.items };
 
     ghost invariant = { λ e. length e.high.items ≤ length e.low.items };
 }

@@ -86,7 +86,7 @@ impl<'a> Numbered<'a> {
     }
 
     /// Copies the reference to the word and its number.
-    pub fn again(&self) -> Numbered<'a>
+    pub fn clone(&self) -> Numbered<'a>
         ensures { result ≡ self.now }
     {
         Numbered {

@@ -57,15 +57,15 @@ impl Model for Page {
     ghost view = { λ p. arc_value p.parts };
 }
 
-// The most bytes of memory that a page takes beside its words, its title and its links: its place, its
-// events, and its part of the lists of a catalogue.
+// The most bytes of memory that a page takes beside its words, its title and its links: its place,
+// its events, and its part of the lists of a catalogue.
 const PAGE_SIZE: usize = 512;
 
 // The most bytes that a catalogue takes for a known place, beside its selector and its host.
 const LINK_SIZE: usize = 160;
 
-// The most bytes that a word of a page takes in a segment of an index, beside the word: its end, the
-// end of its posting list, and the posting.
+// The most bytes that a word of a page takes in a segment of an index, beside the word: its end,
+// the end of its posting list, and the posting.
 const POSTING_SIZE: usize = 11;
 
 // The page of a place with these lines and links.
@@ -129,7 +129,7 @@ impl Page {
     }
 
     /// Copies the page, which shares its parts with `self`.
-    pub fn again(&self) -> Result<Page, NoMemory>
+    pub fn share(&self) -> Result<Page, NoMemory>
         ensures { IfOk result (λ page. page ≡ self.now) }
     {
         Ok(Page {
@@ -173,9 +173,9 @@ impl Page {
         &self.parts.counts
     }
 
-    /// Returns how many bytes of memory a catalogue needs for the page, at most: its words twice (in the
-    /// page and in the index), its title, and its links as known places. Words and places that other
-    /// pages have too are counted again.
+    /// Returns how many bytes of memory a catalogue needs for the page, at most: its words twice
+    /// (in the page and in the index), its title, and its links as known places. Words and places
+    /// that other pages have too are counted again.
     pub fn size(&self) -> usize {
         let words = self.parts.counts.size().saturating_mul(2);
         let postings = self.parts.counts.len().saturating_mul(POSTING_SIZE);

@@ -21,9 +21,9 @@ impl Model for Repeats {
 
     ghost Value = { List ℕ };
 
-    ghost use Rattle.gopher_page.specs.Packed.{joined};
+    ghost use Rattle.gopher_page.specs.Packed.{joined_parts};
 
-    ghost view = { λ r. joined 256 r.low.items r.high.items };
+    ghost view = { λ r. joined_parts 256 r.low.items r.high.items };
 
     ghost invariant = { λ r. length r.high.items ≤ length r.low.items };
 }

@@ -1,4 +1,4 @@
--- The menu of hits.
+-- The menu of hits, as a search server sends it (RFC 1436, section 3.7).
 use Rattle.std.specs.Prelude.{ℕ, List, map}
 use Rattle.std.specs.List.{flat_map}
 use Rattle.gopher_item.specs.MenuLine.{MenuLineData, menu_bytes, menu_line_bytes}

@@ -1,5 +1,5 @@
 -- A scope: which places a crawl may visit.
-use Rattle.std.specs.Prelude.{Bool, ◌&&◌, not, List, IsTrue}
+use Rattle.std.specs.Prelude.{ℕ, Bool, ◌&&◌, not, List, Option, position, IsTrue}
 use Rattle.std.specs.List.{list_any}
 use Rattle.gopher_item.specs.Place.{PlaceData}
 use Rattle.gopher_scope.specs.Rule.{RuleData, covers}
@@ -19,3 +19,7 @@ allows scope place = any_covers scope.allow place && not (any_covers scope.deny 
 
 abbrev pub IsAllowed : ScopeData → PlaceData → Type 0
 IsAllowed scope place = IsTrue (allows scope place)
+
+-- the index of the first seed that the scope doesn't allow
+abbrev pub first_outside : ScopeData → List PlaceData → Option ℕ
+first_outside scope seeds = position (λ seed. not (allows scope seed)) seeds

@@ -5,18 +5,18 @@ use Rattle.gopher_script.specs.Statement.{StatementData}
 use Rattle.gopher_bytes.specs.Lines.{lines_of}
 use Rattle.gopher_script.specs.Command.{command_of}
 use Rattle.gopher_script.specs.declared.command.Command.{Command}
-use Rattle.gopher_script.specs.Script.{is_block_line, begins_block, block_of, reply_of, reply_after, takes_block, statements_of}
+use Rattle.gopher_script.specs.Script.{is_block_line, begins_block, block_of, block_reply, reply_after, takes_block, statements_of}
 
-reply-more : (text : List ℕ) (lines : List (List ℕ)) → reply_of (block_of ((124 ∷ text) ∷ lines)) ≡ (text ++ 13 ∷ 10 ∷ []) ++ reply_of (block_of lines)
-reply-more text lines = ap reply_of (take_while-cons is_block_line (124 ∷ text) lines)
+reply-more : (text : List ℕ) (lines : List (List ℕ)) → block_reply (block_of ((124 ∷ text) ∷ lines)) ≡ (text ++ 13 ∷ 10 ∷ []) ++ block_reply (block_of lines)
+reply-more text lines = ap block_reply (take_while-cons is_block_line (124 ∷ text) lines)
 
 -- after one more line of a block, with its text and CR LF
 pub reply-step : (done mid new text all : List ℕ) (now lines : List (List ℕ)) → now ≡ (124 ∷ text) ∷ lines → mid ≡ done ++ text → new ≡ mid ++ 13 ∷ 10 ∷ []
-    → done ++ reply_of (block_of now) ≡ all → new ++ reply_of (block_of lines) ≡ all
+    → done ++ block_reply (block_of now) ≡ all → new ++ block_reply (block_of lines) ≡ all
 reply-step done mid new text all now lines is first second whole =
     let taken : new ≡ done ++ (text ++ 13 ∷ 10 ∷ []) = second ∙ ap (λ l. l ++ 13 ∷ 10 ∷ []) first ∙ append_assoc done text (13 ∷ 10 ∷ []) in
-    ap (λ l. l ++ reply_of (block_of lines)) taken ∙ append_assoc done (text ++ 13 ∷ 10 ∷ []) (reply_of (block_of lines))
-    ∙ ap (λ l. done ++ l) (sym (ap (λ ls. reply_of (block_of ls)) is ∙ reply-more text lines)) ∙ whole
+    ap (λ l. l ++ block_reply (block_of lines)) taken ∙ append_assoc done (text ++ 13 ∷ 10 ∷ []) (block_reply (block_of lines))
+    ∙ ap (λ l. done ++ l) (sym (ap (λ ls. block_reply (block_of ls)) is ∙ reply-more text lines)) ∙ whole
 
 pub statements-step : (number : ℕ) (text : List ℕ) (now lines : List (List ℕ)) (all : List StatementData) → now ≡ (124 ∷ text) ∷ lines
     → statements_of number true now ≡ all → statements_of (number + 1) true lines ≡ all

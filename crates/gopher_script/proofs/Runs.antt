@@ -7,7 +7,7 @@ use Rattle.std.proofs.KnownBytes.{Appends-nil, Appends-trans}
 use Rattle.std.proofs.lemmas.List.Elements.{All-head, All-tail}
 use Rattle.gopher_text.specs.Watched.{HasFailed}
 use Rattle.gopher_script.specs.Statement.{StatementData, HasSmallReply}
-use Rattle.gopher_script.specs.Script.{RunData, run_of, prepend, answer_at, after_at, ended_at, ended_well}
+use Rattle.gopher_script.specs.Script.{RunData, run_statements, prepend, answer_at, after_at, ended_at, ended_well}
 use Rattle.gopher_script.specs.Replay.{AppendsPart, RunEnds, StatementEnds}
 use Rattle.gopher_script.specs.declared.stage.Stage.{Stage}
 use Rattle.gopher_script.specs.declared.fault.ReplayFault.{ReplayFault}
@@ -17,7 +17,7 @@ use Rattle.gopher_script.specs.declared.fault.ReplayFault.TheVariants.{ReadFaile
 pub record RunsOn (run : RunData) (old now : Option (List ℕ)) (before after : ℕ) (stage : Stage) (statements : List StatementData) : Type 0 where
   pub written : List ℕ
   pub appended : Appends old now written
-  pub left : run ≡ prepend written (run_of stage statements)
+  pub left : run ≡ prepend written (run_statements stage statements)
   pub small : All HasSmallReply statements
   pub counted : before ≤ after
 
@@ -25,15 +25,15 @@ prepend-append : (a b : List ℕ) (run : RunData) → prepend (a ++ b) run ≡ p
 prepend-append a b run = ap (λ o. record { output = o; bad_line = run.bad_line }) (append_assoc a b run.output)
 
 run-answered : (stage : Stage) (s : StatementData) (ss : List StatementData) (answer : List ℕ) → answer_at stage s ≡ Some answer
-    → run_of stage (s ∷ ss) ≡ prepend answer (run_of (after_at stage s) ss)
-unfolding run_of
-run-answered stage s ss answer e = ap (λ o. option_map_or (λ a. prepend a (run_of (after_at stage s) ss)) o (ended_at s.number)) e
+    → run_statements stage (s ∷ ss) ≡ prepend answer (run_statements (after_at stage s) ss)
+unfolding run_statements
+run-answered stage s ss answer e = ap (λ o. option_map_or (λ a. prepend a (run_statements (after_at stage s) ss)) o (ended_at s.number)) e
 
-run-bad : (stage : Stage) (s : StatementData) (ss : List StatementData) → answer_at stage s ≡ None → run_of stage (s ∷ ss) ≡ ended_at s.number
-unfolding run_of
-run-bad stage s ss e = ap (λ o. option_map_or (λ a. prepend a (run_of (after_at stage s) ss)) o (ended_at s.number)) e
+run-bad : (stage : Stage) (s : StatementData) (ss : List StatementData) → answer_at stage s ≡ None → run_statements stage (s ∷ ss) ≡ ended_at s.number
+unfolding run_statements
+run-bad stage s ss e = ap (λ o. option_map_or (λ a. prepend a (run_statements (after_at stage s) ss)) o (ended_at s.number)) e
 
-pub begins : (stage : Stage) (ss : List StatementData) (old : Option (List ℕ)) (before : ℕ) → All HasSmallReply ss → RunsOn (run_of stage ss) old old before before stage ss
+pub begins : (stage : Stage) (ss : List StatementData) (old : Option (List ℕ)) (before : ℕ) → All HasSmallReply ss → RunsOn (run_statements stage ss) old old before before stage ss
 begins stage ss old before small = record { written = []; appended = Appends-nil old; left = refl; small = small; counted = omega arith }
 
 pub goes_on : (run : RunData) (old now new : Option (List ℕ)) (before after later : ℕ) (stage next : Stage) (s : StatementData) (ss all : List StatementData) → all ≡ s ∷ ss
@@ -41,8 +41,8 @@ pub goes_on : (run : RunData) (old now new : Option (List ℕ)) (before after la
 goes_on run old now new before after later stage next s ss all is so (answer, answered, sent, then, counted) = record {
   written = so.written ++ answer;
   appended = Appends-trans old now new so.written answer so.appended sent;
-  left = so.left ∙ ap (prepend so.written) (ap (run_of stage) is ∙ run-answered stage s ss answer answered ∙ ap (λ t. prepend answer (run_of t ss)) (sym then))
-      ∙ sym (prepend-append so.written answer (run_of next ss));
+  left = so.left ∙ ap (prepend so.written) (ap (run_statements stage) is ∙ run-answered stage s ss answer answered ∙ ap (λ t. prepend answer (run_statements t ss)) (sym then))
+      ∙ sym (prepend-append so.written answer (run_statements next ss));
   small = All-tail HasSmallReply s ss (subst (All HasSmallReply) is so.small);
   counted = omega (arith, so.counted, counted);
 }
@@ -55,16 +55,16 @@ next-small run old now before after stage s ss all is so = All-head HasSmallRepl
 -- the run succeeds after the last statement
 pub ends_well : (run : RunData) (old now : Option (List ℕ)) (before after : ℕ) (stage : Stage) (all : List StatementData) → all ≡ []
     → RunsOn run old now before after stage all → RunEnds {T = Unit {0}} run old now before after (Ok tt)
-unfolding run_of
+unfolding run_statements
 ends_well run old now before after stage all is so =
-    let whole : run ≡ prepend so.written ended_well = so.left ∙ ap (λ ss. prepend so.written (run_of stage ss)) is in
+    let whole : run ≡ prepend so.written ended_well = so.left ∙ ap (λ ss. prepend so.written (run_statements stage ss)) is in
     let all_written : run.output ≡ so.written = ap (λ r. r.output) whole ∙ append-nil so.written in
     (ap (λ r. r.bad_line) whole, subst (Appends old now) (sym all_written) so.appended, so.counted)
 
 -- the run fails because it is out of memory
 pub ends_early : (run : RunData) (old now : Option (List ℕ)) (before after : ℕ) (stage : Stage) (all : List StatementData)
     → RunsOn run old now before after stage all → RunEnds {T = Unit {0}} run old now before after (Err NoMemory)
-ends_early run old now before after stage all so = (so.written, (run_of stage all).output, ap (λ r. r.output) so.left, so.appended)
+ends_early run old now before after stage all so = (so.written, (run_statements stage all).output, ap (λ r. r.output) so.left, so.appended)
 
 pub has_failed-since : (before after later : ℕ) → before ≤ after → HasFailed after later → after ≤ later → HasFailed before later
 has_failed-since before after later a (inl e) b = inl (omega arith)
@@ -74,18 +74,18 @@ has_failed-since before after later a (inr e) b = grind arith
 pub stops : (run : RunData) (old now new : Option (List ℕ)) (before after later : ℕ) (stage : Stage) (s : StatementData) (ss all : List StatementData) (fault : ReplayFault) → all ≡ s ∷ ss
     → RunsOn run old now before after stage all → StatementEnds stage s now new after later (Err fault) → RunEnds {T = Unit {0}} run old new before later (Err fault)
 stops run old now new before after later stage s ss all (BadScript line) is so (bad, number, sent) =
-    let whole : run ≡ prepend so.written (ended_at s.number) = so.left ∙ ap (prepend so.written) (ap (run_of stage) is ∙ run-bad stage s ss bad) in (
+    let whole : run ≡ prepend so.written (ended_at s.number) = so.left ∙ ap (prepend so.written) (ap (run_statements stage) is ∙ run-bad stage s ss bad) in (
       ap (λ r. r.bad_line) whole ∙ ap Some (sym number),
       subst (Appends old new) (sym (ap (λ r. r.output) whole)) (Appends-trans old now new so.written [] so.appended sent),
     )
 stops run old now new before after later stage s ss all WriteFailed is so (answer, answered, (part, rest, split, sent), failed, later_than) =
-    let more = (run_of (after_at stage s) ss).output in
-    let whole : run ≡ prepend so.written (prepend answer (run_of (after_at stage s) ss)) = so.left ∙ ap (prepend so.written) (ap (run_of stage) is ∙ run-answered stage s ss answer answered) in
+    let more = (run_statements (after_at stage s) ss).output in
+    let whole : run ≡ prepend so.written (prepend answer (run_statements (after_at stage s) ss)) = so.left ∙ ap (prepend so.written) (ap (run_statements stage) is ∙ run-answered stage s ss answer answered) in
     let here : run.output ≡ (so.written ++ part) ++ (rest ++ more) =
     ap (λ r. r.output) whole ∙ ap (λ a. so.written ++ (a ++ more)) split ∙ ap (λ a. so.written ++ a) (append_assoc part rest more) ∙ sym (append_assoc so.written part (rest ++ more)) in
     ((so.written ++ part, rest ++ more, here, Appends-trans old now new so.written part so.appended sent), has_failed-since before after later so.counted failed later_than)
 stops run old now new before after later stage s ss all NoMemory is so sent =
-    (so.written, (run_of stage all).output, ap (λ r. r.output) so.left, subst (Appends old new) (append-nil so.written) (Appends-trans old now new so.written [] so.appended sent))
+    (so.written, (run_statements stage all).output, ap (λ r. r.output) so.left, subst (Appends old new) (append-nil so.written) (Appends-trans old now new so.written [] so.appended sent))
 stops run old now new before after later stage s ss all ReadFailed is so never = absurd never
 stops run old now new before after later stage s ss all TooManyTurns is so never = absurd never
 stops run old now new before after later stage s ss all ScriptTooLong is so never = absurd never

@@ -12,7 +12,7 @@ use Rattle.gopher_bytes.specs.Lines.{lines_of}
 use Rattle.gopher_bytes.proofs.Splits.{some_part}
 use Rattle.gopher_script.specs.Command.{command_of}
 use Rattle.gopher_script.specs.Statement.{StatementData, HasSmallReply}
-use Rattle.gopher_script.specs.Script.{is_block_line, block_of, reply_of, reply_after, takes_block, statements_of, statements_in}
+use Rattle.gopher_script.specs.Script.{is_block_line, block_of, block_reply, reply_after, takes_block, statements_of, statements_in}
 
 -- the lengths of lines, each with one byte for its end
 abbrev pub size : List (List ℕ) → ℕ
@@ -56,20 +56,20 @@ length-reply_line : (line : List ℕ) (reply : List ℕ) → is_block_line line 
 length-reply_line [] reply e = cc
 length-reply_line (byte ∷ text) reply e = simp length-append (omega arith)
 
-reply-more : (line : List ℕ) (lines : List (List ℕ)) (t : Bool) → is_block_line line ≡ t → length (reply_of (block_of lines)) ≤ size lines
-    → length (reply_of (block_of (line ∷ lines))) ≤ size (line ∷ lines)
+reply-more : (line : List ℕ) (lines : List (List ℕ)) (t : Bool) → is_block_line line ≡ t → length (block_reply (block_of lines)) ≤ size lines
+    → length (block_reply (block_of (line ∷ lines))) ≤ size (line ∷ lines)
 reply-more line lines true e rest =
-    let here = length-reply_line line (reply_of (block_of lines)) e in
+    let here = length-reply_line line (block_reply (block_of lines)) e in
     rw (take_while-cons is_block_line line lines ∙ ap (λ t. cond t (line ∷ block_of lines) []) e) (omega (arith, rest, here))
 reply-more line lines false e rest = rw (take_while-cons is_block_line line lines ∙ ap (λ t. cond t (line ∷ block_of lines) []) e) (omega arith)
 
-length-reply : (lines : List (List ℕ)) → length (reply_of (block_of lines)) ≤ size lines
+length-reply : (lines : List (List ℕ)) → length (block_reply (block_of lines)) ≤ size lines
 length-reply [] = omega arith
 length-reply (line ∷ lines) = reply-more line lines (is_block_line line) refl (length-reply lines)
 
 length-reply_after : (command : Option Command) (lines : List (List ℕ)) → length (reply_after command lines) ≤ size lines
 length-reply_after command lines =
-    cond_both (takes_block command) (reply_of (block_of lines)) [] (λ r. length r ≤ size lines) (λ _. length-reply lines) (λ _. omega arith)
+    cond_both (takes_block command) (block_reply (block_of lines)) [] (λ r. length r ≤ size lines) (λ _. length-reply lines) (λ _. omega arith)
 
 -- a reply with fewer bytes than the limit
 abbrev IsBelow : ℕ → StatementData → Type 0

@@ -37,12 +37,12 @@ status_line status =
     ++ codes " done " ++ decimal status.done ++ codes " dropped " ++ decimal status.dropped ++ 10 ∷ []
 
 -- a hit: its score, its place and its title
-abbrev pub hit_line : Hit → List ℕ
-hit_line hit = codes "hit\t" ++ decimal hit.score ++ 9 ∷ place_fields hit.place ++ 9 ∷ hit.title ++ 10 ∷ []
+abbrev pub hit_row : Hit → List ℕ
+hit_row hit = codes "hit\t" ++ decimal hit.score ++ 9 ∷ place_fields hit.place ++ 9 ∷ hit.title ++ 10 ∷ []
 
 -- the number of hits, and each hit
 abbrev pub hits_lines : List Hit → List ℕ
-hits_lines hits = codes "hits " ++ decimal (length hits) ++ 10 ∷ [] ++ flat_map hit_line hits
+hits_lines hits = codes "hits " ++ decimal (length hits) ++ 10 ∷ [] ++ flat_map hit_row hits
 
 -- a place whose page contains a word, after the number of times
 abbrev pub at_line : PlaceData × ℕ → List ℕ

@@ -32,12 +32,12 @@ kind_in (kind ∷ []) = Some kind
 kind_in field = None
 
 -- the reason why a place could not be fetched: its number, as one digit
-abbrev pub why_of : ℕ → Option Why
-why_of digit =
+abbrev pub why_by_digit : ℕ → Option Why
+why_by_digit digit =
     if digit == 49 then Some Connect else if digit == 50 then Some Read else if digit == 51 then Some Write else if digit == 52 then Some TooLong else if digit == 53 then Some NoMemory else None
 
 abbrev pub why_in : List ℕ → Option Why
-why_in (digit ∷ []) = why_of digit
+why_in (digit ∷ []) = why_by_digit digit
 why_in field = None
 
 -- ---- the fields after a command's name
@@ -96,8 +96,8 @@ abbrev pub is_name : List ℕ → List ℕ → Bool
 is_name field name = pointwise nat_eq field name
 
 -- the command with this name and these further fields, if they make one
-abbrev pub named : List ℕ → List (List ℕ) → Option Command
-named name fields =
+abbrev pub command_named : List ℕ → List (List ℕ) → Option Command
+command_named name fields =
     if is_name name (codes "allow") then option_map Allow (rule_in fields)
     else if is_name name (codes "deny") then option_map Deny (rule_in fields)
     else if is_name name (codes "seed") then option_map Seed (place_in fields)
@@ -111,7 +111,7 @@ named name fields =
 
 abbrev pub command_in : List (List ℕ) → Option Command
 command_in [] = None
-command_in (name ∷ fields) = named name fields
+command_in (name ∷ fields) = command_named name fields
 
 -- an empty line or a comment, which begins with `#`, does nothing
 abbrev pub is_idle_line : List ℕ → Bool

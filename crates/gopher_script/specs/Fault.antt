@@ -6,11 +6,11 @@ use Rattle.gopher_script.specs.declared.fault.ReplayFault.{ReplayFault}
 use Rattle.gopher_script.specs.declared.fault.ReplayFault.TheVariants.{ReadFailed, TooManyTurns, ScriptTooLong, WriteFailed, BadScript, NoMemory}
 
 -- the fault of a replay whose script can't be read to its end
-abbrev pub unread : ReplyFault → ReplayFault
-unread ReplyReadFailed = ReadFailed
-unread ReplyTurns = TooManyTurns
-unread ReplyTooLong = ScriptTooLong
-unread ReplyNoMemory = NoMemory
+abbrev pub fault_of_script : ReplyFault → ReplayFault
+fault_of_script ReplyReadFailed = ReadFailed
+fault_of_script ReplyTurns = TooManyTurns
+fault_of_script ReplyTooLong = ScriptTooLong
+fault_of_script ReplyNoMemory = NoMemory
 
 abbrev pub replay_fault_code : ReplayFault → ℕ
 replay_fault_code ReadFailed = 10

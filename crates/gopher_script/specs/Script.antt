@@ -5,7 +5,7 @@ use Rattle.std.specs.Option.{option_map_or, option_and_then}
 use Rattle.gopher_bytes.specs.Lines.{lines_of}
 use Rattle.gopher_script.specs.Command.{command_of}
 use Rattle.gopher_script.specs.Statement.{StatementData}
-use Rattle.gopher_script.specs.Stage.{answer_of, after}
+use Rattle.gopher_script.specs.Stage.{command_answer, after}
 use Rattle.gopher_script.specs.declared.command.Command.{Command}
 use Rattle.gopher_script.specs.declared.command.Command.TheVariants.{Nothing, Allow, Deny, Seed, Start, Claim, Found, Fail, Status}
 use Rattle.gopher_script.specs.declared.stage.Stage.{Stage}
@@ -24,8 +24,8 @@ begins_block [] = false
 begins_block (line ∷ lines) = is_block_line line
 
 -- the reply of a block: its lines without the `|`, each followed by CR LF
-abbrev pub reply_of : List (List ℕ) → List ℕ
-reply_of block = flat_map (λ line. drop 1 line ++ 13 ∷ 10 ∷ []) block
+abbrev pub block_reply : List (List ℕ) → List ℕ
+block_reply block = flat_map (λ line. drop 1 line ++ 13 ∷ 10 ∷ []) block
 
 -- a command that takes the block directly after its line
 abbrev pub takes_block : Option Command → Bool
@@ -37,7 +37,7 @@ abbrev pub block_of : List (List ℕ) → List (List ℕ)
 block_of lines = take_while is_block_line lines
 
 abbrev pub reply_after : Option Command → List (List ℕ) → List ℕ
-reply_after command lines = if takes_block command then reply_of (block_of lines) else []
+reply_after command lines = if takes_block command then block_reply (block_of lines) else []
 
 -- ---- statements
 
@@ -60,7 +60,7 @@ pub record RunData : Type 0 where
 -- the answer of a statement, or none if its line is bad: no command, or one that isn't valid at
 -- this stage
 abbrev pub answer_at : Stage → StatementData → Option (List ℕ)
-answer_at stage statement = option_and_then (λ command. answer_of stage command statement.reply) statement.command
+answer_at stage statement = option_and_then (λ command. command_answer stage command statement.reply) statement.command
 
 abbrev pub after_at : Stage → StatementData → Stage
 after_at stage statement = option_map_or (λ command. after stage command statement.reply) statement.command stage
@@ -75,10 +75,10 @@ abbrev pub ended_at : ℕ → RunData
 ended_at number = record { output = []; bad_line = Some number }
 
 -- the answers of the statements in order, up to the first bad line
-unfoldable pub run_of : Stage → List StatementData → RunData
-run_of stage [] = ended_well
-run_of stage (statement ∷ statements) =
-    option_map_or (λ answer. prepend answer (run_of (after_at stage statement) statements)) (answer_at stage statement) (ended_at statement.number)
+unfoldable pub run_statements : Stage → List StatementData → RunData
+run_statements stage [] = ended_well
+run_statements stage (statement ∷ statements) =
+    option_map_or (λ answer. prepend answer (run_statements (after_at stage statement) statements)) (answer_at stage statement) (ended_at statement.number)
 
 -- a script begins without rules and seeds
 abbrev pub first_stage : Stage
@@ -92,4 +92,4 @@ abbrev pub statements_in : List ℕ → List StatementData
 statements_in bytes = statements_of 1 false (lines_of bytes)
 
 abbrev pub script_output : List ℕ → RunData
-script_output bytes = run_of first_stage (statements_in bytes)
+script_output bytes = run_statements first_stage (statements_in bytes)

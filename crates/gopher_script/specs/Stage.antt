@@ -8,7 +8,7 @@ use Rattle.gopher_scope.specs.Rule.{RuleData}
 use Rattle.gopher_scope.specs.Scope.{ScopeData}
 use Rattle.gopher_page.specs.Page.{PageData, page_of}
 use Rattle.gopher_page.specs.Query.{TermData, query_of}
-use Rattle.gopher_index.specs.Answer.{answer_of as hits_found, occurrences_of}
+use Rattle.gopher_index.specs.Answer.{command_answer as hits_found, occurrences_of}
 use Rattle.gopher_catalogue.specs.Pages.{pages_found}
 use Rattle.gopher_catalogue.specs.Opening.{OpeningData}
 use Rattle.gopher_catalogue.specs.declared.event.EventData.{EventData}
@@ -141,9 +141,9 @@ after_in events command reply = events
 
 -- ---- at any time
 
-abbrev pub answer_of : Stage → Command → List ℕ → Option (List ℕ)
-answer_of (Gathering draft) command reply = answer_before draft command
-answer_of (Crawling events) command reply = answer_in events command reply
+abbrev pub command_answer : Stage → Command → List ℕ → Option (List ℕ)
+command_answer (Gathering draft) command reply = answer_before draft command
+command_answer (Crawling events) command reply = answer_in events command reply
 
 abbrev pub after : Stage → Command → List ℕ → Stage
 after (Gathering draft) command reply = after_before draft command

@@ -57,9 +57,9 @@ impl From<NoMemory> for ReplayFault {
 }
 
 impl From<ReplyFault> for ReplayFault {
-    ghost use Rattle.gopher_script.specs.Fault.{unread};
+    ghost use Rattle.gopher_script.specs.Fault.{fault_of_script};
 
-    ghost from_gives = { λ why fault. fault ≡ unread why };
+    ghost from_gives = { λ why fault. fault ≡ fault_of_script why };
 
     fn from(why: ReplyFault) -> ReplayFault {
         match why {

@@ -2,7 +2,7 @@
 
 ghost use Rattle.std.specs.Prelude.{◌≡◌, ◌++◌, IfOk, OnOk};
 ghost use Rattle.std.specs.List.{flat_map};
-ghost use Rattle.gopher_script.specs.Answer.{hit_line, hits_lines, at_line, places_lines};
+ghost use Rattle.gopher_script.specs.Answer.{hit_row, hits_lines, at_line, places_lines};
 
 use crate::lines::push_place;
 use gopher_catalogue::Hit;
@@ -10,7 +10,7 @@ use gopher_item::{NoMemory, Place};
 use std::alloc::Global;
 
 fn push_hit(alloc: Global, hit: &Hit, lines: &mut Vec<u8>) -> Result<(), NoMemory>
-    ensures { OnOk result (lines.new.items ≡ lines.old.items ++ hit_line hit.now) }
+    ensures { OnOk result (lines.new.items ≡ lines.old.items ++ hit_row hit.now) }
 {
     let score = hit.score;
     lines.extend_from_slice(format!(in alloc; "hit\t{score}\t")?.as_bytes())?;

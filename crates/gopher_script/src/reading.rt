@@ -2,7 +2,7 @@
 
 ghost use Rattle.std.specs.Prelude.{◌≡◌};
 ghost use Rattle.std.specs.Option.{option_map};
-ghost use Rattle.gopher_script.specs.Command.{is_name, short_number, port_in, number_in, kind_in, why_in, rule_in, place_in, start_in, found_in, fail_in, last_field, search_in, occurs_in, alone, named, is_idle_line, command_of};
+ghost use Rattle.gopher_script.specs.Command.{is_name, short_number, port_in, number_in, kind_in, why_in, rule_in, place_in, start_in, found_in, fail_in, last_field, search_in, occurs_in, alone, command_named, is_idle_line, command_of};
 
 use crate::command::{Command, PlaceParts, QueryText, RuleParts, WordText};
 use crate::fields::Fields;
@@ -163,8 +163,8 @@ fn is_name(field: &[u8], name: &[u8]) -> bool
     field == name
 }
 
-fn named<'a>(name: &[u8], fields: Fields<'a>) -> Option<Command<'a>>
-    ensures { result ≡ named name.now fields.entry }
+fn command_named<'a>(name: &[u8], fields: Fields<'a>) -> Option<Command<'a>>
+    ensures { result ≡ command_named name.now fields.entry }
 {
     if is_name(name, b"allow") {
         rule_parts(fields).map(Command::Allow)
@@ -209,5 +209,5 @@ pub fn read_command(line: &[u8]) -> Option<Command<'_>>
     }
     let mut fields = Fields::of(line);
     let name = fields.next()?;
-    named(name, fields)
+    command_named(name, fields)
 }

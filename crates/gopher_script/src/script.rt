@@ -3,7 +3,7 @@
 ghost use Rattle.std.specs.Prelude.{◌≡◌, ◌+◌, ◌^◌, ◌<◌, ◌≤◌, [], ◌∷◌, true, false, length, IfOk, IfSome, MatchOption};
 ghost use Rattle.gopher_bytes.specs.Lines.{lines_of};
 ghost use Rattle.gopher_script.specs.Statement.{StatementData};
-ghost use Rattle.gopher_script.specs.Script.{begins_block, block_of, reply_of, reply_after, takes_block, statements_of, statements_after, statements_in};
+ghost use Rattle.gopher_script.specs.Script.{begins_block, block_of, block_reply, reply_after, takes_block, statements_of, statements_after, statements_in};
 
 use crate::command::Command;
 use crate::reading::read_command;
@@ -77,7 +77,7 @@ fn block_line(bytes: &[u8]) -> Option<(&[u8], &[u8])>
 fn take_block<'a>(alloc: Global, before: usize, bytes: &'a [u8]) -> Result<Block<'a>, NoMemory>
     requires { before + length bytes.now < 2 ^ 64 }
     ensures reply { IfOk result
-        (λ block. block.reply.items ≡ reply_of (block_of (lines_of bytes.now))) }
+        (λ block. block.reply.items ≡ block_reply (block_of (lines_of bytes.now))) }
     ensures rest { IfOk result (λ block. statements_after block.lines_read block.rest.now
         ≡ statements_of (before + 1) true (lines_of bytes.now)) }
     ensures size { IfOk result

@@ -3,7 +3,7 @@
 ghost use Rattle.std.specs.Prelude.{◌≡◌, ◌≤◌, ◌≢◌, [], IfOk, OnOk, MatchOption, None, Some, length};
 ghost use Rattle.gopher_catalogue.specs.Fault.{open_fault_code};
 ghost use Rattle.gopher_script.specs.Answer.{refused_line};
-ghost use Rattle.gopher_script.specs.Stage.{answer_before, after_before, answer_in, after_in, answer_of, after, draft_of, start_line, fault_of_start, after_start, IsPerformed};
+ghost use Rattle.gopher_script.specs.Stage.{answer_before, after_before, answer_in, after_in, command_answer, after, draft_of, start_line, fault_of_start, after_start, IsPerformed};
 
 use crate::command::Command;
 use crate::crawl::{claim, fail, found, occurs, search};
@@ -137,7 +137,7 @@ pub fn perform(
     reply: &[u8],
 ) -> Result<Option<Performed>, NoMemory>
     requires { length reply.now ≤ MAX_REPLY }
-    ensures { IfOk result (IsPerformed (answer_of stage command.entry reply.now)
+    ensures { IfOk result (IsPerformed (command_answer stage command.entry reply.now)
         (after stage command.entry reply.now)) }
 {
     match stage {

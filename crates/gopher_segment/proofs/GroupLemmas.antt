@@ -8,7 +8,7 @@ use Rattle.std.specs.Cmp.Lexicographic.{bytes_decides}
 use Rattle.gopher_page.specs.Words.{same_word}
 use Rattle.gopher_segment.specs.Postings.{count_in}
 use Rattle.gopher_segment.specs.Rows.{rows_count, postings_of}
-use Rattle.gopher_segment.specs.Groups.{head_row, latest, words_of, LackWord, HaveLists, slot_of_number, IsPlaced}
+use Rattle.gopher_segment.specs.Groups.{head_row, latest, head_words, LackWord, HaveLists, slot_of_number, IsPlaced}
 use Rattle.gopher_segment.proofs.PostingLemmas.{count_in-append}
 use Rattle.gopher_segment.proofs.RowLemmas.{rows_count-append}
 use Rattle.gopher_segment.proofs.WordPostings.{postings_of-append}
@@ -30,7 +30,7 @@ latest-kept chains list (head ∷ heads) have =
     (λ i. latest-kept chains list heads have.1 i ++ (head.0, get_or_append_left chains (list ∷ []) [] head.1 have.0 i) ∷ [])
 
 -- where no head has a word, no row has postings of it
-none_of : (chains : List (List (ℕ × ℕ))) (word : List ℕ) (heads : List Head) → LackWord word (words_of heads) → postings_of word (latest chains heads) ≡ []
+none_of : (chains : List (List (ℕ × ℕ))) (word : List ℕ) (heads : List Head) → LackWord word (head_words heads) → postings_of word (latest chains heads) ≡ []
 none_of chains word [] lack = refl
 none_of chains word (head ∷ heads) lack =
     postings_of-append word (latest chains heads) (head_row chains head ∷ [])
@@ -86,7 +86,7 @@ module _ (chains : List (List (ℕ × ℕ))) (word : List ℕ) (list : ℕ) (mor
         rows_count-append test page (latest chains heads) (head_row chains head ∷ []),
       )
 
-  pub replaced_postings : (heads : List Head) (at : ℕ) (d : Head) → at < length heads → get_or heads at d ≡ (word, list) → HaveLists (length chains) heads → LackWord word (words_of (drop (at + 1) heads))
+  pub replaced_postings : (heads : List Head) (at : ℕ) (d : Head) → at < length heads → get_or heads at d ≡ (word, list) → HaveLists (length chains) heads → LackWord word (head_words (drop (at + 1) heads))
       → (sought : List ℕ) → postings_of sought (latest with_full (slice_set heads at (word, length chains))) ≡ cond (same_word sought word) more [] ++ postings_of sought (latest chains heads)
   replaced_postings [] at d within is have lack sought = absurd (omega (arith, within))
   replaced_postings (head ∷ heads) zero d within is have lack sought =
@@ -112,7 +112,7 @@ module _ (chains : List (List (ℕ × ℕ))) (word : List ℕ) (list : ℕ) (mor
       let more_of : List (ℕ × ℕ) = cond (same_word sought word) more [] in
       let last : List (ℕ × ℕ) = postings_of sought (head_row chains head ∷ []) in
       let more_in : suc at + 1 ≡ suc (at + 1) = omega arith in
-      let lacks : LackWord word (words_of (drop (at + 1) heads)) = subst (λ n. LackWord word (words_of (drop n (head ∷ heads)))) more_in lack in
+      let lacks : LackWord word (head_words (drop (at + 1) heads)) = subst (λ n. LackWord word (head_words (drop n (head ∷ heads)))) more_in lack in
       postings_of-append sought new (head_row with_full head ∷ [])
       ∙ ap (λ r. postings_of sought new ++ postings_of sought (r ∷ [])) (same_row head have.0)
       ∙ ap (λ l. l ++ last) (replaced_postings heads at d (omega (arith, within)) is have.1 lacks sought)
@@ -121,7 +121,7 @@ module _ (chains : List (List (ℕ × ℕ))) (word : List ℕ) (list : ℕ) (mor
 
 -- ---- the slots of words
 
-pub same_words : (heads : List Head) (at list : ℕ) (d : Head) → words_of (slice_set heads at ((get_or heads at d).0, list)) ≡ words_of heads
+pub same_words : (heads : List Head) (at list : ℕ) (d : Head) → head_words (slice_set heads at ((get_or heads at d).0, list)) ≡ head_words heads
 same_words heads at list d = map-set_same (λ (head : Head). head.0) heads at ((get_or heads at d).0, list) d refl
 
 pub have_more : (lists : ℕ) (heads : List Head) → HaveLists lists heads → HaveLists (lists + 1) heads

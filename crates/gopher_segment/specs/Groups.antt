@@ -17,14 +17,14 @@ abbrev pub latest : List (List (ℕ × ℕ)) → List (List ℕ × ℕ) → List
 latest chains [] = []
 latest chains (head ∷ heads) = latest chains heads ++ head_row chains head ∷ []
 
-abbrev pub words_of : List (List ℕ × ℕ) → List (List ℕ)
-words_of heads = map (λ head. head.0) heads
+abbrev pub head_words : List (List ℕ × ℕ) → List (List ℕ)
+head_words heads = map (λ head. head.0) heads
 
 -- the words don't contain this one
 abbrev pub LackWord : List ℕ → List (List ℕ) → Type 0
 LackWord word words = AllByRecursion (λ other. same_word other word ≡ false) words
 
--- each head's list is one of so many lists
+-- each head's list is one of `lists` lists
 abbrev pub HaveLists : ℕ → List (List ℕ × ℕ) → Type 0
 HaveLists lists heads = AllByRecursion (λ head. head.1 < lists) heads
 
@@ -39,10 +39,10 @@ pub record IsPlaced (words : List (List ℕ)) (slot at : ℕ) : Type 0 where
   pub last : LackWord (slice_index_or words at []) (drop (at + 1) words)
 
 -- each slot is empty or has the index of a head whose word belongs to it
-pub record AreGroups (slots : List ℕ) (heads : List (List ℕ × ℕ)) (chains : List (List (ℕ × ℕ)))
+pub record AreWordGroups (slots : List ℕ) (heads : List (List ℕ × ℕ)) (chains : List (List (ℕ × ℕ)))
     : Type 0 where
   pub size : length slots ≡ 16384
   pub lists : HaveLists (length chains) heads
   pub placed : (slot : ℕ) → slot < 16384
       → (slice_index_or slots slot 0 ≡ 2 ^ 32 - 1)
-      ⊎ IsPlaced (words_of heads) slot (slice_index_or slots slot 0)
+      ⊎ IsPlaced (head_words heads) slot (slice_index_or slots slot 0)

@@ -4,7 +4,8 @@ use Rattle.std.specs.Ordering.{is_lt}
 use Rattle.gopher_item.specs.Place.{PlaceData, place_cmp}
 use Rattle.gopher_page.specs.Page.{PageData}
 
--- each page has a rank; of two pages, the one with the higher rank doesn't come first in place order
+-- each page has a rank; of two pages, the one with the higher rank doesn't come first in place
+-- order
 pub record AreRanks (pages : List PageData) (ranks : List ℕ) : Type 0 where
   pub each : length ranks ≡ length pages
   pub ordered : (i j : ℕ) (d : PageData) → i < length pages → j < length pages
@@ -18,14 +19,14 @@ pub record AreNumbered (pages : List PageData) (placed : List (PlaceData × ℕ)
   pub place : (k : ℕ) (d : PageData) (e : PlaceData × ℕ) → k < length pages
       → (slice_index_or placed k e).0 ≡ (slice_index_or pages k d).place
 
--- the rank of an index is a position at which it stands
+-- the rank of an index is one of its positions in the list, at most 65,535
 pub record HasPosition (sorted : List (PlaceData × ℕ)) (ranks : List ℕ) (index : ℕ) : Type 0 where
   pub at : ℕ
   pub within : at < length sorted
   pub here : (e : PlaceData × ℕ) → (slice_index_or sorted at e).1 ≡ index
   pub rank : slice_index ranks index ≡ min at 65535
 
--- the same for each index that stands in the list
+-- the rank of each index in the list is one of its positions
 pub record AreScattered (sorted : List (PlaceData × ℕ)) (ranks : List ℕ) : Type 0 where
   pub each : length ranks ≡ length sorted
   pub positions : (k : ℕ) (e : PlaceData × ℕ) → k < length sorted

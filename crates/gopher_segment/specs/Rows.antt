@@ -26,7 +26,7 @@ rows_count test page [] = 0
 rows_count test page (row ∷ rows) =
     (if test row.0 then count_in page row.1 else 0) + rows_count test page rows
 
--- the postings of a word, or none if no row has it
+-- the postings of a word; none if no row has the word
 abbrev pub postings_of : List ℕ → List (List ℕ × List (ℕ × ℕ)) → List (ℕ × ℕ)
 postings_of word [] = []
 postings_of word (row ∷ rows) =
@@ -130,19 +130,19 @@ abbrev pub AllBefore : List (List ℕ) → List ℕ → Type 0
 AllBefore words word = AllByRecursion (λ earlier. slice_cmp nat_cmp earlier word ≡ Less) words
 
 -- all words come before this one, if there is one
-abbrev pub AreBefore : List (List ℕ) → Option (List ℕ) → Type 0
-AreBefore words None = Unit {0}
-AreBefore words (Some word) = AllBefore words word
+abbrev pub AllBeforeNext : List (List ℕ) → Option (List ℕ) → Type 0
+AllBeforeNext words None = Unit {0}
+AllBeforeNext words (Some word) = AllBefore words word
 
 -- all words come before the first word of each table
 abbrev pub ComeBefore : List (List ℕ) → List (List (List ℕ × List (ℕ × ℕ))) → Type 0
 ComeBefore words [] = Unit {0}
-ComeBefore words (rows ∷ tables) = AreBefore words (first_word rows) × ComeBefore words tables
+ComeBefore words (rows ∷ tables) = AllBeforeNext words (first_word rows) × ComeBefore words tables
 
 -- ---- joining rows
 
--- two lists of rows count the same for each page and each test of words, and have the same postings
--- of each word
+-- two lists of rows give equal counts for each page and each test of words, and equal postings of
+-- each word
 pub record TellAlike (rows others : List (List ℕ × List (ℕ × ℕ))) : Type 0 where
   pub counts : (test : List ℕ → Bool) (page : ℕ)
       → rows_count test page others ≡ rows_count test page rows

@@ -39,13 +39,13 @@ pub(crate) struct Groups<'a> {
 
 impl<'a> Model for Groups<'a> {
     ghost use Rattle.std.specs.Prelude.{ℕ, List};
-    ghost use Rattle.gopher_segment.specs.Groups.{latest, AreGroups};
+    ghost use Rattle.gopher_segment.specs.Groups.{latest, AreWordGroups};
 
     ghost Value = { List (List ℕ × List (ℕ × ℕ)) };
 
     ghost view = { λ g. latest g.chains g.heads.items };
 
-    ghost invariant = { λ g. AreGroups g.slots.items g.heads.items g.chains };
+    ghost invariant = { λ g. AreWordGroups g.slots.items g.heads.items g.chains };
 }
 
 impl<'a> Groups<'a> {

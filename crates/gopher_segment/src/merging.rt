@@ -157,12 +157,12 @@ fn lowest_word<'a>(cursors: &[Cursor<'a>]) -> Option<(usize, Numbered<'a>)>
         }
     }
     match lowest {
-        Some(word) => Some((first, word.again())),
+        Some(word) => Some((first, word.clone())),
         None => None,
     }
 }
 
-// Appends the postings of the word, if the first row has it, and passes over this row.
+// If the first row has the word, appends its postings and moves past the row.
 fn take_run(word: &Numbered<'_>, cursor: &mut Cursor<'_>, runs: &mut Runs) -> Result<(), NoMemory>
     ensures cursor { OnOk result (cursor.new ≡ passed word.now cursor.old) }
     ensures whole { runs.new.whole ≡ runs.old.whole }
@@ -176,7 +176,8 @@ fn take_run(word: &Numbered<'_>, cursor: &mut Cursor<'_>, runs: &mut Runs) -> Re
     Ok(())
 }
 
-// Does the same for all cursors. The first that begins with the word has the index `first`.
+// Appends the postings of the word from all cursors that begin with it, and moves them past their
+// rows. The first such cursor has the index `first`.
 fn take_runs(
     word: &Numbered<'_>,
     first: usize,

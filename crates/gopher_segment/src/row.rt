@@ -53,7 +53,7 @@ impl<'a> Row<'a> {
         ensures { result ≡ (self.now.0, list) }
     {
         Head {
-            word: self.word.again(),
+            word: self.word.clone(),
             list,
         }
     }

@@ -110,7 +110,7 @@ impl Table {
         low
     }
 
-    /// Returns the postings of a word, or none if no row has it.
+    /// Returns the postings of a word; none if no row has the word.
     pub fn find(&self, sought: &[u8]) -> Run<'_>
         requires { AreInOrder self.now }
         ensures { result ≡ postings_of sought.now self.now }

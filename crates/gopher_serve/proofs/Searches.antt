@@ -12,11 +12,11 @@ use Rattle.gopher_page.specs.Query.{TermData}
 use Rattle.gopher_index.specs.declared.hit.Hit.{Hit}
 use Rattle.gopher_crew.specs.Crew.{PassData}
 use Rattle.gopher_replies.specs.Hits.{hits_bytes}
-use Rattle.gopher_serve.specs.Answer.{AnswersTerms, Finds, SeesOn, no_catalogue_bytes}
+use Rattle.gopher_serve.specs.Answer.{AnswersTerms, FindsHits, SeesOn, no_catalogue_bytes}
 
 -- a search that ended
 pub answers_hits : (home : HomeData) (old new : PassData) (terms : List TermData) (hits : List Hit) (reply : List ℕ)
-    → 0 < length terms → Finds old new terms hits → reply ≡ hits_bytes hits → AnswersTerms home old new terms reply
+    → 0 < length terms → FindsHits old new terms hits → reply ≡ hits_bytes hits → AnswersTerms home old new terms reply
 answers_hits home old new [] hits reply some found is = absurd (omega arith)
 answers_hits home old new (term ∷ terms) hits reply some found is = record { outcome = Some hits; searched = found; reply_is = is }
 

@@ -1,4 +1,5 @@
--- The reply to a request line: a function of the tree's files, the server's address, the line, and how its search ended.
+-- The reply to a request line: a function of the tree's files, the server's address, the line, and
+-- the hits of its search.
 use Rattle.std.specs.Prelude.{◌≡◌, ℕ, Bool, nat_eq, codes, List, [], ◌∷◌, Option, None, Some, if◌then◌else◌}
 use Rattle.std.specs.Cmp.Lexicographic.{pointwise}
 use mathlib.Core.List.{IsPrefix}
@@ -14,7 +15,7 @@ use Rattle.gopher_replies.specs.Hits.{hits_bytes}
 use Rattle.gopher_catalogue.specs.Legal.{IsLegal}
 use Rattle.gopher_crew.specs.Crew.{PassData, hits_of}
 
--- `/search`
+-- the selector is `/search`
 abbrev pub is_search : List ℕ → Bool
 is_search selector = pointwise nat_eq selector (codes "/search")
 
@@ -28,12 +29,12 @@ no_words_bytes home = error_bytes (codes "No words") home
 abbrev pub no_catalogue_bytes : HomeData → List ℕ
 no_catalogue_bytes home = error_bytes (codes "No catalogue") home
 
--- the terms that a search string asks for; none where there is no string
+-- the terms of a search string; none if there is no string
 abbrev pub asked : Option (List ℕ) → List TermData
 asked None = []
 asked (Some text) = query_of text
 
--- how a search ended: with these hits, or without, where no version could be entered
+-- the reply to a search for these terms; `None` if the published version couldn't be entered
 abbrev pub search_reply : HomeData → List TermData → Option (List Hit) → List ℕ
 search_reply home [] outcome = no_words_bytes home
 search_reply home (term ∷ terms) None = no_catalogue_bytes home
@@ -51,7 +52,7 @@ reply_at files home None request outcome = request_reply files home request outc
 abbrev pub reply_of : List File → HomeData → List ℕ → Option (List Hit) → List ℕ
 reply_of files home line outcome = reply_at files home (request_fault line) (request_of line) outcome
 
--- the terms that a line asks the catalogue for; none where it is refused, is no search, or has no words
+-- the terms for which a request searches; none if it is invalid, is no search, or has no words
 abbrev pub terms_at : Option RequestFault → Request → List TermData
 terms_at (Some fault) request = []
 terms_at None request = if is_search request.selector then asked request.search else []
@@ -59,24 +60,25 @@ terms_at None request = if is_search request.selector then asked request.search 
 abbrev pub terms_of_line : List ℕ → List TermData
 terms_of_line line = terms_at (request_fault line) (request_of line)
 
--- a pass may have seen more, and be told of more; nothing that it knew is gone
+-- the records that a pass has seen and was told only become longer
 pub record SeesOn (old new : PassData) : Type 0 where
   pub seen : IsPrefix old.seen new.seen
   pub told : IsPrefix old.told new.told
 
--- the hits are the answer of one legal record, which begins with all that the pass had seen or was told of
-pub record Finds (old new : PassData) (terms : List TermData) (hits : List Hit) : Type 0 where
+-- the hits are the answer over one legal record, which begins with the records that the pass had
+-- seen and was told
+pub record FindsHits (old new : PassData) (terms : List TermData) (hits : List Hit) : Type 0 where
   pub legal : IsLegal new.seen
   pub hits_are : hits ≡ hits_of new.seen terms
   pub after_seen : IsPrefix old.seen new.seen
   pub after_told : IsPrefix old.told new.seen
   pub none_told : new.told ≡ new.seen
 
--- what a search leaves of its pass, by how it ended; a pass is asked nothing where there are no terms
+-- the pass before and after a search, by the outcome of the search; without terms there is none
 abbrev pub Searches : PassData → PassData → List TermData → Option (List Hit) → Type 0
 Searches old new [] outcome = new ≡ old
 Searches old new (term ∷ terms) None = SeesOn old new
-Searches old new (term ∷ terms) (Some hits) = Finds old new (term ∷ terms) hits
+Searches old new (term ∷ terms) (Some hits) = FindsHits old new (term ∷ terms) hits
 
 -- the reply to a search for these terms
 pub record AnswersTerms (home : HomeData) (old new : PassData) (terms : List TermData) (reply : List ℕ) : Type 0 where
@@ -90,7 +92,7 @@ pub record AnswersRequest (files : List File) (home : HomeData) (old new : PassD
   pub searched : Searches old new (terms_at None request) outcome
   pub reply_is : reply ≡ request_reply files home request outcome
 
--- the reply to a line, and what it leaves of the pass
+-- the reply to a line, and the pass before and after
 pub record AnswersLine (files : List File) (home : HomeData) (old new : PassData) (line reply : List ℕ) : Type 0 where
   pub outcome : Option (List Hit)
   pub searched : Searches old new (terms_of_line line) outcome

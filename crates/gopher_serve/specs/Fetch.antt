@@ -1,4 +1,4 @@
--- What a fetch sent and read, by how it ended.
+-- The bytes that a fetch sent and read, by how it ended.
 use Rattle.std.specs.Prelude.{◌≡◌, ℕ, ◌+◌, ◌<◌, ◌≤◌, ◌⊎◌, List, [], ◌∷◌, ◌++◌, length, take, Option}
 use Rattle.std.specs.Io.KnownBytes.{Appends, Consumes, IsAtEnd}
 use Rattle.gopher_item.specs.Place.{PlaceData}
@@ -8,7 +8,7 @@ use Rattle.gopher_text.specs.declared.fault.ReplyFault.TheVariants as reply_faul
 use Rattle.gopher_catalogue.specs.declared.event.Why.{Why}
 use Rattle.gopher_catalogue.specs.declared.event.Why.TheVariants.{Connect, Read, Write, TooLong, NoMemory}
 
--- what is sent for a place: its selector, and CR LF
+-- the request for a place: its selector and CR LF (RFC 1436, section 2)
 abbrev pub request_bytes : PlaceData → List ℕ
 request_bytes place = place.selector ++ 13 ∷ 10 ∷ []
 
@@ -18,35 +18,35 @@ why_of reply_fault.TooManyTurns = Read
 why_of reply_fault.ReplyTooLong = TooLong
 why_of reply_fault.NoMemory = NoMemory
 
--- the request was sent whole, and then these bytes were read. What a stream gives may depend on what was sent to it, so
--- the reading begins with the stream as the sending left it.
+-- the whole request was sent, and then these bytes were read; the bytes that a stream returns may
+-- depend on those sent to it, so the reading begins with the stream after the sending
 pub record SendsThenReads {S : Type 0} (contents remaining : S → Option (List ℕ)) (request : List ℕ) (old middle new : WatchedData S) (bytes : List ℕ) : Type 0 where
   pub sent : Appends (contents old.device) (contents middle.device) request
   pub read : Consumes (remaining middle.device) (remaining new.device) bytes
   pub counted : old.failures ≤ middle.failures
 
--- the bytes are all that the stream gave once the request was sent
+-- the bytes are all that the stream returned after the request
 pub record Fetches {S : Type 0} (contents remaining : S → Option (List ℕ)) (limit : ℕ) (request : List ℕ) (old new : WatchedData S) (bytes : List ℕ) : Type 0 where
   pub middle : WatchedData S
   pub talked : SendsThenReads contents remaining request old middle new bytes
   pub whole : IsAtEnd (remaining new.device)
   pub few : length bytes ≤ limit
 
--- a beginning of the request was sent, and then writes failed
+-- a prefix of the request was sent, and then a write failed
 pub record SendsPart {S : Type 0} (contents : S → Option (List ℕ)) (request : List ℕ) (old new : WatchedData S) : Type 0 where
   pub count : ℕ
   pub part : count < length request
   pub sent : Appends (contents old.device) (contents new.device) (take count request)
   pub failed : HasFailed old.failures new.failures
 
--- the request was sent, and these bytes of the reply were read, which is given up for the reason that `P` says
+-- the request was sent, these bytes of the reply were read, and then reading failed as `P` says
 pub record GivesUp {S : Type 0} (contents remaining : S → Option (List ℕ)) (request : List ℕ) (old new : WatchedData S) (P : WatchedData S → List ℕ → Type 0) : Type 0 where
   pub middle : WatchedData S
   pub bytes : List ℕ
   pub talked : SendsThenReads contents remaining request old middle new bytes
   pub reason : P middle bytes
 
--- why there is no reply, and what was sent and read then
+-- the reason why there is no reply, and the bytes that were sent and read
 abbrev pub FailsToFetch : {S : Type 0} → (S → Option (List ℕ)) → (S → Option (List ℕ)) → ℕ → List ℕ → WatchedData S → WatchedData S → Why → Type 0
 FailsToFetch contents remaining limit request old new Connect = ⊥
 FailsToFetch contents remaining limit request old new Write = SendsPart contents request old new

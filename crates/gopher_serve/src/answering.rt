@@ -14,15 +14,15 @@ use std::alloc::Global;
 /// Returns the reply of a server to a request line (RFC 1436, section 2). `line` is without its
 /// end.
 ///
-/// - The line is over 1,024 bytes (`MAX_LINE`), or its selector is over 255 bytes or contains a CR, LF or NUL:
-///   the error reply `Bad request`.
+/// - The line is over 1,024 bytes (`MAX_LINE`), or its selector is over 255 bytes or contains a CR,
+///   LF or NUL: the error reply `Bad request`.
 /// - The selector is `/search`: the hits as a menu. If the line has no search string, or one
 ///   without words, the error reply `No words`. If the published catalogue can't be entered (61),
 ///   the error reply `No catalogue`.
 /// - Any other selector: the reply of `Tree::reply`.
 ///
 /// The pass searches only if there are words to search for. It answers from a record that begins
-/// with everything that it had seen or was told of.
+/// with the records that it had seen and was told.
 ///
 /// # Errors
 ///
@@ -88,7 +88,8 @@ pub fn answer_kept<'a, C: Crew>(
     }
 }
 
-// The reply to such a request from replies that are kept, or a search that makes it.
+// The reply to a request whose line isn't too long, from replies that are kept, or a search that
+// makes it.
 fn answer_kept_request<'a, C: Crew>(
     alloc: Global,
     replies: &'a Replies,
@@ -114,7 +115,7 @@ fn is_search(selector: &[u8]) -> bool
     selector == b"/search".as_slice()
 }
 
-// The reply to a line that is refused.
+// The reply to an invalid line.
 fn bad_request(alloc: Global, home: &Home) -> Result<Vec<u8>, NoMemory>
     ensures { IfOk result (λ reply. reply.items ≡ bad_request_bytes home.now) }
 {

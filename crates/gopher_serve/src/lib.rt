@@ -1,10 +1,10 @@
 //! The replies of a server to request lines, from a tree and a pass, and the replies that it
 //! fetches from other servers.
 //!
-//! The program rests on one promise: `answer` and `answer_kept` return `reply_of` for the tree's
-//! files, the server's address, the line, and how its search ended. `answer_kept` may return a
-//! search that is to be done in steps; its bytes are decided when it begins. No socket appears
-//! here.
+//! The crates above use one contract: `answer` and `answer_kept` return `reply_of` for the tree's
+//! files, the server's address, the line, and the hits of its search (`specs/Answer.antt`).
+//! `answer_kept` may return a search that goes on in steps; its bytes are decided when it begins.
+//! No socket appears here.
 //!
 //! `NoMemory` (90) means out of memory. Calls that can't fail with it allocate nothing.
 #![tactic(auto)]

@@ -28,7 +28,8 @@ fn query_of(alloc: Global, search: &Option<ByteString>) -> Result<Option<Query>,
     }
 }
 
-/// Returns the reply to a search for a string of at most 1,024 bytes (`MAX_LINE`), if the line has one.
+/// Returns the reply to a search. `search` is the search string, if the line has one, of at most
+/// 1,024 bytes (`MAX_LINE`).
 pub fn search<C: Crew>(
     alloc: Global,
     home: &Home,
@@ -46,7 +47,7 @@ pub fn search<C: Crew>(
     }
 }
 
-/// Returns the same reply, or a search that makes it.
+/// Returns the reply that `search` returns, or a search that makes it.
 pub fn begin_search<'a, C: Crew>(
     alloc: Global,
     home: &Home,
@@ -91,7 +92,7 @@ fn look_up<C: Crew>(
     }
 }
 
-// The same reply, or a search that makes it.
+// The reply to a query, or a search that makes it.
 #[tactic(auto, using(crate::proofs::Searches::answers_hits, crate::proofs::Searches::answers_none))]
 fn begin_look_up<'a, C: Crew>(
     alloc: Global,

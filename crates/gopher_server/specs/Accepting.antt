@@ -7,8 +7,8 @@ use Rattle.gopher_server.specs.declared.accepting.AcceptFailure.TheVariants.{IsL
 abbrev pub is_short : ℕ → Bool
 is_short error = (((error == 12) || (error == 23)) || (error == 24)) || (error == 105)
 
--- EPERM, EINTR, ENONET, EPROTO, ENOPROTOOPT, EOPNOTSUPP, ENETDOWN, ENETUNREACH, ECONNABORTED, EHOSTDOWN,
--- EHOSTUNREACH
+-- EPERM, EINTR, ENONET, EPROTO, ENOPROTOOPT, EOPNOTSUPP, ENETDOWN, ENETUNREACH, ECONNABORTED,
+-- EHOSTDOWN, EHOSTUNREACH
 abbrev pub is_lost : ℕ → Bool
 is_lost error =
     ((((((((((error == 1) || (error == 4)) || (error == 64)) || (error == 71)) || (error == 92))

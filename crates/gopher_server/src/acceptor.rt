@@ -11,7 +11,7 @@ use std::sync::Arc;
 // For how many milliseconds a thread accepts nothing if descriptors or memory are short.
 const PAUSE: u64 = 100;
 
-// How a thread stands toward the listeners.
+// Whether a thread accepts connections, and if not, why.
 #[derive(Clone, Copy, PartialEq, Eq)]
 enum Accepting {
     // It accepts what waits.
@@ -99,7 +99,8 @@ impl Acceptor {
         Some(listener.accept())
     }
 
-    /// Accepts nothing for 100 ms, and wakes the other threads, which may have connections to close.
+    /// Accepts nothing for 100 ms, and wakes the other threads, which may have connections to
+    /// close.
     pub(crate) fn pause(&mut self, poll: &Poll, now: u64) {
         self.unwatch(poll);
         self.accepting = Accepting::Pauses(now.saturating_add(PAUSE));

@@ -38,7 +38,7 @@ pub(crate) struct Server<'a, A: Answers<'a> + Drop> {
     pub(crate) end: ThreadEnd,
 }
 
-// Tells on the error stream what failed, and what the system said.
+// Prints on the error stream what failed, and the system's error.
 fn tell(rt: &impl Eprint, what: &str, error: io::Error) {
     let _ = rt.eprint(what);
     let _ = rt.eprintln(error);
@@ -72,7 +72,7 @@ impl<'a, A: Answers<'a> + Drop> Server<'a, A> {
         }
     }
 
-    // Makes do after an accept that failed, and returns whether something was short.
+    // Handles the error of a failed accept. Returns whether descriptors or memory were short.
     fn meet_failure<R: Wait + Clock + Eprint>(
         &mut self,
         rt: &R,
@@ -142,7 +142,7 @@ impl<'a, A: Answers<'a> + Drop> Server<'a, A> {
         self.acceptor.is_ended() && self.connections.is_empty()
     }
 
-    // At which time there is something to do even if no event comes; none if there is none.
+    // The next time at which there is work without an event; `None` if there is no such time.
     fn next_time(&self) -> Option<u64> {
         match (self.acceptor.resumes_at(), self.deadlines.first()) {
             (Some(resume), Some(deadline)) => Some(resume.min(deadline)),
@@ -151,7 +151,7 @@ impl<'a, A: Answers<'a> + Drop> Server<'a, A> {
         }
     }
 
-    // How long it may wait for events; none if it may wait until one comes.
+    // How long it may wait for events; `None` if it may wait until one comes.
     fn poll_timeout(&self, clock: &impl Clock) -> Option<Duration> {
         if self.searching.first().is_some() {
             return Some(Duration::from_millis(0));

@@ -32,7 +32,7 @@ impl ThreadClock {
         Ok(ThreadClock { began })
     }
 
-    // The time since it began; none if the system's clock can't be read.
+    // The time since it began; zero if the system's clock can't be read.
     fn elapsed(&self, clock: &impl Clock) -> Duration {
         match Instant::now(clock) {
             Ok(now) => now.duration_since(self.began),

@@ -88,7 +88,7 @@ length-strip_last byte bytes = by (ends_with_byte byte bytes)
     by true = omega (arith, length-take (length bytes - 1) bytes)
     by false = omega arith
 
-length-without_end : (bytes : List ℕ) → length bytes ≤ length (without_end bytes) + 2
+pub length-without_end : (bytes : List ℕ) → length bytes ≤ length (without_end bytes) + 2
 length-without_end bytes = by (ends_with_byte 10 bytes)
   where
     by : (ends : Bool) → length bytes ≤ length (if ends then strip_last 13 (strip_last 10 bytes) else strip_last 10 bytes) + 2
@@ -100,7 +100,7 @@ both : (s t : Bool) → (s && t) ≡ true → (s ≡ true) × (t ≡ true)
 both true t e = (refl, e)
 both false t e = absurd (cc)
 
-unfed_end : (bytes : List ℕ) → has_feed bytes ≡ false → ends_with_byte 10 bytes ≡ false
+pub unfed_end : (bytes : List ℕ) → has_feed bytes ≡ false → ends_with_byte 10 bytes ≡ false
 unfed_end bytes unfed = by (ends_with_byte 10 bytes) refl
   where
     by : (ends : Bool) → ends_with_byte 10 bytes ≡ ends → ends ≡ false

@@ -6,8 +6,8 @@ use Rattle.std.specs.BTreeMap.{BTreeMap, is_at}
 use Rattle.std.specs.Cmp.Lexicographic.{pointwise, slice_cmp}
 use Rattle.std.specs.Map.{lookup}
 use Rattle.std.specs.declared.vec.Vec.{Vec}
-use Rattle.gopher_tree.specs.Files.{is_among, nodes, children}
-use Rattle.gopher_tree.specs.Index.{held_at, entry_of}
+use Rattle.gopher_tree.specs.Files.{is_path_among, nodes, children}
+use Rattle.gopher_tree.specs.Index.{held_at, path_entry}
 use Rattle.gopher_tree.specs.Tree.{IsTree}
 use Rattle.gopher_tree.specs.declared.tree.index.Entry.{Entry}
 use Rattle.gopher_tree.specs.declared.tree.index.Entry.TheVariants as entry
@@ -16,11 +16,11 @@ use Rattle.gopher_tree.specs.declared.tree.index.Entry.TheVariants as entry
 pub held_at-empty : {A : Type 0} (index : BTreeMap (Vec ℕ A) Entry) → index.entries ≡ [] → (q : List ℕ) → held_at index q ≡ None
 held_at-empty index empty q = ap (lookup (is_at (λ key. slice_cmp nat_cmp q key.items))) empty
 
-root_entry : (q : List ℕ) → cond (pointwise eqb q []) (Some (entry.Folder [])) None ≡ entry_of [] q
+root_entry : (q : List ℕ) → cond (pointwise eqb q []) (Some (entry.Folder [])) None ≡ path_entry [] q
 root_entry [] = refl
 root_entry (c ∷ q) = sym (ap (λ t. cond (t || false) (Some (entry.Folder (children [] (c ∷ q)))) None) (eqb-suc-zero (length q)))
 
-root_node : (q : List ℕ) → is_some (cond (pointwise eqb q []) (Some (entry.Folder [])) None) ≡ is_among (nodes []) q
+root_node : (q : List ℕ) → is_some (cond (pointwise eqb q []) (Some (entry.Folder [])) None) ≡ is_path_among (nodes []) q
 root_node [] = refl
 root_node (c ∷ q) = refl
 

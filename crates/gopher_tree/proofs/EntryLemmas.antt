@@ -10,7 +10,7 @@ use Rattle.gopher_tree.specs.Path.{rest_after, rest_below, is_below}
 use Rattle.gopher_tree.specs.Kind.{kind_of}
 use Rattle.gopher_tree.specs.Files.{File, Child, has_path, is_file, file_at, is_folder, child_of_rest, child_below, add_child, children}
 use Rattle.gopher_tree.specs.Fault.{is_twice}
-use Rattle.gopher_tree.specs.Index.{number_from, entry_by, entry_of, is_file_entry, children_at, with_child, folder_with, folders_after, entry_after}
+use Rattle.gopher_tree.specs.Index.{number_from, entry_by, path_entry, is_file_entry, children_at, with_child, folder_with, folders_after, entry_after}
 use Rattle.gopher_tree.specs.declared.tree.index.Entry.TheVariants as entry
 use Rattle.std.proofs.Math.Bool.{or-true, or-false}
 use Rattle.gopher_tree.proofs.FolderLemmas.{rest_after-short}
@@ -45,7 +45,7 @@ number_from-new n (g ∷ files) f q none h =
     let e : n + 1 + length files ≡ n + length (g ∷ files) = omega arith in
     ap (λ t. cond t (Some n) (number_from (n + 1) (files ++ f ∷ []) q)) parts.0 ∙ number_from-new (n + 1) files f q parts.1 h ∙ ap (λ k. Some k) e
 
-pub entry_of-some : (files : List File) (q : List ℕ) → is_some (entry_of files q) ≡ (is_file files q || is_folder files q)
+pub entry_of-some : (files : List File) (q : List ℕ) → is_some (path_entry files q) ≡ (is_file files q || is_folder files q)
 entry_of-some files q = by (number_from 0 files q) (number_from-some 0 files q)
   where
     folder : (t : Bool) → is_some (cond t (Some (entry.Folder (children files q))) None) ≡ t
@@ -81,7 +81,7 @@ no_child (g ∷ files) q h =
     let parts = or_parts (is_below q g.0) (list_any (λ f. is_below q f.0) files) h in
     ap (λ o. cons_option (child_of_rest (kind_of g.0 g.1) o) (filter_map (child_below q) files)) (none_of (rest_below q g.0) parts.0) ∙ no_child files q parts.1
 
-children_at-entry : (files : List File) (q : List ℕ) → is_file files q ≡ false → children_at (entry_of files q) ≡ children files q
+children_at-entry : (files : List File) (q : List ℕ) → is_file files q ≡ false → children_at (path_entry files q) ≡ children files q
 children_at-entry files q none = ap (λ o. children_at (entry_by files q o)) (number_from-none files q none) ∙ by (is_folder files q) refl
   where
     by : (t : Bool) → is_folder files q ≡ t → children_at (cond t (Some (entry.Folder (children files q))) None) ≡ children files q
@@ -111,7 +111,7 @@ entry_by-same files more q None folder names =
     ap (λ t. cond t (Some (entry.Folder (children files q))) None) folder ∙ ap (λ l. cond (is_folder more q) (Some (entry.Folder l)) None) names
 
 pub entry_of-push : (files : List File) (f : File) → is_twice files f.0 ≡ false → is_file files [] ≡ false
-    → (q : List ℕ) → entry_after (entry_of files q) (length files) (kind_of f.0 f.1) f.0 q ≡ entry_of (files ++ f ∷ []) q
+    → (q : List ℕ) → entry_after (path_entry files q) (length files) (kind_of f.0 f.1) f.0 q ≡ path_entry (files ++ f ∷ []) q
 entry_of-push files f once root q = by (pointwise eqb q f.0) refl
   where
     first : ((is_file files f.0 || is_folder files f.0) ≡ false) × (list_any (λ g. is_some (rest_after g.0 f.0)) files ≡ false)
@@ -120,7 +120,7 @@ entry_of-push files f once root q = by (pointwise eqb q f.0) refl
     fresh : is_file files f.0 ≡ false
     fresh = (or_parts (is_file files f.0) (is_folder files f.0) first.0).0
 
-    below : (b : Bool) → is_below q f.0 ≡ b → cond b (folder_with (entry_of files q) (child_below q f)) (entry_of files q) ≡ entry_by (files ++ f ∷ []) q (number_from 0 files q)
+    below : (b : Bool) → is_below q f.0 ≡ b → cond b (folder_with (path_entry files q) (child_below q f)) (path_entry files q) ≡ entry_by (files ++ f ∷ []) q (number_from 0 files q)
     below true e =
         let none : is_file files q ≡ false = no_folder_file files q f.0 e root first.1 in
         ap (λ names. Some (entry.Folder (with_child names (child_below q f)))) (children_at-entry files q none)
@@ -132,7 +132,7 @@ entry_of-push files f once root q = by (pointwise eqb q f.0) refl
         (sym (is_folder-push files f q ∙ ap (λ t. is_folder files q || t) e ∙ or-false (is_folder files q)))
         (sym (children-push files f q ∙ ap (λ o. with_child (children files q) (child_of_rest (kind_of f.0 f.1) o)) (none_of (rest_below q f.0) e)))
 
-    by : (t : Bool) → pointwise eqb q f.0 ≡ t → cond t (Some (entry.File (length files))) (folders_after (entry_of files q) (kind_of f.0 f.1) f.0 q) ≡ entry_of (files ++ f ∷ []) q
+    by : (t : Bool) → pointwise eqb q f.0 ≡ t → cond t (Some (entry.File (length files))) (folders_after (path_entry files q) (kind_of f.0 f.1) f.0 q) ≡ path_entry (files ++ f ∷ []) q
     by true e =
         let none : is_file files q ≡ false = subst (λ p. is_file files p ≡ false) (sym ((bytes_decides q f.0).0 e)) fresh in
         let count : length files ≡ 0 + length files = omega arith in
@@ -175,7 +175,7 @@ file_at-some (f ∷ files) q = by (has_path q f) (file_at-some files q)
 file_at-none : (files : List File) (q : List ℕ) → is_file files q ≡ false → file_at files q ≡ None
 file_at-none files q h = none_of _ (file_at-some files q ∙ h)
 
-pub entry_of-is_file : (files : List File) (q : List ℕ) → is_file_entry (entry_of files q) ≡ is_file files q
+pub entry_of-is_file : (files : List File) (q : List ℕ) → is_file_entry (path_entry files q) ≡ is_file files q
 entry_of-is_file files q = by (number_from 0 files q) (number_from-some 0 files q)
   where
     folder : (t : Bool) → is_file_entry (cond t (Some (entry.Folder (children files q))) None) ≡ false
@@ -216,7 +216,7 @@ entry_by-file files q k None e = by (is_folder files q) e
     by false h = absurd cc
 
 -- the entry of a file contains its number
-pub entry_of-file : (files : List File) (q : List ℕ) (k : ℕ) → entry_of files q ≡ Some (entry.File k) → (k < length files) × (slice_get files k ≡ file_at files q)
+pub entry_of-file : (files : List File) (q : List ℕ) (k : ℕ) → path_entry files q ≡ Some (entry.File k) → (k < length files) × (slice_get files k ≡ file_at files q)
 entry_of-file files q k e =
     let found = number_from-is 0 k files q (entry_by-file files q k (number_from 0 files q) e) in
     let same : k - 0 ≡ k = omega arith in
@@ -232,13 +232,13 @@ entry_by-folder files q names None e = let found = by (is_folder files q) refl e
     by false h e = absurd cc
 
 -- the entry of a folder contains its names
-pub entry_of-folder : (files : List File) (q : List ℕ) (names : List Child) → entry_of files q ≡ Some (entry.Folder names) → (file_at files q ≡ None) × (is_folder files q ≡ true) × (names ≡ children files q)
+pub entry_of-folder : (files : List File) (q : List ℕ) (names : List Child) → path_entry files q ≡ Some (entry.Folder names) → (file_at files q ≡ None) × (is_folder files q ≡ true) × (names ≡ children files q)
 entry_of-folder files q names e =
     let found = entry_by-folder files q names (number_from 0 files q) e in
     (file_at-none files q (sym (number_from-some 0 files q) ∙ found.0), found.1, found.2)
 
 -- without an entry, the path is neither a file nor a folder
-pub entry_of-none : (files : List File) (q : List ℕ) → entry_of files q ≡ None → (file_at files q ≡ None) × (is_folder files q ≡ false)
+pub entry_of-none : (files : List File) (q : List ℕ) → path_entry files q ≡ None → (file_at files q ≡ None) × (is_folder files q ≡ false)
 entry_of-none files q e =
     let neither = or_parts (is_file files q) (is_folder files q) (sym (entry_of-some files q) ∙ ap is_some e) in
     (file_at-none files q neither.0, neither.1)

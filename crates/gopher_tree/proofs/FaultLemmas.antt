@@ -6,9 +6,9 @@ use Rattle.std.proofs.lemmas.Bool.{or_parts, ltb-false}
 use Rattle.std.proofs.lemmas.List.Sums.{sum_by-append}
 use Rattle.gopher_tree.specs.Path.{names_of, first_name, is_search_name, has_bad_name}
 use Rattle.gopher_tree.specs.Kind.{kind_of}
-use Rattle.gopher_tree.specs.Files.{File, nodes, paths_of, add_path, is_among, total_bytes}
+use Rattle.gopher_tree.specs.Files.{File, nodes, paths_of, add_path, is_path_among, total_bytes}
 use Rattle.gopher_tree.specs.Index.{held_at, entry_after}
-use Rattle.gopher_tree.specs.Tree.{IsTree, Adds}
+use Rattle.gopher_tree.specs.Tree.{IsTree, AddsNodes}
 use Rattle.gopher_tree.specs.Fault.{path_fault, is_too_big, is_twice, menu_fault, or_fault, file_fault, fault_after, files_fault, first_fault, AddsFile, MakesTree}
 use Rattle.gopher_tree.specs.declared.fault.TreeFault.{TreeFault}
 use Rattle.gopher_tree.specs.declared.fault.TreeFault.TheVariants.{NoMemory}
@@ -63,7 +63,7 @@ pub few_nodes : (files : List File) (file : File) → is_too_big files file ≡ 
 few_nodes files file h = ltb-false 4096 _ (or_parts (ltb 16777216 (length file.1) || ltb 67108864 (total_bytes (files ++ file ∷ []))) _ h).1
 
 -- the nodes with those of a file without a fault are within the limit
-pub few_after : (files : List File) (file : File) (added : ℕ) → file_fault files file ≡ None → Adds files file.0 added → length (nodes files) + added ≤ 4096
+pub few_after : (files : List File) (file : File) (added : ℕ) → file_fault files file ≡ None → AddsNodes files file.0 added → length (nodes files) + added ≤ 4096
 few_after files file added none more =
     let few = few_nodes files file (good_of files file none).large in
     let counted = ap length (nodes-push files file) ∙ more in omega (arith, few, counted)
@@ -110,7 +110,7 @@ IsTree-push files file old new bytes count added none tree held more =
     record {
       index = record {
         entries = λ q. held q ∙ ap (λ e. entry_after e (length files) (kind_of file.0 file.1) file.0 q) (tree.index.entries q) ∙ entry_of-push files file good.once (tree.index.apart [] refl) q;
-        paths = λ q. ap is_some (held q) ∙ entry_after-some (held_at old q) (length files) (kind_of file.0 file.1) file.0 q (nodes files) good.some (tree.index.paths q) ∙ ap (λ l. is_among l q) (sym (nodes-push files file));
+        paths = λ q. ap is_some (held q) ∙ entry_after-some (held_at old q) (length files) (kind_of file.0 file.1) file.0 q (nodes files) good.some (tree.index.paths q) ∙ ap (λ l. is_path_among l q) (sym (nodes-push files file));
         apart = apart_push files file tree.index.apart good.once good.some;
       };
       bytes_is = bytes_is;

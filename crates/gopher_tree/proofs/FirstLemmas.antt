@@ -4,7 +4,7 @@ use Rattle.std.proofs.lemmas.Bool.{ltb-false}
 use Rattle.std.proofs.lemmas.List.{length-append}
 use Rattle.std.proofs.Math.Dec.{eqb-suc-zero}
 use Rattle.gopher_tree.specs.Path.{folders_within, folders_of}
-use Rattle.gopher_tree.specs.Files.{File, is_among, add_path, paths_of, nodes, total_bytes}
+use Rattle.gopher_tree.specs.Files.{File, is_path_among, add_path, paths_of, nodes, total_bytes}
 use Rattle.gopher_tree.specs.Fault.{path_fault, is_too_big, is_twice, menu_fault, twice_fault, or_fault, file_fault}
 use Rattle.gopher_tree.specs.declared.fault.TreeFault.{TreeFault}
 use Rattle.gopher_tree.specs.declared.fault.TreeFault.TheVariants.{TooBig, Twice}
@@ -13,7 +13,7 @@ use Rattle.gopher_tree.proofs.NodeLemmas.{nodes-push}
 
 few_added : (known paths : List (List ℕ)) → length (fold add_path known paths) ≤ length known + length paths
 few_added known [] = omega arith
-few_added known (path ∷ paths) = by (is_among known path) (few_added (add_path known path) paths)
+few_added known (path ∷ paths) = by (is_path_among known path) (few_added (add_path known path) paths)
   where
     by : (t : Bool) → length (fold add_path (cond t known (known ++ path ∷ [])) paths) ≤ length (cond t known (known ++ path ∷ [])) + length paths
         → length (fold add_path (cond t known (known ++ path ∷ [])) paths) ≤ length known + suc (length paths)

@@ -7,7 +7,7 @@ use Rattle.std.specs.declared.io.traits.Take.{Take}
 use Rattle.std.specs.Io.Take.{take_limit, take_inner, take_remaining}
 use Rattle.gopher_tree.specs.Files.{File}
 use Rattle.gopher_tree.specs.Fault.{path_fault, or_fault, file_fault, fault_after, files_fault, AddsFile}
-use Rattle.gopher_tree.specs.Load.{folder_fault, Stops, Lists, WalksTo, Loads, LoadsTo, IsUnreadable, RefusesFile}
+use Rattle.gopher_tree.specs.Load.{folder_fault, LoadStops, Lists, WalksTo, Loads, LoadsTo, IsUnreadable, RefusesFile}
 use Rattle.gopher_tree.specs.declared.fault.TreeFault.{TreeFault}
 use Rattle.gopher_tree.specs.declared.fault.TreeFault.TheVariants.{LongSelector, TooBig, NoMemory}
 use Rattle.gopher_tree.proofs.FaultLemmas.{or_fault-none, adds_refused}
@@ -45,13 +45,13 @@ walks_on listed first between path (Ok walk) lists walks = lists_more first betw
 walks_on listed first between path (Err fault) lists (files, more, stops) = (files, lists_more first between files lists more, stops)
 
 -- a walk that stops without listing one more file
-pub walks_none : {T : Type 0} (listed : T → List File) (first : List File) (path : List ℕ) (result : Result T TreeFault) (fault : TreeFault) → result ≡ Err fault → Stops first path fault → WalksTo listed first path result
+pub walks_none : {T : Type 0} (listed : T → List File) (first : List File) (path : List ℕ) (result : Result T TreeFault) (fault : TreeFault) → result ≡ Err fault → LoadStops first path fault → WalksTo listed first path result
 walks_none listed first path result fault is stops = subst (WalksTo listed first path) (sym is) (first, lists_none first, stops)
 
-pub stops_unreadable : (files : List File) (path : List ℕ) (number : ℕ) (fault : TreeFault) → number ≡ length files → IsUnreadable number fault → Stops files path fault
+pub stops_unreadable : (files : List File) (path : List ℕ) (number : ℕ) (fault : TreeFault) → number ≡ length files → IsUnreadable number fault → LoadStops files path fault
 stops_unreadable files path number fault same unreadable = (0, inr (inr (inr (subst (λ n. IsUnreadable n fault) same unreadable))))
 
-pub stops_memory : (files : List File) (path : List ℕ) (fault : TreeFault) → fault ≡ NoMemory → Stops files path fault
+pub stops_memory : (files : List File) (path : List ℕ) (fault : TreeFault) → fault ≡ NoMemory → LoadStops files path fault
 stops_memory files path fault is = (0, inr (inr (inr (inr is))))
 
 -- the folders among a number of nodes
@@ -63,7 +63,7 @@ pub path_refused : (files : List File) (nodes : ℕ) (path bytes : List ℕ) (nu
 path_refused files nodes path bytes number fault same is =
     inl (or_fault-some (path_fault (length files) path) _ fault (ap (λ n. path_fault n path) (sym same) ∙ is))
 
-pub stops_file : (files : List File) (nodes : ℕ) (path bytes : List ℕ) (fault : TreeFault) → length files < nodes → RefusesFile files nodes (path, bytes) fault → Stops files path fault
+pub stops_file : (files : List File) (nodes : ℕ) (path bytes : List ℕ) (fault : TreeFault) → length files < nodes → RefusesFile files nodes (path, bytes) fault → LoadStops files path fault
 stops_file files nodes path bytes fault more (inl is) = (0, inl (bytes, is))
 stops_file files nodes path bytes fault more (inr (inl many)) = let folders = folders_among files nodes more in (folders.0, inr (inr (inl (omega (arith, folders.1, many.0), many.1))))
 stops_file files nodes path bytes fault more (inr (inr memory)) = stops_memory files path fault memory.1
@@ -76,10 +76,10 @@ walks_file listed first nodes path bytes (Ok walk) lists more refused = lists_on
 walks_file listed first nodes path bytes (Err fault) lists more refused = (first, lists_none first, stops_file first nodes path bytes fault more refused)
 
 -- a folder with a fault
-pub stops_folder : (files : List File) (nodes : ℕ) (path : List ℕ) (fault : TreeFault) → length files < nodes → folder_fault (length files) nodes path ≡ Some fault → Stops files path fault
+pub stops_folder : (files : List File) (nodes : ℕ) (path : List ℕ) (fault : TreeFault) → length files < nodes → folder_fault (length files) nodes path ≡ Some fault → LoadStops files path fault
 stops_folder files nodes path fault more is = by (ltb 254 (length path)) (ltb 4095 nodes) refl refl is
   where
-    by : (t s : Bool) → ltb 254 (length path) ≡ t → ltb 4095 nodes ≡ s → cond t (Some (LongSelector (length files))) (cond s (Some (TooBig (length files))) None) ≡ Some fault → Stops files path fault
+    by : (t s : Bool) → ltb 254 (length path) ≡ t → ltb 4095 nodes ≡ s → cond t (Some (LongSelector (length files))) (cond s (Some (TooBig (length files))) None) ≡ Some fault → LoadStops files path fault
     by true s long many h = let e : fault ≡ LongSelector (length files) = cc in (0, inr (inl (ltb-true 254 (length path) long, e)))
     by false true long many h =
         let e : fault ≡ TooBig (length files) = cc in

@@ -13,7 +13,7 @@ use Rattle.std.proofs.lemmas.List.Splits.{slice_split-cons_yes, slice_split-cons
 use Rattle.gopher_tree.specs.Path.{names_of, first_name, is_menu_name, rest_after, rest_below, is_below}
 use Rattle.gopher_tree.specs.Kind.{kind_of}
 use Rattle.gopher_tree.specs.Files.{File, Child, has_path, is_file, is_folder, child_of, child_of_rest, child_below, add_child, children, AboveAreFolders}
-use Rattle.gopher_tree.specs.Index.{held_at, entry_by, entry_of, folder_at, folder_with, IsIndex, IsSettled, number_from}
+use Rattle.gopher_tree.specs.Index.{held_at, entry_by, path_entry, folder_at, folder_with, IsPathIndex, IsSettled, number_from}
 use Rattle.gopher_tree.specs.declared.tree.index.Entry.{Entry}
 use Rattle.gopher_tree.specs.declared.tree.index.Entry.TheVariants as entry
 use Rattle.gopher_tree.proofs.PathLemmas.{names_of-some}
@@ -225,11 +225,11 @@ children_again files folder q r apart some is below =
     (kind_found q name folder files [] (agrees files files folder q r apart is (rest_below-is q folder r below) (λ p h. h))
     (λ file. child_below-through q folder r file below) (any_of_folder files folder some is))
 
-entry_of-folder_is : (files : List File) (q : List ℕ) → is_file files q ≡ false → is_folder files q ≡ true → entry_of files q ≡ Some (entry.Folder (children files q))
+entry_of-folder_is : (files : List File) (q : List ℕ) → is_file files q ≡ false → is_folder files q ≡ true → path_entry files q ≡ Some (entry.Folder (children files q))
 entry_of-folder_is files q none is =
     ap (entry_by files q) (number_from-none files q none) ∙ ap (λ t. cond t (Some (entry.Folder (children files q))) None) is
 
-folder_at-is : (files : List File) (q : List ℕ) → is_some (folder_at (entry_of files q)) ≡ true → is_folder files q ≡ true
+folder_at-is : (files : List File) (q : List ℕ) → is_some (folder_at (path_entry files q)) ≡ true → is_folder files q ≡ true
 folder_at-is files q h = by (number_from 0 files q) h
   where
     folder : (t : Bool) → is_some (folder_at (cond t (Some (entry.Folder (children files q))) None)) ≡ true → t ≡ true
@@ -241,7 +241,7 @@ folder_at-is files q h = by (number_from 0 files q) h
     by None e = folder (is_folder files q) e
 
 -- the index of a list of files is settled
-pub settled : {A : Type 0} (files : List File) (index : BTreeMap (Vec ℕ A) Entry) (kind : ℕ) (path : List ℕ) → IsIndex files index → IsSettled index kind path
+pub settled : {A : Type 0} (files : List File) (index : BTreeMap (Vec ℕ A) Entry) (kind : ℕ) (path : List ℕ) → IsPathIndex files index → IsSettled index kind path
 settled files index kind path whole folder q some there leads above =
     let is : is_folder files folder ≡ true = folder_at-is files folder (ap (λ e. is_some (folder_at e)) (sym (whole.entries folder)) ∙ there) in
     let higher : is_folder files q ≡ true = folder_above files q folder is above in
@@ -259,7 +259,7 @@ settled files index kind path whole folder q some there leads above =
     long (c ∷ p) some h = h
 
 -- all paths above a file or a folder are folders
-pub above_node : {A : Type 0} (files : List File) (index : BTreeMap (Vec ℕ A) Entry) (path : List ℕ) → IsIndex files index → (is_file files path || is_folder files path) ≡ true → AboveAreFolders files path
+pub above_node : {A : Type 0} (files : List File) (index : BTreeMap (Vec ℕ A) Entry) (path : List ℕ) → IsPathIndex files index → (is_file files path || is_folder files path) ≡ true → AboveAreFolders files path
 above_node files index path whole node = record {
   known = λ q below. sym (whole.paths q) ∙ ap is_some (whole.entries q) ∙ entry_of-some files q ∙ ap (λ t. is_file files q || t) (node_above files q path node below) ∙ or-true (is_file files q);
   no_file = none_through files path whole.apart node;

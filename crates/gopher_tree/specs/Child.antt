@@ -1,4 +1,4 @@
--- A child of a folder as the code has it, with its name borrowed from a path.
+-- A child of a folder as a value of the program. Its name borrows from a path.
 use Rattle.std.specs.Prelude.{ℕ, List, Option}
 use Rattle.std.specs.Option.{option_map}
 use Rattle.std.specs.Borrow.{Bor}

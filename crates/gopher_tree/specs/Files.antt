@@ -56,11 +56,11 @@ abbrev pub children : List File → List ℕ → List Child
 children files folder = fold add_child [] (filter_map (child_below folder) files)
 
 -- distinct paths in the order of first mention
-abbrev pub is_among : List (List ℕ) → List ℕ → Bool
-is_among paths path = list_any (pointwise nat_eq path) paths
+abbrev pub is_path_among : List (List ℕ) → List ℕ → Bool
+is_path_among paths path = list_any (pointwise nat_eq path) paths
 
 abbrev pub add_path : List (List ℕ) → List ℕ → List (List ℕ)
-add_path paths path = if is_among paths path then paths else paths ++ path ∷ []
+add_path paths path = if is_path_among paths path then paths else paths ++ path ∷ []
 
 -- the root, the folders that a path leads through, and the path
 abbrev pub paths_of : List ℕ → List (List ℕ)
@@ -73,12 +73,12 @@ nodes files = fold add_path ([] ∷ []) (flat_map (λ file. paths_of file.0) fil
 -- the distinct nodes in byte order
 pub record AreNodes (files : List File) (paths : List (List ℕ)) : Type 0 where
   pub order : IsStrictlySortedBy (slice_cmp nat_cmp) paths
-  pub whole : (path : List ℕ) → is_among paths path ≡ is_among (nodes files) path
+  pub whole : (path : List ℕ) → is_path_among paths path ≡ is_path_among (nodes files) path
 
 abbrev pub total_bytes : List File → ℕ
 total_bytes files = sum_by (λ file. length file.1) files
 
 -- the folders above a path are among the nodes, and none of them is a file
 pub record AboveAreFolders (files : List File) (path : List ℕ) : Type 0 where
-  pub known : (folder : List ℕ) → is_below folder path ≡ true → is_among (nodes files) folder ≡ true
+  pub known : (folder : List ℕ) → is_below folder path ≡ true → is_path_among (nodes files) folder ≡ true
   pub no_file : leads_through_file files path ≡ false

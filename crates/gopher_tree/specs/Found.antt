@@ -13,11 +13,11 @@ abbrev pub file_data : {A B : Type 0} → Vec ℕ A × Vec ℕ B → File
 file_data file = (file.0.items, file.1.items)
 
 -- the file with the path, the folder at the path, or neither
-abbrev pub Finds : List File → List ℕ → Option Found → Type 0
-Finds files path (Some (found.File file)) = file_at files path ≡ Some file.now
-Finds files path (Some (found.Folder held)) =
+abbrev pub FindsPath : List File → List ℕ → Option Found → Type 0
+FindsPath files path (Some (found.File file)) = file_at files path ≡ Some file.now
+FindsPath files path (Some (found.Folder held)) =
     (file_at files path ≡ None) × (is_folder files path ≡ true) × (held.now ≡ children files path)
-Finds files path None = (file_at files path ≡ None) × (is_folder files path ≡ false)
+FindsPath files path None = (file_at files path ≡ None) × (is_folder files path ≡ false)
 
 -- the node is the file or the folder that a selector names
 abbrev pub Shows : Option Named → Option Node → Type 0

@@ -6,7 +6,7 @@ use Rattle.std.specs.Cmp.Lexicographic.{pointwise, slice_cmp}
 use Rattle.std.specs.BTreeMap.{BTreeMap, get_by}
 use Rattle.std.specs.declared.vec.Vec.{Vec}
 use Rattle.gopher_tree.specs.Path.{names_of, is_slash, rest_below, is_below}
-use Rattle.gopher_tree.specs.Files.{File, Child, has_path, is_file, is_folder, child_of, child_of_rest, add_child, children, nodes, is_among}
+use Rattle.gopher_tree.specs.Files.{File, Child, has_path, is_file, is_folder, child_of, child_of_rest, add_child, children, nodes, is_path_among}
 use Rattle.gopher_tree.specs.declared.tree.index.Entry.{Entry}
 use Rattle.gopher_tree.specs.declared.tree.index.Entry.TheVariants as entry
 
@@ -26,8 +26,8 @@ entry_by files path None =
     if is_folder files path then Some (entry.Folder (children files path)) else None
 
 -- the number of the file with the path or, without one, the folder at the path
-abbrev pub entry_of : List File → List ℕ → Option Entry
-entry_of files path = entry_by files path (number_from 0 files path)
+abbrev pub path_entry : List File → List ℕ → Option Entry
+path_entry files path = entry_by files path (number_from 0 files path)
 
 abbrev pub is_file_entry : Option Entry → Bool
 is_file_entry (Some (entry.File number)) = true
@@ -86,11 +86,11 @@ IsSettled index kind path =
 pub record IndexPaths {A : Type 0} (index : BTreeMap (Vec ℕ A) Entry)
     (paths : List (List ℕ)) : Type 0 where
   pub order : IsStrictlySortedBy (slice_cmp nat_cmp) paths
-  pub whole : (path : List ℕ) → is_among paths path ≡ is_some (held_at index path)
+  pub whole : (path : List ℕ) → is_path_among paths path ≡ is_some (held_at index path)
 
 -- the index contains the entry of each path, its paths are the nodes, and no folder is a file
-pub record IsIndex {A : Type 0} (files : List File)
+pub record IsPathIndex {A : Type 0} (files : List File)
     (index : BTreeMap (Vec ℕ A) Entry) : Type 0 where
-  pub entries : (path : List ℕ) → held_at index path ≡ entry_of files path
-  pub paths : (path : List ℕ) → is_some (held_at index path) ≡ is_among (nodes files) path
+  pub entries : (path : List ℕ) → held_at index path ≡ path_entry files path
+  pub paths : (path : List ℕ) → is_some (held_at index path) ≡ is_path_among (nodes files) path
   pub apart : (path : List ℕ) → is_folder files path ≡ true → is_file files path ≡ false

@@ -46,8 +46,8 @@ StopsAt files nodes path fault =
 
 -- a walk that listed these files stops at a path; its nodes are the root, the visited folders and
 -- these files
-abbrev pub Stops : List File → List ℕ → TreeFault → Type 0
-Stops files path fault = (folders : ℕ) × StopsAt files (1 + folders + length files) path fault
+abbrev pub LoadStops : List File → List ℕ → TreeFault → Type 0
+LoadStops files path fault = (folders : ℕ) × StopsAt files (1 + folders + length files) path fault
 
 -- a walk that had listed `before` lists these files, and the new ones have no fault
 abbrev pub Lists : List File → List File → Type 0
@@ -59,13 +59,13 @@ abbrev pub WalksTo : {T : Type 0} → (T → List File) → List File → List �
     → Type 0
 WalksTo listed before path (Ok walk) = Lists before (listed walk)
 WalksTo listed before path (Err fault) =
-    (files : List File) × Lists before files × Stops files path fault
+    (files : List File) × Lists before files × LoadStops files path fault
 
 -- loading a folder returns the tree of the files that the walk lists, or fails with the fault at
 -- which the walk stops, at this path
 abbrev pub LoadsTo : List ℕ → Result (List File) TreeFault → Type 0
 LoadsTo path (Ok files) = files_fault files ≡ None
-LoadsTo path (Err fault) = (files : List File) × (files_fault files ≡ None) × Stops files path fault
+LoadsTo path (Err fault) = (files : List File) × (files_fault files ≡ None) × LoadStops files path fault
 
 abbrev pub LoadsAt : Result (List File) LoadRefused → Type 0
 LoadsAt (Ok files) = files_fault files ≡ None

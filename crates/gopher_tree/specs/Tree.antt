@@ -3,19 +3,19 @@ use Rattle.std.specs.Prelude.{◌≡◌, ℕ, ◌+◌, ◌≤◌, List, length, 
 use Rattle.std.specs.BTreeMap.{BTreeMap}
 use Rattle.std.specs.declared.vec.Vec.{Vec}
 use Rattle.gopher_tree.specs.Files.{File, add_path, paths_of, nodes, total_bytes}
-use Rattle.gopher_tree.specs.Index.{IsIndex}
+use Rattle.gopher_tree.specs.Index.{IsPathIndex}
 use Rattle.gopher_tree.specs.declared.tree.index.Entry.{Entry}
 
 -- the index, the number of bytes and the number of nodes are those of the files, within the limits
 pub record IsTree {A : Type 0} (files : List File) (held : BTreeMap (Vec ℕ A) Entry)
     (bytes count : ℕ) : Type 0 where
-  pub index : IsIndex files held
+  pub index : IsPathIndex files held
   pub bytes_is : bytes ≡ total_bytes files
   pub count_is : count ≡ length (nodes files)
   pub few_bytes : bytes ≤ 67108864
   pub few_nodes : count ≤ 4096
 
 -- a path adds this many nodes to those of the files
-abbrev pub Adds : List File → List ℕ → ℕ → Type 0
-Adds files path count =
+abbrev pub AddsNodes : List File → List ℕ → ℕ → Type 0
+AddsNodes files path count =
     length (fold add_path (nodes files) (paths_of path)) ≡ length (nodes files) + count

@@ -1,4 +1,4 @@
--- A line of a menu file as the code has it, with its parts borrowed from the file.
+-- A line of a menu file as a value of the program. Its parts borrow from the file.
 use Rattle.std.specs.Prelude.{◌≡◌, ℕ, List, Option}
 use Rattle.std.specs.Option.{option_map}
 use Rattle.std.specs.Borrow.{Bor}
@@ -19,5 +19,5 @@ line_data line =
     }
 
 -- both are the same line, or neither is a line
-abbrev pub IsLine : Option WrittenLineData → Option WrittenLine → Type 0
-IsLine wanted line = option_map line_data line ≡ wanted
+abbrev pub IsWrittenLine : Option WrittenLineData → Option WrittenLine → Type 0
+IsWrittenLine wanted line = option_map line_data line ≡ wanted

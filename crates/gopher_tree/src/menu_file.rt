@@ -8,7 +8,7 @@ ghost use Rattle.gopher_item.specs.Special.{is_control};
 ghost use Rattle.gopher_item.specs.Menu.{fields_of};
 ghost use Rattle.gopher_item.specs.MenuLine.{menu_line_bytes, menu_bytes};
 ghost use Rattle.gopher_tree.specs.MenuFile.{is_item, written_item, line_of_fields, server_of, written_line, bad_line, written_menu, sent_line};
-ghost use Rattle.gopher_tree.specs.WrittenLine.{line_data, server_data, IsLine};
+ghost use Rattle.gopher_tree.specs.WrittenLine.{line_data, server_data, IsWrittenLine};
 
 use gopher_item::{
     Home, NoMemory, first_line, has_special, is_bad_type, is_host, is_selector, push_menu_line,
@@ -40,7 +40,7 @@ fn written_item<'a>(
     selector: &'a [u8],
     server: Option<(&'a [u8], u16)>,
 ) -> Option<WrittenLine<'a>>
-    ensures { IsLine (written_item kind display.now selector.now
+    ensures { IsWrittenLine (written_item kind display.now selector.now
         (server_data server.entry)) result }
 {
     if !is_item(kind, display, selector) {
@@ -69,7 +69,7 @@ fn server_of<'a>(host: &'a [u8], port: &[u8]) -> Option<(&'a [u8], u16)>
 
 // The line of a first field and the bytes after its TAB.
 fn line_of_fields<'a>(first: &'a [u8], rest: &'a [u8]) -> Option<WrittenLine<'a>>
-    ensures { IsLine (line_of_fields (first.now ∷ fields_of rest.now)) result }
+    ensures { IsWrittenLine (line_of_fields (first.now ∷ fields_of rest.now)) result }
 {
     let [kind, display @ ..] = first else {
         return None;
@@ -86,7 +86,7 @@ fn line_of_fields<'a>(first: &'a [u8], rest: &'a [u8]) -> Option<WrittenLine<'a>
 }
 
 fn written_line(line: &[u8]) -> Option<WrittenLine<'_>>
-    ensures { IsLine (written_line line.now) result }
+    ensures { IsWrittenLine (written_line line.now) result }
 {
     match split_once(TAB, line) {
         Some((first, rest)) => line_of_fields(first, rest),

@@ -2,12 +2,12 @@
 
 ghost use Rattle.std.specs.Prelude.{◌≡◌, ℕ, ◌+◌, ◌≤◌, ◌<◌, ◌++◌, ◌∷◌, ◌||◌, ◌&&◌, ◌==◌, not, [], None, Some, List, length, take, slice_index, if◌then◌else◌, map, fold, count_by, IfOk, IsTrue, MatchResult};
 ghost use Rattle.gopher_tree.specs.Path.{is_menu_path, is_slash, folders_of};
-ghost use Rattle.gopher_tree.specs.Files.{is_file, is_folder, leads_through_file, AboveAreFolders, children, add_path, nodes, is_among, AreNodes, total_bytes};
+ghost use Rattle.gopher_tree.specs.Files.{is_file, is_folder, leads_through_file, AboveAreFolders, children, add_path, nodes, is_path_among, AreNodes, total_bytes};
 ghost use Rattle.gopher_tree.specs.Fault.{is_too_big, is_twice, menu_fault, path_fault, file_fault, first_fault, AddsFile, MakesTree};
-ghost use Rattle.gopher_tree.specs.Tree.{Adds};
+ghost use Rattle.gopher_tree.specs.Tree.{AddsNodes};
 ghost use Rattle.std.specs.Option.{option_map};
 ghost use Rattle.gopher_tree.specs.Reply.{named, menu_file, folder_reply, tree_reply};
-ghost use Rattle.gopher_tree.specs.Found.{Finds, Shows, file_data};
+ghost use Rattle.gopher_tree.specs.Found.{FindsPath, Shows, file_data};
 
 pub(crate) mod child_line;
 pub(crate) mod children;
@@ -120,7 +120,7 @@ impl Tree {
     }
 
     pub(crate) fn found(&self, path: &[u8]) -> Option<Found<'_>>
-        ensures { Finds self.now path.now result }
+        ensures { FindsPath self.now path.now result }
     {
         match self.index.get(path)? {
             Entry::File(number) => Some(Found::File(&self.files[*number])),
@@ -136,7 +136,7 @@ impl Tree {
 
     // Whether the path is a file or a folder.
     fn has_node(&self, path: &[u8]) -> bool
-        ensures among { result ≡ is_among (nodes self.now) path.now }
+        ensures among { result ≡ is_path_among (nodes self.now) path.now }
         ensures either { result ≡ (is_file self.now path.now || is_folder self.now path.now) }
         ensures above { IsTrue result → AboveAreFolders self.now path.now }
     {
@@ -147,7 +147,7 @@ impl Tree {
     fn has_node_before(&self, path: &[u8], place: usize) -> bool
         requires { place < length path.now }
         ensures among { result
-            ≡ (is_slash path.now place && is_among (nodes self.now) (take place path.now)) }
+            ≡ (is_slash path.now place && is_path_among (nodes self.now) (take place path.now)) }
         ensures either { result ≡ (is_slash path.now place
             && (is_file self.now (take place path.now)
             || is_folder self.now (take place path.now))) }
@@ -183,7 +183,7 @@ impl Tree {
     // too.
     fn new_nodes(&self, path: &[u8]) -> usize
         requires { 0 < length path.now }
-        ensures count { Adds self.now path.now result }
+        ensures count { AddsNodes self.now path.now result }
         ensures bound { result ≤ length path.now }
     {
         if self.has_node(path) {
@@ -213,7 +213,7 @@ impl Tree {
     }
 
     fn is_too_big(&self, path: &[u8], bytes: &[u8], new_nodes: usize) -> bool
-        requires added { Adds self.now path.now new_nodes }
+        requires added { AddsNodes self.now path.now new_nodes }
         requires short { new_nodes ≤ 254 }
         ensures { result ≡ is_too_big self.now (path.now, bytes.now) }
     {
@@ -229,7 +229,7 @@ impl Tree {
     // The first fault of a file after these files, if its path alone has none.
     fn file_fault(&self, path: &[u8], bytes: &[u8], new_nodes: usize) -> Option<TreeFault>
         requires good { path_fault (length self.now) path.now ≡ None }
-        requires added { Adds self.now path.now new_nodes }
+        requires added { AddsNodes self.now path.now new_nodes }
         requires short { new_nodes ≤ 254 }
         ensures { result ≡ file_fault self.now (path.now, bytes.now) }
     {
@@ -255,7 +255,7 @@ impl Tree {
         new_nodes: usize,
     ) -> Result<Tree, NoMemory>
         requires good { file_fault self (path.items, bytes.items) ≡ None }
-        requires added { Adds self path.items new_nodes }
+        requires added { AddsNodes self path.items new_nodes }
         ensures { IfOk result (λ tree. tree ≡ self ++ (path.items, bytes.items) ∷ []) }
     {
         let mut tree = self;

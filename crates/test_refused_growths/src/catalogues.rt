@@ -7,8 +7,8 @@ use std::alloc::Global;
 
 const MOST_CLAIMS: u32 = 50;
 
-// A root with links that are twice there, its own, denied and foreign, and with forty texts, so that pages go into
-// segments.
+// A root with links that are twice there, its own, denied and foreign, and with forty texts, so
+// that pages go into segments.
 const ROOT: &[u8] = b"1Moon pages\t/moon\tH\t70\r\n0Sun and moon\t/sun.txt\th\t70\r\n\
 1Moon again\t/moon\th\t70\t+\r\n0Secret\t/private/x\th\t70\r\n0Elsewhere\t/x\tother.example\t70\r\n\
 iHello\tfake\t(NULL)\t0\r\n1Home\t\th\t70\r\n\
@@ -23,7 +23,8 @@ iHello\tfake\t(NULL)\t0\r\n1Home\t\th\t70\r\n\
 
 const SUN: &[u8] = b"The sun and the moon.\r\n..moon moon\r\n.\r\n";
 
-// The root and the texts, all with the word `moon`; and with the directory that isn't fetched, the places.
+// The root and the texts, all with the word `moon`; and with the directory that isn't fetched, the
+// places.
 const PAGES: usize = 42;
 
 const KNOWN: u32 = 43;
@@ -47,7 +48,7 @@ fn sizes(catalogue: &Catalogue) -> Sizes {
     (catalogue.record().len(), catalogue.status())
 }
 
-// Whether a catalogue is as it was: so many pages have the word that each page has.
+// Whether a catalogue is unchanged: its sizes, and the number of pages with the word of every page.
 fn is_as_before(catalogue: &Catalogue, query: &Query, before: Sizes, pages: usize) -> bool {
     match catalogue.search(query) {
         Ok(hits) => sizes(catalogue) == before && hits.len() == pages,
@@ -209,7 +210,8 @@ fn query(alloc: Global, text: &[u8]) -> Checked<Query> {
     }
 }
 
-// How many pages a search finds, and the score of the first; and in how many the word `moon` stands.
+// The number of pages that a search finds, the score of the first, and the number of pages that
+// contain the word `moon`.
 fn found_by(catalogue: &Catalogue, query: &Query) -> Option<(usize, u64, usize)> {
     let hits = catalogue.search(query).ok()?;
     let score = match hits.first() {

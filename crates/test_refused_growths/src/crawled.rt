@@ -23,7 +23,7 @@ impl Table for TwoFiles {
     }
 }
 
-// Whether a place fails otherwise than for want of memory.
+// Whether a place fails for a reason other than out of memory.
 fn has_other_failure(record: &[Event]) -> bool {
     for event in record {
         if matches!(event, Event::Failed(_, why) if *why != Why::NoMemory) {
@@ -47,8 +47,8 @@ fn is_whole(status: Status, failed: u32) -> bool {
     is_all && failed <= 1 && status == wanted
 }
 
-// Whether a pass answers from the whole record, with a claim and an outcome of each place, and finds each file that
-// didn't fail.
+// Whether a pass answers from the whole record, with a claim and an outcome of each place, and
+// finds each file that didn't fail.
 fn sees_all<C: Crew>(pass: &mut Pass<C>, query: &Query, known: u32, failed: u32) -> Checked<()> {
     let answer = searched(pass, query)?;
     let files = known.saturating_sub(1).saturating_sub(failed) as usize;
@@ -58,8 +58,8 @@ fn sees_all<C: Crew>(pass: &mut Pass<C>, query: &Query, known: u32, failed: u32)
     Ok(())
 }
 
-/// Crawls a root with two files by one worker. A refusal fails one place for want of memory, or stops the worker; or
-/// it keeps a version from being published for a while, and the crawl's end publishes all.
+/// Crawls a root with two files by one worker. A refused growth fails one place, or stops the
+/// worker, or delays a publication until the end of the crawl.
 pub fn check<C: Crew, R: Wait + AllocGlobal>(rt: &R, blank: Blank) -> Checked<()>
     requires name { blank.name ≡ C.name }
     requires parts { blank.parts ≡ C.parts }

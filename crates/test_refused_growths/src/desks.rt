@@ -121,7 +121,7 @@ fn is_docs(hits: &[Hit]) -> bool {
     }
 }
 
-// Whether a pass sees so many events, and the page from the third event on.
+// Whether a pass sees `at` events, and the page from the third event on.
 fn sees<C: Crew>(pass: &mut Pass<C>, query: &Query, at: u32) -> Checked<()> {
     let answer = searched(pass, query)?;
     if answer.at != at || is_docs(&answer.hits) != (at >= 3) {
@@ -148,7 +148,8 @@ fn noted<C: Crew>(note: Option<Note<C>>, at: u32) -> Checked<Note<C>> {
     }
 }
 
-// Hands in the page of the root. Without a note it isn't seen before the next claim, which gives one.
+// Hands in the page of the root. Without a note it isn't seen before the next claim, which gives
+// one.
 fn finds<C: Crew, R: Wait + AllocGlobal>(
     rt: &R,
     desk: &Desk<C, &R>,
@@ -185,7 +186,8 @@ fn work_at<C: Crew, R: Wait + AllocGlobal>(
     sees(second, &query, at)
 }
 
-/// Claims the root, hands in its page, and searches by two passes, of which the first hears the note.
+/// Claims the root, hands in its page, and searches by two passes, of which the first hears the
+/// note.
 pub fn check<C: Crew, R: Wait + AllocGlobal>(rt: &R, blank: Blank) -> Checked<()>
     requires name { blank.name ≡ C.name }
     requires parts { blank.parts ≡ C.parts }

@@ -1,8 +1,8 @@
-//! Calls that change or consume what they are given, of which one growth is refused. A refused call changes
-//! nothing, gives back what it was handed, and succeeds then.
+//! Calls that change or consume what they are given, of which one growth is refused. A refused call
+//! changes nothing, gives back what it was handed, and succeeds then.
 //!
-//! It writes the same whichever allocation is refused: tests/refusals.py refuses each in turn. It also shows the
-//! calls that only read what they are given, by the built program.
+//! It writes the same whichever allocation is refused: tests/refusals.py refuses each in turn. It
+//! also shows the calls that only read what they are given, by the built program.
 #![tactic(auto)]
 
 mod catalogues;

@@ -28,7 +28,7 @@ fn scope(alloc: Global, host: &[u8]) -> Option<Scope> {
     Some(Scope::new(allow, deny))
 }
 
-/// The scope of a host, but for what is private, in one of two tries.
+/// The scope of a host without its private part, made in one of two tries.
 pub fn scope_at_last(alloc: Global, host: &[u8]) -> Checked<Scope> {
     match scope(alloc, host) {
         Some(scope) => Ok(scope),

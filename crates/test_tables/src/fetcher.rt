@@ -53,7 +53,7 @@ impl<R, T: Table> Fetch<R> for Fetcher<T> {
     }
 }
 
-// A copy of a reply, where the limit is a worker's.
+// A copy of a reply, if `limit` is that of a worker and the reply isn't over it.
 fn copy(alloc: Global, reply: &[u8], limit: usize) -> Result<Vec<u8>, Why>
     ensures { IfOk result (λ copy. vec_len copy ≤ limit) }
 {

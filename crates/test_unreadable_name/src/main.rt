@@ -1,12 +1,12 @@
-//! Loads two folders beside each other, of which one has a name that is not UTF-8.
+//! Loads two folders, one of which contains a name that isn't UTF-8.
 //!
-//! A test's paths are text, so such a name can only stand among the files that a program is run on.
+//! A test's paths are text, so only the files on which a program is run can have such a name.
 #![tactic(auto)]
 
 use gopher_tree::{Tree, TreeFault};
 use std::io;
 
-// 0 where the folder was loaded, and else the number of the fault.
+// 0 if the folder was loaded, and otherwise the number of the fault.
 fn code_of(loaded: Result<Tree, TreeFault>) -> u8 {
     match loaded {
         Ok(_) => 0,

@@ -2,7 +2,7 @@ use Rattle.std.proofs.Common.{◌≡◌, length, sym, subst, ap, ◌∙◌, arit
 use Rattle.std.specs.Arc.{arc_value}
 use Rattle.gopher_item.specs.Special.{is_special}
 use Rattle.gopher_bytes.specs.Trim.{trim_spaces}
-use Rattle.gopher_item.specs.MenuLine.{StandsAt, joined}
+use Rattle.gopher_item.specs.MenuLine.{StandsAt, tabbed}
 use Rattle.gopher_item.proofs.FieldLemmas.{plain_parts, whole_field}
 use Rattle.gopher_bytes.proofs.Trims.{none_in_trim, trim_spaces-same_length, trim_spaces-trim_spaces}
 use Rattle.gopher_item.proofs.item.item_of_fields.Goals as goal
@@ -21,7 +21,7 @@ in_text-requires c =
         host_trimmed = trim_spaces-same_length host size;
         port = omega (arith, c.in-Some.ensures.bound);
       };
-      stands = subst (λ f. StandsAt (arc_value c.args.text.now) c.args.start (joined f c.args.selector.now host)) (whole_field first (omega arith)) c.requires.stands;
+      stands = subst (λ f. StandsAt (arc_value c.args.text.now) c.args.start (tabbed f c.args.selector.now host)) (whole_field first (omega arith)) c.requires.stands;
     }
 
 pub of_fields-requires : goal.of_fields-requires

@@ -3,7 +3,7 @@ use Rattle.std.proofs.lemmas.List.{take-map, drop-map, length-map}
 use Rattle.std.specs.Arc.{arc_value}
 use Rattle.gopher_page.specs.Page.{PageData}
 use Rattle.gopher_segment.specs.Segment.{SegmentData, pages_of}
-use Rattle.gopher_index.specs.Index.{IsRun, run_data, StandsIn}
+use Rattle.gopher_index.specs.Index.{IsIndexRun, run_data, IsSliceOf}
 use Rattle.gopher_index.proofs.SettlingLemmas.{counted_all, part_run, part_stands, loose_stands, pages_at_most}
 use Rattle.gopher_index.proofs.index.Index.untaken.Goals as goal
 
@@ -17,7 +17,7 @@ returns-in-Some c =
     let parts : map arc_value (take count (drop start c.deref-in-Some.result.now)) ≡ take count (drop start loose) =
     ap (λ l. map arc_value (take count (drop start l))) c.deref-in-Some.ensures.value ∙ sym (take-map arc_value count (drop start c.self.inside.loose.items)) ∙ ap (take count) (sym (drop-map arc_value start c.self.inside.loose.items)) in
     let is : c.in_ok-due.due ≡ run_data (c.self.inside.settled + start) [] (take count (drop start loose)) = c.in_ok-due.ensures ∙ ap (run_data (c.self.inside.settled + start) []) parts in
-    subst (StandsIn c.in_ok-due.due) c.self.view_is (subst (λ run. StandsIn run (pages_of segments ++ loose)) (sym is) (loose_stands segments loose c.self.inside.settled start count c.self.invariant.0 few))
+    subst (IsSliceOf c.in_ok-due.due) c.self.view_is (subst (λ run. IsSliceOf run (pages_of segments ++ loose)) (sym is) (loose_stands segments loose c.self.inside.settled start count c.self.invariant.0 few))
 
 pub of_segments-requires : goal.of_segments-requires
 of_segments-requires c =
@@ -31,8 +31,8 @@ of_segments-requires c =
     (pages_at_most segments loose c.self.inside.settled start count c.self.invariant.0) in
     let parts : map arc_value (take count (drop start c.deref-5.result.now)) ≡ take count (drop start segments) =
     ap (λ l. map arc_value (take count (drop start l))) c.deref-5.ensures.value ∙ sym (take-map arc_value count (drop start c.self.inside.segments.items)) ∙ ap (take count) (sym (drop-map arc_value start c.self.inside.segments.items)) in
-    subst (λ n. IsRun n (map arc_value (take count (drop start c.deref-5.result.now))) []) (sym first)
-    (subst (λ l. IsRun (length (pages_of (take start segments))) l []) (sym parts) (part_run segments loose c.self.inside.settled start count c.self.invariant.0))
+    subst (λ n. IsIndexRun n (map arc_value (take count (drop start c.deref-5.result.now))) []) (sym first)
+    (subst (λ l. IsIndexRun (length (pages_of (take start segments))) l []) (sym parts) (part_run segments loose c.self.inside.settled start count c.self.invariant.0))
 
 pub returns : goal.returns
 returns c =
@@ -47,4 +47,4 @@ returns c =
     let parts : map arc_value (take count (drop start c.deref-5.result.now)) ≡ take count (drop start segments) =
     ap (λ l. map arc_value (take count (drop start l))) c.deref-5.ensures.value ∙ sym (take-map arc_value count (drop start c.self.inside.segments.items)) ∙ ap (take count) (sym (drop-map arc_value start c.self.inside.segments.items)) in
     let is : c.in_ok-due-2.due ≡ run_data (length (pages_of (take start segments))) (take count (drop start segments)) [] = c.in_ok-due-2.ensures ∙ (λ i. run_data (first i) (parts i) []) in
-    subst (StandsIn c.in_ok-due-2.due) c.self.view_is (subst (λ run. StandsIn run (pages_of segments ++ loose)) (sym is) (part_stands segments loose c.self.inside.settled start count c.self.invariant.0))
+    subst (IsSliceOf c.in_ok-due-2.due) c.self.view_is (subst (λ run. IsSliceOf run (pages_of segments ++ loose)) (sym is) (part_stands segments loose c.self.inside.settled start count c.self.invariant.0))

@@ -1,7 +1,7 @@
 use Rattle.std.proofs.Common.{◌-◌, ◌≤◌, ◌++◌, length, map, take, drop, refl, sym, ap, subst, ◌∙◌, arith}
 use Rattle.std.specs.Arc.{arc_value}
 use Rattle.gopher_index.specs.Best.{answer_from, kept_hit}
-use Rattle.gopher_index.specs.Plan.{AreGroups}
+use Rattle.gopher_index.specs.Plan.{AreTermGroups}
 use Rattle.gopher_index.specs.Progress.{pages_done}
 use Rattle.gopher_index.proofs.Steps.{loose_taken}
 use Rattle.gopher_index.proofs.progress.Progress.rank_next_loose.Goals as goal
@@ -12,7 +12,7 @@ returns-clause-same c =
     let start = old.loose_done in
     let end = c.pages_end-end.result in
     let forward : start ≤ end = omega (arith, c.pages_end-end.ensures.forward) in
-    let are : AreGroups old.terms.items c.deref-4.result.now = subst (AreGroups old.terms.items) (sym c.deref-4.ensures.value) (c.requires.is.plan c.requires.planned).groups_are in
+    let are : AreTermGroups old.terms.items c.deref-4.result.now = subst (AreTermGroups old.terms.items) (sym c.deref-4.ensures.value) (c.requires.is.plan c.requires.planned).groups_are in
     record {
       is = record {
         query = c.requires.is.query;

@@ -1,6 +1,6 @@
 use Rattle.std.proofs.Common.{◌∷◌, sym, subst, arith}
 use Rattle.std.specs.Arc.{arc_value}
-use Rattle.gopher_item.specs.MenuLine.{IsMenuLine, StandsAt, joined}
+use Rattle.gopher_item.specs.MenuLine.{IsMenuLine, StandsAt, tabbed}
 use Rattle.gopher_item.proofs.MenuLines.{are_cuts, line_in-cuts_of, within}
 use Rattle.gopher_item.proofs.menu_line.MenuLine.in_text.Goals as goal
 
@@ -27,8 +27,8 @@ invariant_of-result c =
     let display = c.args.display.now in
     let selector = c.args.selector.now in
     let host = c.args.host.now in
-    let stands : StandsAt (arc_value c.in_ok-text.text) c.args.start (joined (c.args.kind ∷ display) selector host) =
-    subst (λ t. StandsAt t c.args.start (joined (c.args.kind ∷ display) selector host)) (sym c.in_ok-text.ensures) c.requires.stands in (
+    let stands : StandsAt (arc_value c.in_ok-text.text) c.args.start (tabbed (c.args.kind ∷ display) selector host) =
+    subst (λ t. StandsAt t c.args.start (tabbed (c.args.kind ∷ display) selector host)) (sym c.in_ok-text.ensures) c.requires.stands in (
       are_cuts c.args.kind c.args.start display selector host (arc_value c.in_ok-text.text) stands,
       subst IsMenuLine (sym (line_in-cuts_of c.args.kind c.args.port c.args.start display selector host (arc_value c.in_ok-text.text) stands)) c.requires.fields,
     )
@@ -38,6 +38,6 @@ returns c =
     let display = c.args.display.now in
     let selector = c.args.selector.now in
     let host = c.args.host.now in
-    let stands : StandsAt (arc_value c.in_ok-text.text) c.args.start (joined (c.args.kind ∷ display) selector host) =
-    subst (λ t. StandsAt t c.args.start (joined (c.args.kind ∷ display) selector host)) (sym c.in_ok-text.ensures) c.requires.stands in
+    let stands : StandsAt (arc_value c.in_ok-text.text) c.args.start (tabbed (c.args.kind ∷ display) selector host) =
+    subst (λ t. StandsAt t c.args.start (tabbed (c.args.kind ∷ display) selector host)) (sym c.in_ok-text.ensures) c.requires.stands in
     line_in-cuts_of c.args.kind c.args.port c.args.start display selector host (arc_value c.in_ok-text.text) stands

@@ -1,6 +1,6 @@
 use Rattle.std.proofs.Common.{◌≡◌, ◌+◌, ◌-◌, ◌*◌, ◌/◌, ◌%◌, ◌∙◌, [], ◌∷◌, ◌++◌, length, ap, arith}
 use Rattle.std.specs.Prelude.{vec_len}
-use Rattle.gopher_page.specs.Packed.{joined}
+use Rattle.gopher_page.specs.Packed.{joined_parts}
 use Rattle.gopher_page.proofs.Joining.{joined-low, joined-high}
 use Rattle.gopher_page.proofs.ends.Ends.push.Goals as goal
 
@@ -16,7 +16,7 @@ returns-in_ok-push-2 c =
     let whole : low + 65536 * high ≡ c.args.end = omega arith in
     rw (c.in_ok-push.ensures.items, c.in_ok-push-2.ensures.items)
     (joined-high 65536 lows highs room low high (c.len-index.result - vec_len c.self.inside.high) c.self.invariant full (rw (← size) c.in_ok-resize.ensures.items)
-    ∙ (λ i. joined 65536 lows highs ++ whole i ∷ [])
+    ∙ (λ i. joined_parts 65536 lows highs ++ whole i ∷ [])
     ∙ ap (λ l. l ++ c.args.end ∷ []) c.self.view_is)
 
 pub returns-else-end-ge65536 : goal.returns-else-end-ge65536
@@ -26,5 +26,5 @@ returns-else-end-ge65536 c =
     let small : c.args.end % 65536 ≡ c.args.end = omega (arith, c.if-end-ge65536.false) in
     rw (c.in_ok-push.ensures.items)
     (joined-low 65536 lows highs (c.args.end % 65536) c.self.invariant
-    ∙ (λ i. joined 65536 lows highs ++ small i ∷ [])
+    ∙ (λ i. joined_parts 65536 lows highs ++ small i ∷ [])
     ∙ ap (λ l. l ++ c.args.end ∷ []) c.self.view_is)

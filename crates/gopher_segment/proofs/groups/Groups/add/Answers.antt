@@ -3,7 +3,7 @@ use Rattle.std.proofs.lemmas.List.{get_or_past, get_or_default, append-nil}
 use Rattle.std.specs.Cmp.Lexicographic.{bytes_decides}
 use Rattle.gopher_page.specs.Numbered.{leading}
 use Rattle.gopher_segment.specs.Rows.{TellAlike}
-use Rattle.gopher_segment.specs.Groups.{slot_of_number, AreGroups, latest, words_of, LackWord, IsPlaced}
+use Rattle.gopher_segment.specs.Groups.{slot_of_number, AreWordGroups, latest, head_words, LackWord, IsPlaced}
 use Rattle.gopher_segment.proofs.GroupSteps.{list_more, behind_groups, behind_alike, alone_groups, alone_alike, none_behind}
 use Rattle.gopher_segment.proofs.groups.Groups.add.Goals as goal
 
@@ -15,16 +15,16 @@ invariant_of-self-then-is_of c =
     let word : List ℕ = c.behind-self-then-is_of.inside.word in
     let list : ℕ = c.behind-self-then-is_of.inside.list in
     let is : get_or heads at c.index_mut.result.now ≡ (word, list) = sym (c.behind-self-then-is_of.view_is ∙ c.index_mut.ensures.value) in
-    subst (λ n. AreGroups slots (slice_set heads at (word, n)) c.add_to_chains.new.chains) (sym c.len-list.ensures)
-    (subst (AreGroups slots (slice_set heads at (word, length c.self.inside.chains))) (sym c.in_ok-add_to_chains.ensures.added)
+    subst (λ n. AreWordGroups slots (slice_set heads at (word, n)) c.add_to_chains.new.chains) (sym c.len-list.ensures)
+    (subst (AreWordGroups slots (slice_set heads at (word, length c.self.inside.chains))) (sym c.in_ok-add_to_chains.ensures.added)
     (behind_groups slots heads c.self.inside.chains at list word c.index_mut.result.now c.self.invariant is (c.args.row.now.1 ++ get_or c.self.inside.chains c.behind-self.inside.list [])))
 
 pub invariant_of-self-in_err-push : goal.invariant_of-self-in_err-push
 invariant_of-self-in_err-push c =
     let heads : List (List ℕ × ℕ) = c.self.inside.heads.items in
     let slots : List ℕ = c.self.inside.slots.items in
-    subst (λ l. AreGroups slots l c.add_to_chains-2.new.chains) (sym c.in_err-push.ensures.items)
-    (subst (AreGroups slots heads) (sym c.in_ok-add_to_chains-2.ensures.added)
+    subst (λ l. AreWordGroups slots l c.add_to_chains-2.new.chains) (sym c.in_err-push.ensures.items)
+    (subst (AreWordGroups slots heads) (sym c.in_ok-add_to_chains-2.ensures.added)
     (list_more slots heads c.self.inside.chains (c.args.row.now.1 ++ get_or c.self.inside.chains 4294967295 []) c.self.invariant))
 
 pub invariant_of-self-2 : goal.invariant_of-self-2
@@ -39,10 +39,10 @@ invariant_of-self-2 c =
     let pushed : c.push.new.self.items ≡ heads ++ (word, length chains) ∷ [] =
     c.in_ok-push.ensures.items ∙ ap (λ h. heads ++ h ∷ []) (c.head.ensures ∙ ap (λ n. (word, n)) c.len-list.ensures)
     in
-    subst (λ n. AreGroups (slice_set slots n c.len-head.result) c.push.new.self.items c.add_to_chains-2.new.chains) (sym same_slot)
-    (subst (λ n. AreGroups (slice_set slots slot n) c.push.new.self.items c.add_to_chains-2.new.chains) (sym (c.len-head.ensures ∙ c.self.inside.heads.ok.0))
-    (subst (λ l. AreGroups (slice_set slots slot (length heads)) l c.add_to_chains-2.new.chains) (sym pushed)
-    (subst (AreGroups (slice_set slots slot (length heads)) (heads ++ (word, length chains) ∷ [])) (sym c.in_ok-add_to_chains-2.ensures.added)
+    subst (λ n. AreWordGroups (slice_set slots n c.len-head.result) c.push.new.self.items c.add_to_chains-2.new.chains) (sym same_slot)
+    (subst (λ n. AreWordGroups (slice_set slots slot n) c.push.new.self.items c.add_to_chains-2.new.chains) (sym (c.len-head.ensures ∙ c.self.inside.heads.ok.0))
+    (subst (λ l. AreWordGroups (slice_set slots slot (length heads)) l c.add_to_chains-2.new.chains) (sym pushed)
+    (subst (AreWordGroups (slice_set slots slot (length heads)) (heads ++ (word, length chains) ∷ [])) (sym c.in_ok-add_to_chains-2.ensures.added)
     (alone_groups slots heads chains word c.self.invariant postings))))
 
 pub returns : goal.returns
@@ -83,11 +83,11 @@ returns-then-is_of c = λ rows alike.
     in
     let slot : ℕ = c.slot_of-slot.result in
     let inside : slot < length slots = omega (arith, c.slot_of-slot.ensures.within, c.self.invariant.size) in
-    let placed : (at ≡ 2 ^ 32 - 1) ⊎ IsPlaced (words_of heads) slot at =
-    subst (λ n. (n ≡ 2 ^ 32 - 1) ⊎ IsPlaced (words_of heads) slot n) (sym (c.index.ensures ∙ get_or_default slots slot at 0 inside))
+    let placed : (at ≡ 2 ^ 32 - 1) ⊎ IsPlaced (head_words heads) slot at =
+    subst (λ n. (n ≡ 2 ^ 32 - 1) ⊎ IsPlaced (head_words heads) slot n) (sym (c.index.ensures ∙ get_or_default slots slot at 0 inside))
     (c.self.invariant.placed slot c.slot_of-slot.ensures.within)
     in
-    let lack : LackWord word (words_of (drop (at + 1) heads)) = none_behind heads slot at word list d within few is placed in
+    let lack : LackWord word (head_words (drop (at + 1) heads)) = none_behind heads slot at word list d within few is placed in
     subst (λ (h : List ℕ × ℕ). TellAlike (c.args.row.now ∷ rows) (latest c.add_to_chains.new.chains (slice_set heads at (h.0, c.len-list.result)))) (sym again)
     (subst (λ n. TellAlike (c.args.row.now ∷ rows) (latest c.add_to_chains.new.chains (slice_set heads at (word, n)))) (sym c.len-list.ensures)
     (subst (λ l. TellAlike (c.args.row.now ∷ rows) (latest l (slice_set heads at (word, length chains)))) (sym c.in_ok-add_to_chains.ensures.added)

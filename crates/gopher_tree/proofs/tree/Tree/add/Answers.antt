@@ -3,7 +3,7 @@ use Rattle.gopher_tree.specs.Kind.{kind_of}
 use Rattle.gopher_tree.specs.Files.{nodes}
 use Rattle.gopher_tree.specs.Fault.{file_fault}
 use Rattle.gopher_tree.specs.Index.{held_at, entry_after}
-use Rattle.gopher_tree.specs.Tree.{IsTree, Adds}
+use Rattle.gopher_tree.specs.Tree.{IsTree, AddsNodes}
 use Rattle.gopher_tree.proofs.FaultLemmas.{IsTree-push, few_after}
 use Rattle.gopher_tree.proofs.SettledLemmas.{settled}
 use Rattle.gopher_tree.proofs.tree.Tree.add.Goals as goal
@@ -37,7 +37,7 @@ invariant_of-tree c =
     ∙ ap (λ k. entry_after (held_at old q) k c.kind.result c.path.result.now q) len_is
     ∙ ap (λ k. entry_after (held_at old q) (length files) k c.path.result.now q) kind_is
     ∙ ap (λ p. entry_after (held_at old q) (length files) (kind_of path bytes) p q) path_is in
-    let more : Adds files path c.args.new_nodes = subst (λ l. Adds l path c.args.new_nodes) (sym c.tree.view_is) c.requires.added in
+    let more : AddsNodes files path c.args.new_nodes = subst (λ l. AddsNodes l path c.args.new_nodes) (sym c.tree.view_is) c.requires.added in
     subst (λ l. IsTree l new (c.tree.inside.bytes + length c.bytes.result.now) count) (sym items)
     (subst (λ bs. IsTree (files ++ (path, bytes) ∷ []) new (c.tree.inside.bytes + length bs) count) (sym bytes_is)
     (IsTree-push files (path, bytes) old new c.tree.inside.bytes c.tree.inside.nodes c.args.new_nodes none c.tree.invariant held more))

@@ -1,7 +1,7 @@
 use Rattle.std.proofs.Common.{◌≡◌, true, false, None, Some, length, sym, ap, subst, ◌∙◌, arith}
 use Rattle.std.proofs.lemmas.Option.{slice_get_read}
 use Rattle.gopher_tree.specs.Files.{file_at, is_folder, children}
-use Rattle.gopher_tree.specs.Found.{Finds}
+use Rattle.gopher_tree.specs.Found.{FindsPath}
 use Rattle.gopher_tree.proofs.EntryLemmas.{entry_of-file, entry_of-folder, entry_of-none}
 use Rattle.gopher_tree.proofs.tree.Tree.found.Goals as goal
 
@@ -10,7 +10,7 @@ returns-in_err-number c =
     let path = c.args.path.now in
     let none = entry_of-none c.self.inside.files.items path (sym (c.self.invariant.index.entries path) ∙ sym c.in_err-number.ensures.value) in
     let seen : (file_at c.args.self.now path ≡ None) × (is_folder c.args.self.now path ≡ false) = subst (λ files. (file_at files path ≡ None) × (is_folder files path ≡ false)) c.self.view_is none in
-    subst (Finds c.args.self.now path) (sym c.from_residual.ensures) seen
+    subst (FindsPath c.args.self.now path) (sym c.from_residual.ensures) seen
 
 pub index-requires : goal.index-requires
 index-requires c =

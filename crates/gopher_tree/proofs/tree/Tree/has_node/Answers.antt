@@ -1,11 +1,11 @@
 use Rattle.std.proofs.Common.{◌≡◌, true, ◌||◌, is_some, sym, ap, subst, ◌∙◌}
-use Rattle.gopher_tree.specs.Files.{nodes, is_among, is_file, is_folder, AboveAreFolders}
+use Rattle.gopher_tree.specs.Files.{nodes, is_path_among, is_file, is_folder, AboveAreFolders}
 use Rattle.gopher_tree.proofs.EntryLemmas.{entry_of-some}
 use Rattle.gopher_tree.proofs.SettledLemmas.{above_node}
 use Rattle.gopher_tree.proofs.tree.Tree.has_node.Goals as goal
 
 pub returns-clause-among : goal.returns-clause-among
-returns-clause-among c = c.contains_key.ensures ∙ c.self.invariant.index.paths c.args.path.now ∙ ap (λ files. is_among (nodes files) c.args.path.now) c.self.view_is
+returns-clause-among c = c.contains_key.ensures ∙ c.self.invariant.index.paths c.args.path.now ∙ ap (λ files. is_path_among (nodes files) c.args.path.now) c.self.view_is
 
 pub returns-clause-either : goal.returns-clause-either
 returns-clause-either c =

@@ -1,6 +1,6 @@
 use Rattle.std.proofs.Common.{◌≡◌, ℕ, ◌+◌, ◌-◌, ◌<◌, eqb, [], ◌∷◌, length, fold, get_or, take, arith, sym, ap, ◌∙◌}
 use Rattle.gopher_tree.specs.Path.{folders_within}
-use Rattle.gopher_tree.specs.Files.{add_path, nodes, is_among}
+use Rattle.gopher_tree.specs.Files.{add_path, nodes, is_path_among}
 use Rattle.gopher_tree.proofs.FolderLemmas.{both_true}
 use Rattle.gopher_tree.proofs.NodeLemmas.{count_root, count_there, count_missing}
 use Rattle.gopher_tree.proofs.tree.Tree.new_folders.Goals as goal
@@ -28,7 +28,7 @@ returns-then-has_node_before-clause-count c =
     let next : c.loop-place.place ≡ place + 1 = omega arith in
     let low : place < length path = omega (arith, c.loop-place.invariant.within) in
     let counted = c.loop-place.invariant.counted ∙ ap (λ n. length (fold add_path known ([] ∷ folders_within n path)) + c.loop-place.count) next in
-    let both = both_true (eqb (get_or path place 0) 47) (is_among known (take place path)) (sym c.has_node_before.ensures.among ∙ c.if-has_node_before.true) in
+    let both = both_true (eqb (get_or path place 0) 47) (is_path_among known (take place path)) (sym c.has_node_before.ensures.among ∙ c.if-has_node_before.true) in
     counted ∙ ap (λ n. n + c.loop-place.count) (count_there known path place (omega arith) low both.1 (c.has_node_before.ensures.above c.if-has_node_before.true).known)
 
 pub returns-clause-count : goal.returns-clause-count
