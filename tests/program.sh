@@ -42,6 +42,10 @@ shown() {
   "$program" "$@" > "$folder/written" 2> "$folder/told" < /dev/null && [ -s "$folder/written" ] && [ ! -s "$folder/told" ]
 }
 
+named() {
+  [[ $("$program" --version < /dev/null) == "hole "* ]]
+}
+
 too_long() {
   local code=0
   head -c 1048577 /dev/zero | tr '\0' '#' | "$program" replay > "$folder/written" 2> "$folder/told" || code=$?
@@ -65,6 +69,7 @@ count refused serve s.toml --requests 1000001
 count refused serve s.toml --log
 count shown --help
 count shown --version
+count named
 count shown serve --help
 count as_wanted 'start\t2\t0\nstart\t2\t6\nstart\t0\t0\n' 0 'refused 54\nrefused 54\nrefused 51\n' '' replay
 count as_wanted 'seed\t1\th\t70\t\nstart\t2\nallow\th\t70\t\nstart\t0\nstart\t2\nclaim\nfail\t0\t6\n' \
