@@ -18,8 +18,9 @@ isn't proved again. An edit counts as refused only if its own function
 lacks the proof of a goal: not if the function only calls a refused one or passes an impl that has one, and not if a proof
 file only names what the edit took away. What isn't refused in company is tried alone, with no blank body: 'NOT REFUSED' is
 then said of a function that is proved, and 'NOT PROVED, BY NAMES ALONE' of one whose proof file no longer fits, which shows
-nothing either way. A table tells for each crate its edits, the checks that they took and the seconds of the processors. The
-last line is 'N passed, M failed'; the status is 1 if any failed.
+nothing either way. Each of these lines is printed as its check ends, and a line for each check goes to the standard error. A
+table tells for each crate its edits, the checks that they took and the seconds of the processors. The last line is
+'N passed, M failed'; the status is 1 if any failed.
 """
 import os
 import pathlib
@@ -28,6 +29,7 @@ import shutil
 import subprocess
 import sys
 import tempfile
+import threading
 from concurrent.futures import ThreadPoolExecutor
 
 from functions import blank, is_in_cycle, names_in, pieces, twin_of, without_tactic
@@ -35,6 +37,7 @@ from functions import blank, is_in_cycle, names_in, pieces, twin_of, without_tac
 ROOT = pathlib.Path(os.environ.get("ROOT") or pathlib.Path(__file__).resolve().parent.parent)
 MEMORY_OF_A_CHECK = 3 << 20  # KiB
 SECONDS = {}  # of the processors, that each check of a crate took
+PRINTING = threading.Lock()
 CLAUSE = re.compile(r"(?m)^ *(?:ensures|requires|ghost)\b.*$")
 OWN_PROOFS = ("Answers", "Invariants", "Proof")
 NAMES_ALONE = re.compile(r"is not in scope|has no field|has no `|is no name|was not admitted|were not checked|: module `|\(nearest: ")
@@ -134,6 +137,12 @@ def libraries_below():
     named = {name.split()[0]: below.split() for name, _, below in lines if name.strip()}
     every = lambda name: dict.fromkeys(it for low in named[name] if low in named for it in [*every(low), low])
     return {name: list(every(name)) for name in named}
+
+
+def tell(lines, to):
+    """Prints whole lines at once, since crates are tried side by side."""
+    with PRINTING:
+        print("".join(f"{line}\n" for line in lines), end="", file=to, flush=True)
 
 
 def run(words, folder):
@@ -264,20 +273,33 @@ def try_group(edits, folder, is_alone):
     return {edit: (function in lacks, lacks.get(function) or why(function)) for function, edit in found.items()}
 
 
-def try_crate(edits, built):
-    """Tries the edits of a crate in groups, and alone those that weren't refused in company. The checks follow one another
-    in one copy, so that each begins with the lemmas that those before it proved."""
-    crate, tried = edits[0].crate, {}
+def results_of(edits, built):
+    """What became of some edits of a crate, check by check. They are tried in groups, and alone those that weren't refused in
+    company. The checks follow one another in one copy, so that each begins with the lemmas that those before it proved."""
     lacking_library = [why for why in (library.exception() for library in built) if why]
     if lacking_library:
-        return {edit: (False, f"NOT TRIED: {lacking_library[0]}") for edit in edits}
-    built = [library.result() for library in built]
+        yield {edit: (False, f"NOT TRIED: {lacking_library[0]}") for edit in edits}
+        return
+    built, again = [library.result() for library in built], []
     with tempfile.TemporaryDirectory(prefix="wrong-bodies-") as room:
-        folder = copy_of(crate, built, pathlib.Path(room))
+        folder = copy_of(edits[0].crate, built, pathlib.Path(room))
         for group in groups_of(edits):
-            tried |= try_group(group, folder, is_alone=False)
-        for edit in [edit for edit, (is_refused, _) in tried.items() if not is_refused]:
-            tried |= try_group([edit], folder, is_alone=True)
+            tried = try_group(group, folder, is_alone=False)
+            again += [edit for edit, (is_refused, _) in tried.items() if not is_refused]
+            yield {edit: result for edit, result in tried.items() if result[0]}
+        for edit in again:
+            yield try_group([edit], folder, is_alone=True)
+
+
+def try_crate(edits, built, are_reasons_told):
+    """Tries the edits of a crate, and prints what each check showed."""
+    tried, crate = {}, edits[0].crate
+    for result in results_of(edits, built):
+        tried |= result
+        told = [f"{edit}: {why}" for edit, (is_refused, why) in result.items() if are_reasons_told or not is_refused]
+        tell(told, sys.stdout)
+        if took := SECONDS.get(crate):
+            tell([f"{crate}: {len(tried)} of {len(edits)} tried, check {len(took)} took {took[-1]:.0f} s"], sys.stderr)
     return tried
 
 
@@ -319,7 +341,7 @@ def lanes():
     return max(1, min(len(os.sched_getaffinity(0)), int(free[1]) // MEMORY_OF_A_CHECK))
 
 
-def try_all(edits, below, is_built):
+def try_all(edits, below, is_built, are_reasons_told):
     """Tries the edits of several crates at once, the most edits first if the libraries are built.
 
     Else these are built meanwhile, one after another. A crate waits for those that it stands on, and for its own if that is
@@ -332,7 +354,7 @@ def try_all(edits, below, is_built):
     with ThreadPoolExecutor(1) as builder, ThreadPoolExecutor(lanes()) as pool:
         libraries = {crate: builder.submit(build, crate) for crate in order}
         of_crate = lambda crate: [edit for edit in edits if edit.crate == crate]
-        attempt = lambda crate: try_crate(of_crate(crate), [libraries[low] for low in awaited[crate]])
+        attempt = lambda crate: try_crate(of_crate(crate), [libraries[low] for low in awaited[crate]], are_reasons_told)
         for result in pool.map(attempt, crates):
             tried |= result
     return tried
@@ -351,15 +373,14 @@ def main(words):
         print(__doc__)
         return 0 if unknown[0] in ("-h", "--help") else 2
     below = libraries_below()
-    edits, failed = read_edits([word for word in words if not word.startswith("--")])
+    edits, bad = read_edits([word for word in words if not word.startswith("--")])
     if "--after-ci" in words:
         mark_left()
-    tried = try_all(edits, below, "--after-ci" in words)
-    refused = [f"{edit}: {why}" for edit, (is_refused, why) in tried.items() if is_refused]
-    failed += [f"{edit}: {why}" for edit, (is_refused, why) in tried.items() if not is_refused]
-    for line in [*(refused if "--reasons" in words else []), *failed]:
-        print(line)
-    print(*table(edits), f"{len(refused)} passed, {len(failed)} failed", sep="\n")
+    tell(bad, sys.stdout)
+    tried = try_all(edits, below, "--after-ci" in words, "--reasons" in words)
+    refused = sum(is_refused for is_refused, _ in tried.values())
+    failed = len(bad) + len(tried) - refused
+    tell([*table(edits), f"{refused} passed, {failed} failed"], sys.stdout)
     return 1 if failed or not refused else 0
 
 
