@@ -8,7 +8,7 @@ use Rattle.gopher_scope.specs.Rule.{RuleData}
 use Rattle.gopher_scope.specs.Scope.{ScopeData}
 use Rattle.gopher_page.specs.Page.{PageData, page_of}
 use Rattle.gopher_page.specs.Query.{TermData, query_of}
-use Rattle.gopher_index.specs.Answer.{command_answer as hits_found, occurrences_of}
+use Rattle.gopher_index.specs.Answer.{answer_of as hits_found, occurrences_of}
 use Rattle.gopher_catalogue.specs.Pages.{pages_found}
 use Rattle.gopher_catalogue.specs.Opening.{OpeningData}
 use Rattle.gopher_catalogue.specs.declared.event.EventData.{EventData}
