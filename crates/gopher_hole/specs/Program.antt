@@ -1,5 +1,5 @@
 -- The program: its arguments, its exit status and its error stream.
-use Rattle.std.specs.Prelude.{◌≡◌, ℕ, ◌⊎◌, Bool, true, false, List, [], ◌∷◌, codes, nat_eq, Option, None, Some, Result, Ok, Err, if◌then◌else◌}
+use Rattle.std.specs.Prelude.{◌≡◌, ℕ, ◌⊎◌, Bool, true, false, List, [], ◌∷◌, codes, nat_eq, Option, Result, Ok, Err}
 use Rattle.std.specs.Cmp.Lexicographic.{pointwise}
 use Rattle.std.specs.Io.KnownBytes.{Appends}
 use Rattle.gopher_text.specs.Watched.{HasFailed}
@@ -7,15 +7,15 @@ use Rattle.gopher_script.specs.Replay.{AppendsPart}
 use Rattle.gopher_script.specs.declared.fault.ReplayFault.{ReplayFault}
 use Rattle.gopher_hole.specs.Fault.{fault_line}
 use Rattle.gopher_hole.specs.declared.fault.ProgramFault.{ProgramFault}
-use Rattle.gopher_hole.specs.declared.fault.ProgramFault.TheVariants.{Replay, ListenFailed, NoThread, NoMemory}
+use Rattle.gopher_hole.specs.declared.fault.ProgramFault.TheVariants.{Replay}
 
 -- the only argument is `replay`
 abbrev pub asks_replay : List (List ℕ) → Bool
 asks_replay (word ∷ []) = pointwise nat_eq word (codes "replay")
 asks_replay words = false
 
--- the exit status of the program, by how a replay ended
-abbrev pub exit_status : {T : Type 0} → Result T ReplayFault → ℕ
+-- the exit status of the program, by how it ended
+abbrev pub exit_status : {T E : Type 0} → Result T E → ℕ
 exit_status (Ok end) = 0
 exit_status (Err why) = 1
 
@@ -32,10 +32,3 @@ SaysOnError bytes old new before after = Appends old new bytes ⊎ (AppendsPart 
 -- the line of some fault was written
 abbrev pub SaysFault : Option (List ℕ) → Option (List ℕ) → ℕ → ℕ → Type 0
 SaysFault old new before after = (why : ProgramFault) × SaysOnError (fault_line why) old new before after
-
--- the fault of a server, once its threads and its crawl have ended
-abbrev pub fault_at_end : Bool → Bool → Bool → Option ProgramFault
-fault_at_end accept_failed is_short was_crawled =
-    if accept_failed then Some ListenFailed
-    else (if is_short then Some NoThread
-    else (if was_crawled then None else Some NoMemory))

@@ -1,5 +1,8 @@
 //! The addresses of a server's host, in the report of a check.
 
+ghost use Rattle.std.specs.Prelude.{OnOk};
+ghost use Rattle.gopher_hole.specs.Ending.{HasWritten};
+
 use crate::announcing::send_text;
 use crate::fault::ProgramFault;
 use gopher_item::Home;
@@ -81,13 +84,17 @@ fn push_host<R: Net>(
 /// - `ListenFailed` (81): the host isn't UTF-8, or `listens` is set and no address could be bound
 /// - `WriteFailed` (13): the lines couldn't be written or flushed
 /// - `NoMemory` (90)
+#[tactic(auto, using(crate::proofs::Ends::writes_some))]
 pub fn tell_addresses<R: Net, W: Write>(
     rt: &R,
     alloc: Global,
     home: &Home,
     listens: bool,
     output: &mut Watched<W>,
-) -> Result<(), ProgramFault> {
+) -> Result<(), ProgramFault>
+    ensures { OnOk result (HasWritten (W.contents output.old.device)
+        (W.contents output.new.device)) }
+{
     let Ok(host) = str::from_utf8(home.host()) else {
         return Err(ProgramFault::ListenFailed);
     };

@@ -1,9 +1,12 @@
 //! What the program writes: its texts, the line after it listens, and the line of a fault.
 
-ghost use Rattle.std.specs.Prelude.{◌++◌, codes};
+ghost use Rattle.std.specs.Prelude.{◌≡◌, ◌++◌, codes, IfOk, OnOk};
 ghost use Rattle.std.specs.Fmt.{decimal};
+ghost use Rattle.std.specs.Io.KnownBytes.{Appends};
+ghost use Rattle.gopher_script.specs.Answer.{status_line};
 ghost use Rattle.gopher_script.specs.Replay.{AnswerEnds};
 ghost use Rattle.gopher_scope.specs.Rows.{key_name};
+ghost use Rattle.gopher_hole.specs.Ending.{listening_line};
 ghost use Rattle.gopher_hole.specs.Fault.{number_bytes, detail_bytes, line_bytes, fault_line};
 
 use crate::fault::{Detail, ProgramFault};
@@ -21,10 +24,14 @@ use std::io::Write;
 /// # Errors
 ///
 /// `WriteFailed` (13): a write or the flush failed.
-pub fn send_text<W: Write>(output: &mut Watched<W>, text: &[u8]) -> Result<(), ProgramFault> {
-    if send(output, text).is_err() {
+#[tactic(auto, using(crate::proofs::Ends::sends_kept))]
+pub fn send_text<W: Write>(output: &mut Watched<W>, text: &[u8]) -> Result<(), ProgramFault>
+    ensures { OnOk result (Appends (W.contents output.old.device)
+        (W.contents output.new.device) text.now) }
+{
+    let Ok(()) = send(output, text) else {
         return Err(ProgramFault::WriteFailed);
-    }
+    };
     match output.flush() {
         Ok(()) => Ok(()),
         Err(_) => Err(ProgramFault::WriteFailed),
@@ -32,7 +39,9 @@ pub fn send_text<W: Write>(output: &mut Watched<W>, text: &[u8]) -> Result<(), P
 }
 
 // The line with the host and the port of a server that listens.
-fn listening_line(alloc: Global, home: &Home) -> Result<Vec<u8>, NoMemory> {
+fn listening_line(alloc: Global, home: &Home) -> Result<Vec<u8>, NoMemory>
+    ensures { IfOk result (λ line. line.items ≡ listening_line home.now) }
+{
     let port = home.port();
     let mut line = Vec::from_slice(alloc, b"listening ")?;
     line.extend_from_slice(home.host())?;
@@ -49,7 +58,10 @@ pub fn tell_listening<W: Write>(
     alloc: Global,
     home: &Home,
     output: &mut Watched<W>,
-) -> Result<(), ProgramFault> {
+) -> Result<(), ProgramFault>
+    ensures { OnOk result (Appends (W.contents output.old.device)
+        (W.contents output.new.device) (listening_line home.now)) }
+{
     let line = listening_line(alloc, home)?;
     send_text(output, &line)
 }
@@ -63,7 +75,10 @@ pub fn tell_status<W: Write>(
     alloc: Global,
     status: Status,
     output: &mut Watched<W>,
-) -> Result<(), ProgramFault> {
+) -> Result<(), ProgramFault>
+    ensures { OnOk result (Appends (W.contents output.old.device)
+        (W.contents output.new.device) (status_line status)) }
+{
     let line = status_line(alloc, status)?;
     send_text(output, &line)
 }

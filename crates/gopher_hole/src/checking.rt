@@ -1,7 +1,8 @@
 //! The command `check`: the report on a site.
 
-ghost use Rattle.std.specs.Prelude.{◌≡◌};
+ghost use Rattle.std.specs.Prelude.{◌≡◌, OnOk};
 ghost use Rattle.gopher_check.specs.Fault.{site_fault_code};
+ghost use Rattle.gopher_hole.specs.Ending.{FoundSound};
 ghost use Rattle.gopher_hole.specs.Fault.{program_fault_code};
 
 use crate::address_check::tell_addresses;
@@ -62,15 +63,16 @@ pub fn check_site<R: Files + Net, W: Write>(
     alloc: Global,
     checking: Checking<'_>,
     output: &mut Watched<W>,
-) -> Result<(), ProgramFault> {
+) -> Result<(), ProgramFault>
+    ensures { OnOk result (FoundSound (W.contents output.old.device)
+        (W.contents output.new.device)) }
+{
     let report = file_report(rt, alloc, checking.settings)?;
     if let Some(fault) = report.fault {
         let _unsent = send_text(output, &report.words);
         return Err(program_fault(fault));
     }
-    let Some(words) = report.words.strip_suffix(SOUND) else {
-        return send_text(output, &report.words);
-    };
+    let words = report.words.strip_suffix(SOUND).unwrap_or(&report.words);
     send_text(output, words)?;
     let settings = read_settings(rt, alloc, checking.settings)?;
     tell_addresses(rt, alloc, &settings.home, checking.listens, output)?;

@@ -1,7 +1,8 @@
 //! A server with its crew, from its settings to its end.
 
-ghost use Rattle.std.specs.Prelude.{◌≡◌, []};
-ghost use Rattle.gopher_hole.specs.Program.{fault_at_end};
+ghost use Rattle.std.specs.Prelude.{◌≡◌, [], None, Some, Ok, IfErr, IfOk, OnOk, is_ok};
+ghost use Rattle.gopher_hole.specs.Ending.{EndAs, HasServed, fault_at_end};
+ghost use Rattle.gopher_hole.specs.declared.starting.ThreadsEnd.{ThreadsEnd};
 
 use crate::announcing::{tell_listening, tell_status};
 use crate::arguments::Serving;
@@ -10,12 +11,12 @@ use crate::fetching::TcpFetch;
 use crate::listening::listen;
 use crate::opening::{Opened, open, read_settings};
 use crate::progress::{crawl_and_tell, tell_limit};
-use crate::starting::{Started, join_all, start_threads};
+use crate::starting::{AnyEnd, Started, ThreadsEnd, join_all, start_threads};
 use gopher_catalogue::Status;
 use gopher_crew::{Blank, Crew, Desk, Pass, Share, WorkEnd, crawl};
 use gopher_log_writer::{Log, LogQueue, OpenLog, start_log};
 use gopher_replies::Replies;
-use gopher_server::set_up;
+use gopher_server::{ThreadEnd, set_up};
 use gopher_text::Watched;
 use mio::net::TcpListener;
 use std::alloc::Global;
@@ -24,7 +25,7 @@ use std::fs::{File, Files};
 use std::io::{Eprint, Write};
 use std::net::{Net, TcpListener as NetListener, TcpStream};
 use std::sync::{Arc, Wait};
-use std::thread::Threads;
+use std::thread::{Promise, Threads};
 use std::time::Clock;
 
 // Pairs each share with a fetcher of its own.
@@ -44,17 +45,40 @@ fn pairs_of<C: Crew>(
 }
 
 // The fault of a server by how its threads and its crawl ended, if there is one.
-fn fault_at_end(accept_failed: bool, is_short: bool, was_crawled: bool) -> Option<ProgramFault>
-    ensures { result ≡ fault_at_end accept_failed is_short was_crawled }
+fn fault_at_end(end: ThreadsEnd, was_crawled: bool) -> Option<ProgramFault>
+    ensures { result ≡ fault_at_end end was_crawled }
 {
-    if accept_failed {
+    if end.failed {
         Some(ProgramFault::ListenFailed)
-    } else if is_short {
+    } else if end.is_short {
         Some(ProgramFault::NoThread)
     } else if !was_crawled {
         Some(ProgramFault::NoMemory)
     } else {
         None
+    }
+}
+
+// Waits until the threads have ended. Returns the result of the crawl, or the fault of a server
+// whose threads and crawl ended like this.
+fn wait_for_all<P: Promise<ThreadEnd>, T: Drop, E: Drop, R: Threads>(
+    rt: &R,
+    started: Started<P>,
+    crawled: Result<T, E>,
+) -> Result<T, ProgramFault>
+    ensures fault { IfErr result (λ fault. (end : ThreadsEnd) × EndAs P.Promise started end
+        × (fault_at_end end (is_ok crawled) ≡ Some fault)) }
+    ensures none { OnOk result ((end : ThreadsEnd) × EndAs P.Promise started end
+        × (fault_at_end end (is_ok crawled) ≡ None)) }
+    ensures kept { IfOk result (λ ends. crawled ≡ Ok ends) }
+{
+    let end = join_all(rt, started);
+    if let Some(fault) = fault_at_end(end, crawled.is_ok()) {
+        return Err(fault);
+    }
+    match crawled {
+        Ok(ends) => Ok(ends),
+        Err(_refused) => Err(ProgramFault::NoMemory),
     }
 }
 
@@ -71,7 +95,12 @@ struct Service {
 fn start<
     C: Crew + Send + Sync + 'static,
     R: Net + Threads + Wait + Clock + Eprint + Clone + Send + Drop + 'static,
->(rt: &R, alloc: Global, service: Service, passes: Vec<Pass<C>>) -> Result<Started, ProgramFault> {
+>(
+    rt: &R,
+    alloc: Global,
+    service: Service,
+    passes: Vec<Pass<C>>,
+) -> Result<Started<AnyEnd>, ProgramFault> {
     let Service {
         listeners,
         replies,
@@ -119,14 +148,7 @@ fn serve_and_crawl<
         tell_limit(rt, desk);
         crawled
     };
-    let end = join_all(rt, started);
-    if let Some(fault) = fault_at_end(end.failed, end.is_short, crawled.is_ok()) {
-        return Err(fault);
-    }
-    match crawled {
-        Ok(ends) => Ok(ends),
-        Err(_refused) => Err(ProgramFault::NoMemory),
-    }
+    wait_for_all(rt, started, crawled)
 }
 
 // Closes the desk. Returns the number of places in each state.
@@ -185,6 +207,7 @@ fn end_log<R: Threads + Wait>(rt: &R, alloc: Global, log: Option<Log>) {
 /// - `StrangeShare` (62): the workers' shares don't count the events of the crawl
 /// - `WriteFailed` (13): a line couldn't be written or flushed
 /// - `NoMemory` (90)
+#[tactic(auto, using(crate::proofs::Ends::serves))]
 pub fn serve<
     C: Crew + Send + Sync + 'static,
     R: Files<File = File>
@@ -207,6 +230,8 @@ pub fn serve<
     requires parts { blank.parts ≡ C.parts }
     requires history { blank.history ≡ C.history }
     requires begun { blank.begun ≡ [] }
+    ensures { OnOk result (HasServed (W.contents output.old.device)
+        (W.contents output.new.device)) }
 {
     let alloc = rt.alloc();
     let settings = read_settings(rt, alloc, serving.settings)?;

@@ -5,11 +5,12 @@ ghost use Rattle.std.specs.Bool.{OnTrue};
 ghost use Rattle.std.specs.Io.KnownBytes.{Keeps};
 ghost use Rattle.gopher_script.specs.declared.fault.ReplayFault.{ReplayFault};
 ghost use Rattle.gopher_script.specs.Replay.{Replays};
+ghost use Rattle.gopher_hole.specs.Ending.{FoundSound, HasServed};
 ghost use Rattle.gopher_hole.specs.Fault.{fault_line};
 ghost use Rattle.gopher_hole.specs.Program.{asks_replay, exit_status, said_of, SaysOnError, SaysFault};
 
 use crate::announcing::{send_text, write_fault};
-use crate::arguments::{Asked, Text, read_arguments};
+use crate::arguments::{Asked, Checking, Serving, Text, read_arguments};
 use crate::checking::check_site;
 use crate::crewing::serve;
 use crate::fault::ProgramFault;
@@ -95,6 +96,7 @@ fn tell_fault<E: Write>(error: &mut Watched<E>, fault: ProgramFault) -> u8
 
 // Writes the line of the fault, if there is one. Returns the exit status.
 fn tell_end<E: Write>(error: &mut Watched<E>, end: Result<(), ProgramFault>) -> u8
+    ensures exit { result ≡ exit_status end }
     ensures well { result ≡ 0 → error.new ≡ error.old }
     ensures told { result ≢ 0 → SaysFault (E.contents error.old.device)
         (E.contents error.new.device) error.old.failures error.new.failures }
@@ -124,6 +126,54 @@ fn tell_text<W: Write, E: Write>(text: &Text, output: &mut Watched<W>, error: &m
             2
         }
     }
+}
+
+// Serves, and writes the line of the fault, if there is one. Returns the exit status.
+fn run_serve<
+    H: Files<File = File>
+        + OpenLog
+        + Net<Listener = TcpListener, Stream = TcpStream>
+        + Threads
+        + Wait
+        + Clock
+        + Env
+        + Eprint
+        + AllocGlobal
+        + Clone
+        + Send
+        + Sync
+        + Drop
+        + 'static,
+    W: Write,
+    E: Write,
+>(rt: &H, serving: &Serving<'_>, output: &mut Watched<W>, error: &mut Watched<E>) -> u8
+    ensures served { result ≡ 0 → HasServed (W.contents output.old.device)
+        (W.contents output.new.device) }
+    ensures well { result ≡ 0 → error.new ≡ error.old }
+    ensures told { result ≢ 0 → SaysFault (E.contents error.old.device)
+        (E.contents error.new.device) error.old.failures error.new.failures }
+    ensures status { result ≤ 1 }
+{
+    let end = serve::<Brand, H, W>(rt, serving, Blank::new(), output);
+    tell_end(error, end)
+}
+
+// Checks a site, and writes the line of the fault, if there is one. Returns the exit status.
+fn run_check<H: Files + Net + AllocGlobal, W: Write, E: Write>(
+    rt: &H,
+    checking: Checking<'_>,
+    output: &mut Watched<W>,
+    error: &mut Watched<E>,
+) -> u8
+    ensures sound { result ≡ 0 → FoundSound (W.contents output.old.device)
+        (W.contents output.new.device) }
+    ensures well { result ≡ 0 → error.new ≡ error.old }
+    ensures told { result ≢ 0 → SaysFault (E.contents error.old.device)
+        (E.contents error.new.device) error.old.failures error.new.failures }
+    ensures status { result ≤ 1 }
+{
+    let end = check_site(rt, rt.alloc(), checking, output);
+    tell_end(error, end)
 }
 
 /// Runs the program `hole` with the arguments `words`, without its own name. Returns the exit
@@ -191,14 +241,8 @@ pub fn run<
     }
     match read_arguments(rt.alloc(), words) {
         Ok(Asked::Replay) => run_replay(rt.alloc(), input, output, error),
-        Ok(Asked::Serve(serving)) => {
-            let end = serve::<Brand, H, W>(rt, &serving, Blank::new(), output);
-            tell_end(error, end)
-        }
-        Ok(Asked::Check(checking)) => {
-            let end = check_site(rt, rt.alloc(), checking, output);
-            tell_end(error, end)
-        }
+        Ok(Asked::Serve(serving)) => run_serve(rt, &serving, output, error),
+        Ok(Asked::Check(checking)) => run_check(rt, checking, output, error),
         Ok(Asked::Told(text)) => tell_text(&text, output, error),
         Err(_refused) => tell_fault(error, ProgramFault::NoMemory),
     }

@@ -1,5 +1,8 @@
 //! Starting server threads, and waiting for their end.
 
+ghost use Rattle.std.specs.Prelude.{◌≡◌};
+ghost use Rattle.gopher_hole.specs.Ending.{EndAs, after_thread};
+
 use gopher_crew::{Crew, Pass};
 use gopher_replies::Replies;
 use gopher_serve::Site;
@@ -7,14 +10,24 @@ use gopher_server::{ThreadEnd, ThreadSetup, serve};
 use std::alloc::Global;
 use std::io::Eprint;
 use std::sync::{Arc, Wait};
-use std::thread::{self, JoinHandle, Threads};
+use std::thread::{self, Promise, PromisedHandle, Threads};
 use std::time::Clock;
+
+/// The promise of a thread that may end in any way.
+#[derive(Clone, Copy, Drop)]
+pub struct AnyEnd;
+
+impl Promise<ThreadEnd> for AnyEnd {
+    ghost use Rattle.std.specs.Prelude.{⊤};
+
+    ghost kept_by = { λ _ _. ⊤ };
+}
 
 /// The server threads that were started.
 #[derive(Drop)]
-pub struct Started {
+pub struct Started<P: Promise<ThreadEnd>> {
     /// The threads. Each returns how it ended.
-    pub threads: Vec<JoinHandle<ThreadEnd>>,
+    pub threads: Vec<PromisedHandle<ThreadEnd, P>>,
     /// Whether a thread couldn't be started.
     pub is_short: bool,
 }
@@ -38,10 +51,10 @@ fn start_one<
     replies: &Arc<Replies>,
     setup: ThreadSetup,
     pass: Pass<C>,
-) -> Option<JoinHandle<ThreadEnd>> {
+) -> Option<PromisedHandle<ThreadEnd, AnyEnd>> {
     let replies = Arc::try_clone(replies).ok()?;
     let theirs = rt.clone().ok()?;
-    let thread = thread::spawn(rt, move || {
+    let thread = thread::spawn_with(rt, AnyEnd, move || {
         serve(&theirs, alloc, setup, Site::new(&replies, pass))
     });
     thread.ok()
@@ -58,7 +71,7 @@ pub fn start_threads<
     replies: &Arc<Replies>,
     setups: Vec<ThreadSetup>,
     passes: Vec<Pass<C>>,
-) -> Started {
+) -> Started<AnyEnd> {
     let mut is_short = false;
     let mut setups = setups;
     let mut threads = Vec::new(alloc);
@@ -78,18 +91,34 @@ pub fn start_threads<
     Started { threads, is_short }
 }
 
+// Adds the end of one thread to those of the threads before it.
+fn after_thread(end: ThreadsEnd, thread: ThreadEnd) -> ThreadsEnd
+    ensures { result ≡ after_thread end thread }
+{
+    let ThreadsEnd { failed, is_short } = end;
+    match thread {
+        ThreadEnd::Served => end,
+        ThreadEnd::Failed => ThreadsEnd {
+            failed: true,
+            is_short,
+        },
+        ThreadEnd::LacksMemory => ThreadsEnd {
+            failed,
+            is_short: true,
+        },
+    }
+}
+
 /// Waits until all threads have ended. Returns how they ended.
-pub fn join_all<R: Threads>(rt: &R, started: Started) -> ThreadsEnd {
+pub fn join_all<P: Promise<ThreadEnd>, R: Threads>(rt: &R, started: Started<P>) -> ThreadsEnd
+    ensures { EndAs P.Promise started result }
+{
     let mut end = ThreadsEnd {
         failed: false,
         is_short: started.is_short,
     };
     for thread in started.threads {
-        match thread.join(rt) {
-            ThreadEnd::Served => {}
-            ThreadEnd::Failed => end.failed = true,
-            ThreadEnd::LacksMemory => end.is_short = true,
-        }
+        end = after_thread(end, thread.join(rt));
     }
     end
 }

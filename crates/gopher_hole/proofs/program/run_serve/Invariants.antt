@@ -1,4 +1,4 @@
-use Rattle.gopher_hole.proofs.program.run.Given as goal
+use Rattle.gopher_hole.proofs.program.run_serve.Given as goal
 
 -- the names of the blank that was made
 abbrev pub ghosts-serve-C-Ledger : goal.ghosts-serve-C-Ledger

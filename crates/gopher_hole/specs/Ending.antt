@@ -1,0 +1,61 @@
+-- How a server ends, by the ends of its threads and of its crawl, and what it and a check have
+-- written then.
+use Rattle.std.specs.Prelude.{◌≡◌, ℕ, Bool, true, false, List, [], ◌∷◌, ◌++◌, length, vec_len, codes, Option, None, Some, if◌then◌else◌}
+use Rattle.std.specs.Fmt.{decimal}
+use Rattle.std.specs.Io.KnownBytes.{Appends}
+use Rattle.std.specs.PromisedHandle.{KeepsEach}
+use Rattle.std.specs.declared.thread.Promise as Promise
+use Rattle.gopher_item.specs.Place.{HomeData}
+use Rattle.gopher_catalogue.specs.Step.{Status}
+use Rattle.gopher_script.specs.Answer.{status_line}
+use Rattle.gopher_server.specs.declared.thread_end.ThreadEnd.{ThreadEnd}
+use Rattle.gopher_server.specs.declared.thread_end.ThreadEnd.TheVariants as thread
+use Rattle.gopher_hole.specs.declared.starting.Started.{Started}
+use Rattle.gopher_hole.specs.declared.starting.ThreadsEnd.{ThreadsEnd}
+use Rattle.gopher_hole.specs.declared.fault.ProgramFault.{ProgramFault}
+use Rattle.gopher_hole.specs.declared.fault.ProgramFault.TheVariants.{ListenFailed, NoThread, NoMemory}
+
+-- the end of several threads, and of one more
+abbrev pub after_thread : ThreadsEnd → ThreadEnd → ThreadsEnd
+after_thread end thread.Served = end
+after_thread end thread.Failed = record { failed = true; is_short = end.is_short }
+after_thread end thread.LacksMemory = record { failed = end.failed; is_short = true }
+
+-- the end of several threads, and of these, in order
+unfoldable pub after_threads : ThreadsEnd → List ThreadEnd → ThreadsEnd
+after_threads end [] = end
+after_threads end (thread ∷ threads) = after_threads (after_thread end thread) threads
+
+-- server threads came to this end: the end of each of them counts, and so does one that couldn't be
+-- started
+abbrev pub EndAs : {P : Type 0} → Promise.Ghosts P ThreadEnd → Started P → ThreadsEnd → Type 0
+EndAs promise started end =
+    (ends : List ThreadEnd)
+    × (length ends ≡ vec_len started.threads)
+    × KeepsEach promise (vec_len started.threads) started.threads.items ends
+    × (end ≡ after_threads (record { failed = false; is_short = started.is_short }) ends)
+
+-- the fault of a server whose threads and crawl have ended: 81 if a thread failed, otherwise 82 if
+-- one is missing, otherwise 90 if the crawl was refused
+abbrev pub fault_at_end : ThreadsEnd → Bool → Option ProgramFault
+fault_at_end end was_crawled =
+    if end.failed then Some ListenFailed
+    else (if end.is_short then Some NoThread
+    else (if was_crawled then None else Some NoMemory))
+
+-- the line that says where a server listens
+abbrev pub listening_line : HomeData → List ℕ
+listening_line home = codes "listening " ++ home.host ++ codes " " ++ decimal home.port ++ codes "\n"
+
+-- a server that ended without a fault wrote where it listened, and then the sizes of its crawl: the
+-- contents of its output are given before and after
+unfoldable pub HasServed : Option (List ℕ) → Option (List ℕ) → Type 0
+HasServed old new = (home : HomeData) × (status : Status) × Appends old new (listening_line home ++ status_line status)
+
+-- bytes were written
+unfoldable pub HasWritten : Option (List ℕ) → Option (List ℕ) → Type 0
+HasWritten old new = (bytes : List ℕ) × Appends old new bytes
+
+-- a report was written that ends with the line `sound`
+unfoldable pub FoundSound : Option (List ℕ) → Option (List ℕ) → Type 0
+FoundSound old new = (report : List ℕ) × Appends old new (report ++ codes "sound\n")
