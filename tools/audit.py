@@ -26,12 +26,17 @@ USE = re.compile(r"use (Rattle|mathlib)\.([\w.]+?)(?:\.\{([^}]*)\}| as (\w+))")
 # a promise: its name, and its contracts as (crate, function, clauses); no clauses means all of them. Of several crates the
 # first that has the function counts.
 PROMISES = {
-    "search": [("gopher_crew", "Pass::begin", "legal after_seen hits"), ("gopher_index", "Search::step", "hits found")],
+    "search": [
+        ("gopher_crew", "Pass::begin", "legal after_seen hits"),
+        ("gopher_crew", "Shows: Protocol", ""),
+        ("gopher_index", "Search::step", "hits found"),
+    ],
     "tries": [
-        ("gopher_crew", "Kept::claim", "legal"),
+        ("gopher_crew", "Kept::claim", "turn after legal"),
         ("gopher_catalogue", "laws::no_more_claims_than_tries", ""),
         ("gopher_catalogue", "laws::no_claim_after_a_find", ""),
         ("gopher_catalogue", "laws::known_places_are_allowed", ""),
+        ("gopher_catalogue", "laws::known_places_are_distinct", ""),
     ],
     "one-catalogue": [
         ("gopher_crew", "Kept::claim", ""),
