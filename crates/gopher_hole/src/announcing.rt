@@ -1,4 +1,5 @@
-//! What the program writes: its texts, the line after it listens, and the line of a fault.
+//! What the program writes: its texts, the line after it listens, and the line of a fault, with the
+//! setting or seed that it names.
 
 ghost use Rattle.std.specs.Prelude.{◌≡◌, ◌++◌, codes, IfOk, OnOk};
 ghost use Rattle.std.specs.Fmt.{decimal};
