@@ -57,7 +57,9 @@ def searched(text):
     """The rows of searches and of making and adding pages. The C program's packing counts as adding."""
     ours, plain = text[: text.index("the plain C program:")], text[text.index("the plain C program:") :]
     queries = re.findall(r"(?m)^(.*): (\d+) us, \d+ hits, \d+ the sum of their scores$", ours)
-    ratios = [number(plain, rf"(?m)^{re.escape(name)}: (\d+) us, ") / float(us) for name, us in queries if float(us)]
+    times = [(number(plain, rf"(?m)^{re.escape(name)}: (\d+) us, "), float(us)) for name, us in queries]
+    # a time below half a microsecond is printed as 0, and has no quotient
+    ratios = [plain_us / us for plain_us, us in times if plain_us and us]
     yield "searches of 65,536 pages", "searches a second", math.exp(sum(map(math.log, ratios)) / len(ratios)), None
     made, added = (number(ours, rf"(?m)^65536 pages: {words}") for words in (r"(\d+) ns", r"\d+ ns a page to make, (\d+) "))
     making, adding, packing = (number(plain, rf"(?m)^{name}: ([\d.]+) us a page") for name in ("making", "adding", "packing"))

@@ -48,10 +48,13 @@ def check_end(tally, program, folder, number):
         while "Ctrl-C ends it." not in script.stdout.readline():
             pass
         os.killpg(script.pid, number)
-    tally.expect(f"{number.name}: the server ends with it", becomes(False, port), True)
+        tally.expect(f"{number.name}: the server ends with it", becomes(False, port), True)
+        script.kill()
 
 
 def main():
+    # what starts a job in the background may have it ignore SIGINT, and its processes inherit that
+    signal.signal(signal.SIGINT, signal.default_int_handler)
     words = argparse.ArgumentParser()
     words.add_argument("program", nargs="?", default=PROGRAM)
     program = pathlib.Path(words.parse_args().program).resolve()
