@@ -18,6 +18,8 @@ from running.server import HOST, PROGRAM, Server, Tally, ask
 
 TEXTS_OF_A_MENU = 128
 MOST_SECONDS = 300.0
+# For so long a fetch of a text that isn't the last may be under way after the last one.
+SECONDS_FOR_ALL = 20.0
 MOST_HITS = 50
 
 
@@ -35,10 +37,12 @@ def replies_of(pages, port):
 
 
 class Replying(socketserver.StreamRequestHandler):
-    """Sends the reply to a line."""
+    """Sends the reply to a line, and the last text's only when the host may."""
 
     def handle(self):
         line = self.rfile.readline(1_026).rstrip(b"\r\n")
+        if line == self.server.last:
+            self.server.may_end.wait(MOST_SECONDS)
         self.wfile.write(self.server.replies.get(line, b""))
 
 
@@ -61,6 +65,14 @@ def searched(server, text):
     return [line.split(b"\t")[1] for line in reply.split(b"\r\n")[:-2]]
 
 
+def found_at_last(server, text, wanted):
+    """What a search finds, once it finds what is wanted or the time is over."""
+    until = time.monotonic() + SECONDS_FOR_ALL
+    while (found := searched(server, text)) != wanted and time.monotonic() < until:
+        time.sleep(0.1)
+    return found
+
+
 def is_crawled(server, texts):
     """Whether searches come to find each of these texts, within the time."""
     until = time.monotonic() + MOST_SECONDS
@@ -77,15 +89,20 @@ def check_crawl(tally, program, pages):
     """Crawls that host, and searches rare and common words of its texts."""
     with tempfile.TemporaryDirectory() as place, Pages((HOST, 0), Replying) as host:
         host.replies = replies_of(pages, host.server_address[1])
+        host.last, host.may_end = b"/%d" % (pages - 1), threading.Event()
         threading.Thread(target=host.serve_forever, daemon=True).start()
         folder = pathlib.Path(place)
         (folder / "root").mkdir()
         more = seeded(HOST, host.server_address[1], pages)
         with Server(program, folder, folder / "root", more=more, seconds=2 * MOST_SECONDS) as server:
             server.started()
-            tally.expect("each thousandth text is found, and the last", is_crawled(server, [*range(0, pages, 1_000), pages - 1]), True)
+            found = is_crawled(server, [*range(0, pages, 1_000), pages - 2])
+            tally.expect("before the crawl's end each thousandth text is found, and the last but one", found, True)
+            host.may_end.set()
+            tally.expect("the last text is found", is_crawled(server, [pages - 1]), True)
             names = sorted(b"/%d" % number for number in range(pages))
-            tally.expect("a word of all texts", searched(server, b"moon"), names[:MOST_HITS])
+            first = names[:MOST_HITS]
+            tally.expect("a word of all texts", found_at_last(server, b"moon", first), first)
             without = [name for name in names if name != b"/0"][:MOST_HITS]
             tally.expect("a beginning of all words but one", searched(server, b"p* not p0"), without)
         host.shutdown()

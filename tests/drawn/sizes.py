@@ -114,7 +114,8 @@ def crawl_of_many_pages():
 
 
 def crawl_of_many_terms():
-    """Searches of 512 terms, the most that a text has room for, over as many pages as two segments have, and some more."""
+    """Searches of 512 terms, the most that a text has room for, and of 170 different ones, over as many pages as two segments
+    have, and some more."""
     yield b"allow\th\t7\t"
     yield from (b"seed\t0\th\t7\t%d" % number for number in range(130))
     yield b"start\t130"
@@ -122,6 +123,7 @@ def crawl_of_many_terms():
         yield from (b"claim", b"found\t%d\t0\th\t7\t%d" % (number, number), b"|" + b"m a b "[: 2 + number % 5] + b"p%d" % number)
         if number in (63, 64, 128, 129):
             yield from (b"search\t" + b"m " * 512, b"search\t" + b"b a " * 256, b"search\t" + b"p*" + b" m" * 511)
+            yield b"search\t" + b" or ".join(short_names(170))
     yield b"status"
 
 

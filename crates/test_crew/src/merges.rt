@@ -7,8 +7,9 @@ use std::alloc::{AllocError, Global};
 use std::marker::Brand;
 use std::process::Abort;
 
-// How many files there are: more than 8,192, and not one after which pages are due to be merged.
-const FILES: u32 = 8_250;
+// How many files there are: more than 8,192, and so many that pages would be due to be merged at the end
+// if workers merged none. Without workers an index merges its pages only at 512 loose ones.
+const FILES: u32 = 8_378;
 
 fn digits(number: u32) -> [u8; 4] {
     let digit = |unit: u32| b'0' + (number / unit % 10) as u8;
