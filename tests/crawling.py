@@ -18,7 +18,7 @@ from running.server import HOST, PROGRAM, Server, Tally, ask
 
 TEXTS_OF_A_MENU = 128
 MOST_SECONDS = 300.0
-# For so long a fetch of a text that isn't the last may be under way after the last one.
+# How long a fetch of another text may still be under way after the last one.
 SECONDS_FOR_ALL = 20.0
 MOST_HITS = 50
 
@@ -47,10 +47,11 @@ class Replying(socketserver.StreamRequestHandler):
 
 
 class Pages(socketserver.ThreadingTCPServer):
-    """The host."""
+    """The host. It sends the reply to `last`, if it is given, once `may_end` is set."""
 
     allow_reuse_address = daemon_threads = True
     request_queue_size = 512
+    last = may_end = None
 
 
 def seeded(host, port, pages):

@@ -7,8 +7,8 @@ use std::alloc::{AllocError, Global};
 use std::marker::Brand;
 use std::process::Abort;
 
-// How many files there are: more than 8,192, and so many that pages would be due to be merged at the end
-// if workers merged none. Without workers an index merges its pages only at 512 loose ones.
+// How many files there are: more than 8,192, and a number at which pages would be due to be merged
+// at the end if workers merged none. Without workers an index merges its pages at 512 loose ones.
 const FILES: u32 = 8_378;
 
 fn digits(number: u32) -> [u8; 4] {
