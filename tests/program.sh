@@ -28,7 +28,7 @@ as_wanted() {
   return 1
 }
 
-# Words that aren't the program's: status 2, and a text on the error stream.
+# Bad arguments: status 2, and a text on the error stream.
 refused() {
   local code=0
   printf 'start\t1\n' | "$program" "$@" > "$folder/written" 2> "$folder/told" || code=$?

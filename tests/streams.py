@@ -16,8 +16,8 @@ from running.server import HOST, PROGRAM, ROOT, WAIT, Tally, free_port
 from models.worked import FIRST_CRAWL, REFUSED_START
 
 MEBIBYTE = 1_048_576
-# Words that are none of the program's.
-BAD_WORDS = (
+# Bad arguments.
+BAD_ARGUMENTS = (
     (), ("replay", "extra"), ("serve",), ("serve", "s.toml", "--requests", "1000001"), ("serve", "s.toml", "--requests", "-1"),
     ("serve", "s.toml", "extra"), ("dig",),
 )
@@ -82,7 +82,7 @@ def check_errors(tally, streams):
         tally.expect(f"a fault's line fails after {count} bytes", ended, (output, told[:count], 1))
     ended = streams.run(["replay"], script, fails_1=3, fails_2=0)
     tally.expect("the output and the error stream fail", ended, (output[:3], b"", 1))
-    for words in BAD_WORDS:
+    for words in BAD_ARGUMENTS:
         output, text, status = streams.run(words, b"claim\n")
         tally.expect(f"{words}: are refused", (output, bool(text), status), (b"", True, 2))
         tally.expect(f"{words}: nothing is read", streams.counted(words, b"claim\n"), (b"", 0, 0))
