@@ -1,5 +1,5 @@
 #!/usr/bin/env python3
-"""Attacks the built program over loopback, as clients do that mean no good, while ordinary clients ask it too.
+"""Attacks the built program over loopback as hostile clients do, while ordinary clients ask it too.
 
     tests/attack.py [--seconds N] [--memory KIB] [--heavy] [PROGRAM]
 
@@ -9,7 +9,7 @@ without an end, clients that send on, more silent clients than there are places,
 that ask for 8 MiB or a large menu and read nothing, and clients that ask the heaviest searches. Every ordinary client has to be
 answered whole within SOON seconds, the program's memory has to stay below KIB (24,576 without it; a build with an address
 sanitizer, as `rt try` makes, takes some 64,000), and the program has to end well. The last line is
-'attack: N passed, M failed'. It takes about N + 50 seconds, and at most some minutes where the program fails, since a server
+'attack: N passed, M failed'. It takes about N + 50 seconds, and at most some minutes if the program fails, because a server
 that goes on for too long is killed.
 
 Beside heavy searches of 4,096 texts, ordinary replies take less than 50 ms in the median and 500 ms at the 99th percentile.
@@ -98,7 +98,7 @@ class Ordinary(threading.Thread):
 
 
 def reset(client):
-    """Closes a client's side without an end: its server is told of a reset."""
+    """Closes a client's side without an end, so that its server sees a reset."""
     client.setsockopt(socket.SOL_SOCKET, socket.SO_LINGER, struct.pack("ii", 1, 0))
     client.close()
 
@@ -241,7 +241,7 @@ def eager_reply(port, line, replies):
 
 
 def slow_reply(port, line, replies, rate):
-    """Asks, sends on, and reads so many bytes a second, of which its own system holds few."""
+    """Asks, sends on, and reads `rate` bytes a second, of which its own system holds few."""
     try:
         with socket.socket() as client:
             client.setsockopt(socket.SOL_SOCKET, socket.SO_RCVBUF, 65_536)
@@ -312,7 +312,7 @@ def settled(clients, wanted):
 
 
 def with_few_files(files):
-    """What starts a program that may hold open so many files."""
+    """What starts a program that may open this many files."""
     return ("sh", "-c", f'ulimit -n {files}; exec "$@"', "sh")
 
 
@@ -445,7 +445,7 @@ def attack_by_large_menus(tally, folder, _root, _files, given):
 
 
 def crawls(server, wanted):
-    """Whether the progress of a server's crawl comes to this line before the server is killed."""
+    """Whether the progress of a server's crawl reaches this line before the server is killed."""
     return any(line == wanted for line in server.process.stderr)
 
 

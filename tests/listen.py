@@ -77,7 +77,7 @@ def check_ports(tally, program, folder, root):
 
 
 def check_refusals(tally, program, folder, root):
-    """Words that are no addresses are bad arguments; addresses that can't be bound are named."""
+    """Arguments that are no addresses are bad; addresses that can't be bound are named."""
     for word in NO_ADDRESSES:
         with Server(program, folder, root, words=["--listen", word]) as server:
             output, error, status = server.end()
@@ -100,7 +100,7 @@ def check_usage(tally, program):
 
 
 def check_checks(tally, program, folder, root):
-    """`hole check` resolves the host; with --listen it tells what the system says of each address."""
+    """`hole check` resolves the host; with --listen it prints what the system says of each address."""
     port = free_port()
     settings = folder / "check.toml"
 

@@ -1,5 +1,5 @@
 #!/usr/bin/env python3
-"""Reads what the built program logs of requests (docs/SPECIFICATION.md, appendix B), and what it tells of its crawl.
+"""Reads what the built program logs of requests (docs/SPECIFICATION.md, appendix B), and what it prints of its crawl.
 
     tests/log.py [--ratio R] [PROGRAM]
 
@@ -54,7 +54,7 @@ class Room:
 
 
 def request_of(line):
-    """What a line of the log tells; the line itself where it isn't one."""
+    """The fields of a line of the log, or the line itself if it isn't one."""
     fields = LINE.fullmatch(line)
     if not fields:
         return line
@@ -156,7 +156,7 @@ def check_refused_watch(tally, room):
 
 
 def check_closed(tally, room):
-    """A connection that is closed since all places are taken has its line."""
+    """A connection that is closed because all places are taken has its line."""
     path = room.folder / "closed"
     before = ("sh", "-c", 'ulimit -n 66; exec "$@"', "sh")
     words = ["--log", str(path)]
@@ -244,7 +244,7 @@ def check_threads(tally, room):
 
 
 def check_refused(tally, room, path, what):
-    """A log that can't be written is told once, and serving goes on."""
+    """A log that can't be written is reported once, and serving goes on."""
     lines = [b"/a.txt\r\n"] * 200
     with room.serve("--log", path, "--requests", len(lines) + 1) as server:
         server.started()
@@ -294,7 +294,7 @@ def check_never_read(tally, room):
 
 
 def check_progress(tally, room):
-    """The sizes of the crawl are told every ten seconds and at its end, and not without the word."""
+    """The sizes of the crawl are printed every ten seconds and at its end, and not without --progress."""
     for words, wanted in ((("--progress",), SIZES), ((), b"")):
         with room.serve(*words, "--requests", 0) as server:
             server.started()

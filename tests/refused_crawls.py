@@ -43,7 +43,7 @@ port = {port}
 
 
 def make_texts(root):
-    """Texts of words that stand in no other, besides one that stands in all."""
+    """Texts of words that no other text has, and one word that all have."""
     root.mkdir()
     for text in range(TEXTS):
         words = [f"word{text * WORDS + number}" for number in range(WORDS)]
@@ -94,7 +94,7 @@ def spend_request(port):
 
 
 def is_end(line):
-    """Whether a server ended as it does where memory is refused: it told the sizes of its crawl, or 90."""
+    """Whether a server ended as it does when out of memory: it printed the sizes of its crawl, or 90."""
     return line == "hole: 90\n" or (line.startswith("known ") and " out 0 " in line)
 
 

@@ -81,7 +81,7 @@ def is_settled(site):
 
 
 def exchange(site, sent, pieces):
-    """What a client is sent to these bytes, which it sends in so many pieces; the name of the failure where it isn't served."""
+    """What a client is sent to these bytes, which it sends in this many pieces; the name of the failure if it isn't served."""
     try:
         with connect(site.port, site.host.decode()) as client:
             length = len(sent) // pieces + 1

@@ -1,5 +1,5 @@
 #!/usr/bin/env python3
-"""Runs the built program over standard streams that fail, or are interrupted, at each place, and where threads don't start.
+"""Runs the built program over standard streams that fail, or are interrupted, at each place, and with threads that don't start.
 
     tests/streams.py [PROGRAM]
 

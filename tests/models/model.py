@@ -12,7 +12,7 @@ TOKEN = re.compile(rb"([0-9A-Za-z\x80-\xff]+)(\*?)")
 
 
 class BadLine(Exception):
-    """A line of a script that is no command where it stands."""
+    """A line of a script that is no command at its place."""
 
 
 class Refused(Exception):
@@ -73,7 +73,7 @@ def text_lines(reply):
 
 
 def menu_entries(reply):
-    """For each entry of a menu its line, and its type, selector, host and port where it is an item."""
+    """For each entry of a menu its line, and its type, selector, host and port if it is an item."""
     for line in lines_of(reply):
         if line == b".":
             return

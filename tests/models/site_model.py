@@ -10,7 +10,7 @@ MOST_CRAWLED = 1_048_576
 
 
 def line_of(sent):
-    """The request line of all bytes that a client sends before it ends its side; None where it is too long."""
+    """The request line of all bytes that a client sends before it ends its side; None if it is too long."""
     front = sent[:MOST_WITH_END]
     if b"\n" in front:
         line = front.split(b"\n")[0].removesuffix(b"\r")

@@ -34,7 +34,7 @@ class Tally:
         print(f"{self.name}: {what}: {shown[0]!r} is not {shown[1]!r}", flush=True)
 
     def status(self):
-        """Tells how many passed and failed; the status of the whole."""
+        """Prints how many passed and failed. Returns the status of the whole."""
         print(f"{self.name}: {self.passed} passed, {self.failed} failed")
         return 0 if self.passed and not self.failed else 1
 
@@ -90,12 +90,12 @@ class Server:
         self.watchdog.start()
 
     def started(self):
-        """The line that tells where it listens."""
+        """The line that says where it listens."""
         ready, _, _ = select.select([self.process.stdout], [], [], WAIT)
         return self.process.stdout.readline() if ready else b""
 
     def most_memory(self):
-        """The most memory that it has held so far, in KiB; none where it has ended."""
+        """The most memory that it has held so far, in KiB; none if it has ended."""
         status = pathlib.Path(f"/proc/{self.process.pid}/status").read_text()
         return next((int(line.split()[1]) for line in status.splitlines() if line.startswith("VmHWM:")), None)
 
