@@ -26,6 +26,27 @@ def ends_programs():
     return [number for number in numbers if int(number) >= 20 and number not in ("40", "52", "53")]
 
 
+def of_operating(heading):
+    """The text of a section of OPERATING, by the start of its heading."""
+    return re.search(rf"(?ms)^## {re.escape(heading)}.*?(?=^## |\Z)", (ROOT / "docs/OPERATING.md").read_text())[0]
+
+
+def diagnostics():
+    """The heads of the faults in the manual, such as '20, 21', each with its text."""
+    text = (ROOT / "man/hole.1").read_text().split(".SH DIAGNOSTICS")[1].split("\n.SH")[0]
+    return re.findall(r"(?ms)^\.TP\n\.B ([^\n]*)\n(.*?)(?=^\.TP|^\.PP|\Z)", text)
+
+
+def words(text):
+    """The words and numbers of a text, without words of at most two letters and without the commas in numbers."""
+    return set(re.findall(r"[a-z0-9][a-z0-9']{2,}", re.sub(r"(?<=\d),(?=\d)", "", text.lower())))
+
+
+def begin(line):
+    """A line that a server prints, up to what differs each time."""
+    return re.split(r"ADDRESS|REASON|\.\.$", line.strip("`"))[0]
+
+
 def spans(text):
     """The numbers that a line like '10 to 13' or '20, 21, 22' names."""
     found = [range(int(first), int(last or first) + 1) for first, last in re.findall(r"(\d+)(?: to (\d+))?", text)]
@@ -110,9 +131,24 @@ class Specification(unittest.TestCase):
         for number in ends_programs():
             self.assertRegex(operating, rf"`(?:hole: )?{number}\b", number)
 
+    def test_operating_and_the_manual_have_the_words_of_each_cause_that_a_check_prints(self):
+        faults = [(set(re.findall(r"\d+", row[0])), row[1]) for row in rows(of_operating("5. Faults"), "line")]
+        manual = [(spans(head), text) for head, text in diagnostics()]
+        for number, cause, _ in rows(section("A. What a check reports"), "number"):
+            for page in faults, manual:
+                told = words(" ".join(text for numbers, text in page if number[:2] in numbers))
+                self.assertEqual(words(cause) - told - {"this", "its"}, set(), f"{number}: {cause}")
+
+    def test_lines_of_a_running_server_are_those_of_the_code_and_of_operating(self):
+        table = of_operating("5. Faults").split("Some lines on standard error")[1]
+        stated, told = ({begin(row[0]) for row in rows(text, "line")} for text in (section("11. The program"), table))
+        self.assertEqual(stated, told)
+        printed = "\n".join(sources(crate) for crate in ("gopher_hole", "gopher_server", "gopher_log_writer"))
+        for line in stated:
+            self.assertIn(f'"{line}', printed)
+
     def test_the_manual_has_each_fault_that_ends_a_program(self):
-        diagnostics = (ROOT / "man/hole.1").read_text().split(".SH DIAGNOSTICS")[1].split("\n.SH")[0]
-        told = set().union(*map(spans, re.findall(r"(?m)^\.TP\n\.B (.*)$", diagnostics)))
+        told = set().union(*(spans(head) for head, _ in diagnostics()))
         # settings have 33 for what would be 51 and 54
         self.assertLessEqual(set(ends_programs()) - {"51", "54"}, told)
         self.assertLessEqual(told, {row[0] for row in rows(section("12. Numbers"), "number")})
