@@ -10,6 +10,8 @@ use Rattle.std.specs.List.Sorted.{IsStrictlySortedBy}
 use Rattle.std.specs.Cmp.{IsTotalOrder}
 use Rattle.std.proofs.lemmas.Cmp.{then_total, on_total, back_total, nat_cmp_total}
 use Rattle.gopher_item.specs.Laws.{place_cmp_total}
+use Rattle.gopher_item.specs.Place.{PlaceData}
+use Rattle.gopher_page.specs.Ranking.{scored_cmp}
 use Rattle.gopher_index.specs.Answer.{rank_cmp, ranked}
 use Rattle.gopher_index.specs.declared.hit.Hit.{Hit}
 use Rattle.std.proofs.lemmas.Bool.{both_ways}
@@ -189,8 +191,11 @@ module _ {K : Type 0} (cmp : K → K → Ordering) (total : IsTotalOrder cmp) wh
   get_in_take P (suc n) zero (x ∷ xs) h = h
   get_in_take P (suc n) (suc m) (x ∷ xs) h = get_in_take P n m xs h
 
+scored_cmp_total : IsTotalOrder scored_cmp
+scored_cmp_total = then_total (on_total (λ (scored : ℕ × PlaceData). scored.0) (back_total nat_cmp_total)) (on_total (λ (scored : ℕ × PlaceData). scored.1) place_cmp_total)
+
 pub rank_cmp_total : IsTotalOrder rank_cmp
-rank_cmp_total = then_total (on_total (λ (hit : Hit). hit.score) (back_total nat_cmp_total)) (on_total (λ (hit : Hit). hit.place) place_cmp_total)
+rank_cmp_total = on_total (λ (hit : Hit). (hit.score, hit.place)) scored_cmp_total
 
 pub ranked_none : [] ≡ take 50 (ranked [])
 unfolding ranked

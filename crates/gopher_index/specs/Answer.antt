@@ -1,13 +1,14 @@
 -- The results of searches over the pages found.
-use Rattle.std.specs.Prelude.{ℕ, false, List, [], ◌∷◌, take, nat_lt, if◌then◌else◌}
+use Rattle.std.specs.Prelude.{ℕ, false, List, [], ◌∷◌, take, if◌then◌else◌}
 use Rattle.std.specs.List.{fold, flat_map}
 use Rattle.std.specs.List.Sorted.{IsPermutation, IsSorted}
-use Rattle.std.specs.Ordering.{nat_cmp, on, then_cmp, flip_args}
+use Rattle.std.specs.Ordering.{nat_cmp, on, then_cmp}
 use Rattle.std.specs.declared.cmp.Ordering.{Ordering}
 use Rattle.std.specs.BTreeSet.{insert_key}
 use Rattle.gopher_item.specs.Place.{PlaceData, place_cmp}
 use Rattle.gopher_page.specs.Page.{PageData}
 use Rattle.gopher_page.specs.Query.{TermData, matches, score}
+use Rattle.gopher_page.specs.Ranking.{counted_place, scored_cmp}
 use Rattle.gopher_page.specs.Counts.{count_meant}
 use Rattle.gopher_index.specs.declared.hit.Hit.{Hit}
 
@@ -15,7 +16,7 @@ use Rattle.gopher_index.specs.declared.hit.Hit.{Hit}
 
 -- the order of hits: by score, highest first, and hits of equal score in place order
 abbrev pub rank_cmp : Hit → Hit → Ordering
-rank_cmp = then_cmp (on (λ hit. hit.score) (flip_args nat_cmp)) (on (λ hit. hit.place) place_cmp)
+rank_cmp = on (λ hit. (hit.score, hit.place)) scored_cmp
 
 -- the hit of a page, if the query matches it
 abbrev pub hit_of : List TermData → PageData → List Hit
@@ -37,7 +38,7 @@ answer_of pages query = take 50 (ranked (hits_among query pages))
 
 -- the place of a page with its number of occurrences of a word, if the page contains the word
 abbrev pub occurrence_of : List ℕ → PageData → List (PlaceData × ℕ)
-occurrence_of word page = if nat_lt 0 (count_meant false word page.counts) then ((page.place, count_meant false word page.counts) ∷ []) else []
+occurrence_of word page = counted_place page (count_meant false word page.counts)
 
 -- the occurrences in all pages that contain the word, in the order of the pages
 unfoldable pub occurrences_among : List ℕ → List PageData → List (PlaceData × ℕ)

@@ -31,14 +31,10 @@ pub(crate) struct Kept {
     page: Arc<Page>,
 }
 
-// Compares the scores first, so that a page is read only if the scores are equal.
 fn rank(a: &Ranked, b: &Ranked) -> Ordering
     ensures { result ≡ rank_of a.now b.now }
 {
-    match b.score.cmp(&a.score) {
-        Ordering::Equal => a.page.place().cmp(b.page.place()),
-        order => order,
-    }
+    a.page.rank(a.score, b.page, b.score)
 }
 
 // Returns whether the candidate ranks after the one at `index`.

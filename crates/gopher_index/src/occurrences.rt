@@ -1,26 +1,15 @@
 //! Listing the pages that contain a word.
 
-ghost use Rattle.std.specs.Prelude.{◌≡◌, ℕ, ◌≤◌, ◌++◌, ◌∷◌, [], false, List, length, map, nat_lt, IfOk, OnOk, if◌then◌else◌};
+ghost use Rattle.std.specs.Prelude.{◌≡◌, ℕ, ◌++◌, false, List, length, map, IfOk, OnOk};
 ghost use Rattle.std.specs.Arc.{arc_value};
 ghost use Rattle.gopher_index.specs.Answer.{AreOccurrences, occurrences_among};
 ghost use Rattle.gopher_segment.specs.Segment.{pages_of, meant_counts};
 
 use gopher_item::{NoMemory, Place};
-use gopher_page::Page;
+use gopher_page::{Page, push_page};
 use gopher_segment::Segment;
 use std::alloc::Global;
 use std::sync::Arc;
-
-// Adds a page with its count, unless the count is 0.
-fn push_page(page: &Page, count: u32, found: &mut Vec<(Place, u32)>) -> Result<(), NoMemory>
-    ensures { OnOk result (found.new.items
-        ≡ found.old.items ++ (if nat_lt 0 count then (page.now.place, count) ∷ [] else [])) }
-{
-    if count > 0 {
-        found.push((page.place().clone()?, count))?;
-    }
-    Ok(())
-}
 
 fn push_counted(
     pages: &[Arc<Page>],
