@@ -8,7 +8,8 @@ that checks stand on are built, but with --after-ci: then they are those that `r
 
 An edit is a file crates/CRATE/wrong-bodies/NAME.edit: a line 'function: PATH', the function whose meaning it turns, as a
 check names it below its crate; a line 'file: src/NAME.rt'; then pairs of lines 'old: TEXT' and 'new: TEXT'. An old text
-stands exactly once in the file, as the pairs before it left that, and only bodies of functions may change.
+occurs exactly once in the file, as the pairs before it left that, or else is one whole line of it. Only bodies of functions
+may change.
 
 All edits of a crate are tried in one check of a copy of the crate, since the prover goes on after a refusal and says of each
 function what it lacks. Of a second edit of a function, a twin of the function is written beside it, with its contract, its
@@ -51,6 +52,16 @@ class BadEdit(Exception):
     """Why an edit shows nothing."""
 
 
+def replaced(source, old, new):
+    """A source with a text that occurs once, or else is one whole line, in place of which another stands."""
+    if source.count(old) == 1:
+        return source.replace(old, new)
+    lines = source.split("\n")
+    if lines.count(old) != 1:
+        raise BadEdit(f"its old text stands {source.count(old)} times, and not once: {old}")
+    return "\n".join(new if line == old else line for line in lines)
+
+
 class Edit:
     """A wrong body: the pieces of one source file that it changes, by their index."""
 
@@ -67,9 +78,7 @@ class Edit:
             elif word == "old" and text and edited and not old:
                 old = text
             elif word in ("new", "new:") and old:
-                if edited.count(old) != 1:
-                    raise BadEdit(f"its old text stands {edited.count(old)} times, and not once: {old}")
-                edited, old = edited.replace(old, text), None
+                edited, old = replaced(edited, old, text), None
             else:
                 raise BadEdit(f"it can't be read: {line}")
         if old or not self.function or not pristine:
