@@ -159,9 +159,25 @@ def run(words, folder):
     return subprocess.run(words, cwd=folder, **how)
 
 
+def toolchain():
+    """The module of the toolchain that knows how its prover is called."""
+    sys.path.insert(0, str(pathlib.Path(run(["rt", "doc"], ROOT).stdout.strip()).parent / "bin"))
+    import rtlib
+
+    return rtlib
+
+
+def words_of_check(folder, functions):
+    """The prover's own words for a check of these functions. `rt check` would first compare each library with its sources."""
+    rtlib, only = toolchain(), [word for function in functions for word in ("--only", function)]
+    crate = next(it for it in rtlib.crates_below(str(folder.parent.parent)) if it.name == folder.name)
+    return [rtlib.RATTLE, "check", *crate.words(["--jobs", "1", *only], keeps=False), *rtlib.KEPT]
+
+
 def check(folder, functions):
     """What a check of these functions says, and whether it judged them. Its seconds of the processors are noted."""
-    words = ["rt", "check", "--jobs", "1", *(word for function in functions for word in ("--only", function))]
+    words = words_of_check(folder, functions)
+    (folder / "out").mkdir(exist_ok=True)
     with tempfile.TemporaryFile("w+", errors="replace") as told:
         process = subprocess.Popen(words, cwd=folder, stdin=subprocess.DEVNULL, stdout=told, stderr=subprocess.STDOUT)
         _, process.returncode, used = os.wait4(process.pid, 0)
@@ -315,10 +331,7 @@ def try_crate(edits, built, are_reasons_told):
 def mark_left():
     """Marks the libraries that `rt ci` has left as built of these sources. It leaves them without a mark, since they hold
     statements alone, and a check would build each anew."""
-    sys.path.insert(0, str(pathlib.Path(run(["rt", "doc"], ROOT).stdout.strip()).parent / "bin"))
-    import rtlib
-
-    for library in rtlib.crates_below(str(ROOT)):
+    for library in toolchain().crates_below(str(ROOT)):
         if os.path.isdir(library.rlib):
             pathlib.Path(library.rlib).with_name("stamp").write_text(library.stamp())
 
