@@ -47,15 +47,21 @@ fn tell(rt: &impl Eprint, what: &str, error: io::Error) {
 impl<'a, A: Answers<'a> + Drop> Server<'a, A> {
     // ---- accepting
 
-    // Accepts the connections that wait at a listener.
+    // Accepts the connections that wait at a listener, or the first of them: the system reports the
+    // others again.
     fn accept<R: Wait + Clock + Eprint>(&mut self, rt: &R, index: usize) {
         let mut was_short = false;
         for _accepted in 0..MAX_ACCEPTS {
             match self.acceptor.next_client(index) {
-                Some(Ok((stream, address))) => self.welcome(rt, stream, address),
+                Some(Ok((stream, address))) => {
+                    self.welcome(rt, stream, address);
+                    if !self.acceptor.expects_more() {
+                        return;
+                    }
+                }
                 Some(Err(error)) => {
                     if error.kind() == ErrorKind::WouldBlock {
-                        return;
+                        return self.acceptor.found_none();
                     }
                     was_short = self.meet_failure(rt, error, was_short);
                 }
@@ -68,6 +74,7 @@ impl<'a, A: Answers<'a> + Drop> Server<'a, A> {
     // thread, which may have paused or have left it to the others.
     fn accept_all<R: Wait + Clock + Eprint>(&mut self, rt: &R) {
         for index in 0..self.acceptor.number_of_listeners() {
+            self.acceptor.expect_more();
             self.accept(rt, index);
         }
     }
@@ -189,7 +196,9 @@ impl<'a, A: Answers<'a> + Drop> Server<'a, A> {
         self.end_lingering(rt);
         self.close_excess(rt);
         self.keep_share(rt);
-        self.log.hand_on_due(rt, self.alloc);
+        if self.log.poll_timeout().is_some() {
+            self.log.hand_on_due(rt, self.alloc);
+        }
         Ok(())
     }
 
