@@ -4,6 +4,7 @@ use gopher_conversation::{Answers, Conversation, Progress, converse};
 use gopher_log_writer::{Accepted, ThreadLog};
 use gopher_text::Watched;
 use mio::net::TcpStream;
+use mio::{Interest, Registry, Token};
 use std::alloc::Global;
 use std::io::{ErrorKind, Read};
 use std::net::Shutdown;
@@ -52,6 +53,8 @@ pub(crate) struct Connection<'a> {
     conversation: Conversation<'a>,
     accepted: Option<Accepted>,
     activity: Activity,
+    // What the poll reports of it; nothing so far if `None`.
+    reported: Option<Interest>,
 }
 
 // Adds the line of a conversation to the log, if a line was asked.
@@ -79,12 +82,36 @@ impl<'a> Connection<'a> {
             conversation: Conversation::new(alloc),
             accepted,
             activity: Activity::Talks,
+            reported: None,
         }
     }
 
-    /// Returns the stream to the client.
-    pub(crate) fn stream_mut(&mut self) -> &mut TcpStream {
-        &mut self.stream
+    // What it waits for. It waits for room to write only while it has a reply to send, because a
+    // report of room that it doesn't need costs a round.
+    fn interest(&self) -> Interest {
+        let lingers = self.activity == Activity::Lingers;
+        if lingers || self.conversation.asked_line().is_none() {
+            Interest::READABLE
+        } else {
+            Interest::READABLE | Interest::WRITABLE
+        }
+    }
+
+    /// Returns whether the poll doesn't report yet what it waits for.
+    pub(crate) fn lacks_reports(&self) -> bool {
+        self.reported != Some(self.interest())
+    }
+
+    /// Has the poll report by `key` when its client is ready, even if it is ready already. Returns
+    /// false if the system refuses.
+    pub(crate) fn watch(&mut self, registry: &Registry, key: usize) -> bool {
+        let interest = self.interest();
+        let watched = match self.reported {
+            Some(_) => registry.reregister(&mut self.stream, Token(key), interest),
+            None => registry.register(&mut self.stream, Token(key), interest),
+        };
+        self.reported = Some(interest);
+        watched.is_ok()
     }
 
     /// Returns whether a search makes its reply.

@@ -4,7 +4,6 @@
 use crate::connection::{Connection, NextStep};
 use crate::server::Server;
 use gopher_conversation::Answers;
-use mio::{Interest, Token};
 use std::sync::Wait;
 use std::time::Clock;
 
@@ -30,7 +29,7 @@ impl<'a, A: Answers<'a> + Drop> Server<'a, A> {
         match self.connections.put(connection) {
             Ok(key) => {
                 self.acceptor.shared.places.take();
-                if self.watch_client(key, false) {
+                if self.watch_client(key) {
                     self.meet_step(rt, key, step);
                 } else {
                     self.close(rt, key);
@@ -100,23 +99,13 @@ impl<'a, A: Answers<'a> + Drop> Server<'a, A> {
         }
     }
 
-    // Has the connection at a key reported when its client is ready; once it is watched, even if
-    // the client is ready already. False if the system refuses.
-    fn watch_client(&mut self, key: usize, is_watched: bool) -> bool {
-        let Some(connection) = self.connections.get_mut(key) else {
-            return false;
-        };
-        let (stream, both) = (
-            connection.stream_mut(),
-            Interest::READABLE | Interest::WRITABLE,
-        );
-        let registry = self.poll.registry();
-        let watched = if is_watched {
-            registry.reregister(stream, Token(key), both)
-        } else {
-            registry.register(stream, Token(key), both)
-        };
-        watched.is_ok()
+    // Has the connection at a key reported when its client is ready, even if it is ready already.
+    // False if the system refuses.
+    fn watch_client(&mut self, key: usize) -> bool {
+        match self.connections.get_mut(key) {
+            Some(connection) => connection.watch(self.poll.registry(), key),
+            None => false,
+        }
     }
 
     /// Goes on with the connection at a key. One in the queue of searches goes on in its turn; it
@@ -133,12 +122,23 @@ impl<'a, A: Answers<'a> + Drop> Server<'a, A> {
         }
     }
 
+    // Whether the connection at a key waits for what isn't reported.
+    fn lacks_reports(&mut self, key: usize, step: NextStep) -> bool {
+        match step {
+            NextStep::Ready | NextStep::Lingers => true,
+            NextStep::Waits => match self.connections.get_mut(key) {
+                Some(connection) => connection.lacks_reports(),
+                None => false,
+            },
+            NextStep::Works | NextStep::Ends => false,
+        }
+    }
+
     // Does what the next step of the connection at a key asks, after the first one.
     fn meet_later_step<R: Wait + Clock>(&mut self, rt: &R, key: usize, step: NextStep) {
         let _found = self.connections.touch(key);
         self.meet_step(rt, key, step);
-        let is_ready = step == NextStep::Ready || step == NextStep::Lingers;
-        if is_ready && !self.watch_client(key, true) {
+        if self.lacks_reports(key, step) && !self.watch_client(key) {
             self.close(rt, key);
         }
     }
