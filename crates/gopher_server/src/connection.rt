@@ -1,5 +1,6 @@
 //! One connection with a client.
 
+use crate::send_buffer::ReplyWriter;
 use gopher_conversation::{Answers, Conversation, Progress, converse};
 use gopher_log_writer::{Accepted, ThreadLog};
 use gopher_text::Watched;
@@ -55,6 +56,8 @@ pub(crate) struct Connection<'a> {
     activity: Activity,
     // What the poll reports of it; nothing so far if `None`.
     reported: Option<Interest>,
+    // Whether the system queues more for its client than for others.
+    is_large: bool,
 }
 
 // Adds the line of a conversation to the log, if a line was asked.
@@ -83,7 +86,13 @@ impl<'a> Connection<'a> {
             accepted,
             activity: Activity::Talks,
             reported: None,
+            is_large: false,
         }
+    }
+
+    /// Returns whether the system queues more for its client than for others.
+    pub(crate) fn is_large(&self) -> bool {
+        self.is_large
     }
 
     // What it waits for. It waits for room to write only while it has a reply to send, because a
@@ -119,17 +128,19 @@ impl<'a> Connection<'a> {
         self.activity == Activity::Searches
     }
 
-    /// Goes on while the client is ready. If a search makes the reply, takes one step of it.
+    /// Goes on while the client is ready. If a search makes the reply, takes one step of it. If it
+    /// may enlarge its queue, the system then queues more of a long reply.
     pub(crate) fn go_on<A: Answers<'a>>(
         &mut self,
         alloc: Global,
         answers: &mut A,
         buffer: &mut [u8; BUFFER_BYTES],
+        may_enlarge: bool,
     ) -> NextStep {
         if self.activity == Activity::Lingers {
             self.read_on(buffer)
         } else {
-            self.talk(alloc, answers, buffer)
+            self.talk(alloc, answers, buffer, may_enlarge)
         }
     }
 
@@ -151,15 +162,19 @@ impl<'a> Connection<'a> {
         alloc: Global,
         answers: &mut A,
         buffer: &mut [u8; BUFFER_BYTES],
+        may_enlarge: bool,
     ) -> NextStep {
+        let may_enlarge = may_enlarge && !self.is_large;
+        let mut writer = Watched::new(ReplyWriter::new(&self.stream, may_enlarge));
         let progress = converse(
             alloc,
             &mut self.conversation,
             answers,
             &mut Watched::new(&self.stream),
-            &mut Watched::new(&self.stream),
+            &mut writer,
             buffer,
         );
+        self.is_large = self.is_large || writer.into_inner().is_large;
         self.activity = Activity::Talks;
         match progress {
             Progress::Works => {

@@ -32,6 +32,8 @@ pub(crate) struct Server<'a, A: Answers<'a> + Drop> {
     pub(crate) deadlines: Deadlines,
     /// The connections whose replies searches make.
     pub(crate) searching: WorkQueue,
+    /// How many of the connections have a larger queue.
+    pub(crate) large: usize,
     pub(crate) answers: A,
     pub(crate) log: ThreadLog,
     pub(crate) clock: ThreadClock,
@@ -123,7 +125,8 @@ impl<'a, A: Answers<'a> + Drop> Server<'a, A> {
     // Goes on with a new connection at once, and keeps it if it has to wait.
     fn begin<R: Wait + Clock>(&mut self, rt: &R, connection: Connection<'a>) {
         let mut connection = connection;
-        let step = connection.go_on(self.alloc, &mut self.answers, &mut self.buffer);
+        let may_enlarge = self.may_enlarge();
+        let step = connection.go_on(self.alloc, &mut self.answers, &mut self.buffer, may_enlarge);
         if step == NextStep::Ends {
             connection.log_request(rt, self.alloc, &mut self.log);
         } else {
@@ -265,6 +268,7 @@ pub fn serve<'a, A: Answers<'a> + Drop, R: Wait + Clock + Eprint>(
         connections,
         deadlines: Deadlines::new(alloc),
         searching: WorkQueue::new(alloc),
+        large: 0,
         answers,
         log,
         clock,
