@@ -11,6 +11,9 @@ use std::sync::Arc;
 // For how many milliseconds a thread accepts nothing if descriptors or memory are short.
 const PAUSE: u64 = 100;
 
+// After this many reports in a row of one connection each, a thread looks whether more wait.
+const MAX_SINGLE: u32 = 4;
+
 // Whether a thread accepts connections, and if not, why.
 #[derive(Clone, Copy, PartialEq, Eq)]
 enum Accepting {
@@ -29,6 +32,9 @@ enum Accepting {
 pub(crate) struct Acceptor {
     listeners: Option<Arc<Vec<TcpListener>>>,
     accepting: Accepting,
+    // How many reports in a row it took for one connection each; `MAX_SINGLE` while it accepts until
+    // none waits.
+    single: u32,
     /// What it shares with those of other threads.
     pub(crate) shared: Arc<ServerShared>,
 }
@@ -40,6 +46,7 @@ impl Acceptor {
         Acceptor {
             listeners: Some(listeners),
             accepting: Accepting::Watches,
+            single: 0,
             shared,
         }
     }
@@ -97,6 +104,27 @@ impl Acceptor {
         }
         let listener = self.listeners.as_ref()?.get(index)?;
         Some(listener.accept())
+    }
+
+    /// Returns whether to accept another connection after one, before other events are handled. An
+    /// accept that finds none costs more than a further report, so it expects none while one came
+    /// at a time.
+    pub(crate) fn expects_more(&mut self) -> bool {
+        if self.single >= MAX_SINGLE {
+            return true;
+        }
+        self.single += 1;
+        false
+    }
+
+    /// Has the next accepts go on until none waits.
+    pub(crate) fn expect_more(&mut self) {
+        self.single = MAX_SINGLE;
+    }
+
+    /// Records that no connection waits.
+    pub(crate) fn found_none(&mut self) {
+        self.single = 0;
     }
 
     /// Accepts nothing for 100 ms, and wakes the other threads, which may have connections to

@@ -1,9 +1,11 @@
 //! One connection with a client.
 
+use crate::send_buffer::ReplyWriter;
 use gopher_conversation::{Answers, Conversation, Progress, converse};
 use gopher_log_writer::{Accepted, ThreadLog};
 use gopher_text::Watched;
 use mio::net::TcpStream;
+use mio::{Interest, Registry, Token};
 use std::alloc::Global;
 use std::io::{ErrorKind, Read};
 use std::net::Shutdown;
@@ -52,6 +54,10 @@ pub(crate) struct Connection<'a> {
     conversation: Conversation<'a>,
     accepted: Option<Accepted>,
     activity: Activity,
+    // What the poll reports of it; nothing so far if `None`.
+    reported: Option<Interest>,
+    // Whether the system queues more for its client than for others.
+    is_large: bool,
 }
 
 // Adds the line of a conversation to the log, if a line was asked.
@@ -79,12 +85,42 @@ impl<'a> Connection<'a> {
             conversation: Conversation::new(alloc),
             accepted,
             activity: Activity::Talks,
+            reported: None,
+            is_large: false,
         }
     }
 
-    /// Returns the stream to the client.
-    pub(crate) fn stream_mut(&mut self) -> &mut TcpStream {
-        &mut self.stream
+    /// Returns whether the system queues more for its client than for others.
+    pub(crate) fn is_large(&self) -> bool {
+        self.is_large
+    }
+
+    // What it waits for. It waits for room to write only while it has a reply to send, because a
+    // report of room that it doesn't need costs a round.
+    fn interest(&self) -> Interest {
+        let lingers = self.activity == Activity::Lingers;
+        if lingers || self.conversation.asked_line().is_none() {
+            Interest::READABLE
+        } else {
+            Interest::READABLE | Interest::WRITABLE
+        }
+    }
+
+    /// Returns whether the poll doesn't report yet what it waits for.
+    pub(crate) fn lacks_reports(&self) -> bool {
+        self.reported != Some(self.interest())
+    }
+
+    /// Has the poll report by `key` when its client is ready, even if it is ready already. Returns
+    /// false if the system refuses.
+    pub(crate) fn watch(&mut self, registry: &Registry, key: usize) -> bool {
+        let interest = self.interest();
+        let watched = match self.reported {
+            Some(_) => registry.reregister(&mut self.stream, Token(key), interest),
+            None => registry.register(&mut self.stream, Token(key), interest),
+        };
+        self.reported = Some(interest);
+        watched.is_ok()
     }
 
     /// Returns whether a search makes its reply.
@@ -92,17 +128,19 @@ impl<'a> Connection<'a> {
         self.activity == Activity::Searches
     }
 
-    /// Goes on while the client is ready. If a search makes the reply, takes one step of it.
+    /// Goes on while the client is ready. If a search makes the reply, takes one step of it. If it
+    /// may enlarge its queue, the system then queues more of a long reply.
     pub(crate) fn go_on<A: Answers<'a>>(
         &mut self,
         alloc: Global,
         answers: &mut A,
         buffer: &mut [u8; BUFFER_BYTES],
+        may_enlarge: bool,
     ) -> NextStep {
         if self.activity == Activity::Lingers {
             self.read_on(buffer)
         } else {
-            self.talk(alloc, answers, buffer)
+            self.talk(alloc, answers, buffer, may_enlarge)
         }
     }
 
@@ -124,15 +162,19 @@ impl<'a> Connection<'a> {
         alloc: Global,
         answers: &mut A,
         buffer: &mut [u8; BUFFER_BYTES],
+        may_enlarge: bool,
     ) -> NextStep {
+        let may_enlarge = may_enlarge && !self.is_large;
+        let mut writer = Watched::new(ReplyWriter::new(&self.stream, may_enlarge));
         let progress = converse(
             alloc,
             &mut self.conversation,
             answers,
             &mut Watched::new(&self.stream),
-            &mut Watched::new(&self.stream),
+            &mut writer,
             buffer,
         );
+        self.is_large = self.is_large || writer.into_inner().is_large;
         self.activity = Activity::Talks;
         match progress {
             Progress::Works => {

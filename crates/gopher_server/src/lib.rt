@@ -13,6 +13,7 @@ mod accepting;
 mod acceptor;
 mod connection;
 mod listeners;
+mod send_buffer;
 mod server;
 mod setup;
 mod shared;

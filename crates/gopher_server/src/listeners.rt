@@ -1,4 +1,4 @@
-//! Listeners in a poll: their tokens, watching them, and the size of their send buffers.
+//! Listeners in a poll: their tokens, and watching them.
 
 use mio::Poll;
 use mio::net::TcpListener;
@@ -10,10 +10,6 @@ const FIRST_LISTENER: usize = usize::MAX - 1_024;
 
 // Wakes one thread for each connection instead of all (`EPOLLEXCLUSIVE` of Linux).
 const EPOLLEXCLUSIVE: u32 = 1 << 28;
-
-// The most bytes of a reply that the system queues for a client. The system doubles the number for
-// its own use. It bounds the kernel memory of a client that reads nothing.
-const SEND_BUFFER: i32 = 65_536;
 
 /// The token of the events of a thread's waker.
 pub(crate) const WAKER: usize = usize::MAX - 1_025;
@@ -53,20 +49,4 @@ pub(crate) fn unwatch(poll: &Poll, listeners: &[TcpListener]) {
             0,
         );
     }
-}
-
-/// Limits the bytes that the system queues for each client of a listener. If the system refuses,
-/// its own limit stays.
-pub(crate) fn limit_send_buffer(listener: &TcpListener) {
-    let mut value = [0u8; 16];
-    value[..4].copy_from_slice(&SEND_BUFFER.to_ne_bytes());
-    let _refused = unsafe {
-        libc::net::setsockopt(
-            listener.as_raw_fd(),
-            libc::net::SOL_SOCKET,
-            libc::net::SO_SNDBUF,
-            &value,
-            4,
-        )
-    };
 }

@@ -32,6 +32,8 @@ pub(crate) struct Server<'a, A: Answers<'a> + Drop> {
     pub(crate) deadlines: Deadlines,
     /// The connections whose replies searches make.
     pub(crate) searching: WorkQueue,
+    /// How many of the connections have a larger queue.
+    pub(crate) large: usize,
     pub(crate) answers: A,
     pub(crate) log: ThreadLog,
     pub(crate) clock: ThreadClock,
@@ -47,15 +49,21 @@ fn tell(rt: &impl Eprint, what: &str, error: io::Error) {
 impl<'a, A: Answers<'a> + Drop> Server<'a, A> {
     // ---- accepting
 
-    // Accepts the connections that wait at a listener.
+    // Accepts the connections that wait at a listener, or the first of them: the system reports the
+    // others again.
     fn accept<R: Wait + Clock + Eprint>(&mut self, rt: &R, index: usize) {
         let mut was_short = false;
         for _accepted in 0..MAX_ACCEPTS {
             match self.acceptor.next_client(index) {
-                Some(Ok((stream, address))) => self.welcome(rt, stream, address),
+                Some(Ok((stream, address))) => {
+                    self.welcome(rt, stream, address);
+                    if !self.acceptor.expects_more() {
+                        return;
+                    }
+                }
                 Some(Err(error)) => {
                     if error.kind() == ErrorKind::WouldBlock {
-                        return;
+                        return self.acceptor.found_none();
                     }
                     was_short = self.meet_failure(rt, error, was_short);
                 }
@@ -68,6 +76,7 @@ impl<'a, A: Answers<'a> + Drop> Server<'a, A> {
     // thread, which may have paused or have left it to the others.
     fn accept_all<R: Wait + Clock + Eprint>(&mut self, rt: &R) {
         for index in 0..self.acceptor.number_of_listeners() {
+            self.acceptor.expect_more();
             self.accept(rt, index);
         }
     }
@@ -116,7 +125,8 @@ impl<'a, A: Answers<'a> + Drop> Server<'a, A> {
     // Goes on with a new connection at once, and keeps it if it has to wait.
     fn begin<R: Wait + Clock>(&mut self, rt: &R, connection: Connection<'a>) {
         let mut connection = connection;
-        let step = connection.go_on(self.alloc, &mut self.answers, &mut self.buffer);
+        let may_enlarge = self.may_enlarge();
+        let step = connection.go_on(self.alloc, &mut self.answers, &mut self.buffer, may_enlarge);
         if step == NextStep::Ends {
             connection.log_request(rt, self.alloc, &mut self.log);
         } else {
@@ -189,7 +199,9 @@ impl<'a, A: Answers<'a> + Drop> Server<'a, A> {
         self.end_lingering(rt);
         self.close_excess(rt);
         self.keep_share(rt);
-        self.log.hand_on_due(rt, self.alloc);
+        if self.log.poll_timeout().is_some() {
+            self.log.hand_on_due(rt, self.alloc);
+        }
         Ok(())
     }
 
@@ -256,6 +268,7 @@ pub fn serve<'a, A: Answers<'a> + Drop, R: Wait + Clock + Eprint>(
         connections,
         deadlines: Deadlines::new(alloc),
         searching: WorkQueue::new(alloc),
+        large: 0,
         answers,
         log,
         clock,

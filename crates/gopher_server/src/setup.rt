@@ -1,6 +1,7 @@
 //! What server threads need of the system, made before they start (`set_up`).
 
-use crate::listeners::{WAKER, limit_send_buffer, watch};
+use crate::listeners::{WAKER, watch};
+use crate::send_buffer::limit_send_buffer;
 use crate::shared::ServerShared;
 use gopher_connections::{AcceptQuota, Places, max_places};
 use gopher_item::NoMemory;

@@ -2,9 +2,9 @@
 //! their reply.
 
 use crate::connection::{Connection, NextStep};
+use crate::send_buffer::MAX_LARGE;
 use crate::server::Server;
 use gopher_conversation::Answers;
-use mio::{Interest, Token};
 use std::sync::Wait;
 use std::time::Clock;
 
@@ -27,10 +27,12 @@ impl<'a, A: Answers<'a> + Drop> Server<'a, A> {
         connection: Connection<'a>,
         step: NextStep,
     ) {
+        let is_large = connection.is_large();
         match self.connections.put(connection) {
             Ok(key) => {
                 self.acceptor.shared.places.take();
-                if self.watch_client(key, false) {
+                self.count_large(is_large);
+                if self.watch_client(key) {
                     self.meet_step(rt, key, step);
                 } else {
                     self.close(rt, key);
@@ -90,7 +92,25 @@ impl<'a, A: Answers<'a> + Drop> Server<'a, A> {
     pub(crate) fn take_out<R: Wait + Clock>(&mut self, rt: &R, key: usize) -> bool {
         self.log_at(rt, key);
         self.searching.remove(key);
-        self.connections.remove(key).is_some()
+        let Some(connection) = self.connections.remove(key) else {
+            return false;
+        };
+        if connection.is_large() {
+            self.large = self.large.saturating_sub(1);
+        }
+        true
+    }
+
+    /// Returns whether one more connection may have a larger queue.
+    pub(crate) fn may_enlarge(&self) -> bool {
+        self.large < MAX_LARGE
+    }
+
+    // Counts a connection if its queue became larger.
+    fn count_large(&mut self, became_large: bool) {
+        if became_large {
+            self.large = self.large.saturating_add(1);
+        }
     }
 
     /// Closes the connection at a key, and gives its place back.
@@ -100,36 +120,47 @@ impl<'a, A: Answers<'a> + Drop> Server<'a, A> {
         }
     }
 
-    // Has the connection at a key reported when its client is ready; once it is watched, even if
-    // the client is ready already. False if the system refuses.
-    fn watch_client(&mut self, key: usize, is_watched: bool) -> bool {
-        let Some(connection) = self.connections.get_mut(key) else {
-            return false;
-        };
-        let (stream, both) = (
-            connection.stream_mut(),
-            Interest::READABLE | Interest::WRITABLE,
-        );
-        let registry = self.poll.registry();
-        let watched = if is_watched {
-            registry.reregister(stream, Token(key), both)
-        } else {
-            registry.register(stream, Token(key), both)
-        };
-        watched.is_ok()
+    // Has the connection at a key reported when its client is ready, even if it is ready already.
+    // False if the system refuses.
+    fn watch_client(&mut self, key: usize) -> bool {
+        match self.connections.get_mut(key) {
+            Some(connection) => connection.watch(self.poll.registry(), key),
+            None => false,
+        }
     }
 
     /// Goes on with the connection at a key. One in the queue of searches goes on in its turn; it
     /// is closed if its client takes nothing more.
     pub(crate) fn go_on<R: Wait + Clock>(&mut self, rt: &R, key: usize, is_gone: bool) {
+        let may_enlarge = self.may_enlarge();
         let Some(connection) = self.connections.get_mut(key) else {
             return;
         };
         if !connection.searches() {
-            let step = connection.go_on(self.alloc, &mut self.answers, &mut self.buffer);
+            let was_large = connection.is_large();
+            let step = connection.go_on(
+                self.alloc,
+                &mut self.answers,
+                &mut self.buffer,
+                may_enlarge,
+            );
+            let became_large = connection.is_large() && !was_large;
+            self.count_large(became_large);
             self.meet_later_step(rt, key, step);
         } else if is_gone {
             self.close(rt, key);
+        }
+    }
+
+    // Whether the connection at a key waits for what isn't reported.
+    fn lacks_reports(&mut self, key: usize, step: NextStep) -> bool {
+        match step {
+            NextStep::Ready | NextStep::Lingers => true,
+            NextStep::Waits => match self.connections.get_mut(key) {
+                Some(connection) => connection.lacks_reports(),
+                None => false,
+            },
+            NextStep::Works | NextStep::Ends => false,
         }
     }
 
@@ -137,8 +168,7 @@ impl<'a, A: Answers<'a> + Drop> Server<'a, A> {
     fn meet_later_step<R: Wait + Clock>(&mut self, rt: &R, key: usize, step: NextStep) {
         let _found = self.connections.touch(key);
         self.meet_step(rt, key, step);
-        let is_ready = step == NextStep::Ready || step == NextStep::Lingers;
-        if is_ready && !self.watch_client(key, true) {
+        if self.lacks_reports(key, step) && !self.watch_client(key) {
             self.close(rt, key);
         }
     }
@@ -192,7 +222,7 @@ impl<'a, A: Answers<'a> + Drop> Server<'a, A> {
             let Some(connection) = self.connections.get_mut(key) else {
                 return NextStep::Ends;
             };
-            let step = connection.go_on(self.alloc, &mut self.answers, &mut self.buffer);
+            let step = connection.go_on(self.alloc, &mut self.answers, &mut self.buffer, false);
             if step != NextStep::Works || self.clock.micros(clock) >= until {
                 return step;
             }

@@ -1,0 +1,75 @@
+//! How many bytes of a reply the system queues for a client.
+
+use mio::net::{TcpListener, TcpStream};
+use std::io::{self, Write};
+use std::os::fd::{AsRawFd, RawFd};
+
+// The most bytes of a reply that the system queues for a client. The system doubles the number for
+// its own use. It bounds the kernel memory of a client that reads nothing.
+const SEND_BUFFER: i32 = 65_536;
+
+// The same for the few clients of a thread that are sent a long reply by a larger queue. Each piece
+// that the system queues wakes the client once, and the server once more.
+const LARGE_SEND_BUFFER: i32 = 262_144;
+
+// A reply is long if more than this is left of it. Less than this fits into an ordinary queue.
+const LONG_REPLY: usize = 114_688;
+
+/// The most connections of a thread that have a larger queue.
+pub(crate) const MAX_LARGE: usize = 16;
+
+// Sets the bytes that the system queues for a socket. If the system refuses, its own limit stays.
+fn set_send_buffer(socket: RawFd, bytes: i32) {
+    let mut value = [0u8; 16];
+    value[..4].copy_from_slice(&bytes.to_ne_bytes());
+    let _refused = unsafe {
+        libc::net::setsockopt(
+            socket,
+            libc::net::SOL_SOCKET,
+            libc::net::SO_SNDBUF,
+            &value,
+            4,
+        )
+    };
+}
+
+/// Limits the bytes that the system queues for each client of a listener.
+pub(crate) fn limit_send_buffer(listener: &TcpListener) {
+    set_send_buffer(listener.as_raw_fd(), SEND_BUFFER);
+}
+
+/// Writes to a client. Before it writes a long reply, it has the system queue more, if it may.
+#[derive(Drop)]
+pub(crate) struct ReplyWriter<'a> {
+    stream: &'a TcpStream,
+    may_enlarge: bool,
+    /// Whether the system queues more for the client.
+    pub(crate) is_large: bool,
+}
+
+impl<'a> ReplyWriter<'a> {
+    /// Makes a writer to a client, with an ordinary queue so far. `may_enlarge` says whether it may
+    /// be larger.
+    pub(crate) fn new(stream: &'a TcpStream, may_enlarge: bool) -> ReplyWriter<'a> {
+        ReplyWriter {
+            stream,
+            may_enlarge,
+            is_large: false,
+        }
+    }
+}
+
+impl Write for ReplyWriter<'_> {
+    fn write(&mut self, buf: &[u8]) -> io::Result<usize> {
+        if self.may_enlarge && !self.is_large && buf.len() > LONG_REPLY {
+            set_send_buffer(self.stream.as_raw_fd(), LARGE_SEND_BUFFER);
+            self.is_large = true;
+        }
+        let mut stream = self.stream;
+        stream.write(buf)
+    }
+
+    fn flush(&mut self) -> io::Result<()> {
+        Ok(())
+    }
+}
