@@ -86,10 +86,13 @@ fn a_book_of_three_events(rt: HostRuntime) {
     assert!(rt; holds_three(rt.alloc()) == Some(true));
 }
 
-// Whether an empty book finds nothing.
+// Whether a book has no event and finds nothing.
+fn is_empty(alloc: Global, book: &Book) -> Option<bool> {
+    Some(book.len() == 0 && !finds_root(alloc, book)? && !has_word_in_root(book)?)
+}
+
 fn holds_nothing(alloc: Global) -> Option<bool> {
-    let book = Book::empty(alloc);
-    Some(book.len() == 0 && !finds_root(alloc, &book)? && !has_word_in_root(&book)?)
+    is_empty(alloc, &Book::empty(alloc))
 }
 
 #[test]
@@ -97,19 +100,27 @@ fn an_empty_book(rt: HostRuntime) {
     assert!(rt; holds_nothing(rt.alloc()) == Some(true));
 }
 
-// How many events a clone of the book has, once the book took in these, and then the book.
-fn sizes_of_clone_and_book(book: &mut Book, events: &[Event]) -> Option<(usize, usize)> {
-    let earlier = book.clone().ok()?;
+// How many events the clone of a book has, once the book took in these, and then the book.
+fn sizes_after(earlier: &Book, book: &mut Book, events: &[Event]) -> Option<(usize, usize)> {
     take_in(book, events)?;
     Some((earlier.len(), book.len()))
 }
 
-// The same, for a book of two events that takes in the third.
+fn sizes_of_clone_and_book(book: &mut Book, events: &[Event]) -> Option<(usize, usize)> {
+    let earlier = book.clone().ok()?;
+    sizes_after(&earlier, book, events)
+}
+
+// The same, for a book of the first two events that takes in the others.
+fn sizes_with_others(alloc: Global, events: &[Event]) -> Option<(usize, usize)> {
+    let (first, others) = events.split_at(events.len().min(2));
+    let mut book = book_of_all(alloc, first)?;
+    sizes_of_clone_and_book(&mut book, others)
+}
+
 fn sizes_at_the_third(alloc: Global) -> Option<(usize, usize)> {
-    let mut book = book_of(alloc, 2)?;
     let catalogue = with_root(alloc)?;
-    let record = catalogue.record();
-    sizes_of_clone_and_book(&mut book, &record[2.min(record.len())..])
+    sizes_with_others(alloc, catalogue.record())
 }
 
 #[test]
@@ -117,9 +128,13 @@ fn a_clone_stays_as_its_book_goes_on(rt: HostRuntime) {
     assert!(rt; sizes_at_the_third(rt.alloc()) == Some((2, 3)));
 }
 
-fn clone_holds_three(alloc: Global) -> Option<bool> {
-    let clone = book_of(alloc, 3)?.clone().ok()?;
+fn clone_is_of_three(alloc: Global, book: &Book) -> Option<bool> {
+    let clone = book.clone().ok()?;
     is_of_three(alloc, &clone)
+}
+
+fn clone_holds_three(alloc: Global) -> Option<bool> {
+    clone_is_of_three(alloc, &book_of(alloc, 3)?)
 }
 
 #[test]
@@ -156,11 +171,19 @@ fn a_failure_again_is_the_same_failure(rt: HostRuntime) {
     assert!(rt; fails_again(rt.alloc()) == Some(true));
 }
 
-// Whether a book with that failure still finds the root.
-fn finds_root_after_a_failure(alloc: Global) -> Option<bool> {
+// A book with that failure.
+fn book_with_a_failure(alloc: Global) -> Option<Book> {
     let catalogue = with_a_failure(alloc)?;
-    let book = book_of_all(alloc, catalogue.record())?;
-    Some(book.len() == 5 && finds_root(alloc, &book)?)
+    book_of_all(alloc, catalogue.record())
+}
+
+// Whether a book of five events finds the root.
+fn is_of_five(alloc: Global, book: &Book) -> Option<bool> {
+    Some(book.len() == 5 && finds_root(alloc, book)?)
+}
+
+fn finds_root_after_a_failure(alloc: Global) -> Option<bool> {
+    is_of_five(alloc, &book_with_a_failure(alloc)?)
 }
 
 #[test]
@@ -168,11 +191,14 @@ fn a_failure_is_an_event_without_a_page(rt: HostRuntime) {
     assert!(rt; finds_root_after_a_failure(rt.alloc()) == Some(true));
 }
 
-fn version_finds_root(alloc: Global, index: &Index) -> Option<bool> {
-    let query = query(alloc)?;
-    let version = index.share(alloc).ok()?;
-    let hits = version.search(alloc, &query).ok()?;
+fn has_root(alloc: Global, index: &Index) -> Option<bool> {
+    let hits = index.search(alloc, &query(alloc)?).ok()?;
     Some(is_root(&hits))
+}
+
+fn version_finds_root(alloc: Global, index: &Index) -> Option<bool> {
+    let version = index.share(alloc).ok()?;
+    has_root(alloc, &version)
 }
 
 // Whether the index of the catalogue has the root's page alone, and finds it.
