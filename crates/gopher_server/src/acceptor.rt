@@ -32,8 +32,8 @@ enum Accepting {
 pub(crate) struct Acceptor {
     listeners: Option<Arc<Vec<TcpListener>>>,
     accepting: Accepting,
-    // How many reports in a row it took for one connection each; `MAX_SINGLE` while it accepts until
-    // none waits.
+    // How many reports in a row it took for one connection each; `MAX_SINGLE` while it accepts
+    // until none waits.
     single: u32,
     /// What it shares with those of other threads.
     pub(crate) shared: Arc<ServerShared>,
