@@ -5,8 +5,9 @@
 //! for events: in each round it handles all events first, then works for about a millisecond on the
 //! first search of the queue.
 //!
-//! The contracts here say only that calls are safe. `gopher_conversation` promises what a client
-//! receives, and `gopher_connections` which connection is closed and which search is next.
+//! Except in `accepting`, which says what an error of accept(2) means, the contracts here say only
+//! that calls are safe. `gopher_conversation` promises what a client receives, and
+//! `gopher_connections` which connection is closed and which search is next.
 #![tactic(auto)]
 
 mod accepting;

@@ -118,7 +118,7 @@ fn each_line(alloc: Global, bytes: &[u8]) -> Result<Vec<&[u8]>, AllocError> {
 
 const CUT: &[&[u8]] = &[b"a", b"", b"b\r", b"c\r"];
 
-// Whether these are the lines, where memory wasn't refused.
+// Whether these are the lines, unless memory ran out.
 fn are_cut<E: Drop>(lines: &Result<Vec<&[u8]>, E>) -> bool {
     match lines {
         Ok(lines) => lines.as_slice() == CUT,

@@ -26,8 +26,8 @@ pub struct Plan<'a> {
     pub tries: u32,
 }
 
-/// A crawl that ended: its catalogue, the sizes and the answer to `moon` before the desk was closed,
-/// and the fewest calls of a fetcher.
+/// A crawl that ended: its catalogue, the sizes and the answer to `moon` before the desk was
+/// closed, and the fewest calls of a fetcher.
 #[derive(Drop)]
 pub struct EndedCrawl {
     pub catalogue: Catalogue,
