@@ -26,12 +26,10 @@ impl Table for TwoFiles {
 
 // Whether a place fails for a reason other than out of memory.
 fn has_other_failure(record: &[Event]) -> bool {
-    for event in record {
-        if matches!(event, Event::Failed(_, why) if *why != Why::NoMemory) {
-            return true;
-        }
-    }
-    false
+    record.iter().any(|event| match event {
+        Event::Failed(_, why) => *why != Why::NoMemory,
+        _ => false,
+    })
 }
 
 // Whether all that is known was done: three places, or the root alone if it failed.
