@@ -117,12 +117,17 @@ fn a_seed_out_of_scope(rt: HostRuntime) {
     assert!(rt; refuses_a_seed(rt.alloc()) == Some(true));
 }
 
+// The scope with these rules in place of those that allow.
+fn with_rules(scope: Scope, allow: Vec<Rule>) -> Scope {
+    let (_, deny) = scope.into_rules();
+    Scope::new(allow, deny)
+}
+
 // A start that is refused for its limit, with the rule that an earlier one lacked.
 fn start_without_places(alloc: Global) -> Option<OpenRefused> {
     let allow = whole_host(alloc)?;
     let OpenRefused { scope, seeds, .. } = start_without_rules(alloc, 2)?;
-    let (_, deny) = scope.into_rules();
-    Catalogue::open(alloc, Scope::new(allow, deny), seeds, 0, 1).err()
+    Catalogue::open(alloc, with_rules(scope, allow), seeds, 0, 1).err()
 }
 
 // The number of the refusal, and the first place that is claimed once the start is tried again.

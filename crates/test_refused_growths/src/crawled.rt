@@ -5,8 +5,9 @@ ghost use Rattle.std.specs.Prelude.{◌≡◌, []};
 use crate::desks::{query, searched};
 use crate::opening::{Checked, opened};
 use gopher_catalogue::{Event, Status, Why};
-use gopher_crew::{Blank, Crew, Pass, Stop, work};
+use gopher_crew::{Blank, Crew, Desk, Pass, Share, Stop, work};
 use gopher_page::Query;
+use std::alloc::Global;
 use std::sync::Wait;
 use test_tables::{Fetcher, Table};
 
@@ -25,12 +26,10 @@ impl Table for TwoFiles {
 
 // Whether a place fails for a reason other than out of memory.
 fn has_other_failure(record: &[Event]) -> bool {
-    for event in record {
-        if matches!(event, Event::Failed(_, why) if *why != Why::NoMemory) {
-            return true;
-        }
-    }
-    false
+    record.iter().any(|event| match event {
+        Event::Failed(_, why) => *why != Why::NoMemory,
+        _ => false,
+    })
 }
 
 // Whether all that is known was done: three places, or the root alone if it failed.
@@ -58,6 +57,60 @@ fn sees_all<C: Crew>(pass: &mut Pass<C>, query: &Query, known: u32, failed: u32)
     Ok(())
 }
 
+// Checks a crawl that finished with so many failures.
+fn check_end<C: Crew>(
+    alloc: Global,
+    pass: &mut Pass<C>,
+    status: Status,
+    failed: u32,
+) -> Checked<()> {
+    if !is_whole(status, failed) {
+        return Err("a crawl stops before its end");
+    }
+    let query = query(alloc, b"moon")?;
+    sees_all(pass, &query, status.known, failed)
+}
+
+// Crawls by one worker, which takes the share and returns it.
+fn crawls<C: Crew, R: Wait + AllocGlobal>(
+    rt: &R,
+    desk: &Desk<C, &R>,
+    pass: &mut Pass<C>,
+    share: Share<C>,
+) -> Checked<Share<C>> {
+    let end = work(rt, rt.alloc(), desk, Fetcher::new(TwoFiles), share);
+    if end.stop == Stop::Finished {
+        check_end(rt.alloc(), pass, desk.status(rt), end.failed)?;
+    }
+    Ok(end.share)
+}
+
+// Crawls by the one share of a desk, and puts the share back.
+fn crawls_by<C: Crew, R: Wait + AllocGlobal>(
+    rt: &R,
+    desk: &Desk<C, &R>,
+    passes: &mut [Pass<C>],
+    shares: &mut Vec<Share<C>>,
+) -> Checked<()> {
+    let (Some(pass), Some(share)) = (passes.first_mut(), shares.pop()) else {
+        return Err("no pass or no share");
+    };
+    match shares.push(crawls(rt, desk, pass, share)?) {
+        Ok(()) => Ok(()),
+        Err(_refused) => Err("no room for a share"),
+    }
+}
+
+fn closes<C: Crew, R: Wait>(desk: Desk<C, &R>, shares: Vec<Share<C>>) -> Checked<()> {
+    match desk.close(shares) {
+        Ok(catalogue) if has_other_failure(catalogue.record()) => {
+            Err("a place fails for another reason")
+        }
+        Ok(_catalogue) => Ok(()),
+        Err(_refused) => Err("a desk isn't closed"),
+    }
+}
+
 /// Crawls a root with two files by one worker. A refused growth fails one place, or stops the
 /// worker, or delays a publication until the end of the crawl.
 pub fn check<C: Crew, R: Wait + AllocGlobal>(rt: &R, blank: Blank) -> Checked<()>
@@ -67,23 +120,6 @@ pub fn check<C: Crew, R: Wait + AllocGlobal>(rt: &R, blank: Blank) -> Checked<()
     requires begun { blank.begun ≡ [] }
 {
     let (desk, mut passes, mut shares) = opened::<C, R>(rt, b"h", blank)?;
-    let mut pass = passes.pop().ok_or("no pass")?;
-    let share = shares.pop().ok_or("no share")?;
-    let end = work(rt, rt.alloc(), &desk, Fetcher::new(TwoFiles), share);
-    if end.stop == Stop::Finished {
-        let status = desk.status(rt);
-        if !is_whole(status, end.failed) {
-            return Err("a crawl stops before its end");
-        }
-        let query = query(rt.alloc(), b"moon")?;
-        sees_all(&mut pass, &query, status.known, end.failed)?;
-    }
-    shares.push(end.share).ok().ok_or("no room for a share")?;
-    match desk.close(shares) {
-        Ok(catalogue) if has_other_failure(catalogue.record()) => {
-            Err("a place fails for another reason")
-        }
-        Ok(_catalogue) => Ok(()),
-        Err(_refused) => Err("a desk isn't closed"),
-    }
+    crawls_by(rt, &desk, &mut passes, &mut shares)?;
+    closes(desk, shares)
 }

@@ -3,13 +3,17 @@
 ghost use Rattle.std.specs.Prelude.{◌≡◌, []};
 
 use crate::opening::{Checked, opened, scope_at_last, seeds_at_last};
-use gopher_catalogue::{Added, Hit, Status, Turn};
+use gopher_catalogue::{Added, FoundRefused, Hit, Status, Turn};
 use gopher_crew::{Answer, Blank, Crew, Desk, Note, Pass, SearchFault, Share};
+use gopher_item::Place;
 use gopher_page::{Page, Query};
+use gopher_scope::Scope;
 use std::alloc::Global;
 use std::sync::Wait;
 
 const HOST: &[u8] = b"localhost";
+
+const DOCS: &[u8] = b"1Docs\t/docs\tlocalhost\t70\r\n.\r\n";
 
 /// The answer of a search, in one of two tries.
 pub fn searched<C: Crew>(pass: &mut Pass<C>, query: &Query) -> Checked<Answer> {
@@ -32,6 +36,21 @@ fn state<C: Crew, R: Wait>(rt: &R, desk: &Desk<C, &R>, share: &Share<C>) -> (Sta
     (desk.status(rt), share.events())
 }
 
+fn claimed_again<C: Crew, R: Wait>(
+    rt: &R,
+    desk: &Desk<C, &R>,
+    share: &mut Share<C>,
+    before: (Status, u64),
+) -> Checked<(Turn, Option<Note<C>>)> {
+    if state(rt, desk, share) != before {
+        return Err("a refused claim changed something");
+    }
+    match desk.claim(rt, share) {
+        Ok(reply) => Ok(reply),
+        Err(_again) => Err("a claim is refused twice"),
+    }
+}
+
 fn claimed<C: Crew, R: Wait>(
     rt: &R,
     desk: &Desk<C, &R>,
@@ -40,10 +59,7 @@ fn claimed<C: Crew, R: Wait>(
     let before = state(rt, desk, share);
     match desk.claim(rt, share) {
         Ok(reply) => Ok(reply),
-        Err(_refused) if state(rt, desk, share) != before => {
-            Err("a refused claim changed something")
-        }
-        Err(_refused) => desk.claim(rt, share).ok().ok_or("a claim is refused twice"),
+        Err(_refused) => claimed_again(rt, desk, share, before),
     }
 }
 
@@ -69,24 +85,44 @@ fn claims<C: Crew, R: Wait>(
     }
 }
 
-// The page of the root, which leads to one directory.
-fn page(alloc: Global) -> Checked<Option<Page>> {
-    let scope = scope_at_last(alloc, HOST)?;
-    let mut seeds = seeds_at_last(alloc, HOST)?;
-    let root = seeds.pop().ok_or("no root")?;
-    Ok(Page::of(
-        alloc,
-        &scope,
-        &root,
-        b"1Docs\t/docs\tlocalhost\t70\r\n.\r\n",
-    )
-    .ok())
+// The page of a root that leads to one directory, in one of two tries.
+fn page_of(alloc: Global, scope: &Scope, root: &Place) -> Checked<Page> {
+    match Page::of(alloc, scope, root, DOCS) {
+        Ok(page) => Ok(page),
+        Err(_refused) => match Page::of(alloc, scope, root, DOCS) {
+            Ok(page) => Ok(page),
+            Err(_again) => Err("a page is refused twice"),
+        },
+    }
 }
 
-fn page_at_last(alloc: Global) -> Checked<Page> {
-    match page(alloc)? {
-        Some(page) => Ok(page),
-        None => page(alloc)?.ok_or("a page is refused twice"),
+// The page of the first of these places.
+fn page_of_first(alloc: Global, places: &[Place]) -> Checked<Page> {
+    let Some(root) = places.first() else {
+        return Err("no root");
+    };
+    let scope = scope_at_last(alloc, HOST)?;
+    page_of(alloc, &scope, root)
+}
+
+fn page(alloc: Global) -> Checked<Page> {
+    let seeds = seeds_at_last(alloc, HOST)?;
+    page_of_first(alloc, &seeds)
+}
+
+fn found_again<C: Crew, R: Wait>(
+    rt: &R,
+    desk: &Desk<C, &R>,
+    share: &mut Share<C>,
+    refused: FoundRefused,
+    before: (Status, u64),
+) -> Checked<(Added, Option<Note<C>>)> {
+    if refused.fault.code() != 90 || state(rt, desk, share) != before {
+        return Err("a refused page changed something");
+    }
+    match desk.found(rt, share, 0, refused.page) {
+        Ok(reply) => Ok(reply),
+        Err(_again) => Err("a page is refused twice"),
     }
 }
 
@@ -99,13 +135,7 @@ fn found<C: Crew, R: Wait>(
     let before = state(rt, desk, share);
     match desk.found(rt, share, 0, page) {
         Ok(reply) => Ok(reply),
-        Err(refused) if refused.fault.code() != 90 || state(rt, desk, share) != before => {
-            Err("a refused page changed something")
-        }
-        Err(refused) => desk
-            .found(rt, share, 0, refused.page)
-            .ok()
-            .ok_or("a page is refused twice"),
+        Err(refused) => found_again(rt, desk, share, refused, before),
     }
 }
 
@@ -140,10 +170,36 @@ fn sees_nothing<C: Crew>(pass: &mut Pass<C>, query: &Query) -> Checked<()> {
 }
 
 // A note of `at` events.
-fn noted<C: Crew>(note: Option<Note<C>>, at: u32) -> Checked<Note<C>> {
-    match note {
-        Some(note) if note.at() == at => Ok(note),
-        Some(_note) => Err("a note of another record"),
+fn noted<C: Crew>(note: Note<C>, at: u32) -> Checked<Note<C>> {
+    if note.at() == at {
+        Ok(note)
+    } else {
+        Err("a note of another record")
+    }
+}
+
+// Hands in the page of the root.
+fn finds_root<C: Crew, R: Wait + AllocGlobal>(
+    rt: &R,
+    desk: &Desk<C, &R>,
+    share: &mut Share<C>,
+) -> Checked<Option<Note<C>>> {
+    let (added, note) = found(rt, desk, share, page(rt.alloc())?)?;
+    if added.fresh == 1 {
+        Ok(note)
+    } else {
+        Err("a page adds something else")
+    }
+}
+
+// Claims the directory. The claim's note is of all events.
+fn claims_directory<C: Crew, R: Wait>(
+    rt: &R,
+    desk: &Desk<C, &R>,
+    share: &mut Share<C>,
+) -> Checked<Note<C>> {
+    match claims(rt, desk, share, 1)? {
+        Some(note) => noted(note, 4),
         None => Err("no note with ample memory"),
     }
 }
@@ -157,15 +213,20 @@ fn finds<C: Crew, R: Wait + AllocGlobal>(
     pass: &mut Pass<C>,
     query: &Query,
 ) -> Checked<Note<C>> {
-    let (added, note) = found(rt, desk, share, page_at_last(rt.alloc())?)?;
-    if added.fresh != 1 {
-        return Err("a page adds something else");
+    match finds_root(rt, desk, share)? {
+        Some(note) => noted(note, 3),
+        None => {
+            sees_nothing(pass, query)?;
+            claims_directory(rt, desk, share)
+        }
     }
-    if note.is_some() {
-        return noted(note, 3);
-    }
-    sees_nothing(pass, query)?;
-    noted(claims(rt, desk, share, 1)?, 4)
+}
+
+// Lets a pass hear a note, and returns of how many events it is.
+fn hears<C: Crew>(pass: &mut Pass<C>, note: Note<C>) -> u32 {
+    let at = note.at();
+    pass.hear(note);
+    at
 }
 
 // The first of two passes hears of the page, and both see it.
@@ -175,15 +236,31 @@ fn work_at<C: Crew, R: Wait + AllocGlobal>(
     share: &mut Share<C>,
     first: &mut Pass<C>,
     second: &mut Pass<C>,
+    query: &Query,
 ) -> Checked<()> {
+    sees(second, query, 1)?;
+    let _note = claims(rt, desk, share, 0)?;
+    let note = finds(rt, desk, share, first, query)?;
+    let at = hears(first, note);
+    sees(first, query, at)?;
+    sees(second, query, at)
+}
+
+// Works with two passes of a desk and its one share.
+fn work_by<C: Crew, R: Wait + AllocGlobal>(
+    rt: &R,
+    desk: &Desk<C, &R>,
+    passes: &mut [Pass<C>],
+    shares: &mut [Share<C>],
+) -> Checked<()> {
+    let (Some((first, others)), Some(share)) = (passes.split_first_mut(), shares.first_mut()) else {
+        return Err("no pass or no share");
+    };
+    let Some(second) = others.first_mut() else {
+        return Err("no second pass");
+    };
     let query = query(rt.alloc(), b"docs")?;
-    sees(second, &query, 1)?;
-    claims(rt, desk, share, 0)?;
-    let note = finds(rt, desk, share, first, &query)?;
-    let at = note.at();
-    first.hear(note);
-    sees(first, &query, at)?;
-    sees(second, &query, at)
+    work_at(rt, desk, share, first, second, &query)
 }
 
 /// Claims the root, hands in its page, and searches by two passes, of which the first hears the
@@ -195,9 +272,5 @@ pub fn check<C: Crew, R: Wait + AllocGlobal>(rt: &R, blank: Blank) -> Checked<()
     requires begun { blank.begun ≡ [] }
 {
     let (desk, mut passes, mut shares) = opened::<C, R>(rt, HOST, blank)?;
-    let mut share = shares.pop().ok_or("no share")?;
-    let (Some(mut second), Some(mut first)) = (passes.pop(), passes.pop()) else {
-        return Err("no passes");
-    };
-    work_at(rt, &desk, &mut share, &mut first, &mut second)
+    work_by(rt, &desk, &mut passes, &mut shares)
 }

@@ -1,9 +1,10 @@
 //! A catalogue and a desk, of which one growth may be refused.
 
 ghost use Rattle.std.specs.Prelude.{◌≡◌, []};
+ghost use mathlib.Core.List.{IsPrefix};
 
 use gopher_catalogue::Catalogue;
-use gopher_crew::{Blank, Crew, Desk, Pass, Share};
+use gopher_crew::{Blank, Crew, Desk, DeskRefused, Pass, Share};
 use gopher_item::Place;
 use gopher_scope::{Rule, Scope};
 use std::alloc::Global;
@@ -66,6 +67,30 @@ fn catalogue_at_last(alloc: Global, host: &[u8]) -> Checked<Catalogue> {
     }
 }
 
+// Whether a desk over one event is refused with one of the faults of a refused growth.
+fn is_expected(refused: &DeskRefused) -> bool {
+    matches!(refused.fault.code(), 61 | 90) && refused.catalogue.record().len() == 1
+}
+
+// Opens a desk with what a refusal gave back.
+fn opened_again<'a, C: Crew, R: Wait + AllocGlobal>(
+    rt: &'a R,
+    refused: DeskRefused,
+) -> Checked<Opened<'a, C, R>>
+    requires name { refused.blank.name ≡ C.name }
+    requires parts { refused.blank.parts ≡ C.parts }
+    requires history { refused.blank.history ≡ C.history }
+    requires begun { IsPrefix refused.blank.begun refused.catalogue }
+{
+    if !is_expected(&refused) {
+        return Err("a desk is refused in another way");
+    }
+    match Desk::<C, &R>::open(rt, rt.alloc(), refused.catalogue, 2, 1, refused.blank) {
+        Ok(opened) => Ok(opened),
+        Err(_again) => Err("a desk is refused twice"),
+    }
+}
+
 /// A desk over a crawl of a host, with two passes and one share. A refusal gives back what was
 /// handed in.
 pub fn opened<'a, C: Crew, R: Wait + AllocGlobal>(
@@ -78,18 +103,9 @@ pub fn opened<'a, C: Crew, R: Wait + AllocGlobal>(
     requires history { blank.history ≡ C.history }
     requires begun { blank.begun ≡ [] }
 {
-    let alloc = rt.alloc();
-    let catalogue = catalogue_at_last(alloc, host)?;
-    let refused = match Desk::<C, &R>::open(rt, alloc, catalogue, 2, 1, blank) {
-        Ok(opened) => return Ok(opened),
-        Err(refused) => refused,
-    };
-    let code = refused.fault.code();
-    if (code != 90 && code != 61) || refused.catalogue.record().len() != 1 {
-        return Err("a desk is refused in another way");
-    }
-    match Desk::<C, &R>::open(rt, alloc, refused.catalogue, 2, 1, refused.blank) {
+    let catalogue = catalogue_at_last(rt.alloc(), host)?;
+    match Desk::<C, &R>::open(rt, rt.alloc(), catalogue, 2, 1, blank) {
         Ok(opened) => Ok(opened),
-        Err(_again) => Err("a desk is refused twice"),
+        Err(refused) => opened_again(rt, refused),
     }
 }
