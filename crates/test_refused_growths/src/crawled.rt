@@ -57,7 +57,7 @@ fn sees_all<C: Crew>(pass: &mut Pass<C>, query: &Query, known: u32, failed: u32)
     Ok(())
 }
 
-// Checks a crawl that finished with so many failures.
+// Checks a crawl that finished with this number of failures.
 fn check_end<C: Crew>(
     alloc: Global,
     pass: &mut Pass<C>,
