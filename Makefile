@@ -72,15 +72,18 @@ INSTALLED_EXAMPLES = $(shell find examples -type f)
 UNITS = $(DESTDIR)$(PREFIX)/lib/systemd/system
 UNIT_EXAMPLES = hole.path hole-restart.service hole.socket hole.logrotate
 WITH_PREFIX = sed 's|/usr/local/bin/|$(PREFIX)/bin/|g'
+MANUAL = man1/hole.1 man1/gophermap_to_menu.1 man5/hole.toml.5
+WITH_VERSION = sed "/^\.TH /s/\"hole\"/\"$$($(PROGRAM) --version)\"/"
 
 .PHONY: install
 install:
 	@test -x $(PROGRAM) || { echo "There is no $(PROGRAM): 'make build' proves and builds it." >&2; exit 1; }
 	install -D -m 755 $(PROGRAM) $(DESTDIR)$(PREFIX)/bin/hole
 	install -D -m 755 tools/gophermap_to_menu.py $(DESTDIR)$(PREFIX)/bin/gophermap_to_menu
-	install -D -m 644 man/hole.1 $(SHARED)/man/man1/hole.1
-	install -D -m 644 man/gophermap_to_menu.1 $(SHARED)/man/man1/gophermap_to_menu.1
-	install -D -m 644 man/hole.toml.5 $(SHARED)/man/man5/hole.toml.5
+	install -d $(SHARED)/man/man1 $(SHARED)/man/man5
+	for page in $(MANUAL); do \
+	    $(WITH_VERSION) man/$${page#*/} > $(SHARED)/man/$$page && chmod 644 $(SHARED)/man/$$page || exit 1; \
+	done
 	install -D -m 644 -t $(SHARED)/doc/hole $(INSTALLED_DOCUMENTS)
 	for file in $(INSTALLED_EXAMPLES); do install -D -m 644 $$file $(SHARED)/doc/hole/$$file || exit 1; done
 	install -d $(UNITS)
@@ -95,7 +98,7 @@ install:
 .PHONY: uninstall
 uninstall:
 	rm -f $(DESTDIR)$(PREFIX)/bin/hole $(DESTDIR)$(PREFIX)/bin/gophermap_to_menu
-	rm -f $(SHARED)/man/man1/hole.1 $(SHARED)/man/man1/gophermap_to_menu.1 $(SHARED)/man/man5/hole.toml.5
+	rm -f $(addprefix $(SHARED)/man/,$(MANUAL))
 	rm -rf $(SHARED)/doc/hole
 	rm -f $(DESTDIR)$(PREFIX)/lib/systemd/system/hole.service
 

@@ -75,13 +75,13 @@ def rounded(name, count):
 def stated(text):
     """The counts that a README states."""
     within = MARKS.search(text)
-    rows = re.findall(r"(?m)^\| ([a-z A-Z]+?) \| ([\d,]+) \|", within[0]) if within else []
-    return {name: int(count.replace(",", "")) for name, count in rows}
+    rows = [line.strip("| ").split(" | ") for line in within[0].splitlines() if line.startswith("| ")] if within else []
+    return {name: int(count.replace(",", "")) for name, count in zip(*rows)}
 
 
 def table(counts):
-    rows = [f"| {name} | {rounded(name, count):,} |" for name, count in counts.items()]
-    return "\n".join(["| the program and its libraries | count |", "|---|---|", *rows])
+    row = lambda words: f"| {' | '.join(words)} |"
+    return "\n".join([row(counts), "|---" * len(counts) + "|", row(f"{rounded(name, count):,}" for name, count in counts.items())])
 
 
 def in_text():
