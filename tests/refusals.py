@@ -7,7 +7,7 @@ A script that is replayed, a check of a site and a server that ends at once prin
 until then, or words that can't be read (status 2), if the refused allocation was theirs; or go on to their whole output, if the
 program can do without the allocation. A server that is refused an allocation for a request sends a beginning of the reply, and
 answers the same request with the whole of it then. Calls that change or consume what they
-are given are made by the program of the crate test_refused_growths, which makes a refused one again.
+are given are made by `test_calls refusals`, a program of its own crate, which makes a refused one again.
 
 The last line is 'refusals: N passed, M failed'.
 """
@@ -24,8 +24,8 @@ import time
 from models import model
 from running.server import HOST, PROGRAM, ROOT, WAIT, Server, Tally, ask, free_port
 
-CRATE = ROOT / "crates" / "test_refused_growths"
-GROWN = CRATE / "out" / "test_refused_growths"
+CRATE = ROOT / "crates" / "test_calls"
+CALLS = CRATE / "out" / "test_calls"
 MOST_RUNS = 100_000
 SECONDS = 20
 # Links that are twice there, denied and foreign; a word of over 254 times; so many texts that pages are merged.
@@ -243,9 +243,9 @@ def check_crawl(refusals, program, folder, root):
 
 def check_growths(refusals):
     """The program that makes each refused call again."""
-    if not os.access(GROWN, os.X_OK):
+    if not os.access(CALLS, os.X_OK):
         subprocess.run(["rt", "run"], cwd=CRATE, check=True, stdout=subprocess.DEVNULL)
-    refusals.each("test_refused_growths", [GROWN], b"", ((CRATE / "stdout").read_bytes(), b"", 0), never)
+    refusals.each("test_calls refusals", [CALLS, "refusals"], b"", ((CRATE / "stdout").read_bytes(), b"", 0), never)
 
 
 def main():

@@ -50,7 +50,7 @@ def dependencies():
 
 
 def is_drawn(crate):
-    return not crate.startswith(("test_", "bench_", "example_"))
+    return not crate.startswith(("test_", "example_"))
 
 
 def reduced(uses):

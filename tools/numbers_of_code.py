@@ -17,7 +17,7 @@ import audit
 ROOT = pathlib.Path(__file__).resolve().parent.parent
 PAGE = ROOT / "README.md"
 MARKS = re.compile(r"(?s)(<!-- numbers: tools/numbers_of_code.py -->\n).*?(<!-- end -->)")
-BESIDE = ("test_", "bench_", "example_")
+BESIDE = ("test_", "example_")
 DEFINITION = re.compile(r"(?m)^(?:abbrev|unfoldable|(?:pub )?record|(?:pub )?data) ")
 FUNCTION = re.compile(r"(?m)^ *(?:pub(?:\(\w+\))? )?(?:const )?fn \w")
 # a function up to the brace that opens its body
@@ -90,7 +90,7 @@ def in_text():
     roots = [root for name in audit.PROMISES for root in audit.roots_of(tree, name)]
     first = audit.text_of(tree, audit.roots_of(tree, "search"))[1]
     return {
-        r"refuse each of ([\d,]+) edits that make a function wrong": [counted()["wrong bodies"]],
+        r"refuse each of ([\d,]+) edits that are meant to be wrong": [counted()["wrong bodies"]],
         r"([\d,]+) lines for the first promise and ([\d,]+) for all five": [first, audit.text_of(tree, roots)[1]],
     }
 

@@ -1,0 +1,33 @@
+//! Calls that change or consume what they are given, of which one growth is refused. A refused call
+//! changes nothing, gives back what it was handed, and succeeds then.
+//!
+//! This prints the same whichever allocation is refused: `tests/refusals.py` refuses each in turn. It
+//! also shows the calls that only read what they are given, by the built program.
+
+use crate::refused_opening::Checked;
+use crate::{refused_catalogues, refused_crawls, refused_desks, refused_replies};
+use gopher_crew::Blank;
+use std::marker::Brand;
+use std::rt::Runtime;
+use std::sync::Wait;
+
+fn tell<R: Runtime>(rt: &R, subject: &str, checked: Checked<()>) -> Option<()> {
+    println!(rt; "{subject}: {}", checked.err().unwrap_or("as wanted")).ok()
+}
+
+/// Makes each of these calls, and prints for each kind whether it ended as wanted.
+pub fn check<R: Runtime + AllocGlobal + Wait>(rt: &R) -> Option<()> {
+    let alloc = rt.alloc();
+    tell(rt, "replies", refused_replies::check(alloc))?;
+    tell(rt, "a catalogue", refused_catalogues::check(alloc))?;
+    tell(
+        rt,
+        "a desk",
+        refused_desks::check::<Brand, R>(rt, Blank::new()),
+    )?;
+    tell(
+        rt,
+        "a crawl",
+        refused_crawls::check::<Brand, R>(rt, Blank::new()),
+    )
+}

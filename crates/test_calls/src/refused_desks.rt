@@ -1,0 +1,276 @@
+//! Calls of a desk and of its passes, of which one growth may be refused.
+
+ghost use Rattle.std.specs.Prelude.{◌≡◌, []};
+
+use crate::refused_opening::{Checked, opened, scope_at_last, seeds_at_last};
+use gopher_catalogue::{Added, FoundRefused, Hit, Status, Turn};
+use gopher_crew::{Answer, Blank, Crew, Desk, Note, Pass, SearchFault, Share};
+use gopher_item::Place;
+use gopher_page::{Page, Query};
+use gopher_scope::Scope;
+use std::alloc::Global;
+use std::sync::Wait;
+
+const HOST: &[u8] = b"localhost";
+
+const DOCS: &[u8] = b"1Docs\t/docs\tlocalhost\t70\r\n.\r\n";
+
+/// The answer of a search, in one of two tries.
+pub fn searched<C: Crew>(pass: &mut Pass<C>, query: &Query) -> Checked<Answer> {
+    match pass.search(query) {
+        Ok(answer) => Ok(answer),
+        Err(SearchFault::NoMemory) => pass.search(query).ok().ok_or("a search is refused twice"),
+        Err(_fault) => Err("a search is refused twice"),
+    }
+}
+
+/// A query of one word, in one of two tries.
+pub fn query(alloc: Global, word: &[u8; 4]) -> Checked<Query> {
+    match Query::read(alloc, word) {
+        Ok(query) => Ok(query),
+        Err(_refused) => Query::read(alloc, word).ok().ok_or("no query"),
+    }
+}
+
+fn state<C: Crew, R: Wait>(rt: &R, desk: &Desk<C, &R>, share: &Share<C>) -> (Status, u64) {
+    (desk.status(rt), share.events())
+}
+
+fn claimed_again<C: Crew, R: Wait>(
+    rt: &R,
+    desk: &Desk<C, &R>,
+    share: &mut Share<C>,
+    before: (Status, u64),
+) -> Checked<(Turn, Option<Note<C>>)> {
+    if state(rt, desk, share) != before {
+        return Err("a refused claim changed something");
+    }
+    match desk.claim(rt, share) {
+        Ok(reply) => Ok(reply),
+        Err(_again) => Err("a claim is refused twice"),
+    }
+}
+
+fn claimed<C: Crew, R: Wait>(
+    rt: &R,
+    desk: &Desk<C, &R>,
+    share: &mut Share<C>,
+) -> Checked<(Turn, Option<Note<C>>)> {
+    let before = state(rt, desk, share);
+    match desk.claim(rt, share) {
+        Ok(reply) => Ok(reply),
+        Err(_refused) => claimed_again(rt, desk, share, before),
+    }
+}
+
+fn is_claim_of(turn: &Turn, number: u32) -> bool {
+    match turn {
+        Turn::Take(claim) => claim.number == number,
+        _ => false,
+    }
+}
+
+// Claims the place of this number.
+fn claims<C: Crew, R: Wait>(
+    rt: &R,
+    desk: &Desk<C, &R>,
+    share: &mut Share<C>,
+    number: u32,
+) -> Checked<Option<Note<C>>> {
+    let (turn, note) = claimed(rt, desk, share)?;
+    if is_claim_of(&turn, number) {
+        Ok(note)
+    } else {
+        Err("a claim answers another turn")
+    }
+}
+
+// The page of a root that leads to one directory, in one of two tries.
+fn page_of(alloc: Global, scope: &Scope, root: &Place) -> Checked<Page> {
+    match Page::of(alloc, scope, root, DOCS) {
+        Ok(page) => Ok(page),
+        Err(_refused) => match Page::of(alloc, scope, root, DOCS) {
+            Ok(page) => Ok(page),
+            Err(_again) => Err("a page is refused twice"),
+        },
+    }
+}
+
+// The page of the first of these places.
+fn page_of_first(alloc: Global, places: &[Place]) -> Checked<Page> {
+    let Some(root) = places.first() else {
+        return Err("no root");
+    };
+    let scope = scope_at_last(alloc, HOST)?;
+    page_of(alloc, &scope, root)
+}
+
+fn page(alloc: Global) -> Checked<Page> {
+    let seeds = seeds_at_last(alloc, HOST)?;
+    page_of_first(alloc, &seeds)
+}
+
+fn found_again<C: Crew, R: Wait>(
+    rt: &R,
+    desk: &Desk<C, &R>,
+    share: &mut Share<C>,
+    refused: FoundRefused,
+    before: (Status, u64),
+) -> Checked<(Added, Option<Note<C>>)> {
+    if refused.fault.code() != 90 || state(rt, desk, share) != before {
+        return Err("a refused page changed something");
+    }
+    match desk.found(rt, share, 0, refused.page) {
+        Ok(reply) => Ok(reply),
+        Err(_again) => Err("a page is refused twice"),
+    }
+}
+
+fn found<C: Crew, R: Wait>(
+    rt: &R,
+    desk: &Desk<C, &R>,
+    share: &mut Share<C>,
+    page: Page,
+) -> Checked<(Added, Option<Note<C>>)> {
+    let before = state(rt, desk, share);
+    match desk.found(rt, share, 0, page) {
+        Ok(reply) => Ok(reply),
+        Err(refused) => found_again(rt, desk, share, refused, before),
+    }
+}
+
+// Whether the page of the root is the one hit.
+fn is_docs(hits: &[Hit]) -> bool {
+    match hits {
+        [hit] => {
+            hit.place.selector().is_empty()
+                && hit.title.as_slice() == b"Docs".as_slice()
+                && hit.score == 1
+        }
+        _ => false,
+    }
+}
+
+// Whether a pass sees `at` events, and the page from the third event on.
+fn sees<C: Crew>(pass: &mut Pass<C>, query: &Query, at: u32) -> Checked<()> {
+    let answer = searched(pass, query)?;
+    if answer.at != at || is_docs(&answer.hits) != (at >= 3) {
+        return Err("a search answers something else");
+    }
+    Ok(())
+}
+
+// Whether a pass sees no page, of one event or of two.
+fn sees_nothing<C: Crew>(pass: &mut Pass<C>, query: &Query) -> Checked<()> {
+    let answer = searched(pass, query)?;
+    if answer.at == 0 || answer.at > 2 || !answer.hits.is_empty() {
+        return Err("a page without a note is seen");
+    }
+    Ok(())
+}
+
+// A note of `at` events.
+fn noted<C: Crew>(note: Note<C>, at: u32) -> Checked<Note<C>> {
+    if note.at() == at {
+        Ok(note)
+    } else {
+        Err("a note of another record")
+    }
+}
+
+// Hands in the page of the root.
+fn finds_root<C: Crew, R: Wait + AllocGlobal>(
+    rt: &R,
+    desk: &Desk<C, &R>,
+    share: &mut Share<C>,
+) -> Checked<Option<Note<C>>> {
+    let (added, note) = found(rt, desk, share, page(rt.alloc())?)?;
+    if added.fresh == 1 {
+        Ok(note)
+    } else {
+        Err("a page adds something else")
+    }
+}
+
+// Claims the directory. The claim's note is of all events.
+fn claims_directory<C: Crew, R: Wait>(
+    rt: &R,
+    desk: &Desk<C, &R>,
+    share: &mut Share<C>,
+) -> Checked<Note<C>> {
+    match claims(rt, desk, share, 1)? {
+        Some(note) => noted(note, 4),
+        None => Err("no note with ample memory"),
+    }
+}
+
+// Hands in the page of the root. Without a note it isn't seen before the next claim, which gives
+// one.
+fn finds<C: Crew, R: Wait + AllocGlobal>(
+    rt: &R,
+    desk: &Desk<C, &R>,
+    share: &mut Share<C>,
+    pass: &mut Pass<C>,
+    query: &Query,
+) -> Checked<Note<C>> {
+    match finds_root(rt, desk, share)? {
+        Some(note) => noted(note, 3),
+        None => {
+            sees_nothing(pass, query)?;
+            claims_directory(rt, desk, share)
+        }
+    }
+}
+
+// Lets a pass hear a note, and returns of how many events it is.
+fn hears<C: Crew>(pass: &mut Pass<C>, note: Note<C>) -> u32 {
+    let at = note.at();
+    pass.hear(note);
+    at
+}
+
+// The first of two passes hears of the page, and both see it.
+fn work_at<C: Crew, R: Wait + AllocGlobal>(
+    rt: &R,
+    desk: &Desk<C, &R>,
+    share: &mut Share<C>,
+    first: &mut Pass<C>,
+    second: &mut Pass<C>,
+    query: &Query,
+) -> Checked<()> {
+    sees(second, query, 1)?;
+    let _note = claims(rt, desk, share, 0)?;
+    let note = finds(rt, desk, share, first, query)?;
+    let at = hears(first, note);
+    sees(first, query, at)?;
+    sees(second, query, at)
+}
+
+// Works with two passes of a desk and its one share.
+fn work_by<C: Crew, R: Wait + AllocGlobal>(
+    rt: &R,
+    desk: &Desk<C, &R>,
+    passes: &mut [Pass<C>],
+    shares: &mut [Share<C>],
+) -> Checked<()> {
+    let (Some((first, others)), Some(share)) = (passes.split_first_mut(), shares.first_mut()) else {
+        return Err("no pass or no share");
+    };
+    let Some(second) = others.first_mut() else {
+        return Err("no second pass");
+    };
+    let query = query(rt.alloc(), b"docs")?;
+    work_at(rt, desk, share, first, second, &query)
+}
+
+/// Claims the root, hands in its page, and searches by two passes, of which the first hears the
+/// note.
+pub fn check<C: Crew, R: Wait + AllocGlobal>(rt: &R, blank: Blank) -> Checked<()>
+    requires name { blank.name ≡ C.name }
+    requires parts { blank.parts ≡ C.parts }
+    requires history { blank.history ≡ C.history }
+    requires begun { blank.begun ≡ [] }
+{
+    let (desk, mut passes, mut shares) = opened::<C, R>(rt, HOST, blank)?;
+    work_by(rt, &desk, &mut passes, &mut shares)
+}

@@ -1,8 +1,0 @@
-use Rattle.test_crew.proofs.desks.calls_of_a_desk_are_refused.Given as goal
-
--- the names of the blank that was made
-abbrev pub ghosts-refused_desks-C-Ledger : goal.ghosts-refused_desks-C-Ledger
-ghosts-refused_desks-C-Ledger g a = record { name = a.blank.name; parts = a.blank.parts }
-
-abbrev pub ghosts-refused_desks-C-Crew : goal.ghosts-refused_desks-C-Crew
-ghosts-refused_desks-C-Crew g a = record { history = a.blank.history }
