@@ -3,12 +3,16 @@
 
     tests/crawling.py [--pages N] [PROGRAM]
 
-The host has a menu of menus, of which each leads to 128 texts. N is 10,000 unless said. The last line is
+The host has a menu of menus, of which each leads to 128 texts. N is 10,000 unless said. Another host counts what it is asked
+for: what the rules allow, once, and a place that can't be fetched as often as the settings say. The last line is
 'crawling: N passed, M failed'.
 """
 import argparse
+import collections
 import pathlib
+import socket
 import socketserver
+import struct
 import sys
 import tempfile
 import threading
@@ -21,6 +25,9 @@ MOST_SECONDS = 300.0
 # How long a fetch of another text may still be under way after the last one.
 SECONDS_FOR_ALL = 20.0
 MOST_HITS = 50
+TRIES = 3
+# How long a host is watched after the last fetch that is expected of it. Fetches follow each other within milliseconds.
+SECONDS_AFTER = 1.0
 
 
 def replies_of(pages, port):
@@ -52,6 +59,28 @@ class Pages(socketserver.ThreadingTCPServer):
     allow_reuse_address = daemon_threads = True
     request_queue_size = 512
     last = may_end = None
+
+
+class Counting(socketserver.BaseRequestHandler):
+    """Notes each line, and replies to it, or resets the connection if there is no reply to it."""
+
+    def handle(self):
+        line = self.request.recv(1_026).rstrip(b"\r\n")
+        self.server.asked.append(line)
+        if line in self.server.replies:
+            self.request.sendall(self.server.replies[line])
+            self.request.shutdown(socket.SHUT_WR)
+        else:
+            self.request.setsockopt(socket.SOL_SOCKET, socket.SO_LINGER, struct.pack("ii", 1, 0))
+
+
+class Counted(socketserver.ThreadingTCPServer):
+    """The host that counts. It closes a connection at once, so that one that lingers for no time is reset."""
+
+    allow_reuse_address = daemon_threads = True
+
+    def shutdown_request(self, request):
+        self.close_request(request)
 
 
 def seeded(host, port, pages):
@@ -109,12 +138,34 @@ def check_crawl(tally, program, pages):
         host.shutdown()
 
 
+def check_limits(tally, program):
+    """Crawls the host that counts: a menu with a text, a text whose fetch fails, and one that a rule denies."""
+    with tempfile.TemporaryDirectory() as place, Counted((HOST, 0), Counting) as host:
+        port, host.asked = host.server_address[1], []
+        line = lambda selector: b"0Text\t%s\t%s\t%d\r\n" % (selector, HOST.encode(), port)
+        host.replies = {b"": b"".join(map(line, (b"/text", b"/fails", b"/private/text", b"/text"))) + b".\r\n", b"/text": b"moon\r\n.\r\n"}
+        threading.Thread(target=host.serve_forever, daemon=True).start()
+        folder, where = pathlib.Path(place), f'host = "{HOST}"\nport = {port}\n'
+        (folder / "root").mkdir()
+        more = f'tries = {TRIES}\n[[seeds]]\n{where}[[allow]]\n{where}[[deny]]\n{where}prefix = "/private"\n'
+        with Server(program, folder, folder / "root", more=more) as server:
+            server.started()
+            until = time.monotonic() + SECONDS_FOR_ALL
+            while host.asked.count(b"/fails") < TRIES and time.monotonic() < until:
+                time.sleep(0.05)
+            time.sleep(SECONDS_AFTER)
+            wanted = {b"": 1, b"/text": 1, b"/fails": TRIES}
+            tally.expect("what a host is asked for, and how often", dict(collections.Counter(host.asked)), wanted)
+        host.shutdown()
+
+
 def main():
     words = argparse.ArgumentParser()
     words.add_argument("--pages", type=int, default=10_000)
     words.add_argument("program", nargs="?", default=PROGRAM)
     given = words.parse_args()
     tally = Tally("crawling")
+    check_limits(tally, given.program)
     check_crawl(tally, given.program, given.pages)
     return tally.status()
 
