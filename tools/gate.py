@@ -30,6 +30,9 @@ ROOT = pathlib.Path(__file__).resolve().parent.parent
 PROGRAM = "PROGRAM"
 SCRIPTS = "scripts and documents"
 ROWS = ("proofs", "must-fail edits", "wrong bodies", "tests of crates", "tests of the program", SCRIPTS)
+# On few processors `rt ci` gives each one crate at a time: two jobs for one crate each load its libraries and check its lemmas.
+FEW_PROCESSORS = 4
+MEMORY_OF_A_CHECK = 5 << 30
 # tests that want what a machine may lack
 BY_HAND = {"tests/clients.py"}
 COUNTS = re.compile(r"(?m)^(?:.*: )?(\d+) passed, (\d+) failed$")
@@ -135,15 +138,23 @@ def counted_by_ci(said, status, minutes):
     return rows
 
 
+def environment(processors, memory):
+    """The environment of a part. `RT_JOBS` is how many checks `rt ci` runs side by side, with one job each."""
+    jobs = min(processors, max(memory // MEMORY_OF_A_CHECK, 1))
+    few = {"RT_JOBS": str(jobs)} if processors <= FEW_PROCESSORS else {}
+    return {**few, **os.environ, "PYTHONUNBUFFERED": "1"}
+
+
 def run(part, words, is_shown):
     """Runs a part, and gives the rows that it fills. Its output is shown as it comes, or else at its end."""
     began, said = time.monotonic(), []
     how = {"stdin": subprocess.DEVNULL, "stdout": subprocess.PIPE, "stderr": subprocess.STDOUT, "errors": "replace"}
-    environment = {**os.environ, "PYTHONUNBUFFERED": "1"}
+    memory = os.sysconf("SC_PHYS_PAGES") * os.sysconf("SC_PAGE_SIZE")
+    how["env"] = environment(len(os.sched_getaffinity(0)), memory)
     head = f"== {part.name}: {' '.join(map(str, words))}"
     print(f"{head}\n" if is_shown else "", end="", flush=True)
     try:
-        process = subprocess.Popen(words, cwd=ROOT, env=environment, **how)
+        process = subprocess.Popen(words, cwd=ROOT, **how)
     except OSError as error:
         print(f"{head}\n{error}", flush=True)
         return {part.row: Result(0, 1, 0, 0, [part.name])}

@@ -9,6 +9,7 @@ import sys
 import tempfile
 import time
 import unittest
+from unittest import mock
 
 sys.path.insert(0, str(pathlib.Path(__file__).resolve().parent))
 import gate
@@ -102,6 +103,15 @@ class Run(unittest.TestCase):
         self.assertGreater(rows["proofs"].processors * 60, 0.25)
         self.assertLess(rows["wrong bodies"].processors * 60, 0.2)
         self.assertGreater(rows["wrong bodies"].clock * 60, 0.25)
+
+    def test_each_of_few_processors_gets_a_crate_as_far_as_memory_reaches(self):
+        gibibyte = 1 << 30
+        with mock.patch.dict(os.environ, {"HOME": "/root"}, clear=True):
+            jobs = [gate.environment(*it).get("RT_JOBS") for it in ((2, 24 * gibibyte), (4, 24 * gibibyte), (4, 11 * gibibyte), (1, gibibyte), (8, 64 * gibibyte))]
+            self.assertEqual(jobs, ["2", "4", "2", "1", None])
+            self.assertEqual(gate.environment(4, 24 * gibibyte)["HOME"], "/root")
+        with mock.patch.dict(os.environ, {"RT_JOBS": "3"}):
+            self.assertEqual(gate.environment(4, 24 * gibibyte)["RT_JOBS"], "3")
 
     def test_the_table_has_all_rows_and_their_sum(self):
         rows = {row: gate.Result() for row in gate.ROWS}
