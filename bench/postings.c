@@ -1,109 +1,15 @@
 /* A plain index of pages, to time a catalogue beside: postings FILE
    FILE is what pages.py writes. Prints microseconds for making a page, for adding it to the postings and for packing
-   them once; then for each query microseconds, hits, and the sum of their scores. An answer has copies of the hosts,
-   selectors and titles of its hits, as a catalogue's has. */
-#include <time.h>
+   them once, and the bytes of memory that a page takes with its part of the packed postings; then for each query
+   microseconds, hits, and the sum of their scores. An answer has copies of the hosts, selectors and titles of its hits,
+   as a catalogue's has. */
+#include <malloc.h>
+#include <unistd.h>
 
-#include "page.h"
+#include "index.h"
 
 #define BEST 50
 #define BLOCK 64
-
-struct posting { uint32_t page, count; };
-
-/* a word in the hash table; a free slot has no length */
-struct word { uint64_t first; const uint8_t *bytes; uint32_t length, hash; struct posting *list; uint32_t held, room; };
-
-/* pages in their order, and how often each has a word */
-struct list { uint16_t *pages; uint8_t *counts; uint32_t length; };
-
-struct packed { const uint8_t *bytes; uint32_t length; struct list list; };
-
-static struct word *slots;
-static uint32_t slot_total, word_total;
-static struct packed *words; /* in the order of their bytes, their lists one after another */
-
-static void grow_slots(void) {
-  uint32_t total = slot_total ? 2 * slot_total : 1024;
-  struct word *wider = calloc(total, sizeof *wider);
-  for (uint32_t i = 0; i < slot_total; i++) {
-    if (!slots[i].length) continue;
-    uint32_t at = slots[i].hash & (total - 1);
-    while (wider[at].length) at = (at + 1) & (total - 1);
-    wider[at] = slots[i];
-  }
-  free(slots);
-  slots = wider;
-  slot_total = total;
-}
-
-static struct word *word_at(const uint8_t *bytes, uint32_t length) {
-  uint64_t first = first_bytes(bytes, length);
-  uint32_t hashed = hash(first, length, bytes), at = hashed & (slot_total - 1);
-  for (; slots[at].length; at = (at + 1) & (slot_total - 1)) {
-    struct word *word = &slots[at];
-    if (word->first == first && word->length == length
-        && (length <= 8 || !memcmp(word->bytes + 8, bytes + 8, length - 8)))
-      return word;
-  }
-  slots[at] = (struct word){first, bytes, length, hashed, NULL, 0, 0};
-  word_total++;
-  return &slots[at];
-}
-
-static void add_page(uint32_t number) {
-  const struct page *page = &pages[number];
-  uint32_t start = 0;
-  for (uint32_t i = 0; i < page->words; i++) {
-    if (2 * word_total >= slot_total) grow_slots();
-    struct word *word = word_at(page->bytes + start, page->ends[i] - start);
-    if (word->held == word->room) {
-      word->room = word->room ? 2 * word->room : 4;
-      word->list = realloc(word->list, word->room * sizeof *word->list);
-    }
-    word->list[word->held++] = (struct posting){number, page->counts[i]};
-    start = page->ends[i];
-  }
-}
-
-static int compare(const uint8_t *a, uint32_t a_length, const uint8_t *b, uint32_t b_length) {
-  int order = memcmp(a, b, a_length < b_length ? a_length : b_length);
-  return order ? order : (a_length > b_length) - (a_length < b_length);
-}
-
-static int by_bytes(const void *a, const void *b) {
-  const struct word *x = *(struct word *const *)a, *y = *(struct word *const *)b;
-  return compare(x->bytes, x->length, y->bytes, y->length);
-}
-
-static void pack_word(struct packed *packed, const struct word *word, struct list list) {
-  list.length = word->held;
-  for (uint32_t i = 0; i < word->held; i++) {
-    if (word->list[i].count > UINT8_MAX) exit(1);
-    list.pages[i] = word->list[i].page;
-    list.counts[i] = word->list[i].count;
-  }
-  *packed = (struct packed){word->bytes, word->length, list};
-}
-
-static void pack(void) {
-  size_t total = 0, held = 0;
-  struct word **sorted = malloc(word_total * sizeof *sorted);
-  for (uint32_t i = 0; i < slot_total; i++) {
-    if (!slots[i].length) continue;
-    sorted[held++] = &slots[i];
-    total += slots[i].held;
-  }
-  qsort(sorted, word_total, sizeof *sorted, by_bytes);
-  words = malloc(word_total * sizeof *words);
-  struct list list = {malloc(total * sizeof *list.pages), malloc(total * sizeof *list.counts), 0};
-  for (uint32_t i = 0; i < word_total; i++) {
-    pack_word(&words[i], sorted[i], list);
-    list.pages += sorted[i]->held;
-    list.counts += sorted[i]->held;
-  }
-  free(sorted);
-}
 
 /* ---- searches */
 
@@ -116,6 +22,8 @@ struct answer { char *host, *selector, *title; uint32_t score; };
 /* the best so far, and the lowest score that can come among them */
 struct hits { struct hit best[BEST]; size_t held; uint32_t lowest; };
 
+static uint32_t page_total;
+static struct index whole;
 static uint32_t scores[MOST_PAGES];
 static uint8_t truths[MOST_PAGES];
 /* the counts of one term */
@@ -144,17 +52,17 @@ static void take_in(struct hits *hits, struct hit hit) {
 static struct list meant(struct term term) {
   struct list list = {NULL, NULL, 0};
   const uint8_t *sought = (const uint8_t *)term.word;
-  uint32_t size = strlen(term.word), low = 0, high = word_total;
+  uint32_t size = strlen(term.word), low = 0, high = whole.total;
   while (low < high) {
     uint32_t middle = low + (high - low) / 2;
-    if (compare(words[middle].bytes, words[middle].length, sought, size) < 0) low = middle + 1;
+    if (compare(whole.words[middle].bytes, whole.words[middle].length, sought, size) < 0) low = middle + 1;
     else high = middle;
   }
-  if (low == word_total) return list;
-  list = words[low].list;
+  if (low == whole.total) return list;
+  list = whole.words[low].list;
   list.length = 0;
-  for (; low < word_total; low++) {
-    const struct packed *word = &words[low];
+  for (; low < whole.total; low++) {
+    const struct packed *word = &whole.words[low];
     if (word->length < size || (word->length > size && !term.prefix) || memcmp(word->bytes, sought, size)) break;
     list.length += word->list.length;
   }
@@ -277,10 +185,12 @@ static void free_answers(struct answer *answers, size_t held) {
 
 /* ---- the program */
 
-static double microseconds(void) {
-  struct timespec now;
-  clock_gettime(CLOCK_MONOTONIC, &now);
-  return now.tv_sec * 1e6 + now.tv_nsec / 1e3;
+static long resident(void) {
+  long whole = 0, held = 0;
+  FILE *file = fopen("/proc/self/statm", "r");
+  if (!file || fscanf(file, "%ld %ld", &whole, &held) != 2) exit(1);
+  fclose(file);
+  return held * sysconf(_SC_PAGESIZE);
 }
 
 static void ask(const char *name, const struct term *terms, size_t count) {
@@ -300,44 +210,37 @@ static void ask(const char *name, const struct term *terms, size_t count) {
   printf("%s: %.0f us, %zu hits, scores %llu\n", name, shortest, held, sum);
 }
 
-static size_t longest(const uint8_t *text, size_t size) {
-  const uint8_t *end = text + size, *stop;
-  size_t most = 0;
-  for (; (stop = memchr(text, '\f', end - text)); text = stop + 1)
-    if ((size_t)(stop - text) > most) most = stop - text;
-  return most;
-}
-
 /* makes and adds a page of each text that a byte 12 ends */
 static void build(const uint8_t *text, size_t size) {
   struct draft draft = new_draft(longest(text, size));
+  struct table table = {NULL, NULL, 0, 0};
   double making = 0, adding = 0, start, made;
+  long before = resident();
   const uint8_t *end = text + size, *stop;
   for (; page_total < MOST_PAGES && (stop = memchr(text, '\f', end - text)); page_total++) {
     start = microseconds();
     make_page(&draft, page_total, text, stop);
     made = microseconds();
-    add_page(page_total);
+    add_page(&table, page_total);
     adding += microseconds() - made;
     making += made - start;
     text = stop + 1;
   }
+  free_draft(&draft);
   start = microseconds();
-  pack();
+  sort_table(&table);
+  whole = pack(&table, &(struct part){0, table.words}, 1);
+  free_table(&table);
   double packing = microseconds() - start, each = page_total ? page_total : 1;
+  malloc_trim(0);
   printf("%u pages\nmaking: %.1f us a page\nadding: %.1f us a page\n", page_total, making / each, adding / each);
-  printf("packing: %.1f us a page, once\n", packing / each);
+  printf("packing: %.1f us a page, once\nmemory: %.0f bytes a page\n", packing / each, (resident() - before) / each);
 }
 
 int main(int argc, char **argv) {
   if (argc != 2) return 2;
-  FILE *file = fopen(argv[1], "rb");
-  if (!file || fseek(file, 0, SEEK_END)) return 1;
-  size_t size = ftell(file);
-  rewind(file);
-  uint8_t *text = malloc(size + 1);
-  if (fread(text, 1, size, file) != size) return 1;
-  fclose(file);
+  size_t size;
+  uint8_t *text = read_file(argv[1], &size);
   fill_word_bytes();
   build(text, size);
   ask("moon", (struct term[]){{"moon", 0, 'a'}}, 1);

@@ -1,10 +1,11 @@
 #!/usr/bin/env bash
 # Every timing: scripts replayed, menus and texts read and written, beside a plain C program that splits
 # them, settings and a site of 4,006 files checked, requests and searches of the server, beside a plain C
-# server of the same replies, a host in memory of 16,384 texts crawled by 4, 2 and 1 workers, and a
-# catalogue of 65,536 pages built and searched, beside a plain C program that makes the same pages, adds
-# them to postings and searches these. Then other Gopher servers, if they are installed, and the tables of
-# docs/TIMINGS.md. `bench/run.sh OUTPUT` keeps what it printed, for `bench/table.py --write OUTPUT`.
+# server of the same replies, a catalogue of 65,536 pages built and searched, beside a plain C program that
+# makes the same pages, adds them to postings and searches these, and a host in memory of 16,384 texts crawled
+# by 4, 2 and 1 workers, beside threads of C that index the same texts. Then other Gopher servers, if they are
+# installed, and the tables of docs/TIMINGS.md. `bench/run.sh OUTPUT` keeps what it printed, for
+# `bench/table.py --write OUTPUT`.
 set -euo pipefail
 output=$(realpath -m "${1:-/dev/null}")
 cd "$(dirname "$0")/.."
@@ -17,7 +18,7 @@ measure() {
     cc -O2 -o "$folder/splits" bench/splits.c
     for file in menu reply text; do
         kind=${file/reply/menu}
-        crates/bench_measure/out/bench_measure "$kind" "$folder/$file"
+        crates/test_calls/out/test_calls "$kind" "$folder/$file"
         "$folder/splits" "$kind" "$folder/$file"
     done
     printf 'host = "localhost"\nroot = "%s"\n' "$folder/site" > "$folder/site.toml"
@@ -26,23 +27,27 @@ measure() {
     cc -O2 -pthread -o "$folder/clients" bench/clients.c
     bench/speeds.py crates/hole/out/hole "$folder/plain_server" "$folder/clients"
     bench/pages.py "$folder/pages"
-    crates/bench_measure/out/bench_measure search "$folder/pages"
-    bench/pages.py "$folder/crawled" 16384
-    crates/bench_measure/out/bench_measure crawl "$folder/crawled"
-    echo "the same pages made and added by 4 programs at once, without a crew:"
-    for _ in 1 2 3 4; do
-        crates/bench_measure/out/bench_measure search "$folder/crawled" > "$folder/alone" &
-    done
-    wait
-    head -n 1 "$folder/alone"
+    crates/test_calls/out/test_calls search "$folder/pages"
     cc -O2 -o "$folder/postings" bench/postings.c
     echo "the plain C program:"
     "$folder/postings" "$folder/pages"
+    bench/pages.py "$folder/crawled" 16384
+    crates/test_calls/out/test_calls crawl "$folder/crawled"
+    cc -O2 -pthread -o "$folder/crew" bench/crew.c
+    for workers in 4 2 1; do
+        "$folder/crew" "$folder/crawled" "$workers"
+    done
+    echo "the same pages made and added by 4 programs at once, without a crew:"
+    for _ in 1 2 3 4; do
+        crates/test_calls/out/test_calls search "$folder/crawled" > "$folder/alone" &
+    done
+    wait
+    head -n 1 "$folder/alone"
     bench/peers.py crates/hole/out/hole "$folder/plain_server" "$folder/clients"
 }
 
 (cd crates/hole && rt run -- replay < stdin > /dev/null)
-(cd crates/bench_measure && rt run > /dev/null)
+(cd crates/test_calls && rt run -- refusals > /dev/null)
 measure | tee "$folder/output"
 cp "$folder/output" "$output"
 echo

@@ -5,7 +5,7 @@
     bench/table.py --write OUTPUT    puts them into docs/TIMINGS.md, with the day and the machine, and draws docs/ratios.svg anew
 
 OUTPUT is a file. A ratio over 1 means that Hole is faster, or uses less. Searches are the geometric mean over the queries.
-The table of other servers keeps the rows of those that weren't measured.
+A crawl is one of four workers. The table of other servers keeps the rows of those that weren't measured.
 """
 import math
 import os
@@ -65,13 +65,21 @@ def searched(text):
     making, adding, packing = (number(plain, rf"(?m)^{name}: ([\d.]+) us a page") for name in ("making", "adding", "packing"))
     yield "making pages", "pages a second", 1000 * making / made, None
     yield "adding pages to the index", "pages a second", 1000 * (adding + packing) / added, None
+    held = number(ours, r"(?m)^65536 pages: .*, (\d+) bytes a page")
+    yield "memory of a page", "bytes", number(plain, r"(?m)^memory: (\d+) bytes a page") / held, None
+
+
+def crawled(text):
+    """The row of a crawl by four workers."""
+    ours, plain = number(text, r"(?m)^4 workers: .*, (\d+) pages/s"), number(text, r"(?m)^4 threads of C: .*, (\d+) pages/s")
+    yield "a crawl by four workers", "pages a second", ours / plain, None
 
 
 def table(text):
     """The table of ratios to plain C."""
     menus = number(text, r"(?m)^menu: read at (\d+) MB/s") / number(text, r"(?m)^split in plain C: (\d+) MB/s")
-    rows = [*served(text), *idled(text), *searched(text), ("reading menus", "bytes a second", menus, None)]
-    head = ["| measured | unit | rate, Hole / C | processor time, C / Hole |", "|---|---|---|---|"]
+    rows = [*served(text), *idled(text), *searched(text), *crawled(text), ("reading menus", "bytes a second", menus, None)]
+    head = ["| measured | unit | rate, Hole / C; memory, C / Hole | processor time, C / Hole |", "|---|---|---|---|"]
     shown = [f"| {name} | {unit} | {rate:.2f} | {'' if spent is None else f'{spent:.2f} '}|" for name, unit, rate, spent in rows]
     return "\n".join(head + shown) + "\n"
 

@@ -48,7 +48,7 @@ def picture(rows, when):
     height = bottom + 10 + foot
     scale = (WIDTH - LEFT - RIGHT) / max(1.4, *(ratio for _, ratio, _ in rows))
     one = LEFT + scale
-    title = "Speed relative to plain C: longer is faster"
+    title = "Speed and memory relative to plain C: longer is faster, or less memory"
     parts = [
         f'<svg xmlns="http://www.w3.org/2000/svg" viewBox="0 0 {WIDTH} {height}" role="img" aria-label="{title}">',
         f"<title>{title}</title>",

@@ -26,8 +26,13 @@ the plain C program:
 making: 40.0 us a page
 adding: 20.0 us a page
 packing: 5.0 us a page, once
+memory: 1495 bytes a page
 moon: 25 us, 50 hits, scores 100
 moon and sun: 100 us, 50 hits, scores 100
+4 workers: 16513 places done, 3000 bytes a page, 60000 pages/s
+2 workers: 16513 places done, 3000 bytes a page, 1 pages/s
+4 threads of C: 16384 pages, 80000 pages/s
+2 threads of C: 16384 pages, 1 pages/s
 small menus of Hole: 10,000 a second (C 10,000), quotient 1.0000
 small menus of gophernicus: 400 a second (C 10,000), quotient 0.0400
 """
@@ -41,6 +46,8 @@ class Timings(unittest.TestCase):
         self.assertEqual(rows["small menus, 1,000 idle clients"], "0.90 | |")
         self.assertEqual(rows["searches of 65,536 pages"], "1.00 | |")
         self.assertEqual((rows["making pages"], rows["adding pages to the index"]), ("1.00 | |", "0.50 | |"))
+        self.assertEqual(rows["memory of a page"], "0.50 | |")
+        self.assertEqual(rows["a crawl by four workers"], "0.75 | |")
         self.assertEqual(rows["reading menus"], "0.50 | |")
 
     def test_the_page_has_rows_of_the_same_names(self):
@@ -62,12 +69,14 @@ class Timings(unittest.TestCase):
 
     def test_the_programs_print_such_lines(self):
         printed = {
-            "crates/bench_measure/src/formats.rt": ['"{what}: read at {read} MB/s, written at {written} MB/s"'],
-            "crates/bench_measure/src/searches.rt": [
+            "crates/test_calls/src/timed_formats.rt": ['"{what}: read at {read} MB/s, written at {written} MB/s"'],
+            "crates/test_calls/src/timed_searches.rt": [
                 '"{} pages: {made} ns a page to make, {added} to claim and add, ', '"{text}: {} us, {hits} hits, {scores} the sum of their scores"',
             ],
             "bench/splits.c": ['"split in plain C: %.0f MB/s'],
-            "bench/postings.c": ["making: %.1f us a page", "adding: %.1f us a page", "packing: %.1f us a page", '"%s: %.0f us, %zu hits'],
+            "bench/postings.c": ["making: %.1f us a page", "adding: %.1f us a page", "packing: %.1f us a page", "memory: %.0f bytes a page", '"%s: %.0f us, %zu hits'],
+            "crates/test_calls/src/timed_crawls.rt": ['"{workers} workers: {done} places done, {each} bytes a page, {speed} pages/s"'],
+            "bench/crew.c": ['"%d threads of C: %u pages, %.0f pages/s'],
             "bench/speeds.py": [
                 *(f'"{name}, requests a second"' for name, _, unit in table.SERVED if "one client" in name),
                 '"small menu beside {silent} silent clients, requests a second"',
