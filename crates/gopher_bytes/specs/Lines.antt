@@ -1,5 +1,7 @@
 -- The lines of bytes.
-use Rattle.std.specs.Prelude.{◌≡◌, ◌==◌, ℕ, Bool, List, ◌++◌}
+use Rattle.std.specs.Prelude.{◌≡◌, ◌==◌, ℕ, Bool, false, List, [], ◌∷◌, ◌++◌, Option, MatchOption}
+use Rattle.std.specs.Borrow.{Bor}
+use Rattle.std.specs.Io.BufRead.{drop_through}
 use Rattle.std.specs.List.{list_any, slice_split}
 use Rattle.std.specs.Str.Lines.{lines}
 
@@ -24,3 +26,25 @@ has_feed bytes = has_byte 10 bytes
 -- the bytes begin with `front` and end with `back`, which don't overlap
 abbrev pub IsAround : List ℕ → List ℕ → List ℕ → Type 0
 IsAround bytes front back = (between : List ℕ) × (bytes ≡ front ++ (between ++ back))
+
+-- ---- cuts
+
+-- the first of the pieces of the bytes, and the bytes after it, which have the other pieces
+abbrev pub IsFirstOf : (List ℕ → List (List ℕ)) → List ℕ → Bor (List ℕ) × Bor (List ℕ) → Type 0
+IsFirstOf pieces bytes parts = pieces bytes ≡ parts.0.now ∷ pieces parts.1.now
+
+-- the bytes before a cut at this byte are the first piece, and those after it have the other
+-- pieces; without a cut, all bytes are one piece
+abbrev pub CutsOnce : ℕ → List ℕ → Option (Bor (List ℕ) × Bor (List ℕ)) → Type 0
+CutsOnce byte bytes cut =
+    MatchOption cut (cut_at byte bytes ≡ bytes ∷ []) (IsFirstOf (cut_at byte) bytes)
+
+-- the bytes before a cut, or all bytes without one, don't contain this byte
+abbrev pub CutsAtFirst : ℕ → List ℕ → Option (Bor (List ℕ) × Bor (List ℕ)) → Type 0
+CutsAtFirst byte bytes cut =
+    MatchOption cut (has_byte byte bytes ≡ false) (λ parts. has_byte byte parts.0.now ≡ false)
+
+-- the bytes after a cut are all those after the first such byte; without a cut, there are none
+abbrev pub LeavesRest : ℕ → List ℕ → Option (Bor (List ℕ) × Bor (List ℕ)) → Type 0
+LeavesRest byte bytes cut =
+    MatchOption cut (drop_through byte bytes ≡ []) (λ parts. parts.1.now ≡ drop_through byte bytes)

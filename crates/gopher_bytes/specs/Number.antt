@@ -13,3 +13,8 @@ abbrev pub number_of : ℕ → List ℕ → Option ℕ
 number_of limit digits =
     if is_number digits && nat_le (digits_value 10 digits) limit
     then Some (digits_value 10 digits) else None
+
+-- the value of these digits, if it is at most `limit`
+abbrev pub value_up_to : ℕ → List ℕ → Option ℕ
+value_up_to limit digits =
+    if nat_le (digits_value 10 digits) limit then Some (digits_value 10 digits) else None

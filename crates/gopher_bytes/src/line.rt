@@ -1,10 +1,10 @@
 //! The lines of bytes: `lines`, `first_line`.
 
-ghost use Rattle.std.specs.Prelude.{◌≡◌, ◌<◌, false, [], ◌∷◌, ◌++◌, length, map, IfOk, IfSome, MatchOption};
+ghost use Rattle.std.specs.Prelude.{◌≡◌, ◌<◌, false, [], length, map, IfOk, IfSome, MatchOption};
 ghost use Rattle.std.specs.Io.BufRead.{drop_through};
 ghost use Rattle.std.specs.Iterator.{YieldsFirstRef, item_count};
 ghost use Rattle.std.specs.Str.Lines.{strip_carriage_return};
-ghost use Rattle.gopher_bytes.specs.Lines.{IsAround, has_feed, lines_of};
+ghost use Rattle.gopher_bytes.specs.Lines.{IsAround, IsFirstOf, has_feed, lines_of};
 
 use crate::fault::NoMemory;
 use crate::split::split_once;
@@ -18,8 +18,7 @@ use std::marker::Model;
 /// keeps all its bytes. RFC 1436 ends lines with CR LF (section 2); this profile also reads a lone
 /// LF.
 pub fn first_line(bytes: &[u8]) -> Option<(&[u8], &[u8])>
-    ensures line { MatchOption result (bytes.now ≡ [])
-        (λ parts. lines_of bytes.now ≡ parts.0.now ∷ lines_of parts.1.now) }
+    ensures line { MatchOption result (bytes.now ≡ []) (IsFirstOf lines_of bytes.now) }
     ensures no_feed { IfSome result (λ parts. has_feed parts.0.now ≡ false) }
     ensures rest { IfSome result (λ parts. parts.1.now ≡ drop_through 10 bytes.now) }
     ensures shorter { IfSome result (λ parts. length parts.1.now < length bytes.now) }

@@ -1,10 +1,9 @@
 //! Reading numbers written in ASCII digits: `read_number`.
 
-ghost use Rattle.std.specs.Prelude.{◌≡◌, ◌≤◌, None, Some, nat_le, IfSome, if◌then◌else◌, IsTrue};
+ghost use Rattle.std.specs.Prelude.{◌≡◌, ◌≤◌, IfSome, IsTrue};
 ghost use Rattle.std.specs.List.{list_all};
 ghost use Rattle.std.specs.Char.{is_ascii_digit, digit_value};
-ghost use Rattle.std.specs.Str.Parse.{digits_value};
-ghost use Rattle.gopher_bytes.specs.Number.{is_number, number_of};
+ghost use Rattle.gopher_bytes.specs.Number.{is_number, number_of, value_up_to};
 
 /// Returns the number that `digits` spell if they are one or more ASCII digits and nothing else,
 /// and the number is at most `limit`.
@@ -34,8 +33,7 @@ fn are_digits(bytes: &[u8]) -> bool
 
 fn value_up_to(limit: u32, digits: &[u8]) -> Option<u32>
     requires { IsTrue (list_all is_ascii_digit digits.now) }
-    ensures { result ≡ (if nat_le (digits_value 10 digits.now) limit
-        then Some (digits_value 10 digits.now) else None) }
+    ensures { result ≡ value_up_to limit digits.now }
 {
     let mut value: u64 = 0;
     for digit in digits {

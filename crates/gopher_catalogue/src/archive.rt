@@ -1,11 +1,11 @@
 //! `Archive`: the record of a crawl with the index of its pages.
 
-ghost use Rattle.std.specs.Prelude.{◌≡◌, ◌+◌, ◌<◌, ◌≤◌, [], ◌∷◌, ◌++◌, length, map, IfOk, IfErr, IfSome, OnOk, OnErr};
+ghost use Rattle.std.specs.Prelude.{◌≡◌, ◌+◌, ◌<◌, ◌≤◌, [], ◌∷◌, ◌++◌, length, map, IfOk, IfErr, OnOk, OnErr};
 ghost use Rattle.std.specs.Arc.{arc_value};
 ghost use Rattle.gopher_index.specs.Index.{IsSliceOf};
 ghost use Rattle.gopher_catalogue.specs.Event.{Opened, Found};
 ghost use Rattle.gopher_catalogue.specs.EventOf.{event_data};
-ghost use Rattle.gopher_catalogue.specs.Pages.{page_of_event, pages_indexed, with_page_of};
+ghost use Rattle.gopher_catalogue.specs.Pages.{page_of_event, pages_indexed, with_page_of, IsDueAmong};
 ghost use Rattle.gopher_catalogue.specs.History.{Grown, IsOpened, opening_in};
 
 use crate::event::Event;
@@ -129,8 +129,7 @@ impl Archive {
     /// Takes a run of pages to be merged, as `Index::due` does.
     pub fn due(&mut self) -> Result<Option<Due>, NoMemory>
         ensures same { self.new ≡ self.old }
-        ensures stands { IfOk result (λ due.
-            IfSome due (λ run. IsSliceOf run (pages_indexed self.old.events))) }
+        ensures stands { IfOk result (IsDueAmong (pages_indexed self.old.events)) }
     {
         self.index.due()
     }

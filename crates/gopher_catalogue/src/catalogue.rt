@@ -1,6 +1,6 @@
 //! `Catalogue`: the steps of a crawl, open, claim, found and fail, and its searches.
 
-ghost use Rattle.std.specs.Prelude.{◌≡◌, ℕ, true, false, None, Some, [], ◌∷◌, ◌++◌, map, slice_get, IfOk, IfErr, IfSome, OnOk, OnErr};
+ghost use Rattle.std.specs.Prelude.{◌≡◌, ℕ, true, false, None, Some, [], ◌∷◌, ◌++◌, map, slice_get, IfOk, IfErr, OnOk, OnErr};
 ghost use Rattle.std.specs.Arc.{arc_value};
 ghost use Rattle.gopher_scope.specs.Scope.{first_outside};
 ghost use Rattle.gopher_index.specs.Index.{IsSliceOf};
@@ -11,7 +11,7 @@ ghost use Rattle.gopher_catalogue.specs.Legal.{IsLegal};
 ghost use Rattle.gopher_catalogue.specs.Step.{open_fault, IsOpenedRecord, turn_of, after_turn, is_out_in, found_fault, added_by, status_of, is_finished, places_of};
 ghost use Rattle.gopher_catalogue.specs.Closure.{HoldsReachOnceComplete};
 ghost use Rattle.gopher_catalogue.specs.FinalAnswer.{AreFinalHits, AreFinalOccurrences};
-ghost use Rattle.gopher_catalogue.specs.Pages.{pages_found, AreHitsIn, AreOccurrencesIn};
+ghost use Rattle.gopher_catalogue.specs.Pages.{pages_found, IsDueAmong, AreHitsIn, AreOccurrencesIn};
 ghost use Rattle.gopher_catalogue.specs.Turn.{turn_data, IsTake};
 
 use crate::answer::{Claim, Turn};
@@ -235,8 +235,7 @@ impl Catalogue {
     /// place.
     pub fn due(&mut self) -> Result<Option<Due>, NoMemory>
         ensures same { self.new ≡ self.old }
-        ensures stands { IfOk result (λ due.
-            IfSome due (λ run. IsSliceOf run (pages_found self.old))) }
+        ensures stands { IfOk result (IsDueAmong (pages_found self.old)) }
         ensures legal { IsLegal self.old }
     {
         self.archive.due()

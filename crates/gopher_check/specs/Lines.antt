@@ -30,5 +30,5 @@ abbrev pub server_words : List ℕ → ℕ → List ℕ
 server_words host port = shown host ++ 32 ∷ decimal port
 
 -- the rest of a line: a host, a port, and a selector or a prefix of selectors
-abbrev pub address_rest : List ℕ → ℕ → List ℕ → List ℕ
-address_rest host port selector = server_words host port ++ 32 ∷ shown selector ++ 10 ∷ []
+abbrev pub place_rest : List ℕ → ℕ → List ℕ → List ℕ
+place_rest host port selector = server_words host port ++ 32 ∷ shown selector ++ 10 ∷ []

@@ -1,12 +1,12 @@
 -- The reports of a check: of a fault, and of a site without one.
-use Rattle.std.specs.Prelude.{◌≡◌, ◌≢◌, ℕ, List, [], ◌∷◌, ◌++◌, codes, length, count_by, Option, None, Some, IfSome, Ok, Err}
+use Rattle.std.specs.Prelude.{◌≡◌, ℕ, List, [], ◌∷◌, ◌++◌, codes, length, count_by, Option, None, Some, IfSome, Ok, Err}
 use Rattle.std.specs.List.{flat_map}
 use Rattle.toml.specs.Parse.{parse_document}
 use Rattle.gopher_item.specs.Place.{PlaceData, HomeData}
 use Rattle.gopher_scope.specs.Rule.{RuleData}
 use Rattle.gopher_scope.specs.Scope.{first_outside}
 use Rattle.gopher_scope.specs.Rows.{key_name}
-use Rattle.gopher_scope.specs.Settings.{SettingsData, settings_of}
+use Rattle.gopher_scope.specs.Settings.{SettingsData, settings_of, IsFaultOf}
 use Rattle.gopher_scope.specs.declared.fault.SettingsFault.{SettingsFault}
 use Rattle.gopher_scope.specs.declared.fault.SettingsFault.TheVariants as settings_fault
 use Rattle.gopher_tree.specs.Files.{File, total_bytes}
@@ -16,9 +16,10 @@ use Rattle.gopher_tree.specs.Load.{LoadsTo}
 use Rattle.gopher_tree.specs.declared.fault.TreeFault.{TreeFault}
 use Rattle.gopher_tree.specs.declared.fault.TreeFault.TheVariants as tree_fault
 use Rattle.gopher_check.specs.Fault.{site_fault_code, cause, remedy}
-use Rattle.gopher_check.specs.Lines.{words_line, number_line, server_words, address_rest}
+use Rattle.gopher_check.specs.Lines.{words_line, number_line, server_words, place_rest}
 use Rattle.gopher_check.specs.Text.{IsLineOf, IsKeyOf}
 use Rattle.gopher_check.specs.Unknown.{unknown_name}
+use Rattle.gopher_check.specs.declared.checking.Report.{Report}
 use Rattle.gopher_check.specs.declared.fault.SiteFault.{SiteFault}
 use Rattle.gopher_check.specs.declared.fault.SiteFault.TheVariants as fault
 
@@ -54,6 +55,10 @@ fault_report why path line unknown =
     ++ line_detail line ++ detail why unknown
     ++ words_line (codes "cause: ") (cause why) ++ words_line (codes "remedy: ") (remedy why)
 
+-- the report of a settings file that can't be read
+abbrev pub unreadable_report : List ℕ → List ℕ
+unreadable_report path = fault_report fault.SettingsUnreadable path None []
+
 -- the line of a menu file that a fault names
 abbrev pub line_of_fault : TreeFault → Option ℕ
 line_of_fault (tree_fault.BadMenuLine file line) = Some line
@@ -75,10 +80,13 @@ size_lines files =
     ++ number_line (codes "bytes: ") (total_bytes files)
 
 abbrev pub seed_line : PlaceData → List ℕ
-seed_line seed = codes "seed: " ++ seed.kind ∷ 32 ∷ address_rest seed.host seed.port seed.selector
+seed_line seed = codes "seed: " ++ seed.kind ∷ 32 ∷ place_rest seed.host seed.port seed.selector
 
 abbrev pub rule_line : List ℕ → RuleData → List ℕ
-rule_line front rule = front ++ address_rest rule.host rule.port rule.prefix
+rule_line front rule = front ++ place_rest rule.host rule.port rule.prefix
+
+abbrev pub rule_lines : List ℕ → List RuleData → List ℕ
+rule_lines front rules = flat_map (rule_line front) rules
 
 -- the report of a site without a fault: the settings file, its address, its sizes, and the seeds
 -- and rules of its crawl
@@ -87,8 +95,8 @@ site_report path settings files =
     words_line (codes "settings: ") path ++ address_lines settings.home settings.root
     ++ size_lines files
     ++ flat_map seed_line settings.seeds
-    ++ flat_map (rule_line (codes "may visit: ")) settings.scope.allow
-    ++ flat_map (rule_line (codes "may not visit: ")) settings.scope.deny ++ codes "sound\n"
+    ++ rule_lines (codes "may visit: ") settings.scope.allow
+    ++ rule_lines (codes "may not visit: ") settings.scope.deny ++ codes "sound\n"
 
 -- the report on settings and a folder
 abbrev pub TellsSite : List ℕ → SettingsData → List ℕ → Option SiteFault → Type 0
@@ -104,6 +112,10 @@ TellsSite path settings words (Some (fault.SeedOutOfScope seed)) =
     (first_outside settings.scope settings.seeds ≡ Some seed)
     × (words ≡ fault_report (fault.SeedOutOfScope seed) path None [])
 TellsSite path settings words (Some other) = ⊥
+
+-- the report, with its fault, is the one on settings and a folder
+abbrev pub IsReportOnSite : List ℕ → SettingsData → Report → Type 0
+IsReportOnSite path settings report = TellsSite path settings report.words.items report.fault
 
 -- the line at which settings aren't TOML, if the parser names one; other faults have no line
 abbrev pub HasLine : List ℕ → SettingsFault → Option ℕ → Type 0
@@ -127,13 +139,21 @@ TellsTwice path text words =
     (line : Option ℕ) × (key : List ℕ) × IfSome line (IsLineOf text) × IsKeyOf text key
     × (words ≡ fault_report fault.KeyTwice path line key)
 
+-- the report, with its fault, is the one on settings that give a key twice
+abbrev pub IsReportOnTwice : List ℕ → List ℕ → Report → Type 0
+IsReportOnTwice path text report =
+    (report.fault ≡ Some fault.KeyTwice) × TellsTwice path text report.words.items
+
 -- the report on a text of settings: their fault, or the report on the site that they describe
 abbrev pub TellsText : List ℕ → List ℕ → List ℕ → Option SiteFault → Type 0
 TellsText path text words (Some (fault.Settings why)) =
-    (why ≢ settings_fault.NoMemory → settings_of (parse_document text) ≡ Err why)
-    × TellsRefused path text words why
+    IsFaultOf text why × TellsRefused path text words why
 TellsText path text words (Some fault.KeyTwice) =
     (settings_of (parse_document text) ≡ Err settings_fault.NotToml) × TellsTwice path text words
 TellsText path text words found =
     (settings : SettingsData) × (settings_of (parse_document text) ≡ Ok settings)
     × TellsSite path settings words found
+
+-- the report, with its fault, is the one on a text of settings
+abbrev pub IsReportOnText : List ℕ → List ℕ → Report → Type 0
+IsReportOnText path text report = TellsText path text report.words.items report.fault

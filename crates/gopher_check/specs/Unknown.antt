@@ -9,7 +9,8 @@ use Rattle.gopher_scope.specs.declared.settings.key.Key.TheVariants as key
 -- the first name in a table, in its order, that passes a test
 abbrev pub first_key_where : (List ℕ → Bool) → Members → Option (List ℕ)
 first_key_where test no_members = None
-first_key_where test (member name value more) = if test name then Some name else first_key_where test more
+first_key_where test (member name value more) =
+    if test name then Some name else first_key_where test more
 
 -- the first name in a table that isn't a key of the settings
 abbrev pub own_key : Members → Option (List ℕ)

@@ -1,14 +1,14 @@
 //! Checking a site (`check`): its settings, its folder and its seeds; and which line or key a
 //! report names.
 
-ghost use Rattle.std.specs.Prelude.{◌≡◌, ◌≢◌, ◌≤◌, [], length, None, Some, Err, IfOk, IfSome};
+ghost use Rattle.std.specs.Prelude.{◌≡◌, ◌≤◌, length, None, Some, Err, IfOk, IfSome};
 ghost use Rattle.toml.specs.Parse.{parse_document};
 ghost use Rattle.gopher_scope.specs.Scope.{first_outside};
-ghost use Rattle.gopher_scope.specs.Settings.{settings_data, settings_of};
+ghost use Rattle.gopher_scope.specs.Settings.{settings_data, settings_of, IsFaultOf};
 ghost use Rattle.gopher_scope.specs.declared.fault.SettingsFault.TheVariants as settings_fault;
 ghost use Rattle.gopher_tree.specs.Fault.{files_fault};
-ghost use Rattle.gopher_check.specs.declared.fault.SiteFault.TheVariants.{SettingsUnreadable, KeyTwice};
-ghost use Rattle.gopher_check.specs.Report.{fault_report, line_of_fault, path_below, HasKey, HasLine, TellsSite, TellsText, TellsTwice};
+ghost use Rattle.gopher_check.specs.declared.fault.SiteFault.TheVariants.{SettingsUnreadable};
+ghost use Rattle.gopher_check.specs.Report.{unreadable_report, line_of_fault, path_below, HasKey, HasLine, IsReportOnSite, IsReportOnText, IsReportOnTwice};
 ghost use Rattle.gopher_check.specs.Text.{line_at, key_of, IsKeyOf, IsLineOf};
 
 use crate::fault::SiteFault;
@@ -37,8 +37,7 @@ pub struct Report {
 /// Reports that the settings file at `path` can't be read.
 pub fn unreadable(alloc: Global, path: &str) -> Result<Report, NoMemory>
     ensures fault { IfOk result (λ report. report.fault ≡ Some SettingsUnreadable) }
-    ensures words { IfOk result (λ report. report.words.items
-        ≡ fault_report SettingsUnreadable path.now None []) }
+    ensures words { IfOk result (λ report. report.words.items ≡ unreadable_report path.now) }
 {
     let fault = SiteFault::SettingsUnreadable;
     let words = fault_report(alloc, fault, path.as_bytes(), None, b"")?;
@@ -102,8 +101,7 @@ fn tree_report(
     tree: &Tree,
 ) -> Result<Report, NoMemory>
     requires { files_fault tree.now ≡ None }
-    ensures { IfOk result (λ report. TellsSite path.now (settings_data settings)
-        report.words.items report.fault) }
+    ensures { IfOk result (IsReportOnSite path.now (settings_data settings)) }
 {
     if let Some(seed) = first_outside(&settings.scope, &settings.seeds) {
         let fault = SiteFault::SeedOutOfScope(seed);
@@ -125,8 +123,7 @@ fn settings_report<R: Files>(
     path: &str,
     settings: Settings,
 ) -> Result<Report, NoMemory>
-    ensures { IfOk result (λ report. TellsSite path.now (settings_data settings)
-        report.words.items report.fault) }
+    ensures { IfOk result (IsReportOnSite path.now (settings_data settings)) }
 {
     match Tree::load_at(rt, alloc, settings.root.as_str()) {
         Ok(tree) => tree_report(alloc, path, settings, &tree),
@@ -181,8 +178,7 @@ fn key_twice(alloc: Global, text: &str) -> Result<Option<Vec<u8>>, NoMemory>
 
 // The report of settings that aren't TOML, if that is because they give a key twice.
 fn twice_report(alloc: Global, path: &str, text: &str) -> Result<Option<Report>, NoMemory>
-    ensures { IfOk result (λ found. IfSome found (λ report.
-        (report.fault ≡ Some KeyTwice) × TellsTwice path.now text.now report.words.items)) }
+    ensures { IfOk result (λ found. IfSome found (IsReportOnTwice path.now text.now)) }
 {
     let Some(key) = key_twice(alloc, text)? else {
         return Ok(None);
@@ -214,10 +210,8 @@ fn refused_report(
     text: &str,
     refused: SettingsFault,
 ) -> Result<Report, NoMemory>
-    requires { refused ≢ settings_fault.NoMemory
-        → settings_of (parse_document text.now) ≡ Err refused }
-    ensures { IfOk result (λ report. TellsText path.now text.now
-        report.words.items report.fault) }
+    requires { IsFaultOf text.now refused }
+    ensures { IfOk result (IsReportOnText path.now text.now) }
 {
     let fault = SiteFault::Settings(refused);
     let line = settings_line(alloc, text, refused);
@@ -233,8 +227,7 @@ fn refused_report(
 #[tactic(auto, using(crate::proofs::Tells::tells_twice))]
 fn not_toml_report(alloc: Global, path: &str, text: &str) -> Result<Report, NoMemory>
     requires { settings_of (parse_document text.now) ≡ Err settings_fault.NotToml }
-    ensures { IfOk result (λ report. TellsText path.now text.now
-        report.words.items report.fault) }
+    ensures { IfOk result (IsReportOnText path.now text.now) }
 {
     match twice_report(alloc, path, text)? {
         Some(report) => Ok(report),
@@ -250,8 +243,7 @@ fn not_toml_report(alloc: Global, path: &str, text: &str) -> Result<Report, NoMe
 /// the key. For 26 it reads the file or folder once more and names the system's reason.
 #[tactic(auto, using(crate::proofs::Tells::tells_text))]
 pub fn check<R: Files>(rt: &R, alloc: Global, path: &str, text: &str) -> Result<Report, NoMemory>
-    ensures { IfOk result (λ report. TellsText path.now text.now
-        report.words.items report.fault) }
+    ensures { IfOk result (IsReportOnText path.now text.now) }
 {
     match Settings::read(alloc, text) {
         Ok(settings) => {

@@ -68,8 +68,7 @@ pub(crate) fn fault_report(
     line: Option<usize>,
     unknown: &[u8],
 ) -> Result<Vec<u8>, NoMemory>
-    ensures { IfOk result (λ report. report.items
-        ≡ fault_report fault path.now line unknown.now) }
+    ensures { IfOk result (λ report. report.items ≡ fault_report fault path.now line unknown.now) }
 {
     let mut report = Vec::new(alloc);
     push_number(b"fault: ", usize::from(fault.code()), &mut report)?;

@@ -1,7 +1,7 @@
 //! Appending one line to a report: texts in their shown form, numbers, addresses.
 
 ghost use Rattle.std.specs.Prelude.{◌≡◌, ◌++◌, OnOk};
-ghost use Rattle.gopher_check.specs.Lines.{shown_byte, shown, words_line, number_line, server_words, address_rest};
+ghost use Rattle.gopher_check.specs.Lines.{shown_byte, shown, words_line, number_line, server_words, place_rest};
 
 use gopher_item::is_control;
 use itoa::Buffer;
@@ -74,8 +74,7 @@ pub(crate) fn push_address(
     selector: &[u8],
     out: &mut Vec<u8>,
 ) -> Result<(), AllocError>
-    ensures { OnOk result (out.new.items ≡ out.old.items
-        ++ address_rest host.now port selector.now) }
+    ensures { OnOk result (out.new.items ≡ out.old.items ++ place_rest host.now port selector.now) }
 {
     push_server(host, port, out)?;
     out.extend_from_slice(b" ")?;

@@ -3,7 +3,7 @@
 ghost use Rattle.std.specs.Prelude.{◌≡◌};
 ghost use Rattle.gopher_check.specs.Fault.{obstacle_cause, obstacle_of, obstacle_remedy};
 
-use std::alloc::Global;
+use std::alloc::{AllocGlobal, Global};
 use std::fs::{self, Files};
 use std::io::{self, ErrorKind};
 use std::path::Path;
@@ -71,14 +71,19 @@ fn obstacle_of(kind: ErrorKind) -> Obstacle
     }
 }
 
+// Reads the names of a folder.
+fn read_names<R: Files + AllocGlobal + Clone + Drop>(rt: &R, folder: Path<'_>) -> io::Result<()> {
+    for entry in fs::read_dir(rt, folder)? {
+        let _ = entry?;
+    }
+    Ok(())
+}
+
 // Reads the names of a folder, or opens a file.
 fn read_at<R: Files>(rt: &R, alloc: Global, path: Path<'_>) -> io::Result<()> {
     let found = fs::metadata(rt, path)?;
     if found.is_dir() {
-        for entry in fs::read_dir(&(rt, alloc), path)? {
-            let _ = entry?;
-        }
-        return Ok(());
+        return read_names(&(rt, alloc), path);
     }
     let _ = fs::open(rt, path)?;
     Ok(())

@@ -3,7 +3,7 @@
 ghost use Rattle.std.specs.Prelude.{◌≡◌, ◌++◌, IfOk, OnOk};
 ghost use Rattle.std.specs.List.{flat_map};
 ghost use Rattle.gopher_scope.specs.Settings.{settings_data};
-ghost use Rattle.gopher_check.specs.Report.{address_lines, size_lines, seed_line, rule_line, site_report};
+ghost use Rattle.gopher_check.specs.Report.{address_lines, size_lines, seed_line, rule_line, rule_lines, site_report};
 
 use crate::lines::{push_address, push_number, push_server, push_words};
 use gopher_item::{Home, NoMemory, Place};
@@ -56,8 +56,7 @@ fn push_rule(front: &[u8], rule: &Rule, out: &mut Vec<u8>) -> Result<(), AllocEr
 }
 
 fn push_rules(front: &[u8], rules: &[Rule], out: &mut Vec<u8>) -> Result<(), AllocError>
-    ensures { OnOk result (out.new.items ≡ out.old.items
-        ++ flat_map (rule_line front.now) rules.now) }
+    ensures { OnOk result (out.new.items ≡ out.old.items ++ rule_lines front.now rules.now) }
 {
     for rule in rules {
         push_rule(front, rule, out)?;
@@ -74,8 +73,7 @@ pub(crate) fn site_report(
     settings: Settings,
     tree: &Tree,
 ) -> Result<Vec<u8>, NoMemory>
-    ensures { IfOk result (λ report. report.items
-        ≡ site_report path.now (settings_data settings) tree.now) }
+    ensures { IfOk result (λ r. r.items ≡ site_report path.now (settings_data settings) tree.now) }
 {
     let Settings {
         home,

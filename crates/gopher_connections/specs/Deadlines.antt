@@ -1,5 +1,6 @@
 -- Deadlines, the earliest first: pairs of a key and a time.
-use Rattle.std.specs.Prelude.{◌≡◌, ℕ, ◌<◌, ◌≤◌, List, [], ◌∷◌, Option, None, Some}
+use Rattle.std.specs.Prelude.{◌≡◌, ℕ, ◌<◌, ◌≤◌, List, [], ◌∷◌, ◌++◌, Option, None, Some, MatchOption}
+use Rattle.gopher_connections.specs.declared.deadlines.Deadlines.{Deadlines}
 
 abbrev pub first_deadline : List (ℕ × ℕ) → Option ℕ
 first_deadline [] = None
@@ -14,3 +15,13 @@ TakesDue now (pair ∷ pairs) left key = (key ≡ pair.0) × (pair.1 ≤ now) ×
 abbrev pub NoneIsDue : ℕ → List (ℕ × ℕ) → Type 0
 NoneIsDue now [] = Unit {0}
 NoneIsDue now (pair ∷ pairs) = now < pair.1
+
+-- the deadline of a key was set, after all others
+abbrev pub SetsDeadline : ℕ → ℕ → Deadlines → Deadlines → Type 0
+SetsDeadline key deadline old new = new.queue.items ≡ old.queue.items ++ (key, deadline) ∷ []
+
+-- the first deadline is taken if it isn't after `now`; otherwise nothing changes
+abbrev pub TakesIfDue : ℕ → Deadlines → Deadlines → Option ℕ → Type 0
+TakesIfDue now old new taken =
+    MatchOption taken (NoneIsDue now old.queue.items × (new.queue.items ≡ old.queue.items))
+    (TakesDue now old.queue.items new.queue.items)

@@ -2,9 +2,9 @@
 
 ghost use Rattle.std.specs.Prelude.{◌≡◌, ◌==◌, [], Some, length, nat_eq, IfOk, IfErr, OnErr, OnOk};
 ghost use Rattle.std.specs.Option.{is_some, option_map, option_copied_mut};
-ghost use Rattle.std.specs.Map.{lookup, remove_entry};
-ghost use Rattle.lru.specs.LruCache.{last_entry, promoted, put_entries};
-ghost use Rattle.gopher_connections.specs.Connections.{key_after};
+ghost use Rattle.std.specs.Map.{remove_entry};
+ghost use Rattle.lru.specs.LruCache.{last_entry, promoted};
+ghost use Rattle.gopher_connections.specs.Connections.{key_after, connection_at, PutsConnection};
 
 use lru::LruCache;
 use std::alloc::{AllocError, Global};
@@ -54,10 +54,8 @@ impl<T: Drop> Connections<T> {
     /// The connection that was passed in, if out of memory.
     pub fn put(&mut self, connection: T) -> Result<usize, T>
         ensures key { IfOk result (λ key. key ≡ self.old.next) }
-        ensures named { IfOk result (λ key.
-            lookup (nat_eq key) self.new.held.entries ≡ Some connection) }
-        ensures others { OnOk result (self.new.held.entries
-            ≡ put_entries nat_eq self.old.held self.old.next connection) }
+        ensures named { IfOk result (λ key. connection_at self.new key ≡ Some connection) }
+        ensures others { OnOk result (PutsConnection self.old self.new connection) }
         ensures next { OnOk result (self.new.next ≡ key_after self.old.next) }
         ensures returned { IfErr result (λ refused. refused ≡ connection) }
         ensures kept { OnErr result (self.new.held.entries ≡ self.old.held.entries) }
@@ -85,7 +83,7 @@ impl<T: Drop> Connections<T> {
     /// Makes the connection at a key the most recently used. Returns whether there is one. Takes
     /// constant time.
     pub fn touch(&mut self, key: usize) -> bool
-        ensures found { result ≡ is_some (lookup (nat_eq key) self.old.held.entries) }
+        ensures found { result ≡ is_some (connection_at self.old key) }
         ensures first { self.new.held.entries ≡ promoted (nat_eq key) self.old.held.entries }
         ensures next { self.new.next ≡ self.old.next }
     {
@@ -94,14 +92,14 @@ impl<T: Drop> Connections<T> {
 
     /// Returns the connection at a key, or `None` if there is none.
     pub fn get_mut(&mut self, key: usize) -> Option<&mut T>
-        ensures { option_copied_mut result ≡ lookup (nat_eq key) self.old.held.entries }
+        ensures { option_copied_mut result ≡ connection_at self.old key }
     {
         self.held.peek_mut(&key)
     }
 
     /// Removes and returns the connection at a key, or returns `None` if there is none.
     pub fn remove(&mut self, key: usize) -> Option<T>
-        ensures taken { result ≡ lookup (nat_eq key) self.old.held.entries }
+        ensures taken { result ≡ connection_at self.old key }
         ensures others { self.new.held.entries ≡ remove_entry (nat_eq key) self.old.held.entries }
         ensures next { self.new.next ≡ self.old.next }
     {

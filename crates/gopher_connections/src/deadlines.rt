@@ -1,7 +1,7 @@
 //! The deadlines of lingering connections, the earliest first.
 
-ghost use Rattle.std.specs.Prelude.{◌≡◌, ◌∷◌, ◌++◌, [], MatchOption, OnOk, OnErr};
-ghost use Rattle.gopher_connections.specs.Deadlines.{NoneIsDue, TakesDue, first_deadline};
+ghost use Rattle.std.specs.Prelude.{◌≡◌, [], OnOk, OnErr};
+ghost use Rattle.gopher_connections.specs.Deadlines.{SetsDeadline, TakesIfDue, first_deadline};
 
 use std::alloc::{AllocError, Global};
 use std::collections::VecDeque;
@@ -27,8 +27,7 @@ impl Deadlines {
 
     /// Appends the deadline of the connection at a key.
     pub fn set(&mut self, key: usize, deadline: u64) -> Result<(), AllocError>
-        ensures set { OnOk result (self.new.queue.items
-            ≡ self.old.queue.items ++ (key, deadline) ∷ []) }
+        ensures set { OnOk result (SetsDeadline key deadline self.old self.new) }
         ensures refused { OnErr result (self.new.queue.items ≡ self.old.queue.items) }
     {
         self.queue.push_back((key, deadline))?;
@@ -47,9 +46,7 @@ impl Deadlines {
 
     /// Removes the first deadline and returns its key, if the deadline isn't after the time `now`.
     pub fn take_due(&mut self, now: u64) -> Option<usize>
-        ensures due { MatchOption result
-            (NoneIsDue now self.old.queue.items × (self.new.queue.items ≡ self.old.queue.items))
-            (TakesDue now self.old.queue.items self.new.queue.items) }
+        ensures due { TakesIfDue now self.old self.new result }
     {
         let (key, deadline) = self.queue.front().copied()?;
         if deadline > now {

@@ -9,7 +9,7 @@ use Rattle.gopher_text.specs.Line.{has_feed}
 use Rattle.gopher_conversation.specs.Serve.{StreamData}
 use Rattle.gopher_conversation.specs.Talk.{Talk, Gathers, Asks, IsTooLong, LacksMemory, Responds, is_known, known_line, talk_of, said, stage_of, unsent_of}
 use Rattle.gopher_conversation.specs.declared.conversation.Stage.TheVariants as stage
-use Rattle.gopher_conversation.specs.Advance.{IsStill, HearsPiece, HearsEnd, Listens, IsReplied, Replies, SaysSome, IsSaid, IsSilent, Says, Steps, IsGiven, StandsAnswered, Stands, Talks, Advances}
+use Rattle.gopher_conversation.specs.Advance.{IsStill, HearsPiece, HearsEnd, Listens, IsReplied, RepliesToLine, SaysSome, IsSaid, IsSilent, Says, StepsOverStreams, IsGiven, StandsAnswered, Stands, Talks, Advances}
 use Rattle.gopher_conversation.specs.declared.advancing.Progress.{Progress}
 use Rattle.gopher_conversation.specs.declared.advancing.Progress.TheVariants.{Done, Paused, Works, Waits, Failed}
 
@@ -209,7 +209,7 @@ replied leads_to gives start a b first left w0 w1 line next leads stays is so_fa
     }
 
 pub answered : {A : Type 0} (leads_to : A → A → Type 0) (gives : A → A → List ℕ → List ℕ → Type 0) (start a b : A) (first left w0 w1 : Option (List ℕ)) (line : List ℕ) (next : Talk) (turn : Progress)
-    → leads_to start a → leads_to b b → Replies gives a b line next turn → Talks (IsGiven leads_to gives start a) first left w0 w1 (Asks line)
+    → leads_to start a → leads_to b b → RepliesToLine gives a b line next turn → Talks (IsGiven leads_to gives start a) first left w0 w1 (Asks line)
     → Talks (IsGiven leads_to gives start b) first left w0 w1 next
 answered leads_to gives start a b first left w0 w1 line next Done leads stays never so_far = absurd never
 answered leads_to gives start a b first left w0 w1 line next Paused leads stays is so_far = replied leads_to gives start a b first left w0 w1 line next leads stays is so_far
@@ -225,7 +225,7 @@ moved P a b same = subst P (sym same)
 
 pub steps_on : {A : Type 0} (leads_to : A → A → Type 0) (gives : A → A → List ℕ → List ℕ → Type 0) (talk next : Talk) (a b : A) (had left before after : StreamData) (turn : Progress)
     → ((x : A) → leads_to x x) → ((x y z : A) → leads_to x y → leads_to y z → leads_to x z)
-    → Steps gives talk next a b had left before after turn → Advances leads_to gives talk next a b had.bytes left.bytes before.bytes after.bytes
+    → StepsOverStreams gives talk next a b had left before after turn → Advances leads_to gives talk next a b had.bytes left.bytes before.bytes after.bytes
 steps_on {A = A} leads_to gives talk next a b had left before after turn stays joins step = record {
   goes = λ start seen first w0 leads since so_far.
       by talk step start first w0 (joins _ _ _ leads since)
@@ -243,7 +243,7 @@ steps_on {A = A} leads_to gives talk next a b had left before after turn stays j
         (moved (λ (s : StreamData). Talks (IsGiven leads_to gives start a) first had.bytes w0 s.bytes next) before after writer
         (subst (λ (u : Talk). Talks (IsGiven leads_to gives start a) first had.bytes w0 before.bytes u) (sym same) so_far)))
 
-    by : (t : Talk) → Steps gives t next a b had left before after turn → (start : A) (first w0 : Option (List ℕ)) → leads_to start a
+    by : (t : Talk) → StepsOverStreams gives t next a b had left before after turn → (start : A) (first w0 : Option (List ℕ)) → leads_to start a
         → Talks (IsGiven leads_to gives start a) first had.bytes w0 before.bytes t → Talks (IsGiven leads_to gives start b) first left.bytes w0 after.bytes next
     by (Gathers bytes) (heard, answers, writer) start first w0 leads so_far =
         same_answers start a b first left.bytes w0 after.bytes next answers
@@ -273,7 +273,7 @@ module _ {A : Type 0} (leads_to : A → A → Type 0) (gives : A → A → List 
   listens_on (Responds line reply count) next a had left writer turn is listens = absurd cc
 
   pub asks_on : (talk next : Talk) (a b : A) (reader writer : StreamData) (turn : Progress) → stage.Asks ≡ stage_of talk
-      → ((line : List ℕ) → talk ≡ Asks line → Replies gives a b line next turn) → Advances leads_to gives talk next a b reader.bytes reader.bytes writer.bytes writer.bytes
+      → ((line : List ℕ) → talk ≡ Asks line → RepliesToLine gives a b line next turn) → Advances leads_to gives talk next a b reader.bytes reader.bytes writer.bytes writer.bytes
   asks_on (Gathers bytes) next a b reader writer turn is replies = absurd cc
   asks_on (Asks line) next a b reader writer turn is replies = steps_on leads_to gives (Asks line) next a b reader reader writer writer turn stays joins (replies line refl, refl, refl)
   asks_on IsTooLong next a b reader writer turn is replies = absurd cc

@@ -4,7 +4,7 @@ use Rattle.std.proofs.lemmas.Bool.Decides.{nat_tests}
 use Rattle.gopher_text.specs.Watched.{CountsFailure, HasFailed}
 use Rattle.gopher_conversation.specs.Serve.{StreamData}
 use Rattle.gopher_conversation.specs.Talk.{Talk, Gathers, Asks, IsTooLong, LacksMemory, Responds, stage_of, unsent_of}
-use Rattle.gopher_conversation.specs.Advance.{Listens, Replies, Says, Steps, Stops}
+use Rattle.gopher_conversation.specs.Advance.{Listens, RepliesToLine, Says, StepsOverStreams, StopsWithCounts}
 use Rattle.gopher_conversation.specs.declared.advancing.Progress.{Progress}
 use Rattle.gopher_conversation.specs.declared.advancing.Progress.TheVariants.{Done, Paused, Works, Waits, Failed}
 use Rattle.gopher_conversation.specs.declared.fault.ServeFault.{ServeFault}
@@ -43,7 +43,7 @@ says_count talk next before after (Failed fault) (inl (why, still)) = counted _ 
 says_count talk next before after (Failed fault) (inr (why, silent)) = same_count before after silent.same
 
 pub steps_count : {A : Type 0} (gives : A → A → List ℕ → List ℕ → Type 0) (talk next : Talk) (a b : A) (had left before after : StreamData) (turn : Progress)
-    → Steps gives talk next a b had left before after turn → (had.failures ≤ left.failures) × (before.failures ≤ after.failures)
+    → StepsOverStreams gives talk next a b had left before after turn → (had.failures ≤ left.failures) × (before.failures ≤ after.failures)
 steps_count gives (Gathers bytes) next a b had left before after turn (heard, answers, writer) =
     (listens_count (Gathers bytes) next had left turn heard, same_count before after writer)
 steps_count gives (Asks line) next a b had left before after turn (replied, reader, writer) = (same_count had left reader, same_count before after writer)
@@ -55,44 +55,44 @@ steps_count gives (Responds line reply count) next a b had left before after tur
 -- ---- the last step
 
 listens_stop : (bytes : List ℕ) (next : Talk) (had left : StreamData) (b0 b1 : ℕ) (turn : Progress) → Listens (Gathers bytes) next had left turn
-    → Stops next had.failures left.failures b0 b1 turn
+    → StopsWithCounts next had.failures left.failures b0 b1 turn
 listens_stop bytes next had left b0 b1 Done never = absurd never
 listens_stop bytes next had left b0 b1 Paused heard = tt
 listens_stop bytes next had left b0 b1 Works never = absurd never
 listens_stop bytes next had left b0 b1 Waits still = inl (has_failed _ _ still.count)
 listens_stop bytes next had left b0 b1 (Failed fault) (why, still) =
-    subst (λ (f : ServeFault). Stops next had.failures left.failures b0 b1 (Failed f)) (sym why) (has_failed _ _ still.count)
+    subst (λ (f : ServeFault). StopsWithCounts next had.failures left.failures b0 b1 (Failed f)) (sym why) (has_failed _ _ still.count)
 
 replies_stop : {A : Type 0} (gives : A → A → List ℕ → List ℕ → Type 0) (a b : A) (line : List ℕ) (next : Talk) (r0 r1 b0 b1 : ℕ) (turn : Progress)
-    → Replies gives a b line next turn → Stops next r0 r1 b0 b1 turn
+    → RepliesToLine gives a b line next turn → StopsWithCounts next r0 r1 b0 b1 turn
 replies_stop gives a b line next r0 r1 b0 b1 Done never = absurd never
 replies_stop gives a b line next r0 r1 b0 b1 Paused is = tt
 replies_stop gives a b line next r0 r1 b0 b1 Works is = ap stage_of is.is
 replies_stop gives a b line next r0 r1 b0 b1 Waits never = absurd never
-replies_stop gives a b line next r0 r1 b0 b1 (Failed fault) (why, same) = subst (λ (f : ServeFault). Stops next r0 r1 b0 b1 (Failed f)) (sym why) tt
+replies_stop gives a b line next r0 r1 b0 b1 (Failed fault) (why, same) = subst (λ (f : ServeFault). StopsWithCounts next r0 r1 b0 b1 (Failed f)) (sym why) tt
 
 says_stop : (line reply : List ℕ) (count : ℕ) (next : Talk) (r0 r1 : ℕ) (before after : StreamData) (turn : Progress)
-    → Says (Responds line reply count) next before after turn → Stops next r0 r1 before.failures after.failures turn
+    → Says (Responds line reply count) next before after turn → StopsWithCounts next r0 r1 before.failures after.failures turn
 says_stop line reply count next r0 r1 before after Done (inl all) = (ap stage_of all.talk, ap unsent_of all.talk ∙ all.none)
 says_stop line reply count next r0 r1 before after Done (inr (some, none)) = (ap stage_of some.is, none)
 says_stop line reply count next r0 r1 before after Paused said = tt
 says_stop line reply count next r0 r1 before after Works silent = ap stage_of silent.talk
 says_stop line reply count next r0 r1 before after Waits still = inr (has_failed _ _ still.count)
 says_stop line reply count next r0 r1 before after (Failed fault) (inl (why, still)) =
-    subst (λ (f : ServeFault). Stops next r0 r1 before.failures after.failures (Failed f)) (sym why) (has_failed _ _ still.count)
+    subst (λ (f : ServeFault). StopsWithCounts next r0 r1 before.failures after.failures (Failed f)) (sym why) (has_failed _ _ still.count)
 says_stop line reply count next r0 r1 before after (Failed fault) (inr (why, silent)) =
-    subst (λ (f : ServeFault). Stops next r0 r1 before.failures after.failures (Failed f)) (sym why) tt
+    subst (λ (f : ServeFault). StopsWithCounts next r0 r1 before.failures after.failures (Failed f)) (sym why) tt
 
 pub steps_stop : {A : Type 0} (gives : A → A → List ℕ → List ℕ → Type 0) (talk next : Talk) (a b : A) (had left before after : StreamData) (turn : Progress)
-    → Steps gives talk next a b had left before after turn → Stops next had.failures left.failures before.failures after.failures turn
+    → StepsOverStreams gives talk next a b had left before after turn → StopsWithCounts next had.failures left.failures before.failures after.failures turn
 steps_stop gives (Gathers bytes) next a b had left before after turn (heard, answers, writer) =
     listens_stop bytes next had left before.failures after.failures turn heard
 steps_stop gives (Asks line) next a b had left before after turn (replied, reader, writer) =
     replies_stop gives a b line next had.failures left.failures before.failures after.failures turn replied
 steps_stop gives IsTooLong next a b had left before after turn (fails, same, answers, reader, writer) =
-    subst (Stops next had.failures left.failures before.failures after.failures) (sym fails) same
+    subst (StopsWithCounts next had.failures left.failures before.failures after.failures) (sym fails) same
 steps_stop gives LacksMemory next a b had left before after turn (fails, same, answers, reader, writer) =
-    subst (Stops next had.failures left.failures before.failures after.failures) (sym fails) tt
+    subst (StopsWithCounts next had.failures left.failures before.failures after.failures) (sym fails) tt
 steps_stop gives (Responds line reply count) next a b had left before after turn (said, answers, reader) =
     says_stop line reply count next had.failures left.failures before after turn said
 
@@ -107,7 +107,7 @@ failed_since x y z low high (inr most) = by (nat_lt x y) refl
     by false e = let same : y ≤ x = grind (arith, nat_tests) in inr (omega (arith, same, low, most))
 
 pub stops_since : (talk : Talk) (r0 r1 r2 w0 w1 w2 : ℕ) (turn : Progress) → r0 ≤ r1 → r1 ≤ r2 → w0 ≤ w1 → w1 ≤ w2
-    → Stops talk r1 r2 w1 w2 turn → Stops talk r0 r2 w0 w2 turn
+    → StopsWithCounts talk r1 r2 w1 w2 turn → StopsWithCounts talk r0 r2 w0 w2 turn
 stops_since talk r0 r1 r2 w0 w1 w2 Done a b c d stops = stops
 stops_since talk r0 r1 r2 w0 w1 w2 Paused a b c d stops = tt
 stops_since talk r0 r1 r2 w0 w1 w2 Works a b c d stops = stops

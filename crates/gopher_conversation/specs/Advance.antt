@@ -4,9 +4,9 @@ use Rattle.std.specs.Io.BufRead.{first_line}
 use Rattle.std.specs.declared.io.ErrorKind.{ErrorKind}
 use Rattle.std.specs.declared.io.ErrorKind.TheVariants as kind
 use Rattle.std.specs.Io.KnownBytes.{Appends, Consumes, IsAtEnd, Keeps}
-use Rattle.gopher_text.specs.Watched.{CountsFailure, HasFailed}
+use Rattle.gopher_text.specs.Watched.{WatchedData, CountsFailure, HasFailed}
 use Rattle.gopher_conversation.specs.Leads.{Leads}
-use Rattle.gopher_conversation.specs.Serve.{StreamData}
+use Rattle.gopher_conversation.specs.Serve.{StreamData, stream_of}
 use Rattle.gopher_conversation.specs.Talk.{Talk, Gathers, Asks, IsTooLong, LacksMemory, Responds, Hears, heard, said, stage_of, talk_of, unsent_of}
 use Rattle.gopher_conversation.specs.declared.conversation.Stage.TheVariants as stage
 use Rattle.gopher_conversation.specs.declared.fault.ServeFault.{ServeFault}
@@ -40,24 +40,41 @@ pub record HearsEnd (old new : Talk) (had left : StreamData) : Type 0 where
 -- the effect of one read, by its progress
 abbrev pub Listens : Talk → Talk → StreamData → StreamData → Progress → Type 0
 Listens old new had left Done = ⊥
-Listens old new had left Paused = HearsPiece old new had left ⊎ (HearsEnd old new had left ⊎ IsStill old new had left)
+Listens old new had left Paused =
+    HearsPiece old new had left ⊎ (HearsEnd old new had left ⊎ IsStill old new had left)
 Listens old new had left Works = ⊥
 Listens old new had left Waits = IsStill old new had left
 Listens old new had left (Failed fault) = (fault ≡ ReadFailed) × IsStill old new had left
 
+-- the effect of one read, by its progress: the conversation before and after, and the reader before
+-- and after
+abbrev pub ReadsOnce : {R : Type 0} → (R → Option (List ℕ)) → Talk → Talk
+    → WatchedData R → WatchedData R → Progress → Type 0
+ReadsOnce remaining old new had left progress =
+    Listens old new (stream_of remaining had) (stream_of remaining left) progress
+
 -- the line was answered with a reply, of which nothing is sent yet
-pub record IsReplied {A : Type 0} (gives : A → A → List ℕ → List ℕ → Type 0) (before after : A) (line : List ℕ) (new : Talk) : Type 0 where
+pub record IsReplied {A : Type 0} (gives : A → A → List ℕ → List ℕ → Type 0) (before after : A)
+    (line : List ℕ) (new : Talk) : Type 0 where
   pub reply : List ℕ
   pub given : gives before after line reply
   pub is : new ≡ Responds line reply 0
 
--- the effect of asking for the reply, by its progress
-abbrev pub Replies : {A : Type 0} → (A → A → List ℕ → List ℕ → Type 0) → A → A → List ℕ → Talk → Progress → Type 0
-Replies gives before after line new Done = ⊥
-Replies gives before after line new Paused = IsReplied gives before after line new
-Replies gives before after line new Works = IsReplied gives before after line new
-Replies gives before after line new Waits = ⊥
-Replies gives before after line new (Failed fault) = (fault ≡ NoMemory) × (new ≡ Asks line)
+-- the effect of asking for the reply to this line, by its progress
+abbrev pub RepliesToLine : {A : Type 0} → (A → A → List ℕ → List ℕ → Type 0) → A → A → List ℕ
+    → Talk → Progress → Type 0
+RepliesToLine gives before after line new Done = ⊥
+RepliesToLine gives before after line new Paused = IsReplied gives before after line new
+RepliesToLine gives before after line new Works = IsReplied gives before after line new
+RepliesToLine gives before after line new Waits = ⊥
+RepliesToLine gives before after line new (Failed fault) = (fault ≡ NoMemory) × (new ≡ Asks line)
+
+-- the effect of asking for the reply, by its progress, if a line is asked: the conversation before
+-- and after, and the answers before and after
+abbrev pub Replies : {A : Type 0} → (A → A → List ℕ → List ℕ → Type 0) → Talk → Talk
+    → A → A → Progress → Type 0
+Replies gives old new before after progress =
+    (line : List ℕ) → old ≡ Asks line → RepliesToLine gives before after line new progress
 
 -- the next `count` bytes of the reply were written, and nothing else
 pub record SaysSome (old new : Talk) (before after : StreamData) : Type 0 where
@@ -81,24 +98,48 @@ pub record IsSilent (old new : Talk) (before after : StreamData) : Type 0 where
 
 -- the reply fails because a write failed, or because a step of the search ran out of memory
 abbrev pub FailsToSay : Talk → Talk → StreamData → StreamData → ServeFault → Type 0
-FailsToSay old new before after fault = ((fault ≡ WriteFailed) × IsStill old new before after) ⊎ ((fault ≡ NoMemory) × IsSilent old new before after)
+FailsToSay old new before after fault =
+    ((fault ≡ WriteFailed) × IsStill old new before after)
+    ⊎ ((fault ≡ NoMemory) × IsSilent old new before after)
 
 -- the effect of one write, or of one step of the search for the reply, by its progress
 abbrev pub Says : Talk → Talk → StreamData → StreamData → Progress → Type 0
-Says old new before after Done = IsSaid old new before after ⊎ (SaysSome old new before after × (unsent_of new ≡ []))
+Says old new before after Done =
+    IsSaid old new before after ⊎ (SaysSome old new before after × (unsent_of new ≡ []))
 Says old new before after Paused = SaysSome old new before after ⊎ IsStill old new before after
 Says old new before after Works = IsSilent old new before after
 Says old new before after Waits = IsStill old new before after
 Says old new before after (Failed fault) = FailsToSay old new before after fault
 
+-- the effect of one write, or of one step of the search for the reply, by its progress: the
+-- conversation before and after, and the writer before and after
+abbrev pub WritesOnce : {W : Type 0} → (W → Option (List ℕ)) → Talk → Talk
+    → WatchedData W → WatchedData W → Progress → Type 0
+WritesOnce contents old new before after progress =
+    Says old new (stream_of contents before) (stream_of contents after) progress
+
 -- one step, by the state of the conversation: the state before and after, the answers before and
--- after, the reader before and after, the writer before and after, and the progress
-abbrev pub Steps : {A : Type 0} → (A → A → List ℕ → List ℕ → Type 0) → Talk → Talk → A → A → StreamData → StreamData → StreamData → StreamData → Progress → Type 0
-Steps gives (Gathers bytes) new a b had left before after progress = Listens (Gathers bytes) new had left progress × (b ≡ a) × (after ≡ before)
-Steps gives (Asks line) new a b had left before after progress = Replies gives a b line new progress × (left ≡ had) × (after ≡ before)
-Steps gives IsTooLong new a b had left before after progress = (progress ≡ Failed LineTooLong) × (new ≡ IsTooLong) × (b ≡ a) × (left ≡ had) × (after ≡ before)
-Steps gives LacksMemory new a b had left before after progress = (progress ≡ Failed NoMemory) × (new ≡ LacksMemory) × (b ≡ a) × (left ≡ had) × (after ≡ before)
-Steps gives (Responds line reply sent) new a b had left before after progress = Says (Responds line reply sent) new before after progress × (b ≡ a) × (left ≡ had)
+-- after, the streams of the reader and of the writer before and after, and the progress
+abbrev pub StepsOverStreams : {A : Type 0} → (A → A → List ℕ → List ℕ → Type 0) → Talk → Talk
+    → A → A → StreamData → StreamData → StreamData → StreamData → Progress → Type 0
+StepsOverStreams gives (Gathers bytes) new a b had left before after progress =
+    Listens (Gathers bytes) new had left progress × (b ≡ a) × (after ≡ before)
+StepsOverStreams gives (Asks line) new a b had left before after progress =
+    RepliesToLine gives a b line new progress × (left ≡ had) × (after ≡ before)
+StepsOverStreams gives IsTooLong new a b had left before after progress =
+    (progress ≡ Failed LineTooLong) × (new ≡ IsTooLong) × (b ≡ a) × (left ≡ had) × (after ≡ before)
+StepsOverStreams gives LacksMemory new a b had left before after progress =
+    (progress ≡ Failed NoMemory) × (new ≡ LacksMemory) × (b ≡ a) × (left ≡ had) × (after ≡ before)
+StepsOverStreams gives (Responds line reply sent) new a b had left before after progress =
+    Says (Responds line reply sent) new before after progress × (b ≡ a) × (left ≡ had)
+
+-- one step: the conversation, the answers, the reader and the writer, each before and after
+abbrev pub Steps : {A R W : Type 0} → (A → A → List ℕ → List ℕ → Type 0) → (R → Option (List ℕ))
+    → (W → Option (List ℕ)) → Talk → Talk → A → A → WatchedData R → WatchedData R
+    → WatchedData W → WatchedData W → Progress → Type 0
+Steps gives remaining contents old new a b had left before after progress =
+    StepsOverStreams gives old new a b (stream_of remaining had) (stream_of remaining left)
+    (stream_of contents before) (stream_of contents after) progress
 
 -- the progress of a call that failed
 abbrev pub IsProgressAfter : ServeFault → Progress → Type 0
@@ -115,21 +156,30 @@ progress_after why fault = Failed fault
 
 -- the state of a conversation when it stops, by its progress: the conversation, the number of
 -- failed calls of the reader before and after, and that of the writer before and after
-abbrev pub Stops : Talk → ℕ → ℕ → ℕ → ℕ → Progress → Type 0
-Stops talk had left before after Done = (stage_of talk ≡ stage.Responds) × (unsent_of talk ≡ [])
-Stops talk had left before after Paused = Unit {0}
-Stops talk had left before after Works = stage_of talk ≡ stage.Responds
-Stops talk had left before after Waits = HasFailed had left ⊎ HasFailed before after
-Stops talk had left before after (Failed LineTooLong) = talk ≡ IsTooLong
-Stops talk had left before after (Failed ReadFailed) = HasFailed had left
-Stops talk had left before after (Failed TooManyTurns) = ⊥
-Stops talk had left before after (Failed WriteFailed) = HasFailed before after
-Stops talk had left before after (Failed NoMemory) = Unit {0}
+abbrev pub StopsWithCounts : Talk → ℕ → ℕ → ℕ → ℕ → Progress → Type 0
+StopsWithCounts talk had left before after Done =
+    (stage_of talk ≡ stage.Responds) × (unsent_of talk ≡ [])
+StopsWithCounts talk had left before after Paused = Unit {0}
+StopsWithCounts talk had left before after Works = stage_of talk ≡ stage.Responds
+StopsWithCounts talk had left before after Waits = HasFailed had left ⊎ HasFailed before after
+StopsWithCounts talk had left before after (Failed LineTooLong) = talk ≡ IsTooLong
+StopsWithCounts talk had left before after (Failed ReadFailed) = HasFailed had left
+StopsWithCounts talk had left before after (Failed TooManyTurns) = ⊥
+StopsWithCounts talk had left before after (Failed WriteFailed) = HasFailed before after
+StopsWithCounts talk had left before after (Failed NoMemory) = Unit {0}
+
+-- the state of a conversation when it stops, by its progress: the conversation, the reader before
+-- and after, and the writer before and after
+abbrev pub Stops : {R W : Type 0} → Talk → WatchedData R → WatchedData R
+    → WatchedData W → WatchedData W → Progress → Type 0
+Stops talk had left before after progress =
+    StopsWithCounts talk had.failures left.failures before.failures after.failures progress
 
 -- ---- any number of steps
 
 -- the line was answered with this reply between two states of the answers
-pub record IsGiven {A : Type 0} (leads_to : A → A → Type 0) (gives : A → A → List ℕ → List ℕ → Type 0) (start now : A) (line reply : List ℕ) : Type 0 where
+pub record IsGiven {A : Type 0} (leads_to : A → A → Type 0)
+    (gives : A → A → List ℕ → List ℕ → Type 0) (start now : A) (line reply : List ℕ) : Type 0 where
   pub before : A
   pub after : A
   pub begins : leads_to start before
@@ -138,7 +188,8 @@ pub record IsGiven {A : Type 0} (leads_to : A → A → Type 0) (gives : A → A
 
 -- the first line of the bytes that came in was answered with this reply, and its first `count`
 -- bytes were sent
-pub record StandsAnswered (given : List ℕ → List ℕ → Type 0) (ended : Bool) (taken sent line reply : List ℕ) (count : ℕ) : Type 0 where
+pub record StandsAnswered (given : List ℕ → List ℕ → Type 0) (ended : Bool)
+    (taken sent line reply : List ℕ) (count : ℕ) : Type 0 where
   pub asked_is : line ≡ first_line taken
   pub line_is : talk_of ended taken ≡ Asks (first_line taken)
   pub given_is : given (first_line taken) reply
@@ -147,15 +198,19 @@ pub record StandsAnswered (given : List ℕ → List ℕ → Type 0) (ended : Bo
 -- the state of a conversation agrees with all bytes that came in and all bytes that were sent: they
 -- are a prefix of the reply to the first line
 abbrev pub Stands : (List ℕ → List ℕ → Type 0) → Bool → List ℕ → List ℕ → Talk → Type 0
-Stands given ended taken sent (Gathers bytes) = (talk_of ended taken ≡ Gathers bytes) × (taken ≡ bytes) × (sent ≡ [])
-Stands given ended taken sent (Asks line) = (talk_of ended taken ≡ Asks line) × (line ≡ first_line taken) × (sent ≡ [])
+Stands given ended taken sent (Gathers bytes) =
+    (talk_of ended taken ≡ Gathers bytes) × (taken ≡ bytes) × (sent ≡ [])
+Stands given ended taken sent (Asks line) =
+    (talk_of ended taken ≡ Asks line) × (line ≡ first_line taken) × (sent ≡ [])
 Stands given ended taken sent IsTooLong = (talk_of ended taken ≡ IsTooLong) × (sent ≡ [])
 Stands given ended taken sent LacksMemory = sent ≡ []
-Stands given ended taken sent (Responds line reply count) = StandsAnswered given ended taken sent line reply count
+Stands given ended taken sent (Responds line reply count) =
+    StandsAnswered given ended taken sent line reply count
 
 -- the state of a conversation agrees with the bytes that the reader had at first and has left, and
 -- with the bytes that the writer had at first and has now
-pub record Talks (given : List ℕ → List ℕ → Type 0) (had left old new : Option (List ℕ)) (talk : Talk) : Type 0 where
+pub record Talks (given : List ℕ → List ℕ → Type 0) (had left old new : Option (List ℕ))
+    (talk : Talk) : Type 0 where
   pub taken : List ℕ
   pub sent : List ℕ
   pub ended : Bool
@@ -166,11 +221,19 @@ pub record Talks (given : List ℕ → List ℕ → Type 0) (had left old new : 
 
 -- some steps keep this agreement, however the conversation reached its state and whatever others
 -- were answered since: the conversation, the answers, the reader and the writer, before and after
-pub record Advances {A : Type 0} (leads_to : A → A → Type 0) (gives : A → A → List ℕ → List ℕ → Type 0)
+pub record Advances {A : Type 0} (leads_to : A → A → Type 0)
+    (gives : A → A → List ℕ → List ℕ → Type 0)
     (talk next : Talk) (before after : A) (left later new newer : Option (List ℕ)) : Type 0 where
-  pub goes : (start seen : A) (had old : Option (List ℕ)) → leads_to start seen → leads_to seen before
-      → Talks (IsGiven leads_to gives start seen) had left old new talk → Talks (IsGiven leads_to gives start after) had later old newer next
+  pub goes : (start seen : A) (had old : Option (List ℕ)) → leads_to start seen
+      → leads_to seen before
+      → Talks (IsGiven leads_to gives start seen) had left old new talk
+      → Talks (IsGiven leads_to gives start after) had later old newer next
 
--- some steps keep this agreement, while the answers take any number of steps
-abbrev pub GoesOn : {A : Type 0} → (A → A → Type 0) → (A → A → List ℕ → List ℕ → Type 0) → Talk → Talk → A → A → Option (List ℕ) → Option (List ℕ) → Option (List ℕ) → Option (List ℕ) → Type 0
-GoesOn leads_to gives talk next before after left later new newer = Advances (Leads leads_to) gives talk next before after left later new newer
+-- some steps keep this agreement, while the answers take any number of steps: the conversation, the
+-- answers, the reader and the writer, each before and after
+abbrev pub GoesOn : {A R W : Type 0} → (A → A → Type 0) → (A → A → List ℕ → List ℕ → Type 0)
+    → (R → Option (List ℕ)) → (W → Option (List ℕ)) → Talk → Talk → A → A
+    → WatchedData R → WatchedData R → WatchedData W → WatchedData W → Type 0
+GoesOn leads_to gives remaining contents talk next a b had left before after =
+    Advances (Leads leads_to) gives talk next a b (remaining had.device) (remaining left.device)
+    (contents before.device) (contents after.device)

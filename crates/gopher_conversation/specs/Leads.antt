@@ -18,9 +18,16 @@ leads_stays step a = record { states = []; chain = refl }
 pub leads_one : {A : Type 0} (step : A → A → Type 0) (a b : A) → step a b → Leads step a b
 leads_one step a b one = record { states = b ∷ []; chain = (one, refl) }
 
-chains : {A : Type 0} (step : A → A → Type 0) (a b c : A) (first second : List A) → IsChain step a first b → IsChain step b second c → IsChain step a (first ++ second) c
+chains : {A : Type 0} (step : A → A → Type 0) (a b c : A) (first second : List A)
+    → IsChain step a first b → IsChain step b second c → IsChain step a (first ++ second) c
 chains step a b c [] second same more = subst (λ (x : _). IsChain step x second c) same more
-chains step a b c (next ∷ first) second (one, rest) more = (one, chains step next b c first second rest more)
+chains step a b c (next ∷ first) second (one, rest) more =
+    (one, chains step next b c first second rest more)
 
-pub leads_joins : {A : Type 0} (step : A → A → Type 0) (a b c : A) → Leads step a b → Leads step b c → Leads step a c
-leads_joins step a b c first second = record { states = first.states ++ second.states; chain = chains step a b c first.states second.states first.chain second.chain }
+pub leads_joins : {A : Type 0} (step : A → A → Type 0) (a b c : A) → Leads step a b → Leads step b c
+    → Leads step a c
+leads_joins step a b c first second =
+    record {
+      states = first.states ++ second.states;
+      chain = chains step a b c first.states second.states first.chain second.chain;
+    }

@@ -19,12 +19,14 @@ abbrev pub stream_of : {D : Type 0} → (D → Option (List ℕ)) → WatchedDat
 stream_of known stream = record { bytes = known stream.device; failures = stream.failures }
 
 -- the reply answers the first line that the reader had left
-pub record RepliesTo (gives : List ℕ → List ℕ → Type 0) (had : Option (List ℕ)) (line reply : List ℕ) : Type 0 where
+pub record RepliesTo (gives : List ℕ → List ℕ → Type 0) (had : Option (List ℕ))
+    (line reply : List ℕ) : Type 0 where
   pub line_is : IfSome had (λ bytes. line ≡ first_line bytes)
   pub given : gives line reply
 
 -- the whole reply was written, and no byte after the line was read
-pub record ServesAll (gives : List ℕ → List ℕ → Type 0) (had left old new : StreamData) : Type 0 where
+pub record ServesAll (gives : List ℕ → List ℕ → Type 0) (had left old new : StreamData)
+    : Type 0 where
   pub line : List ℕ
   pub reply : List ℕ
   pub is_reply : RepliesTo gives had.bytes line reply
@@ -32,7 +34,8 @@ pub record ServesAll (gives : List ℕ → List ℕ → Type 0) (had left old ne
   pub written : Appends old.bytes new.bytes reply
 
 -- a prefix of the reply was written, and then a write failed
-pub record ServesPart (gives : List ℕ → List ℕ → Type 0) (had left old new : StreamData) : Type 0 where
+pub record ServesPart (gives : List ℕ → List ℕ → Type 0) (had left old new : StreamData)
+    : Type 0 where
   pub line : List ℕ
   pub reply : List ℕ
   pub sent : ℕ
@@ -53,7 +56,8 @@ pub record IsMute (had left old new : StreamData) : Type 0 where
   pub untouched : new ≡ old
 
 -- a conversation by how it ended: the reader before and after, and the writer before and after
-abbrev pub Serves : {T : Type 0} → (List ℕ → List ℕ → Type 0) → StreamData → StreamData → StreamData → StreamData → Result T ServeFault → Type 0
+abbrev pub Serves : {T : Type 0} → (List ℕ → List ℕ → Type 0) → StreamData → StreamData → StreamData
+    → StreamData → Result T ServeFault → Type 0
 Serves gives had left old new (Ok end) = ServesAll gives had left old new
 Serves gives had left old new (Err LineTooLong) = IsDeaf had left old new line_fault.LineTooLong
 Serves gives had left old new (Err ReadFailed) = IsDeaf had left old new line_fault.ReadFailed

@@ -36,7 +36,9 @@ heard ended talk piece = talk
 
 -- the state after one more piece, unless the conversation is out of memory for it
 abbrev pub Hears : Talk → List ℕ → Talk → Type 0
-Hears old piece new = (new ≡ heard false old piece) ⊎ (((bytes : List ℕ) × (old ≡ Gathers bytes)) × (new ≡ LacksMemory))
+Hears old piece new =
+    (new ≡ heard false old piece)
+    ⊎ (((bytes : List ℕ) × (old ≡ Gathers bytes)) × (new ≡ LacksMemory))
 
 -- the line that is asked, if there is one, gets this reply
 abbrev pub IsAnswered : Talk → Talk → List ℕ → Type 0

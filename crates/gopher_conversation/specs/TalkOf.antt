@@ -12,7 +12,8 @@ talk_in gathered phase.Gathering sent = Gathers gathered
 talk_in gathered phase.Asked sent = Asks (first_line gathered)
 talk_in gathered phase.TooLong sent = IsTooLong
 talk_in gathered phase.LacksMemory sent = LacksMemory
-talk_in gathered (phase.Answering answer) sent = Responds (first_line gathered) (answer_bytes answer) sent
+talk_in gathered (phase.Answering answer) sent =
+    Responds (first_line gathered) (answer_bytes answer) sent
 
 -- the reply of a conversation, also while its search goes on
 abbrev pub reply_in : Phase → List ℕ
@@ -21,4 +22,5 @@ reply_in phase = []
 
 -- the phase of a conversation whose first line is known
 abbrev pub IsPhaseAt : List ℕ → Phase → Type 0
-IsPhaseAt gathered phase = (sent : ℕ) → talk_in gathered phase sent ≡ known_line (first_line gathered)
+IsPhaseAt gathered phase =
+    (sent : ℕ) → talk_in gathered phase sent ≡ known_line (first_line gathered)

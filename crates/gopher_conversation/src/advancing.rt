@@ -1,10 +1,8 @@
 //! One step of a conversation (`advance`), with at most one call of a stream.
 
-ghost use Rattle.std.specs.Prelude.{◌≡◌, ◌<◌, ◌⊎◌, ℕ, List, length};
-ghost use Rattle.gopher_conversation.specs.Advance.{GoesOn, IsProgressAfter, Listens, Replies, Says, Steps, progress_after};
+ghost use Rattle.std.specs.Prelude.{◌≡◌, ◌<◌, ◌⊎◌, length};
+ghost use Rattle.gopher_conversation.specs.Advance.{GoesOn, IsProgressAfter, ReadsOnce, Replies, Steps, WritesOnce, progress_after};
 ghost use Rattle.gopher_conversation.specs.Leads.{Leads};
-ghost use Rattle.gopher_conversation.specs.Serve.{stream_of};
-ghost use Rattle.gopher_conversation.specs.Talk.{Asks};
 ghost use Rattle.gopher_conversation.specs.declared.advancing.Progress.TheVariants.{Failed, Works};
 ghost use Rattle.gopher_conversation.specs.declared.fault.ServeFault.TheVariants.{NoMemory};
 
@@ -58,13 +56,11 @@ pub fn advance<'a, A: Answers<'a>, R: Read, W: Write>(
     buffer: &mut [u8],
 ) -> Progress
     requires { 0 < length buffer.old }
-    ensures step { Steps A.gives conversation.old conversation.new answers.old answers.new
-        (stream_of R.remaining reader.old) (stream_of R.remaining reader.new)
-        (stream_of W.contents writer.old) (stream_of W.contents writer.new) result }
+    ensures step { Steps A.gives R.remaining W.contents conversation.old conversation.new
+        answers.old answers.new reader.old reader.new writer.old writer.new result }
     ensures leads { Leads A.leads_to answers.old answers.new }
-    ensures goes_on { GoesOn A.leads_to A.gives conversation.old conversation.new
-        answers.old answers.new (R.remaining reader.old.device) (R.remaining reader.new.device)
-        (W.contents writer.old.device) (W.contents writer.new.device) }
+    ensures goes_on { GoesOn A.leads_to A.gives R.remaining W.contents conversation.old
+        conversation.new answers.old answers.new reader.old reader.new writer.old writer.new }
 {
     match conversation.stage() {
         Stage::Listens => listen(conversation, reader, buffer),
@@ -82,8 +78,7 @@ fn listen<R: Read>(
     buffer: &mut [u8],
 ) -> Progress
     requires { 0 < length buffer.old }
-    ensures { Listens conversation.old conversation.new
-        (stream_of R.remaining reader.old) (stream_of R.remaining reader.new) result }
+    ensures { ReadsOnce R.remaining conversation.old conversation.new reader.old reader.new result }
 {
     match reader.read(buffer) {
         Ok(0) => {
@@ -104,8 +99,7 @@ fn ask<'a, A: Answers<'a>>(
     conversation: &mut Conversation<'a>,
     answers: &mut A,
 ) -> Progress
-    ensures replied { (line : List ℕ) → conversation.old ≡ Asks line
-        → Replies A.gives answers.old answers.new line conversation.new result }
+    ensures ask { Replies A.gives conversation.old conversation.new answers.old answers.new result }
     ensures leads { A.leads_to answers.old answers.new }
 {
     match answers.answer(alloc, conversation.line()) {
@@ -139,8 +133,7 @@ fn say<W: Write>(
     conversation: &mut Conversation<'_>,
     writer: &mut Watched<W>,
 ) -> Progress
-    ensures { Says conversation.old conversation.new
-        (stream_of W.contents writer.old) (stream_of W.contents writer.new) result }
+    ensures { WritesOnce W.contents conversation.old conversation.new writer.old writer.new result }
 {
     let Some(unsent) = conversation.unsent() else {
         return search(alloc, conversation);

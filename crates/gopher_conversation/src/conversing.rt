@@ -28,11 +28,9 @@ pub fn converse<'a, A: Answers<'a>, R: Read, W: Write>(
 ) -> Progress
     requires { 0 < length buffer.old }
     ensures leads { Leads A.leads_to answers.old answers.new }
-    ensures goes_on { GoesOn A.leads_to A.gives conversation.old conversation.new
-        answers.old answers.new (R.remaining reader.old.device) (R.remaining reader.new.device)
-        (W.contents writer.old.device) (W.contents writer.new.device) }
-    ensures stops { Stops conversation.new reader.old.failures reader.new.failures
-        writer.old.failures writer.new.failures result }
+    ensures goes_on { GoesOn A.leads_to A.gives R.remaining W.contents conversation.old
+        conversation.new answers.old answers.new reader.old reader.new writer.old writer.new }
+    ensures stops { Stops conversation.new reader.old reader.new writer.old writer.new result }
 {
     for _step in 0..u64::MAX {
         let progress = advance(alloc, conversation, answers, reader, writer, buffer);

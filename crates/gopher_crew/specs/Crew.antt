@@ -52,7 +52,8 @@ pub record KeptData : Type 0 where
 
 -- a legal record, a prefix of which was entered and a prefix of which is published, and the count
 -- of its events after the first
-pub record KeepsRecord (record_ : List EventData) (follower : FollowerData) (count : ℕ) : Type 0 where
+pub record KeepsRecord (record_ : List EventData) (follower : FollowerData) (count : ℕ)
+    : Type 0 where
   pub legal : IsLegal record_
   pub entered : IsPrefix follower.entered record_
   pub published : IsPrefix follower.published record_

@@ -18,15 +18,18 @@ pub record BlankData : Type 0 where
   pub begun : List EventData
 
 abbrev pub blank_data : ℕ → ℕ → RecordPrefixData → BlankData
-blank_data name parts prefix = record { name = name; parts = parts; history = prefix.history; begun = prefix.events }
+blank_data name parts prefix =
+    record { name = name; parts = parts; history = prefix.history; begun = prefix.events }
 
 -- whether a desk may have these numbers of passes and shares
 abbrev pub are_counts : ℕ → ℕ → Bool
-are_counts passes shares = (nat_le 1 passes && nat_le passes 16) && (nat_le 1 shares && nat_le shares 16)
+are_counts passes shares =
+    (nat_le 1 passes && nat_le passes 16) && (nat_le 1 shares && nat_le shares 16)
 
 -- the faults of `Desk::open`: a bad count if the numbers are bad, and otherwise another fault
 abbrev pub IsDeskFault : ℕ → ℕ → DeskFault → Type 0
-IsDeskFault passes shares fault = MatchBool (are_counts passes shares) (fault ≢ BadCount) (fault ≡ BadCount)
+IsDeskFault passes shares fault =
+    MatchBool (are_counts passes shares) (fault ≢ BadCount) (fault ≡ BadCount)
 
 -- a pass that has seen the record, and was told nothing else
 abbrev pub has_seen : List EventData → PassData
@@ -34,7 +37,9 @@ has_seen record_ = record { seen = record_; told = record_ }
 
 -- the shares of a desk that opens: the first counts the events so far, the others none
 abbrev pub opening_shares : ℕ → ℕ → List ShareData
-opening_shares events shares = record { events = events; parts = 17 - shares } ∷ replicate (shares - 1) (record { events = 0; parts = 1 })
+opening_shares events shares =
+    record { events = events; parts = 17 - shares }
+    ∷ replicate (shares - 1) (record { events = 0; parts = 1 })
 
 -- `count` passes that have seen the record
 abbrev pub AllHaveSeen : List EventData → ℕ → List PassData → Type 0

@@ -25,4 +25,5 @@ head_of history = record { tracked = true; key = 0; book = history }
 
 -- if the word was as expected, the exchange added the event after all that was seen
 abbrev pub ExchangeAdds : Step EventData → View EventData ℕ → ℕ → View EventData ℕ → Type 0
-ExchangeAdds step before found after = MatchBool (found == step.old) (after.0 ≡ before.0 ++ step.ask ∷ []) (Unit {0})
+ExchangeAdds step before found after =
+    MatchBool (found == step.old) (after.0 ≡ before.0 ++ step.ask ∷ []) (Unit {0})

@@ -52,7 +52,8 @@ pub record NotesTurn (turn : TurnData) (note : List EventData) : Type 0 where
 
 -- the note of a page is of a legal record that ends with the page. On the record before, the page
 -- adds `added`
-pub record NotesFind (number : ℕ) (page : PageData) (added : Added) (note : List EventData) : Type 0 where
+pub record NotesFind (number : ℕ) (page : PageData) (added : Added) (note : List EventData)
+    : Type 0 where
   pub before : List EventData
   pub is_added : added_by before number page ≡ added
   pub is_after : note ≡ before ++ Found number page ∷ []

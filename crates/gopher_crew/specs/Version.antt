@@ -1,7 +1,8 @@
 -- The published version of a crew's catalogue, and its rule.
-use Rattle.std.specs.Prelude.{ℕ, ◌≡◌, ◌⊎◌, Bool, true, false, List, [], ◌∷◌, ◌++◌}
+use Rattle.std.specs.Prelude.{ℕ, ◌≡◌, ◌⊎◌, Bool, true, false, List, [], ◌∷◌, ◌++◌, Result, MatchResult}
 use Rattle.std.specs.Arc.{arc_value}
 use Rattle.std.specs.List.{fold}
+use Rattle.std.specs.declared.sync.Arc.{Arc}
 use mathlib.Core.List.{IsPrefix}
 use mathlib.Core.Option.{some}
 use lib.ListN.{get_elem?}
@@ -30,6 +31,27 @@ pages_after Nothing pages = pages
 pages_after (Page page) pages = pages ++ arc_value page ∷ []
 pages_after (All index) pages = arc_value index
 
+-- the change makes these pages of any pages
+abbrev pub ReplacesAll : Change → List PageData → Type 0
+ReplacesAll change new = (pages : List PageData) → pages_after change pages ≡ new
+
+-- the shared pages after a change, if it succeeds; otherwise they stay
+abbrev pub Applies : {T E Z : Type 0} → Change → Arc (List PageData) Z → Arc (List PageData) Z
+    → Result T E → Type 0
+Applies change old new result =
+    MatchResult result
+    (λ _. arc_value new ≡ pages_after change (arc_value old))
+    (λ _. arc_value new ≡ arc_value old)
+
+-- one more shared page is added at the end of the shared pages, if that succeeds; otherwise they
+-- stay
+abbrev pub AddsPage : {T E Y Z : Type 0} → Arc PageData Y → Arc (List PageData) Z
+    → Arc (List PageData) Z → Result T E → Type 0
+AddsPage page old new result =
+    MatchResult result
+    (λ _. arc_value new ≡ arc_value old ++ arc_value page ∷ [])
+    (λ _. arc_value new ≡ arc_value old)
+
 -- the version after an update
 abbrev pub after_update : VersionData → Update → VersionData
 after_update version update = version_data (pages_after update.change version.pages) update.prefix
@@ -45,13 +67,16 @@ pub record IsVersion (history : Book) (version : VersionData) : Type 0 where
   pub legal : IsLegal version.prefix.events
 
 -- the published version is one of this history, and its record begins with all that anyone has seen
-pub record IsPublished (history : Book) (version : VersionData) (views : List (List EventData)) : Type 0 where
+pub record IsPublished (history : Book) (version : VersionData) (views : List (List EventData))
+    : Type 0 where
   pub is_version : IsVersion history version
-  pub begins : (seat : ℕ) (seen : List EventData) → get_elem? views seat ≡ some seen → IsPrefix seen version.prefix.events
+  pub begins : (seat : ℕ) (seen : List EventData) → get_elem? views seat ≡ some seen
+      → IsPrefix seen version.prefix.events
 
 -- what was seen was a prefix of the record of the version before; the record of the version after
 -- is seen now
-pub record Sees (history : Book) (seen : List EventData) (before after : VersionData) (now : List EventData) : Type 0 where
+pub record Sees (history : Book) (seen : List EventData) (before after : VersionData)
+    (now : List EventData) : Type 0 where
   pub began : IsPrefix seen before.prefix.events
   pub sees : now ≡ after.prefix.events
   pub is_version : IsVersion history after
@@ -66,7 +91,8 @@ IsSeenVersion history seen version = IsVersion history version × (version.prefi
 
 -- the version is one of this history, and its record begins with that of the version before
 abbrev pub FollowsVersion : Book → VersionData → VersionData → Type 0
-FollowsVersion history before after = IsVersion history after × IsPrefix before.prefix.events after.prefix.events
+FollowsVersion history before after =
+    IsVersion history after × IsPrefix before.prefix.events after.prefix.events
 
 -- the records of the published version and of the next one
 abbrev pub publisher_data : VersionData → VersionData → PublisherData
@@ -85,7 +111,8 @@ CatchesUp false shown updates shown' updates' = (shown' ≡ shown) × (updates' 
 -- whether a version was published, with none that waited before; if not, it waits at most
 abbrev pub Follows : Bool → VersionData → VersionData → VersionData → List Update → Type 0
 Follows true version shown shown' updates' = (shown' ≡ version) × (updates' ≡ [])
-Follows false version shown shown' updates' = (shown' ≡ shown) × ((updates' ≡ []) ⊎ (last_of shown' updates' ≡ version))
+Follows false version shown shown' updates' =
+    (shown' ≡ shown) × ((updates' ≡ []) ⊎ (last_of shown' updates' ≡ version))
 
 -- whether a record was published; if not, what is published now was so before, or waited
 abbrev pub Publishes : Bool → List EventData → PublisherData → PublisherData → Type 0
@@ -94,7 +121,8 @@ Publishes false record_ old new = (new.published ≡ old.published) ⊎ (new.pub
 
 -- what was entered is a prefix of this history, and begins with the published record and the next
 -- one
-pub record IsFollower (history head : Book) (prefix : RecordPrefixData) (publisher : PublisherData) : Type 0 where
+pub record IsFollower (history head : Book) (prefix : RecordPrefixData) (publisher : PublisherData)
+    : Type 0 where
   pub head_is : head ≡ history
   pub prefix_is : prefix.history ≡ history
   pub published_begins : IsPrefix publisher.published prefix.events

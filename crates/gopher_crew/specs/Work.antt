@@ -1,5 +1,6 @@
 -- What a worker does.
 use Rattle.std.specs.Prelude.{ℕ, ◌≡◌, ◌+◌, ◌*◌, ◌≤◌, ◌⊎◌, false, min, List, Option, Some, None, Result, Ok, Err}
+use Rattle.std.specs.List.{sum_by}
 use Rattle.gopher_item.specs.Place.{PlaceData}
 use Rattle.gopher_scope.specs.Scope.{ScopeData}
 use Rattle.gopher_page.specs.Page.{PageData, page_of}
@@ -11,6 +12,7 @@ use Rattle.gopher_crew.specs.declared.working.Outcome.{Outcome}
 use Rattle.gopher_crew.specs.declared.working.Outcome.TheVariants.{Found, Failed, Refused}
 use Rattle.gopher_crew.specs.declared.working.Stop.{Stop}
 use Rattle.gopher_crew.specs.declared.working.Stop.TheVariants.{Finished, NoMemory as NoMemoryStop}
+use Rattle.gopher_crew.specs.declared.working.WorkEnd.{WorkEnd}
 use Rattle.gopher_crew.specs.Kept.{AnswersTurn, IsOutOn}
 
 -- a fetcher's number of calls after one more
@@ -41,7 +43,8 @@ EndsClaim outcome number = Unit {0}
 -- a share rose by at most two for each call of the fetcher, unless the count of its calls is at its
 -- last value
 abbrev pub IsPaid : ShareData → ShareData → ℕ → ℕ → Type 0
-IsPaid old new calls calls' = (calls' ≡ 18446744073709551615) ⊎ (new.events + 2 * calls ≤ old.events + 2 * calls')
+IsPaid old new calls calls' =
+    (calls' ≡ 18446744073709551615) ⊎ (new.events + 2 * calls ≤ old.events + 2 * calls')
 
 -- a share rose from one count to another: by at least two for each outcome, and by at most two for
 -- each call of the fetcher, unless the count of its calls is at its last value
@@ -56,16 +59,48 @@ IsStop NoMemoryStop = Unit {0}
 
 -- what a worker did in one round: it called its fetcher once and made at most two events, or it
 -- stopped
-abbrev pub WorksOnce : Option Stop → ShareData → ℕ → ShareData → ℕ → Type 0
-WorksOnce (Some stop) old calls new calls' = IsStop stop × (calls' ≡ calls) × (new.events ≡ old.events)
-WorksOnce None old calls new calls' = (calls' ≡ one_more_call calls) × (new.events ≤ old.events + 2)
+abbrev pub WorksOnce : {F C : Type 0} → (F → ℕ) → WorkEnd F C → WorkEnd F C → Option Stop → Type 0
+WorksOnce called old new (Some stop) =
+    IsStop stop
+    × (called new.fetcher ≡ called old.fetcher)
+    × (new.share.events ≡ old.share.events)
+WorksOnce called old new None =
+    (called new.fetcher ≡ one_more_call (called old.fetcher))
+    × (new.share.events ≤ old.share.events + 2)
+
+-- a worker's share rose by at least two for each place that the worker found or failed
+abbrev pub RisesByOutcomes : {F C : Type 0} → WorkEnd F C → WorkEnd F C → Type 0
+RisesByOutcomes old new =
+    old.share.events + 2 * (new.found + new.failed)
+    ≤ new.share.events + 2 * (old.found + old.failed)
 
 -- what a worker did between two states of its share and two counts of its fetcher's calls
-pub record Works (before : ShareData) (calls : ℕ) (after : ShareData) (calls' outcomes : ℕ) (stop : Stop) : Type 0 where
+pub record Works (before : ShareData) (calls : ℕ) (after : ShareData) (calls' outcomes : ℕ)
+    (stop : Stop) : Type 0 where
   pub is_stop : IsStop stop
   pub at_least : before.events + 2 * outcomes ≤ after.events
   pub is_paid : IsPaid before after calls calls'
   pub same_parts : after.parts ≡ before.parts
+
+-- what a worker did that began with this fetcher and this share
+abbrev pub WorksFrom : {F C : Type 0} → (F → ℕ) → F × ShareData → WorkEnd F C → Type 0
+WorksFrom called pair end =
+    Works pair.1 (called pair.0) end.share (called end.fetcher) (end.found + end.failed) end.stop
+
+-- what a worker did that began with the fetcher and the share of this one
+abbrev pub WorksOn : {F C : Type 0} → (F → ℕ) → WorkEnd F C → WorkEnd F C → Type 0
+WorksOn called old new =
+    Works old.share (called old.fetcher) new.share (called new.fetcher) (new.found + new.failed)
+    new.stop
+
+-- the worker has the fetcher and the share of this pair
+abbrev pub HasPair : {F C : Type 0} → F × ShareData → WorkEnd F C → Type 0
+HasPair pair worker = (worker.fetcher ≡ pair.0) × (worker.share ≡ pair.1)
+
+-- the shares of the workers have as many parts in all as those of these pairs
+abbrev pub HaveAsManyParts : {F C : Type 0} → List (F × ShareData) → List (WorkEnd F C) → Type 0
+HaveAsManyParts pairs ends =
+    sum_by (λ end. end.share.parts) ends ≡ sum_by (λ pair. pair.1.parts) pairs
 
 -- the bytes that were fetched of a place become its page, unless memory runs out
 abbrev pub SettlesBytes : ScopeData → PlaceData → List ℕ → Result PageData Why → Type 0

@@ -1,8 +1,8 @@
 //! `crawl`: several workers, each in a thread.
 
-ghost use Rattle.std.specs.Prelude.{◌≡◌, ◌+◌, ◌≤◌, [], length, vec_len, vec_capacity, IfOk, IfErr};
-ghost use Rattle.std.specs.List.{sum_by, AllZip};
-ghost use Rattle.gopher_crew.specs.Work.{Works};
+ghost use Rattle.std.specs.Prelude.{◌≡◌, ◌≤◌, [], length, vec_len, vec_capacity, IfOk, IfErr};
+ghost use Rattle.std.specs.List.{AllZip};
+ghost use Rattle.gopher_crew.specs.Work.{HasPair, WorksFrom, WorksOn, HaveAsManyParts};
 
 use crate::crew::Crew;
 use crate::desk::Desk;
@@ -35,8 +35,7 @@ fn workers_of<F: Drop, C: Crew>(pairs: Vec<(F, Share<C>)>, workers: &mut Vec<Wor
     requires none { vec_len workers.old ≡ 0 }
     requires room { vec_len pairs ≤ vec_capacity workers.old }
     ensures len { vec_len workers.new ≡ vec_len pairs }
-    ensures idle { AllZip (λ pair worker. (worker.fetcher ≡ pair.0) × (worker.share ≡ pair.1))
-        pairs.items workers.new.items }
+    ensures idle { AllZip HasPair pairs.items workers.new.items }
 {
     let mut pairs = pairs;
     pairs.reverse();
@@ -53,8 +52,7 @@ fn run_all<
     F: Fetch<W> + Drop + Send,
 >(rt: &W, alloc: Global, desk: &Desk<C, R>, workers: &mut [WorkEnd<F, C>])
     ensures len { length workers.new ≡ length workers.old }
-    ensures each { AllZip (λ old new. Works old.share (F.called old.fetcher) new.share
-        (F.called new.fetcher) (new.found + new.failed) new.stop) workers.old workers.new }
+    ensures each { AllZip (WorksOn F.called) workers.old workers.new }
 {
     let threads = workers.len().max(1);
     for_each_mut(
@@ -62,9 +60,7 @@ fn run_all<
         workers,
         threads,
         &|_index: usize, worker: &mut WorkEnd<F, C>|
-            ensures { Works worker.old.share (F.called worker.old.fetcher) worker.new.share
-                (F.called worker.new.fetcher) (worker.new.found + worker.new.failed)
-                worker.new.stop }
+            ensures { WorksOn F.called worker.old worker.new }
         { run(rt, alloc, desk, worker) },
     );
 }
@@ -87,11 +83,8 @@ pub fn crawl<
     pairs: Vec<(F, Share<C>)>,
 ) -> Result<Vec<WorkEnd<F, C>>, CrawlRefused<F, C>>
     ensures ends { IfOk result (λ ends. vec_len ends ≡ vec_len pairs) }
-    ensures each { IfOk result (λ ends. AllZip (λ pair end. Works pair.1 (F.called pair.0)
-        end.share (F.called end.fetcher) (end.found + end.failed) end.stop)
-        pairs.items ends.items) }
-    ensures parts { IfOk result (λ ends. sum_by (λ end. end.share.parts) ends.items
-        ≡ sum_by (λ pair. pair.1.parts) pairs.items) }
+    ensures each { IfOk result (λ ends. AllZip (WorksFrom F.called) pairs.items ends.items) }
+    ensures parts { IfOk result (λ ends. HaveAsManyParts pairs.items ends.items) }
     ensures back { IfErr result (λ refused. refused.pairs ≡ pairs) }
 {
     let Ok(mut workers) = Vec::with_capacity(alloc, pairs.len()) else {

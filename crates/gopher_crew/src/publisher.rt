@@ -1,12 +1,13 @@
 //! `Publisher`: the writer of the published versions.
 
-ghost use Rattle.std.specs.Prelude.{◌≡◌, ◌<◌, ◌^◌, [], ◌∷◌, drop, length, IfOk, IfSome};
+ghost use Rattle.std.specs.Prelude.{◌≡◌, ◌<◌, ◌^◌, [], length, IfOk, IfSome};
 ghost use mathlib.Core.List.{IsPrefix};
 ghost use Rattle.left_right.specs.Sides.{view};
 ghost use Rattle.gopher_catalogue.specs.Legal.{IsLegal};
 ghost use Rattle.gopher_catalogue.specs.Pages.{pages_found};
 ghost use Rattle.gopher_crew.specs.Crew.{all_published};
-ghost use Rattle.gopher_crew.specs.Version.{version_data, after_update, last_of, IsVersion, FollowsVersion, CatchesUp, Follows, Publishes};
+ghost use Rattle.gopher_crew.specs.Publisher.{MakesVersion, PagesFollow, waiting_updates, NextFollows, WriterCatchesUp, WriterFollows};
+ghost use Rattle.gopher_crew.specs.Version.{version_data, IsVersion, Publishes};
 
 use crate::crew::Crew;
 use crate::record_prefix::RecordPrefix;
@@ -60,10 +61,8 @@ impl<C: Crew, R: Wait + Drop> Drop for Publisher<C, R> {
 
 // Applies the updates that wait, and publishes the version that they make. Returns whether it did.
 fn publish_last<C: Crew, R: Wait>(writer: VersionWriter<C>, rt: &R) -> (VersionWriter<C>, bool)
-    requires { FollowsVersion C.history writer.desk.shown.value
-        (last_of writer.desk.shown.value (drop writer.behind writer.log.items)) }
-    ensures { CatchesUp result.1 writer.desk.shown.value (drop writer.behind writer.log.items)
-        result.0.desk.shown.value (drop result.0.behind result.0.log.items) }
+    requires { NextFollows C.history writer }
+    ensures { WriterCatchesUp result.1 writer result.0 }
 {
     let (writer, published) = writer.publish_as::<Sees<C>, R>(rt);
     (writer, published.is_ok())
@@ -71,11 +70,8 @@ fn publish_last<C: Crew, R: Wait>(writer: VersionWriter<C>, rt: &R) -> (VersionW
 
 // Publishes the update that waits, if there is one. Returns whether none waits then.
 fn catch_up<C: Crew, R: Wait>(writer: &mut VersionWriter<C>, rt: &R) -> bool
-    requires { FollowsVersion C.history writer.old.desk.shown.value
-        (last_of writer.old.desk.shown.value (drop writer.old.behind writer.old.log.items)) }
-    ensures { CatchesUp result
-        writer.old.desk.shown.value (drop writer.old.behind writer.old.log.items)
-        writer.new.desk.shown.value (drop writer.new.behind writer.new.log.items) }
+    requires { NextFollows C.history writer.old }
+    ensures { WriterCatchesUp result writer.old writer.new }
 {
     if !writer.has_pending_operations() {
         return true;
@@ -95,8 +91,7 @@ fn update_to<C: Crew>(
     requires version { IsVersion C.history writer.now.desk.shown.value }
     requires pages { index.now ≡ pages_found prefix.now.events }
     requires begins { IsPrefix writer.now.desk.shown.value.prefix.events prefix.now.events }
-    ensures { IfOk result (λ update. after_update writer.now.desk.shown.value update
-        ≡ version_data index.now prefix.now) }
+    ensures { IfOk result (MakesVersion writer.now.desk.shown.value index.now prefix.now) }
 {
     let change = if renews {
         Change::all(alloc, index)?
@@ -120,12 +115,10 @@ fn publish_next<C: Crew, R: Wait>(
     prefix: &RecordPrefix,
     renews: bool,
 ) -> bool
-    requires none { drop writer.old.behind writer.old.log.items ≡ [] }
+    requires none { waiting_updates writer.old ≡ [] }
     requires version { IsVersion C.history writer.old.desk.shown.value }
-    requires goes_on { FollowsVersion C.history writer.old.desk.shown.value
-        (version_data index.now prefix.now) }
-    ensures { Follows result (version_data index.now prefix.now) writer.old.desk.shown.value
-        writer.new.desk.shown.value (drop writer.new.behind writer.new.log.items) }
+    requires goes_on { PagesFollow C.history writer.old.desk.shown.value index.now prefix.now }
+    ensures { WriterFollows result (version_data index.now prefix.now) writer.old writer.new }
 {
     let Ok(update) = update_to(writer, alloc, index, prefix, renews) else {
         return false;

@@ -1,10 +1,8 @@
 //! `Update` and `Change`: what makes the next version of a published one.
 
-ghost use Rattle.std.specs.Prelude.{◌≡◌, List, ◌++◌, ◌∷◌, [], MatchResult, IfOk};
-ghost use Rattle.std.specs.Arc.{arc_value};
+ghost use Rattle.std.specs.Prelude.{◌≡◌, IfOk};
 ghost use mathlib.Core.List.{IsPrefix};
-ghost use Rattle.gopher_page.specs.Page.{PageData};
-ghost use Rattle.gopher_crew.specs.Version.{pages_after};
+ghost use Rattle.gopher_crew.specs.Version.{pages_after, ReplacesAll, Applies, AddsPage};
 
 use crate::record_prefix::RecordPrefix;
 use gopher_index::Index;
@@ -38,9 +36,7 @@ pub struct Update {
 
 // Adds a page to an index. If a search shares the index, a copy with the page takes its place.
 fn add(alloc: Global, index: &mut Arc<Index>, page: Arc<Page>) -> Result<(), NoMemory>
-    ensures { MatchResult result
-        (λ _. arc_value index.new ≡ arc_value index.old ++ arc_value page ∷ [])
-        (λ _. arc_value index.new ≡ arc_value index.old) }
+    ensures { AddsPage page index.old index.new result }
 {
     if index.len() >= MAX_PAGES {
         return Err(NoMemory);
@@ -57,8 +53,7 @@ fn add(alloc: Global, index: &mut Arc<Index>, page: Arc<Page>) -> Result<(), NoM
 impl Change {
     /// The change of any pages to those of an index.
     pub fn all(alloc: Global, index: &Index) -> Result<Change, NoMemory>
-        ensures { IfOk result (λ change.
-            (pages : List PageData) → pages_after change pages ≡ index.now) }
+        ensures { IfOk result (λ change. ReplacesAll change index.now) }
     {
         Ok(Change::All(Arc::new(alloc, index.share(alloc)?)?))
     }
@@ -83,9 +78,7 @@ impl Change {
     /// `NoMemory` (90): out of memory, or the index would have more than 65,536 pages. The pages
     /// are then as before.
     pub fn apply(&self, alloc: Global, index: &mut Arc<Index>) -> Result<(), NoMemory>
-        ensures { MatchResult result
-            (λ _. arc_value index.new ≡ pages_after self.now (arc_value index.old))
-            (λ _. arc_value index.new ≡ arc_value index.old) }
+        ensures { Applies self.now index.old index.new result }
     {
         match self {
             Change::Nothing => Ok(()),

@@ -1,7 +1,7 @@
 //! `work`: one worker, which claims places, fetches them and hands in their pages.
 
 ghost use Rattle.std.specs.Prelude.{◌≡◌, ◌+◌, ◌*◌, ◌≤◌, true, false, vec_len, IfOk};
-ghost use Rattle.gopher_crew.specs.Work.{one_more_call, found_rise, failed_rise, outcome_rise, IsPaid, IsStop, EndsClaim, Works, WorksOnce};
+ghost use Rattle.gopher_crew.specs.Work.{one_more_call, found_rise, failed_rise, outcome_rise, IsPaid, IsStop, EndsClaim, WorksOnce, WorksOn, RisesByOutcomes};
 
 use crate::crew::Crew;
 use crate::desk::Desk;
@@ -176,10 +176,8 @@ fn work_once<C: Crew, R: Wait + Drop, W: Wait, F: Fetch<W> + Drop>(
     scope: &Scope,
     worker: &mut WorkEnd<F, C>,
 ) -> Option<Stop>
-    ensures calls { WorksOnce result worker.old.share (F.called worker.old.fetcher)
-        worker.new.share (F.called worker.new.fetcher) }
-    ensures outcomes { worker.old.share.events + 2 * (worker.new.found + worker.new.failed)
-        ≤ worker.new.share.events + 2 * (worker.old.found + worker.old.failed) }
+    ensures calls { WorksOnce F.called worker.old worker.new result }
+    ensures outcomes { RisesByOutcomes worker.old worker.new }
     ensures parts { worker.new.share.parts ≡ worker.old.share.parts }
 {
     match desk.next(rt, alloc, &mut worker.share) {
@@ -201,8 +199,7 @@ pub(crate) fn run<C: Crew, R: Wait + Drop, W: Wait, F: Fetch<W> + Drop>(
     desk: &Desk<C, R>,
     worker: &mut WorkEnd<F, C>,
 )
-    ensures { Works worker.old.share (F.called worker.old.fetcher) worker.new.share
-        (F.called worker.new.fetcher) (worker.new.found + worker.new.failed) worker.new.stop }
+    ensures { WorksOn F.called worker.old worker.new }
 {
     worker.found = 0;
     worker.failed = 0;

@@ -4,29 +4,33 @@ use Rattle.std.specs.Prelude.{OnOk, codes}
 use Rattle.std.specs.Io.KnownBytes.{Appends, Keeps}
 use Rattle.std.proofs.KnownBytes.{Appends-trans, Appends-kept}
 use Rattle.gopher_item.specs.Place.{HomeData}
+use Rattle.gopher_text.specs.Watched.{WatchedData}
 use Rattle.gopher_catalogue.specs.Step.{Status}
 use Rattle.gopher_script.specs.Answer.{status_line}
 use Rattle.gopher_hole.specs.Ending.{FoundSound, HasServed, HasWritten, listening_line}
+use Rattle.gopher_hole.specs.Sending.{HasSent}
 
 -- bytes were sent, and then the writer was flushed
 pub sends_kept : (old mid new : Option (List ℕ)) (bytes : List ℕ) → Appends old mid bytes → Keeps mid new → Appends old new bytes
 sends_kept old mid new bytes sent kept = Appends-kept old mid new bytes sent kept
 
 -- a server wrote its two lines
-pub serves : (home : HomeData) (status : Status) (old mid new : Option (List ℕ))
-    → Appends old mid (listening_line home) → Appends mid new (status_line status) → HasServed old new
+pub serves : {D : Type 0} (contents : D → Option (List ℕ)) (home : HomeData) (status : Status) (old mid new : WatchedData D)
+    → HasSent contents old mid (listening_line home) → HasSent contents mid new (status_line status) → HasServed contents old new
 unfolding HasServed
-serves home status old mid new listens ends = (home, status, Appends-trans old mid new _ _ listens ends)
+serves contents home status old mid new listens ends =
+    (home, status, Appends-trans (contents old.device) (contents mid.device) (contents new.device) _ _ listens ends)
 
 -- so bytes were written
-pub writes_some : (old new : Option (List ℕ)) (bytes : List ℕ) → Appends old new bytes → HasWritten old new
+pub writes_some : {D : Type 0} (contents : D → Option (List ℕ)) (old new : WatchedData D) (bytes : List ℕ) → HasSent contents old new bytes → HasWritten contents old new
 unfolding HasWritten
-writes_some old new bytes sent = (bytes, sent)
+writes_some contents old new bytes sent = (bytes, sent)
 
 -- the report on a sound site was written in three parts, unless the last one failed
-pub finds_sound : {T E : Type 0} (end : Result T E) (old mid then new : Option (List ℕ)) (words : List ℕ)
-    → Appends old mid words → HasWritten mid then → OnOk end (Appends then new (codes "sound\n")) → OnOk end (FoundSound old new)
+pub finds_sound : {D T E : Type 0} (contents : D → Option (List ℕ)) (end : Result T E) (old mid then new : WatchedData D) (words : List ℕ)
+    → HasSent contents old mid words → HasWritten contents mid then → OnOk end (HasSent contents then new (codes "sound\n")) → OnOk end (FoundSound contents old new)
 unfolding HasWritten FoundSound
-finds_sound (Ok value) old mid then new words first (lines, second) last =
-    (words ++ lines, Appends-trans old then new _ _ (Appends-trans old mid then words lines first second) last)
-finds_sound (Err why) old mid then new words first second last = tt
+finds_sound contents (Ok value) old mid then new words first (lines, second) last =
+    let held : WatchedData _ → Option (List ℕ) = λ writer. contents writer.device in
+    (words ++ lines, Appends-trans (held old) (held then) (held new) _ _ (Appends-trans (held old) (held mid) (held then) words lines first second) last)
+finds_sound contents (Err why) old mid then new words first second last = tt

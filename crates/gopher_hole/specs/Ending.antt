@@ -1,15 +1,16 @@
 -- How a server ends, by the ends of its threads and of its crawl, and what it and a check have
 -- written then.
-use Rattle.std.specs.Prelude.{◌≡◌, ℕ, Bool, true, false, List, [], ◌∷◌, ◌++◌, length, vec_len, codes, Option, None, Some, if◌then◌else◌}
+use Rattle.std.specs.Prelude.{◌≡◌, ℕ, Bool, true, false, List, [], ◌∷◌, ◌++◌, length, vec_len, codes, Option, None, Some, Result, is_ok, if◌then◌else◌}
 use Rattle.std.specs.Fmt.{decimal}
-use Rattle.std.specs.Io.KnownBytes.{Appends}
 use Rattle.std.specs.PromisedHandle.{KeepsEach}
 use Rattle.std.specs.declared.thread.Promise as Promise
 use Rattle.gopher_item.specs.Place.{HomeData}
+use Rattle.gopher_text.specs.Watched.{WatchedData}
 use Rattle.gopher_catalogue.specs.Step.{Status}
 use Rattle.gopher_script.specs.Answer.{status_line}
 use Rattle.gopher_server.specs.declared.thread_end.ThreadEnd.{ThreadEnd}
 use Rattle.gopher_server.specs.declared.thread_end.ThreadEnd.TheVariants as thread
+use Rattle.gopher_hole.specs.Sending.{HasSent}
 use Rattle.gopher_hole.specs.declared.starting.Started.{Started}
 use Rattle.gopher_hole.specs.declared.starting.ThreadsEnd.{ThreadsEnd}
 use Rattle.gopher_hole.specs.declared.fault.ProgramFault.{ProgramFault}
@@ -43,19 +44,31 @@ fault_at_end end was_crawled =
     else (if end.is_short then Some NoThread
     else (if was_crawled then None else Some NoMemory))
 
+-- a server has this fault, or none, after its threads and its crawl have ended
+abbrev pub ServerEnds : {P T E : Type 0} → Promise.Ghosts P ThreadEnd → Started P → Result T E
+    → Option ProgramFault → Type 0
+ServerEnds promise started crawled fault =
+    (end : ThreadsEnd) × EndAs promise started end × (fault_at_end end (is_ok crawled) ≡ fault)
+
 -- the line that says where a server listens
 abbrev pub listening_line : HomeData → List ℕ
-listening_line home = codes "listening " ++ home.host ++ codes " " ++ decimal home.port ++ codes "\n"
+listening_line home =
+    codes "listening " ++ home.host ++ codes " " ++ decimal home.port ++ codes "\n"
 
--- a server that ended without a fault wrote where it listened, and then the sizes of its crawl: the
--- contents of its output are given before and after
-unfoldable pub HasServed : Option (List ℕ) → Option (List ℕ) → Type 0
-HasServed old new = (home : HomeData) × (status : Status) × Appends old new (listening_line home ++ status_line status)
+-- a server that ended without a fault wrote where it listened, and then the sizes of its crawl
+unfoldable pub HasServed : {D : Type 0} → (D → Option (List ℕ)) → WatchedData D → WatchedData D
+    → Type 0
+HasServed contents old new =
+    (home : HomeData) × (status : Status)
+    × HasSent contents old new (listening_line home ++ status_line status)
 
 -- bytes were written
-unfoldable pub HasWritten : Option (List ℕ) → Option (List ℕ) → Type 0
-HasWritten old new = (bytes : List ℕ) × Appends old new bytes
+unfoldable pub HasWritten : {D : Type 0} → (D → Option (List ℕ)) → WatchedData D → WatchedData D
+    → Type 0
+HasWritten contents old new = (bytes : List ℕ) × HasSent contents old new bytes
 
 -- a report was written that ends with the line `sound`
-unfoldable pub FoundSound : Option (List ℕ) → Option (List ℕ) → Type 0
-FoundSound old new = (report : List ℕ) × Appends old new (report ++ codes "sound\n")
+unfoldable pub FoundSound : {D : Type 0} → (D → Option (List ℕ)) → WatchedData D → WatchedData D
+    → Type 0
+FoundSound contents old new =
+    (report : List ℕ) × HasSent contents old new (report ++ codes "sound\n")

@@ -68,11 +68,15 @@ detail_of why = detail.Nothing
 abbrev pub number_bytes : List ℕ → ℕ → List ℕ
 number_bytes front number = front ++ decimal number
 
+-- the number of a file, and that of a line of it
+abbrev pub file_line_bytes : ℕ → ℕ → List ℕ
+file_line_bytes file line = number_bytes (codes " file ") file ++ number_bytes (codes " line ") line
+
 abbrev pub detail_bytes : Detail → List ℕ
 detail_bytes detail.Nothing = []
 detail_bytes (detail.Key key) = codes " " ++ key_name key
 detail_bytes (detail.File file) = number_bytes (codes " file ") file
-detail_bytes (detail.FileLine file line) = number_bytes (codes " file ") file ++ number_bytes (codes " line ") line
+detail_bytes (detail.FileLine file line) = file_line_bytes file line
 detail_bytes (detail.Seed seed) = number_bytes (codes " seed ") seed
 detail_bytes (detail.Line line) = number_bytes (codes " line ") line
 

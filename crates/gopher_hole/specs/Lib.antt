@@ -1,3 +1,4 @@
 pub mod Ending
 pub mod Fault
 pub mod Program
+pub mod Sending

@@ -1,11 +1,11 @@
 -- The program: its arguments, its exit status and its error stream.
 use Rattle.std.specs.Prelude.{◌≡◌, ℕ, ◌⊎◌, Bool, true, false, List, [], ◌∷◌, codes, nat_eq, Option, Result, Ok, Err}
 use Rattle.std.specs.Cmp.Lexicographic.{pointwise}
-use Rattle.std.specs.Io.KnownBytes.{Appends}
-use Rattle.gopher_text.specs.Watched.{HasFailed}
-use Rattle.gopher_script.specs.Replay.{AppendsPart}
+use Rattle.gopher_text.specs.Watched.{WatchedData, HasFailed}
+use Rattle.gopher_script.specs.Replay.{AppendsPart, Replays}
 use Rattle.gopher_script.specs.declared.fault.ReplayFault.{ReplayFault}
 use Rattle.gopher_hole.specs.Fault.{fault_line}
+use Rattle.gopher_hole.specs.Sending.{HasSent}
 use Rattle.gopher_hole.specs.declared.fault.ProgramFault.{ProgramFault}
 use Rattle.gopher_hole.specs.declared.fault.ProgramFault.TheVariants.{Replay}
 
@@ -25,10 +25,24 @@ said_of (Ok end) = []
 said_of (Err why) = fault_line (Replay why)
 
 -- all of these bytes were written to the error stream or, if a write failed, a prefix of them: the
--- stream's contents before and after, and its count of failures before and after
-abbrev pub SaysOnError : List ℕ → Option (List ℕ) → Option (List ℕ) → ℕ → ℕ → Type 0
-SaysOnError bytes old new before after = Appends old new bytes ⊎ (AppendsPart old new bytes × HasFailed before after)
+-- contents of a stream, and the error stream before and after
+abbrev pub SaysOnError : {E : Type 0} → (E → Option (List ℕ)) → WatchedData E → WatchedData E
+    → List ℕ → Type 0
+SaysOnError contents old new bytes =
+    HasSent contents old new bytes
+    ⊎ (AppendsPart (contents old.device) (contents new.device) bytes
+    × HasFailed old.failures new.failures)
 
 -- the line of some fault was written
-abbrev pub SaysFault : Option (List ℕ) → Option (List ℕ) → ℕ → ℕ → Type 0
-SaysFault old new before after = (why : ProgramFault) × SaysOnError (fault_line why) old new before after
+abbrev pub SaysFault : {E : Type 0} → (E → Option (List ℕ)) → WatchedData E → WatchedData E → Type 0
+SaysFault contents old new = (why : ProgramFault) × SaysOnError contents old new (fault_line why)
+
+-- a replay, with its exit status and what it says on the error stream
+abbrev pub ReplaysAndExits : {R W E : Type 0} → (R → Option (List ℕ)) → (W → Option (List ℕ))
+    → (E → Option (List ℕ)) → WatchedData R → WatchedData R → WatchedData W → WatchedData W
+    → WatchedData E → WatchedData E → ℕ → Type 0
+ReplaysAndExits remaining contents errors had left old new quiet told status =
+    (end : Result (Unit {0}) ReplayFault)
+    × Replays remaining contents had left old new end
+    × (status ≡ exit_status end)
+    × SaysOnError errors quiet told (said_of end)

@@ -92,8 +92,7 @@ pub fn tell_addresses<R: Net, W: Write>(
     listens: bool,
     output: &mut Watched<W>,
 ) -> Result<(), ProgramFault>
-    ensures { OnOk result (HasWritten (W.contents output.old.device)
-        (W.contents output.new.device)) }
+    ensures { OnOk result (HasWritten W.contents output.old output.new) }
 {
     let Ok(host) = str::from_utf8(home.host()) else {
         return Err(ProgramFault::ListenFailed);

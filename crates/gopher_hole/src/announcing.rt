@@ -3,12 +3,11 @@
 
 ghost use Rattle.std.specs.Prelude.{◌≡◌, ◌++◌, codes, IfOk, OnOk};
 ghost use Rattle.std.specs.Fmt.{decimal};
-ghost use Rattle.std.specs.Io.KnownBytes.{Appends};
 ghost use Rattle.gopher_script.specs.Answer.{status_line};
-ghost use Rattle.gopher_script.specs.Replay.{AnswerEnds};
 ghost use Rattle.gopher_scope.specs.Rows.{key_name};
 ghost use Rattle.gopher_hole.specs.Ending.{listening_line};
-ghost use Rattle.gopher_hole.specs.Fault.{number_bytes, detail_bytes, line_bytes, fault_line};
+ghost use Rattle.gopher_hole.specs.Fault.{number_bytes, file_line_bytes, detail_bytes, line_bytes, fault_line};
+ghost use Rattle.gopher_hole.specs.Sending.{HasSent, SendEnds};
 
 use crate::fault::{Detail, ProgramFault};
 use gopher_catalogue::Status;
@@ -27,8 +26,7 @@ use std::io::Write;
 /// `WriteFailed` (13): a write or the flush failed.
 #[tactic(auto, using(crate::proofs::Ends::sends_kept))]
 pub fn send_text<W: Write>(output: &mut Watched<W>, text: &[u8]) -> Result<(), ProgramFault>
-    ensures { OnOk result (Appends (W.contents output.old.device)
-        (W.contents output.new.device) text.now) }
+    ensures { OnOk result (HasSent W.contents output.old output.new text.now) }
 {
     let Ok(()) = send(output, text) else {
         return Err(ProgramFault::WriteFailed);
@@ -60,8 +58,7 @@ pub fn tell_listening<W: Write>(
     home: &Home,
     output: &mut Watched<W>,
 ) -> Result<(), ProgramFault>
-    ensures { OnOk result (Appends (W.contents output.old.device)
-        (W.contents output.new.device) (listening_line home.now)) }
+    ensures { OnOk result (HasSent W.contents output.old output.new (listening_line home.now)) }
 {
     let line = listening_line(alloc, home)?;
     send_text(output, &line)
@@ -77,8 +74,7 @@ pub fn tell_status<W: Write>(
     status: Status,
     output: &mut Watched<W>,
 ) -> Result<(), ProgramFault>
-    ensures { OnOk result (Appends (W.contents output.old.device)
-        (W.contents output.new.device) (status_line status)) }
+    ensures { OnOk result (HasSent W.contents output.old output.new (status_line status)) }
 {
     let line = status_line(alloc, status)?;
     send_text(output, &line)
@@ -86,9 +82,7 @@ pub fn tell_status<W: Write>(
 
 // Writes a number.
 fn send_number<E: Write>(error: &mut Watched<E>, number: usize) -> Result<(), ReplayFault>
-    ensures { AnswerEnds (decimal number)
-        (E.contents error.old.device) (E.contents error.new.device)
-        error.old.failures error.new.failures result }
+    ensures { SendEnds E.contents error.old error.new (decimal number) result }
 {
     let mut digits = Buffer::new();
     send_all(error, digits.format(number).as_bytes())
@@ -96,9 +90,7 @@ fn send_number<E: Write>(error: &mut Watched<E>, number: usize) -> Result<(), Re
 
 // Writes the name of a key.
 fn send_name<E: Write>(error: &mut Watched<E>, key: Key) -> Result<(), ReplayFault>
-    ensures { AnswerEnds (key_name key)
-        (E.contents error.old.device) (E.contents error.new.device)
-        error.old.failures error.new.failures result }
+    ensures { SendEnds E.contents error.old error.new (key_name key) result }
 {
     send_all(error, key.name().as_bytes())
 }
@@ -109,9 +101,7 @@ fn write_number<E: Write>(
     front: &[u8],
     number: usize,
 ) -> Result<(), ReplayFault>
-    ensures { AnswerEnds (number_bytes front.now number)
-        (E.contents error.old.device) (E.contents error.new.device)
-        error.old.failures error.new.failures result }
+    ensures { SendEnds E.contents error.old error.new (number_bytes front.now number) result }
 {
     if let Err(fault) = send_all(error, front) {
         return Err(fault);
@@ -121,9 +111,7 @@ fn write_number<E: Write>(
 
 // Writes a key of the settings.
 fn write_key<E: Write>(error: &mut Watched<E>, key: Key) -> Result<(), ReplayFault>
-    ensures { AnswerEnds (codes " " ++ key_name key)
-        (E.contents error.old.device) (E.contents error.new.device)
-        error.old.failures error.new.failures result }
+    ensures { SendEnds E.contents error.old error.new (codes " " ++ key_name key) result }
 {
     if let Err(fault) = send_all(error, b" ") {
         return Err(fault);
@@ -137,9 +125,7 @@ fn write_file_line<E: Write>(
     file: usize,
     line: usize,
 ) -> Result<(), ReplayFault>
-    ensures { AnswerEnds (number_bytes (codes " file ") file ++ number_bytes (codes " line ") line)
-        (E.contents error.old.device) (E.contents error.new.device)
-        error.old.failures error.new.failures result }
+    ensures { SendEnds E.contents error.old error.new (file_line_bytes file line) result }
 {
     if let Err(fault) = write_number(error, b" file ", file) {
         return Err(fault);
@@ -149,9 +135,7 @@ fn write_file_line<E: Write>(
 
 // Writes what the line of a fault says after its number.
 fn write_detail<E: Write>(error: &mut Watched<E>, detail: Detail) -> Result<(), ReplayFault>
-    ensures { AnswerEnds (detail_bytes detail)
-        (E.contents error.old.device) (E.contents error.new.device)
-        error.old.failures error.new.failures result }
+    ensures { SendEnds E.contents error.old error.new (detail_bytes detail) result }
 {
     match detail {
         Detail::Nothing => send_all(error, b""),
@@ -165,9 +149,7 @@ fn write_detail<E: Write>(error: &mut Watched<E>, detail: Detail) -> Result<(), 
 
 // Writes the rest of a fault's line after its number.
 fn write_rest<E: Write>(error: &mut Watched<E>, detail: Detail) -> Result<(), ReplayFault>
-    ensures { AnswerEnds (detail_bytes detail ++ codes "\n")
-        (E.contents error.old.device) (E.contents error.new.device)
-        error.old.failures error.new.failures result }
+    ensures { SendEnds E.contents error.old error.new (detail_bytes detail ++ codes "\n") result }
 {
     if let Err(fault) = write_detail(error, detail) {
         return Err(fault);
@@ -181,9 +163,7 @@ fn write_line<E: Write>(
     code: usize,
     detail: Detail,
 ) -> Result<(), ReplayFault>
-    ensures { AnswerEnds (line_bytes code detail)
-        (E.contents error.old.device) (E.contents error.new.device)
-        error.old.failures error.new.failures result }
+    ensures { SendEnds E.contents error.old error.new (line_bytes code detail) result }
 {
     if let Err(fault) = write_number(error, b"hole: ", code) {
         return Err(fault);
@@ -197,9 +177,7 @@ fn write_line<E: Write>(
 ///
 /// `WriteFailed` (13): a prefix of the line was written.
 pub fn write_fault<E: Write>(error: &mut Watched<E>, fault: ProgramFault) -> Result<(), ReplayFault>
-    ensures { AnswerEnds (fault_line fault)
-        (E.contents error.old.device) (E.contents error.new.device)
-        error.old.failures error.new.failures result }
+    ensures { SendEnds E.contents error.old error.new (fault_line fault) result }
 {
     write_line(error, usize::from(fault.code()), fault.detail())
 }

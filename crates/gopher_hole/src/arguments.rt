@@ -110,34 +110,49 @@ fn check_command<'a>(alloc: Global) -> Result<Command<'a>, AllocError> {
         .arg(listens)
 }
 
-fn serve_command<'a>(alloc: Global) -> Result<Command<'a>, AllocError> {
-    let requests = Arg::new(alloc, "requests")
+fn requests_argument<'a>(alloc: Global) -> Arg<'a> {
+    Arg::new(alloc, "requests")
         .long("requests")
         .value_name("N")
         .action(ArgAction::Set)
         .value_parser(value_parser!(u64).range(0..=MAX_REQUESTS as i64))
-        .help("Exit after N connections and the end of the crawl; N is at most 1000000");
+        .help("Exit after N connections and the end of the crawl; N is at most 1000000")
+}
+
+// `serve` with its first arguments.
+fn serving_command<'a>(alloc: Global) -> Result<Command<'a>, AllocError> {
     Command::new(alloc, "serve")
         .about("Serve a folder, crawl the allowed hosts and answer searches")
         .arg(settings_argument(alloc))?
         .arg(address_argument(alloc))?
-        .arg(requests)?
+        .arg(requests_argument(alloc))
+}
+
+fn serve_command<'a>(alloc: Global) -> Result<Command<'a>, AllocError> {
+    serving_command(alloc)?
         .arg(log_argument(alloc))?
         .arg(progress_argument(alloc))?
         .arg(memory_argument(alloc))
 }
 
-fn program_command<'a>(alloc: Global) -> Result<Command<'a>, AllocError> {
-    let replay = Command::new(alloc, "replay").about(
-        "Read a script from standard input and replay its crawl",
-    );
-    Command::new(alloc, "hole")
+fn replay_command<'a>(alloc: Global) -> Command<'a> {
+    Command::new(alloc, "replay").about("Read a script from standard input and replay its crawl")
+}
+
+// The program without its subcommands.
+fn bare_command<'a>(alloc: Global) -> Result<Command<'a>, AllocError> {
+    let command = Command::new(alloc, "hole")
         .about("A Gopher server with a crawler and a search")
         .version(VERSION)
         .bin_name("hole")?
         .no_binary_name(true)
-        .subcommand_required(true)
-        .subcommand(replay)?
+        .subcommand_required(true);
+    Ok(command)
+}
+
+fn program_command<'a>(alloc: Global) -> Result<Command<'a>, AllocError> {
+    bare_command(alloc)?
+        .subcommand(replay_command(alloc))?
         .subcommand(check_command(alloc)?)?
         .subcommand(serve_command(alloc)?)
 }

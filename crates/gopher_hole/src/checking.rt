@@ -64,8 +64,7 @@ pub fn check_site<R: Files + Net, W: Write>(
     checking: Checking<'_>,
     output: &mut Watched<W>,
 ) -> Result<(), ProgramFault>
-    ensures { OnOk result (FoundSound (W.contents output.old.device)
-        (W.contents output.new.device)) }
+    ensures { OnOk result (FoundSound W.contents output.old output.new) }
 {
     let report = file_report(rt, alloc, checking.settings)?;
     if let Some(fault) = report.fault {

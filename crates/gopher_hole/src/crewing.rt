@@ -1,8 +1,8 @@
 //! A server with its crew, from its settings to its end.
 
-ghost use Rattle.std.specs.Prelude.{◌≡◌, [], None, Some, Ok, IfErr, IfOk, OnOk, is_ok};
-ghost use Rattle.gopher_hole.specs.Ending.{EndAs, HasServed, fault_at_end};
-ghost use Rattle.gopher_hole.specs.declared.starting.ThreadsEnd.{ThreadsEnd};
+ghost use Rattle.std.specs.Prelude.{◌≡◌, [], None, Some, Ok, IfErr, IfOk, OnOk};
+ghost use Rattle.gopher_hole.specs.Ending.{HasServed, ServerEnds, fault_at_end, listening_line};
+ghost use Rattle.gopher_hole.specs.Sending.{HasSent};
 
 use crate::announcing::{tell_listening, tell_status};
 use crate::arguments::Serving;
@@ -14,6 +14,7 @@ use crate::progress::{crawl_and_tell, tell_limit};
 use crate::starting::{AnyEnd, Started, ThreadsEnd, join_all, start_threads};
 use gopher_catalogue::Status;
 use gopher_crew::{Blank, Crew, Desk, Pass, Share, WorkEnd, crawl};
+use gopher_item::Home;
 use gopher_log_writer::{Log, LogQueue, OpenLog, start_log};
 use gopher_replies::Replies;
 use gopher_server::{ThreadEnd, set_up};
@@ -66,10 +67,8 @@ fn wait_for_all<P: Promise<ThreadEnd>, T: Drop, E: Drop, R: Threads>(
     started: Started<P>,
     crawled: Result<T, E>,
 ) -> Result<T, ProgramFault>
-    ensures fault { IfErr result (λ fault. (end : ThreadsEnd) × EndAs P.Promise started end
-        × (fault_at_end end (is_ok crawled) ≡ Some fault)) }
-    ensures none { OnOk result ((end : ThreadsEnd) × EndAs P.Promise started end
-        × (fault_at_end end (is_ok crawled) ≡ None)) }
+    ensures fault { IfErr result (λ fault. ServerEnds P.Promise started crawled (Some fault)) }
+    ensures none { OnOk result (ServerEnds P.Promise started crawled None) }
     ensures kept { IfOk result (λ ends. crawled ≡ Ok ends) }
 {
     let end = join_all(rt, started);
@@ -151,19 +150,27 @@ fn serve_and_crawl<
     wait_for_all(rt, started, crawled)
 }
 
-// Closes the desk. Returns the number of places in each state.
-fn close<C: Crew, R: Wait + Drop>(
+// The shares of workers that have ended.
+fn shares_of<C: Crew>(
     alloc: Global,
-    desk: Desk<C, R>,
     ends: Vec<WorkEnd<TcpFetch, C>>,
-) -> Result<Status, ProgramFault> {
+) -> Result<Vec<Share<C>>, ProgramFault> {
     let mut shares = Vec::new(alloc);
     for end in ends {
         if shares.push(end.share).is_err() {
             return Err(ProgramFault::NoMemory);
         }
     }
-    match desk.close(shares) {
+    Ok(shares)
+}
+
+// Closes the desk. Returns the number of places in each state.
+fn close<C: Crew, R: Wait + Drop>(
+    alloc: Global,
+    desk: Desk<C, R>,
+    ends: Vec<WorkEnd<TcpFetch, C>>,
+) -> Result<Status, ProgramFault> {
+    match desk.close(shares_of(alloc, ends)?) {
         Ok(catalogue) => Ok(catalogue.status()),
         Err(_refused) => Err(ProgramFault::StrangeShare),
     }
@@ -191,6 +198,64 @@ fn end_log<R: Threads + Wait>(rt: &R, alloc: Global, log: Option<Log>) {
     if let Some(log) = log {
         log.end(rt, alloc);
     }
+}
+
+// Listens at the addresses of a server, and says so.
+fn open_listeners<R: Net + Env + Eprint + AllocGlobal, W: Write>(
+    rt: &R,
+    alloc: Global,
+    home: &Home,
+    serving: &Serving<'_>,
+    output: &mut Watched<W>,
+) -> Result<Vec<TcpListener>, ProgramFault>
+    ensures { OnOk result (HasSent W.contents output.old output.new (listening_line home.now)) }
+{
+    let listeners = listen(rt, alloc, home, &serving.addresses)?;
+    tell_listening(alloc, home, output)?;
+    Ok(listeners)
+}
+
+// Listens, serves, and crawls at the desk. Returns the workers' ends once all have ended.
+fn listen_and_serve<
+    C: Crew + Send + Sync + 'static,
+    R: OpenLog
+        + Net<Listener = NetListener, Stream = TcpStream>
+        + Threads
+        + Wait
+        + Clock
+        + Env
+        + Eprint
+        + AllocGlobal
+        + Clone
+        + Send
+        + Sync
+        + Drop
+        + 'static,
+    W: Write,
+>(
+    rt: &R,
+    serving: &Serving<'_>,
+    desk: &Desk<C, &R>,
+    replies: Replies,
+    passes: Vec<Pass<C>>,
+    shares: Vec<Share<C>>,
+    output: &mut Watched<W>,
+) -> Result<Vec<WorkEnd<TcpFetch, C>>, ProgramFault>
+    ensures { OnOk result (HasSent W.contents output.old output.new (listening_line replies.home)) }
+{
+    let alloc = rt.alloc();
+    let pairs = pairs_of(alloc, shares)?;
+    let listeners = open_listeners(rt, alloc, replies.home(), serving, output)?;
+    let log = start_log_at(rt, alloc, serving.log);
+    let service = Service {
+        listeners,
+        replies,
+        requests: serving.requests,
+        log: queue_of(&log),
+    };
+    let ended = serve_and_crawl(rt, alloc, service, desk, passes, pairs, serving.progress);
+    end_log(rt, alloc, log);
+    ended
 }
 
 /// Serves and crawls as the settings say. Writes the line `listening HOST PORT` once it listens,
@@ -230,8 +295,7 @@ pub fn serve<
     requires parts { blank.parts ≡ C.parts }
     requires history { blank.history ≡ C.history }
     requires begun { blank.begun ≡ [] }
-    ensures { OnOk result (HasServed (W.contents output.old.device)
-        (W.contents output.new.device)) }
+    ensures { OnOk result (HasServed W.contents output.old output.new) }
 {
     let alloc = rt.alloc();
     let settings = read_settings(rt, alloc, serving.settings)?;
@@ -244,18 +308,7 @@ pub fn serve<
     if let Some(bytes) = serving.crawl_memory {
         desk.limit_memory(bytes);
     }
-    let pairs = pairs_of(alloc, shares)?;
-    let listeners = listen(rt, alloc, replies.home(), &serving.addresses)?;
-    tell_listening(alloc, replies.home(), output)?;
-    let log = start_log_at(rt, alloc, serving.log);
-    let service = Service {
-        listeners,
-        replies,
-        requests: serving.requests,
-        log: queue_of(&log),
-    };
-    let ended = serve_and_crawl(rt, alloc, service, &desk, passes, pairs, serving.progress);
-    end_log(rt, alloc, log);
-    let status = close(alloc, desk, ended?)?;
+    let ends = listen_and_serve(rt, serving, &desk, replies, passes, shares, output)?;
+    let status = close(alloc, desk, ends)?;
     tell_status(alloc, status, output)
 }

@@ -18,6 +18,20 @@ use std::sync::Wait;
 // The most bytes of a settings file.
 const MAX_SETTINGS: usize = 1_048_576;
 
+// What settings say of a crawl and its desk.
+#[derive(Drop)]
+struct CrawlSettings {
+    scope: Scope,
+    seeds: Vec<Place>,
+    places: u32,
+    tries: u32,
+    threads: u32,
+    workers: u32,
+}
+
+// A desk, with a pass for each server thread and a share for each worker.
+type DeskParts<C, R> = (Desk<C, R>, Vec<Pass<C>>, Vec<Share<C>>);
+
 /// A server with its desk, before it listens.
 #[derive(Drop)]
 pub struct Opened<C: Crew, R: Wait + Drop> {
@@ -106,6 +120,33 @@ fn open_catalogue(
     }
 }
 
+// Opens the catalogue of a crawl, and its desk.
+fn open_desk<'r, C: Crew, R: Wait>(
+    rt: &'r R,
+    alloc: Global,
+    crawl: CrawlSettings,
+    blank: Blank,
+) -> Result<DeskParts<C, &'r R>, ProgramFault>
+    requires name { blank.name ≡ C.name }
+    requires parts { blank.parts ≡ C.parts }
+    requires history { blank.history ≡ C.history }
+    requires begun { blank.begun ≡ [] }
+{
+    let CrawlSettings {
+        scope,
+        seeds,
+        places,
+        tries,
+        threads,
+        workers,
+    } = crawl;
+    let catalogue = open_catalogue(alloc, scope, seeds, places, tries)?;
+    match Desk::<C, &'r R>::open(rt, alloc, catalogue, threads, workers, blank) {
+        Ok(opened) => Ok(opened),
+        Err(refused) => Err(ProgramFault::Desk(refused.fault)),
+    }
+}
+
 /// Loads the folder and opens the desk of the crawl, with one pass for each server thread and one
 /// share for each worker.
 ///
@@ -138,15 +179,22 @@ pub fn open<'r, C: Crew, R: Files + Wait>(
         threads,
         tries,
     } = settings;
+    let crawl = CrawlSettings {
+        scope,
+        seeds,
+        places,
+        tries,
+        threads,
+        workers,
+    };
     let replies = open_replies(rt, alloc, root.as_str(), home)?;
-    let catalogue = open_catalogue(alloc, scope, seeds, places, tries)?;
-    match Desk::<C, &'r R>::open(rt, alloc, catalogue, threads, workers, blank) {
+    match open_desk(rt, alloc, crawl, blank) {
         Ok((desk, passes, shares)) => Ok(Opened {
             replies,
             desk,
             passes,
             shares,
         }),
-        Err(refused) => Err(ProgramFault::Desk(refused.fault)),
+        Err(fault) => Err(fault),
     }
 }

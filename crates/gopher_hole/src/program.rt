@@ -1,13 +1,12 @@
 //! `run`: the whole program, from its arguments to its exit status.
 
-ghost use Rattle.std.specs.Prelude.{◌≡◌, ◌≢◌, ◌≤◌, map, string_bytes, Result};
+ghost use Rattle.std.specs.Prelude.{◌≡◌, ◌≢◌, ◌≤◌, map, string_bytes};
 ghost use Rattle.std.specs.Bool.{OnTrue};
 ghost use Rattle.std.specs.Io.KnownBytes.{Keeps};
-ghost use Rattle.gopher_script.specs.declared.fault.ReplayFault.{ReplayFault};
-ghost use Rattle.gopher_script.specs.Replay.{Replays};
 ghost use Rattle.gopher_hole.specs.Ending.{FoundSound, HasServed};
 ghost use Rattle.gopher_hole.specs.Fault.{fault_line};
-ghost use Rattle.gopher_hole.specs.Program.{asks_replay, exit_status, said_of, SaysOnError, SaysFault};
+ghost use Rattle.gopher_script.specs.Replay.{Replays};
+ghost use Rattle.gopher_hole.specs.Program.{asks_replay, exit_status, ReplaysAndExits, SaysOnError, SaysFault};
 
 use crate::announcing::{send_text, write_fault};
 use crate::arguments::{Asked, Checking, Serving, Text, read_arguments};
@@ -43,10 +42,7 @@ fn replay_all<R: Read, W: Write>(
     input: &mut Watched<R>,
     output: &mut Watched<W>,
 ) -> Result<(), ReplayFault>
-    ensures { Replays (R.remaining input.old.device) (R.remaining input.new.device)
-        input.old.failures input.new.failures
-        (W.contents output.old.device) (W.contents output.new.device)
-        output.old.failures output.new.failures result }
+    ensures { Replays R.remaining W.contents input.old input.new output.old output.new result }
 {
     if let Err(fault) = replay(alloc, input, output) {
         let _ = output.flush();
@@ -65,17 +61,10 @@ fn run_replay<R: Read, W: Write, E: Write>(
     output: &mut Watched<W>,
     error: &mut Watched<E>,
 ) -> u8
-    ensures replays { (end : Result (Unit {0}) ReplayFault)
-        × Replays (R.remaining input.old.device) (R.remaining input.new.device)
-        input.old.failures input.new.failures
-        (W.contents output.old.device) (W.contents output.new.device)
-        output.old.failures output.new.failures end
-        × (result ≡ exit_status end)
-        × SaysOnError (said_of end) (E.contents error.old.device) (E.contents error.new.device)
-        error.old.failures error.new.failures }
+    ensures replays { ReplaysAndExits R.remaining W.contents E.contents
+        input.old input.new output.old output.new error.old error.new result }
     ensures well { result ≡ 0 → error.new ≡ error.old }
-    ensures told { result ≢ 0 → SaysFault (E.contents error.old.device)
-        (E.contents error.new.device) error.old.failures error.new.failures }
+    ensures told { result ≢ 0 → SaysFault E.contents error.old error.new }
     ensures status { result ≤ 1 }
 {
     match replay_all(alloc, input, output) {
@@ -87,8 +76,7 @@ fn run_replay<R: Read, W: Write, E: Write>(
 // Writes the line of a fault. Returns the exit status, 1.
 fn tell_fault<E: Write>(error: &mut Watched<E>, fault: ProgramFault) -> u8
     ensures status { result ≡ 1 }
-    ensures said { SaysOnError (fault_line fault) (E.contents error.old.device)
-        (E.contents error.new.device) error.old.failures error.new.failures }
+    ensures said { SaysOnError E.contents error.old error.new (fault_line fault) }
 {
     let _ = write_fault(error, fault);
     1
@@ -98,8 +86,7 @@ fn tell_fault<E: Write>(error: &mut Watched<E>, fault: ProgramFault) -> u8
 fn tell_end<E: Write>(error: &mut Watched<E>, end: Result<(), ProgramFault>) -> u8
     ensures exit { result ≡ exit_status end }
     ensures well { result ≡ 0 → error.new ≡ error.old }
-    ensures told { result ≢ 0 → SaysFault (E.contents error.old.device)
-        (E.contents error.new.device) error.old.failures error.new.failures }
+    ensures told { result ≢ 0 → SaysFault E.contents error.old error.new }
     ensures status { result ≤ 1 }
 {
     match end {
@@ -111,8 +98,7 @@ fn tell_end<E: Write>(error: &mut Watched<E>, end: Result<(), ProgramFault>) -> 
 // Writes a text to the stream where it belongs. Returns the exit status.
 fn tell_text<W: Write, E: Write>(text: &Text, output: &mut Watched<W>, error: &mut Watched<E>) -> u8
     ensures well { result ≡ 0 → error.new ≡ error.old }
-    ensures told { result ≡ 1 → SaysFault (E.contents error.old.device)
-        (E.contents error.new.device) error.old.failures error.new.failures }
+    ensures told { result ≡ 1 → SaysFault E.contents error.old error.new }
     ensures refused { result ≡ 2 → output.new ≡ output.old }
     ensures status { result ≤ 2 }
 {
@@ -147,11 +133,9 @@ fn run_serve<
     W: Write,
     E: Write,
 >(rt: &H, serving: &Serving<'_>, output: &mut Watched<W>, error: &mut Watched<E>) -> u8
-    ensures served { result ≡ 0 → HasServed (W.contents output.old.device)
-        (W.contents output.new.device) }
+    ensures served { result ≡ 0 → HasServed W.contents output.old output.new }
     ensures well { result ≡ 0 → error.new ≡ error.old }
-    ensures told { result ≢ 0 → SaysFault (E.contents error.old.device)
-        (E.contents error.new.device) error.old.failures error.new.failures }
+    ensures told { result ≢ 0 → SaysFault E.contents error.old error.new }
     ensures status { result ≤ 1 }
 {
     let end = serve::<Brand, H, W>(rt, serving, Blank::new(), output);
@@ -165,11 +149,9 @@ fn run_check<H: Files + Net + AllocGlobal, W: Write, E: Write>(
     output: &mut Watched<W>,
     error: &mut Watched<E>,
 ) -> u8
-    ensures sound { result ≡ 0 → FoundSound (W.contents output.old.device)
-        (W.contents output.new.device) }
+    ensures sound { result ≡ 0 → FoundSound W.contents output.old output.new }
     ensures well { result ≡ 0 → error.new ≡ error.old }
-    ensures told { result ≢ 0 → SaysFault (E.contents error.old.device)
-        (E.contents error.new.device) error.old.failures error.new.failures }
+    ensures told { result ≢ 0 → SaysFault E.contents error.old error.new }
     ensures status { result ≤ 1 }
 {
     let end = check_site(rt, rt.alloc(), checking, output);
@@ -222,17 +204,10 @@ pub fn run<
     error: &mut Watched<E>,
 ) -> u8
     ensures replays { OnTrue (asks_replay (map (λ word. string_bytes word) words.now))
-        ((end : Result (Unit {0}) ReplayFault)
-        × Replays (R.remaining input.old.device) (R.remaining input.new.device)
-        input.old.failures input.new.failures
-        (W.contents output.old.device) (W.contents output.new.device)
-        output.old.failures output.new.failures end
-        × (result ≡ exit_status end)
-        × SaysOnError (said_of end) (E.contents error.old.device) (E.contents error.new.device)
-        error.old.failures error.new.failures) }
+        (ReplaysAndExits R.remaining W.contents E.contents
+        input.old input.new output.old output.new error.old error.new result) }
     ensures well { result ≡ 0 → Keeps (E.contents error.old.device) (E.contents error.new.device) }
-    ensures told { result ≡ 1 → SaysFault (E.contents error.old.device)
-        (E.contents error.new.device) error.old.failures error.new.failures }
+    ensures told { result ≡ 1 → SaysFault E.contents error.old error.new }
     ensures refused { result ≡ 2 → (input.new ≡ input.old) × (output.new ≡ output.old) }
     ensures status { result ≤ 2 }
 {

@@ -1,5 +1,5 @@
 -- The best of the candidates of a search.
-use Rattle.std.specs.Prelude.{◌≡◌, ℕ, Bool, false, ◌||◌, ◌==◌, nat_le, max, List, [], ◌∷◌, ◌++◌, length, map, take, filter, slice_get}
+use Rattle.std.specs.Prelude.{◌≡◌, ℕ, ◌<◌, Bool, true, false, ◌||◌, ◌==◌, nat_le, max, List, [], ◌∷◌, ◌++◌, length, map, take, filter, slice_get, Result, OnOk}
 use Rattle.std.specs.Arc.{arc_value}
 use Rattle.std.specs.BTreeSet.{insert_key}
 use Rattle.std.specs.List.Sorted.{IsStrictlySortedBy}
@@ -36,19 +36,35 @@ rank_of candidate other = rank_cmp (ranked_hit candidate) (ranked_hit other)
 
 -- whether the candidate ranks after the one at an index; `otherwise` if there is none
 abbrev pub is_behind_at : Ranked → List Ranked → ℕ → Bool → Bool
-is_behind_at candidate best index otherwise = option_map_or (λ other. is_gt (rank_of candidate other)) (slice_get best index) otherwise
+is_behind_at candidate best index otherwise =
+    option_map_or (λ other. is_gt (rank_of candidate other)) (slice_get best index) otherwise
 
 -- whether the one at an index has the same rank as the candidate
 abbrev pub is_equal_at : Ranked → List Ranked → ℕ → Bool
-is_equal_at candidate best index = option_map_or (λ other. is_eq (rank_of candidate other)) (slice_get best index) false
+is_equal_at candidate best index =
+    option_map_or (λ other. is_eq (rank_of candidate other)) (slice_get best index) false
 
 -- the candidates are in the order of hits
 abbrev pub AreRanked : List Ranked → Type 0
 AreRanked best = IsStrictlySortedBy rank_cmp (map ranked_hit best)
 
+-- if the candidates are in order, the first `count` of them rank before this one
+abbrev pub RankBefore : Ranked → List Ranked → ℕ → Type 0
+RankBefore candidate best count =
+    AreRanked best → (k : ℕ) → k < count → is_behind_at candidate best k true ≡ true
+
 -- if the candidates were in order, this one was inserted at its rank
 abbrev pub Inserts : Ranked → List Ranked → List Ranked → Type 0
-Inserts candidate old new = AreRanked old → map ranked_hit new ≡ insert_key rank_cmp (map ranked_hit old) (ranked_hit candidate)
+Inserts candidate old new =
+    AreRanked old
+    → map ranked_hit new ≡ insert_key rank_cmp (map ranked_hit old) (ranked_hit candidate)
+
+-- if `old` has the first 50 of some hits, `new` has the first 50 of these hits and the candidate's,
+-- unless it fails
+abbrev pub InsertsAmong : {T E : Type 0} → Ranked → List Ranked → List Ranked → Result T E → Type 0
+InsertsAmong candidate old new result =
+    (hits : List Hit) → map ranked_hit old ≡ take 50 (ranked hits)
+    → OnOk result (map ranked_hit new ≡ take 50 (ranked (hits ++ ranked_hit candidate ∷ [])))
 
 abbrev pub reaches : ℕ → Hit → Bool
 reaches least hit = nat_le least hit.score
@@ -72,15 +88,26 @@ lowest_score best = max best.least (option_map_or (λ last. last.score) (slice_g
 
 -- whether a hit ranks after the 50th of the best
 abbrev pub is_beyond : Hit → BestData → Bool
-is_beyond hit best = option_map_or (λ last. is_gt (rank_cmp hit last)) (slice_get best.hits 49) false
+is_beyond hit best =
+    option_map_or (λ last. is_gt (rank_cmp hit last)) (slice_get best.hits 49) false
 
 -- if `old` has the best of some hits, `new` has the best of these hits and one more
 pub record TakesHit (hit : Hit) (old new : BestData) : Type 0 where
   pub least : new.least ≡ old.least
-  pub hits : (hits : List Hit) → old.hits ≡ take 50 (ranked (filter (reaches old.least) hits)) → new.hits ≡ take 50 (ranked (filter (reaches old.least) (hits ++ hit ∷ [])))
+  pub hits : (hits : List Hit) → old.hits ≡ take 50 (ranked (filter (reaches old.least) hits))
+      → new.hits ≡ take 50 (ranked (filter (reaches old.least) (hits ++ hit ∷ [])))
 
 -- if `old` has the answer over some pages, `new` has the answer over these pages followed by
 -- `pages`
-pub record TakesIn (terms : List TermData) (pages : List PageData) (old new : BestData) : Type 0 where
+pub record TakesIn (terms : List TermData) (pages : List PageData) (old new : BestData)
+    : Type 0 where
   pub least : new.least ≡ old.least
-  pub answers : (before : List PageData) → old.hits ≡ answer_from old.least before terms → new.hits ≡ answer_from new.least (before ++ pages) terms
+  pub answers : (before : List PageData) → old.hits ≡ answer_from old.least before terms
+      → new.hits ≡ answer_from new.least (before ++ pages) terms
+
+-- if `old` has the best of some hits, `new` has the best of these hits and one more, unless it
+-- fails
+abbrev pub AddsHit : {T E : Type 0} → Hit → BestData → BestData → Result T E → Type 0
+AddsHit hit old new result =
+    (hits : List Hit) → old.hits ≡ take 50 (ranked (filter (reaches old.least) hits))
+    → OnOk result (new.hits ≡ take 50 (ranked (filter (reaches old.least) (hits ++ hit ∷ []))))

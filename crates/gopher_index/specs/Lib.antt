@@ -3,10 +3,12 @@ pub mod Index
 pub mod Answer
 pub mod Best
 pub mod Cells
+pub mod ByCells
 pub mod ByPostings
 pub mod Plan
 pub mod Search
 pub mod Ties
 pub mod Begun
 pub mod Joined
+pub mod Loose
 pub mod Progress

@@ -29,7 +29,8 @@ verdict_by group count = if nat_lt 0 count then group.holds else group.fails
 -- the highest verdict of all groups; without a group, a page matches
 abbrev pub verdict : List Group → List (List ℕ × ℕ) → ℕ
 verdict [] counts = 1
-verdict (group ∷ groups) counts = max (verdict_by group (count_of_term counts group.term)) (verdict groups counts)
+verdict (group ∷ groups) counts =
+    max (verdict_by group (count_of_term counts group.term)) (verdict groups counts)
 
 -- the score of a page by groups: each group's count, once for each of its terms that counts
 abbrev pub total : List Group → List (List ℕ × ℕ) → ℕ
@@ -41,9 +42,14 @@ abbrev pub wanted_in : List Group → ℕ
 wanted_in [] = 0
 wanted_in (group ∷ groups) = group.wanted + wanted_in groups
 
+-- both terms are of the same word, or of the same prefix
+abbrev pub MatchAlike : TermData → TermData → Type 0
+MatchAlike a b = (a.word ≡ b.word) × (a.is_prefix ≡ b.is_prefix)
+
 -- the groups match and score each page as the terms do
 pub record AreTermGroups (terms : List TermData) (groups : List Group) : Type 0 where
-  pub matching : (counts : List (List ℕ × ℕ)) → matches terms counts ≡ is_match (verdict groups counts)
+  pub matching : (counts : List (List ℕ × ℕ))
+      → matches terms counts ≡ is_match (verdict groups counts)
   pub scoring : (counts : List (List ℕ × ℕ)) → score terms counts ≡ total groups counts
   pub highest : (counts : List (List ℕ × ℕ)) → verdict groups counts ≤ 2 * length terms + 1
   pub few : wanted_in groups ≤ length terms
@@ -78,11 +84,15 @@ pub record SayAlike (old new : List Group) : Type 0 where
 
 -- groups with one more term
 pub record AddsTerm (term : TermData) (number : ℕ) (old new : List Group) : Type 0 where
-  pub verdicts : (counts : List (List ℕ × ℕ)) → verdict new counts ≡ max (verdict old counts) (verdict_of term.operator number (nat_lt 0 (count_of_term counts term)))
-  pub totals : (counts : List (List ℕ × ℕ)) → total new counts ≡ total old counts + wanted_once term.operator * count_of_term counts term
+  pub verdicts : (counts : List (List ℕ × ℕ))
+      → verdict new counts ≡ max (verdict old counts)
+      (verdict_of term.operator number (nat_lt 0 (count_of_term counts term)))
+  pub totals : (counts : List (List ℕ × ℕ))
+      → total new counts ≡ total old counts + wanted_once term.operator * count_of_term counts term
   pub wanted : wanted_in new ≡ wanted_in old + wanted_once term.operator
 
 -- the verdicts and scores of the pages of a segment by groups
-pub record AreGroupCells (groups : List Group) (pages : List PageData) (verdicts scores : List ℕ) : Type 0 where
+pub record AreGroupCells (groups : List Group) (pages : List PageData) (verdicts scores : List ℕ)
+    : Type 0 where
   pub deciding : verdicts ≡ map (λ page. verdict groups page.counts) pages
   pub scoring : scores ≡ map (λ page. total groups page.counts) pages

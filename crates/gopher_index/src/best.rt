@@ -1,10 +1,8 @@
 //! The best of many hits, kept in rank order without sorting all of them.
 
-ghost use Rattle.std.specs.Prelude.{◌≡◌, ℕ, ◌<◌, ◌≤◌, true, false, List, [], ◌∷◌, ◌++◌, length, map, take, filter, IfOk, OnOk};
+ghost use Rattle.std.specs.Prelude.{◌≡◌, ◌≤◌, false, [], length, map, IfOk, OnOk};
 ghost use Rattle.std.specs.Arc.{arc_value};
-ghost use Rattle.gopher_index.specs.Answer.{ranked};
-ghost use Rattle.gopher_index.specs.declared.hit.Hit.{Hit};
-ghost use Rattle.gopher_index.specs.Best.{kept_hit, ranked_hit, hit_with, rank_of, is_behind_at, is_equal_at, is_beyond, AreRanked, Inserts, is_whole, lowest_score, reaches};
+ghost use Rattle.gopher_index.specs.Best.{kept_hit, ranked_hit, hit_with, rank_of, is_behind_at, is_equal_at, is_beyond, Inserts, is_whole, lowest_score, AddsHit, InsertsAmong, RankBefore};
 
 use crate::hit::Hit;
 use gopher_item::{ByteString, NoMemory};
@@ -50,8 +48,7 @@ fn is_behind(best: &[Ranked], index: usize, candidate: &Ranked) -> bool
 // Returns how many of the best rank before the candidate. `best` is in rank order.
 fn count_before(best: &[Ranked], candidate: &Ranked) -> usize
     ensures within { result ≤ length best.now }
-    ensures before { AreRanked best.now → (k : ℕ) → k < result
-        → is_behind_at candidate.now best.now k true ≡ true }
+    ensures before { RankBefore candidate.now best.now result }
     ensures here { is_behind_at candidate.now best.now result false ≡ false }
 {
     let mut low = 0;
@@ -93,9 +90,7 @@ fn put<'a>(best: &mut Vec<Ranked<'a>>, candidate: Ranked<'a>) -> Result<(), NoMe
 
 // Inserts a candidate into the first 50 of the hits so far and drops what is no longer among them.
 fn insert_candidate<'a>(best: &mut Vec<Ranked<'a>>, candidate: Ranked<'a>) -> Result<(), NoMemory>
-    ensures { (hits : List Hit) → map ranked_hit best.old.items ≡ take 50 (ranked hits)
-        → OnOk result (map ranked_hit best.new.items
-        ≡ take 50 (ranked (hits ++ ranked_hit candidate.entry ∷ []))) }
+    ensures { InsertsAmong candidate.entry best.old.items best.new.items result }
 {
     if is_behind(best, MOST_HITS - 1, &candidate) {
         return Ok(());
@@ -220,10 +215,7 @@ impl<'a> Best<'a> {
     /// Inserts a page with its score, unless the score is below the least.
     pub fn insert(&mut self, score: u64, page: &'a Arc<Page>) -> Result<(), NoMemory>
         ensures least { self.new.least ≡ self.old.least }
-        ensures hits { (hits : List Hit) → self.old.hits
-            ≡ take 50 (ranked (filter (reaches self.old.least) hits)) → OnOk result (self.new.hits
-            ≡ take 50 (ranked (filter (reaches self.old.least)
-            (hits ++ hit_with score (arc_value page.now) ∷ [])))) }
+        ensures hits { AddsHit (hit_with score (arc_value page.now)) self.old self.new result }
     {
         if score < self.least {
             return Ok(());

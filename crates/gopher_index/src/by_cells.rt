@@ -1,13 +1,11 @@
 //! Searching segments for several terms or a prefix: the pages of each segment are ranked by cells.
 
-ghost use Rattle.std.specs.Prelude.{None, ◌≡◌, ◌≤◌, false, List, length, map, nat_le, take, IfOk, OnOk};
-ghost use Rattle.std.specs.Arc.{arc_value};
+ghost use Rattle.std.specs.Prelude.{None, ◌≡◌, ◌≤◌, false, length, nat_le, IfOk, OnOk};
 ghost use Rattle.std.specs.List.{list_any};
-ghost use Rattle.gopher_page.specs.Query.{TermData};
-ghost use Rattle.gopher_index.specs.Best.{BestData, IsBestOf, TakesIn};
-ghost use Rattle.gopher_index.specs.Cells.{AreCells};
+ghost use Rattle.gopher_index.specs.Best.{IsBestOf, TakesIn};
 ghost use Rattle.gopher_index.specs.Ties.{AreTies};
-ghost use Rattle.gopher_segment.specs.Segment.{pages_of};
+ghost use Rattle.gopher_index.specs.ByCells.{TakesBlock, TakesCells};
+ghost use Rattle.gopher_index.specs.Index.{pages_in};
 
 use crate::best::Best;
 use crate::cells::Cells;
@@ -50,11 +48,7 @@ fn rank_block<'a>(
     requires within { end ≤ length ties.old.pages.now }
     ensures same { ties.new.pages ≡ ties.old.pages }
     ensures ties { OnOk result (AreTies ties.new best.new) }
-    ensures takes { (terms : List TermData) (old : BestData)
-        → AreCells terms (map arc_value ties.old.pages.now) truths.now scores.now
-        → TakesIn terms (take start (map arc_value ties.old.pages.now)) old best.old
-        → OnOk result
-        (TakesIn terms (take end (map arc_value ties.old.pages.now)) old best.new) }
+    ensures takes { TakesBlock ties.old truths.now scores.now start end best.old best.new result }
 {
     let mut lowest = best.lowest_score();
     for index in start..end {
@@ -77,8 +71,7 @@ pub(crate) fn rank_cells<'a>(
 ) -> Result<(), NoMemory>
     requires truths { length truths.now ≡ length segment.now.pages }
     requires scores { length scores.now ≡ length segment.now.pages }
-    ensures { (terms : List TermData) → AreCells terms segment.now.pages truths.now scores.now
-        → OnOk result (TakesIn terms segment.now.pages best.old best.new) }
+    ensures { TakesCells segment.now.pages truths.now scores.now best.old best.new result }
 {
     let mut ties = Ties::new(segment);
     let mut start = 0;
@@ -113,8 +106,7 @@ fn rank_segments<'a>(
     best: &mut Best<'a>,
 ) -> Result<(), NoMemory>
     requires { length terms.now ≤ MAX_LINE }
-    ensures { OnOk result
-        (TakesIn terms.now (pages_of (map arc_value segments.now)) best.old best.new) }
+    ensures { OnOk result (TakesIn terms.now (pages_in segments.now) best.old best.new) }
 {
     for segment in segments {
         rank_segment(segment, terms, cells, best)?;
@@ -153,8 +145,7 @@ pub(crate) fn best_of_terms<'a>(
     is_guessed: bool,
 ) -> Result<Best<'a>, NoMemory>
     requires { length terms.now ≤ MAX_LINE }
-    ensures best { IfOk result (λ best.
-        IsBestOf terms.now (pages_of (map arc_value segments.now)) best) }
+    ensures best { IfOk result (λ best. IsBestOf terms.now (pages_in segments.now) best) }
     ensures plain { is_guessed ≡ false → IfOk result (λ best. best.least ≡ 0) }
 {
     let Some((first, rest)) = segments.split_first() else {

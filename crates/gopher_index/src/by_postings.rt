@@ -1,15 +1,13 @@
 //! Searching segments for a single word, through its posting list in each.
 
-ghost use Rattle.std.specs.Prelude.{◌≡◌, ◌<◌, ◌≤◌, ◌∷◌, [], false, List, Some, length, map, min, nat_le, slice_get, IfOk, OnOk};
+ghost use Rattle.std.specs.Prelude.{◌≡◌, ◌<◌, ◌≤◌, ◌∷◌, [], false, length, map, nat_le, IfOk, OnOk};
 ghost use Rattle.std.specs.Arc.{arc_value};
 ghost use Rattle.std.specs.List.{list_any};
-ghost use Rattle.gopher_page.specs.Page.{PageData};
-ghost use Rattle.gopher_page.specs.Query.{count_of_term};
 ghost use Rattle.gopher_page.specs.declared.query.Operator.TheVariants.{And};
-ghost use Rattle.gopher_index.specs.Best.{BestData, IsBestOf, TakesIn};
-ghost use Rattle.gopher_index.specs.ByPostings.{is_again, ArePostings, ArePostingsIn, ArePostingsOf, Walk};
+ghost use Rattle.gopher_index.specs.Best.{IsBestOf, TakesIn};
+ghost use Rattle.gopher_index.specs.ByPostings.{is_again, ArePostings, ArePostingsIn, ArePostingsOf, IsWholeCount, TakesPosting, WalksBetween};
 ghost use Rattle.gopher_index.specs.Ties.{AreTies};
-ghost use Rattle.gopher_segment.specs.Segment.{pages_of};
+ghost use Rattle.gopher_index.specs.Index.{pages_in};
 
 use crate::best::Best;
 use crate::likely::likely_score;
@@ -47,8 +45,7 @@ fn is_again(numbers: &[u16], index: usize) -> bool
 // Returns how often the word occurs in a page. `count` is that of its first posting: if it is 255,
 // the page may have further postings.
 fn whole_count(page: &Page, term: &Term, count: u8) -> u32
-    ensures { count ≡ min (count_of_term page.now.counts term.now) 255
-        → result ≡ count_of_term page.now.counts term.now }
+    ensures { IsWholeCount term.now page.now count result }
 {
     if count < u8::MAX {
         return u32::from(count);
@@ -69,10 +66,7 @@ fn insert_posting<'a>(
     requires ties { AreTies ties.old best.old }
     ensures same { ties.new.pages ≡ ties.old.pages }
     ensures ties { OnOk result (AreTies ties.new best.new) }
-    ensures takes { (page : PageData)
-        → slice_get (map arc_value ties.old.pages.now) index ≡ Some page
-        → 0 < count → count ≡ min (count_of_term page.counts term.now) 255
-        → OnOk result (TakesIn (term.now ∷ []) (page ∷ []) best.old best.new) }
+    ensures takes { TakesPosting ties.old index term.now count best.old best.new result }
 {
     let score = u64::from(whole_count(ties.page(index), term, count));
     ties.insert(index, score, best)
@@ -95,11 +89,7 @@ fn insert_postings<'a>(
     requires within { end ≤ length postings.now.numbers.now }
     ensures same { ties.new.pages ≡ ties.old.pages }
     ensures ties { OnOk result (AreTies ties.new best.new) }
-    ensures walk { (old : BestData)
-        → Walk term.now postings.now.first (map arc_value ties.old.pages.now)
-        postings.now.numbers.now postings.now.counts.now old best.old start
-        → OnOk result (Walk term.now postings.now.first (map arc_value ties.old.pages.now)
-        postings.now.numbers.now postings.now.counts.now old best.new end) }
+    ensures walk { WalksBetween term.now ties.old postings.now start end best.old best.new result }
 {
     for index in start..end {
         if !is_again(postings.numbers, index) {
@@ -176,8 +166,7 @@ fn rank_word<'a>(
     requires and { term.now.operator ≡ And }
     requires word { term.now.is_prefix ≡ false }
     requires found { ArePostings term.now.word (map arc_value segments.now) found.now }
-    ensures { OnOk result (TakesIn (term.now ∷ [])
-        (pages_of (map arc_value segments.now)) best.old best.new) }
+    ensures { OnOk result (TakesIn (term.now ∷ []) (pages_in segments.now) best.old best.new) }
 {
     for (index, segment) in segments.iter().enumerate() {
         rank_word_in_segment(segment, term, &found[index], best)?;
@@ -194,8 +183,7 @@ pub(crate) fn best_of_word<'a>(
 ) -> Result<Best<'a>, NoMemory>
     requires and { term.now.operator ≡ And }
     requires word { term.now.is_prefix ≡ false }
-    ensures best { IfOk result (λ best.
-        IsBestOf (term.now ∷ []) (pages_of (map arc_value segments.now)) best) }
+    ensures best { IfOk result (λ best. IsBestOf (term.now ∷ []) (pages_in segments.now) best) }
     ensures plain { is_guessed ≡ false → IfOk result (λ best. best.least ≡ 0) }
 {
     let found = postings_of(alloc, segments, term.word())?;

@@ -1,12 +1,11 @@
 //! The matches and scores of a segment's pages, updated term by term.
 
-ghost use Rattle.std.specs.Prelude.{◌≡◌, ℕ, ◌+◌, ◌*◌, ◌^◌, ◌≤◌, ◌<◌, ◌==◌, ◌∷◌, [], ◌++◌, List, length, nat_lt, max, replicate, slice_index_or, true, false, if◌then◌else◌, OnOk};
-ghost use Rattle.std.specs.List.{All, zip};
-ghost use Rattle.gopher_page.specs.Query.{TermData, is_not, joined};
+ghost use Rattle.std.specs.Prelude.{◌≡◌, ◌+◌, ◌^◌, ◌≤◌, ◌<◌, ◌==◌, ◌∷◌, [], length, replicate, true, false, if◌then◌else◌, OnOk};
+ghost use Rattle.std.specs.List.{All};
+ghost use Rattle.gopher_page.specs.Query.{is_not};
 ghost use Rattle.gopher_page.specs.declared.query.Operator.TheVariants.{Not};
-ghost use Rattle.gopher_index.specs.Cells.{AreCells, term_counts, zipped};
-ghost use Rattle.gopher_segment.specs.Postings.{AreWithin, count_in};
-ghost use Rattle.gopher_segment.specs.Segment.{meant_counts};
+ghost use Rattle.gopher_index.specs.Cells.{AreCells, term_counts, zipped, HasCells, JoinsTerm, JoinsTerms, LeavesOut, RisesAtMost, joined_truths, posted, posted_count, word_counts};
+ghost use Rattle.gopher_segment.specs.Postings.{AreWithin};
 
 use crate::likely::Highest;
 use gopher_item::{MAX_LINE, NoMemory};
@@ -26,8 +25,7 @@ pub(crate) struct Cells {
 
 fn join_truths(operator: Operator, truths: &mut [bool], counts: &[u32])
     requires { length truths.old ≡ length counts.now }
-    ensures { truths.new ≡ zipped (λ truth count.
-        joined operator truth (nat_lt 0 count)) truths.old counts.now }
+    ensures { truths.new ≡ joined_truths operator truths.old counts.now }
 {
     for (index, count) in counts.iter().enumerate() {
         truths[index] = operator.join(truths[index], *count > 0);
@@ -60,9 +58,7 @@ pub(crate) fn spread_term(segment: &Segment, term: &Term, counts: &mut [u32])
 fn leave_out(truths: &mut [bool], first: usize, page: usize, count: u8)
     requires from { first ≤ page }
     requires within { page < first + length truths.old }
-    ensures { (k : ℕ) → k < length truths.old → slice_index_or truths.new k false
-        ≡ joined Not (slice_index_or truths.old k false)
-        (nat_lt 0 (if page == first + k then count else 0)) }
+    ensures { LeavesOut (λ k. if page == first + k then count else 0) truths.old truths.new }
 {
     truths[page - first] &= count == 0;
 }
@@ -70,11 +66,8 @@ fn leave_out(truths: &mut [bool], first: usize, page: usize, count: u8)
 // Removes the pages of postings from the matches. The first of `truths` is that of the first page.
 fn leave_all_out(postings: &Postings, truths: &mut [bool])
     requires beside { length postings.now.counts.now ≡ length postings.now.numbers.now }
-    requires within { AreWithin postings.now.first (length truths.old)
-        (zip postings.now.numbers.now postings.now.counts.now) }
-    ensures { (k : ℕ) → k < length truths.old → slice_index_or truths.new k false
-        ≡ joined Not (slice_index_or truths.old k false) (nat_lt 0 (count_in
-        (postings.now.first + k) (zip postings.now.numbers.now postings.now.counts.now))) }
+    requires within { AreWithin postings.now.first (length truths.old) (posted postings.now) }
+    ensures { LeavesOut (posted_count postings.now) truths.old truths.new }
 {
     for (index, number) in postings.numbers.iter().enumerate() {
         leave_out(
@@ -89,8 +82,7 @@ fn leave_all_out(postings: &Postings, truths: &mut [bool])
 // Removes the pages that contain a word from the matches, through its posting list.
 fn leave_word_out(segment: &Segment, word: &[u8], truths: &mut [bool])
     requires { length truths.old ≡ length segment.now.pages }
-    ensures { truths.new ≡ zipped (λ truth count. joined Not truth (nat_lt 0 count)) truths.old
-        (meant_counts false word.now segment.now.pages) }
+    ensures { truths.new ≡ joined_truths Not truths.old (word_counts word.now segment.now.pages) }
 {
     let postings = segment.postings(word);
     leave_all_out(&postings, truths);
@@ -108,10 +100,8 @@ fn join_counted(
     requires truths { length truths.old ≡ length segment.now.pages }
     requires scores { length scores.old ≡ length segment.now.pages }
     requires room { All (λ score. score ≤ 2 ^ 31) scores.old }
-    ensures cells { (terms : List TermData) → AreCells terms segment.now.pages truths.old scores.old
-        → AreCells (terms ++ term.now ∷ []) segment.now.pages truths.new scores.new }
-    ensures few { (bound : ℕ) → All (λ score. score ≤ bound) scores.old
-        → All (λ score. score ≤ bound + 1048576) scores.new }
+    ensures cells { JoinsTerm term.now segment.now truths.old scores.old truths.new scores.new }
+    ensures few { RisesAtMost 1048576 scores.old scores.new }
 {
     spread_term(segment, term, counts);
     join_truths(term.operator(), truths, counts);
@@ -132,10 +122,8 @@ fn join_term(
     requires truths { length truths.old ≡ length segment.now.pages }
     requires scores { length scores.old ≡ length segment.now.pages }
     requires room { All (λ score. score ≤ 2 ^ 31) scores.old }
-    ensures cells { (terms : List TermData) → AreCells terms segment.now.pages truths.old scores.old
-        → AreCells (terms ++ term.now ∷ []) segment.now.pages truths.new scores.new }
-    ensures few { (bound : ℕ) → All (λ score. score ≤ bound) scores.old
-        → All (λ score. score ≤ bound + 1048576) scores.new }
+    ensures cells { JoinsTerm term.now segment.now truths.old scores.old truths.new scores.new }
+    ensures few { RisesAtMost 1048576 scores.old scores.new }
 {
     if term.operator().is_not() && !term.is_prefix() {
         leave_word_out(segment, term.word(), truths);
@@ -169,8 +157,7 @@ fn join_more(
     requires truths { length truths.old ≡ length segment.now.pages }
     requires scores { length scores.old ≡ length segment.now.pages }
     requires room { All (λ score. score ≤ 1048576) scores.old }
-    ensures { (before : List TermData) → AreCells before segment.now.pages truths.old scores.old
-        → AreCells (before ++ terms.now) segment.now.pages truths.new scores.new }
+    ensures { JoinsTerms terms.now segment.now truths.old scores.old truths.new scores.new }
 {
     for term in terms {
         join_term(segment, term, counts, truths, scores);
@@ -227,8 +214,7 @@ impl Cells {
     /// Computes the matches and scores of a segment's pages for terms, at most 1,024.
     pub fn fill(&mut self, segment: &Segment, terms: &[Term]) -> Result<(), NoMemory>
         requires { length terms.now ≤ MAX_LINE }
-        ensures { OnOk result
-            (AreCells terms.now segment.now.pages self.new.truths.items self.new.scores.items) }
+        ensures { OnOk result (HasCells terms.now segment.now.pages self.new) }
     {
         let size = segment.pages().len();
         self.clear(size)?;

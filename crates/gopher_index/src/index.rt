@@ -1,10 +1,10 @@
 //! The pages that a crawl found: those in segments, then the loose ones.
 
-ghost use Rattle.std.specs.Prelude.{◌≡◌, ◌+◌, ◌<◌, ◌≤◌, [], ◌∷◌, ◌++◌, length, MatchResult, IfOk, IfSome, OnSome};
+ghost use Rattle.std.specs.Prelude.{◌≡◌, ◌+◌, ◌<◌, ◌≤◌, [], length, IfOk, IfSome, OnSome};
 ghost use Rattle.std.specs.Arc.{arc_value};
 ghost use Rattle.gopher_index.specs.Answer.{answer_of, AreOccurrences};
 ghost use Rattle.gopher_index.specs.Begun.{begun_hits};
-ghost use Rattle.gopher_index.specs.Index.{EndsWith, IsSliceOf};
+ghost use Rattle.gopher_index.specs.Index.{EndsWith, IsSliceOf, AppendsPage};
 
 use crate::begun::Begun;
 use crate::due::Due;
@@ -99,8 +99,7 @@ impl Index {
     /// loose pages, everything that is due is merged first.
     pub fn add(&mut self, page: Arc<Page>) -> Result<(), NoMemory>
         requires { length self.old < 65536 }
-        ensures { MatchResult result (λ _. self.new ≡ self.old ++ arc_value page ∷ [])
-            (λ _. self.new ≡ self.old) }
+        ensures { AppendsPage (arc_value page) self.old self.new result }
     {
         if self.loose.len() >= MOST_LOOSE {
             self.taken.clear();
@@ -112,8 +111,7 @@ impl Index {
     // Adds a loose page at the end.
     fn push(&mut self, page: Arc<Page>) -> Result<(), NoMemory>
         requires { length self.old < 65536 }
-        ensures { MatchResult result (λ _. self.new ≡ self.old ++ arc_value page ∷ [])
-            (λ _. self.new ≡ self.old) }
+        ensures { AppendsPage (arc_value page) self.old self.new result }
     {
         let words = page.counts().len();
         self.loose.push(page)?;

@@ -1,11 +1,9 @@
 //! Replacing pages by the segment that they were merged into.
 
-ghost use Rattle.std.specs.Prelude.{◌≡◌, ◌+◌, ◌<◌, ◌≤◌, ◌∷◌, ◌++◌, List, length, map, take, drop, IfOk, IfSome};
+ghost use Rattle.std.specs.Prelude.{◌≡◌, ◌+◌, ◌<◌, ◌≤◌, length, map, IfOk, IfSome};
 ghost use Rattle.std.specs.Arc.{arc_value};
-ghost use Rattle.gopher_page.specs.Page.{PageData};
-ghost use Rattle.gopher_segment.specs.Segment.{pages_of};
 ghost use Rattle.gopher_segment.specs.SegmentRows.{AreConsecutive};
-ghost use Rattle.gopher_index.specs.Index.{IsBorder, IsSliceOf};
+ghost use Rattle.gopher_index.specs.Index.{IsBorder, IsSliceOf, KeepsPages, MovesPages, Replaces, indexed, pages_in};
 
 use crate::due::Due;
 use gopher_item::NoMemory;
@@ -41,9 +39,7 @@ fn with_one(
 ) -> Result<Vec<Arc<Segment>>, NoMemory>
     requires start { start ≤ length segments.now }
     requires end { end ≤ length segments.now }
-    ensures { IfOk result (λ list. map arc_value list.items
-        ≡ take start (map arc_value segments.now)
-        ++ arc_value merged ∷ drop end (map arc_value segments.now)) }
+    ensures { IfOk result (λ list. Replaces start end merged segments.now list.items) }
 {
     let mut list = shared(alloc, &segments[..start])?;
     list.push(merged)?;
@@ -63,10 +59,7 @@ pub(crate) fn put_for_segments(
     requires bound { first + length (arc_value merged).pages ≤ 65536 }
     requires consecutive { AreConsecutive 0 (map arc_value segments.old.items) }
     ensures consecutive { AreConsecutive 0 (map arc_value segments.new.items) }
-    ensures pages { (loose : List PageData) → IsSliceOf (arc_value merged)
-        (pages_of (map arc_value segments.old.items) ++ loose)
-        → pages_of (map arc_value segments.new.items)
-        ≡ pages_of (map arc_value segments.old.items) }
+    ensures pages { KeepsPages (arc_value merged) segments.old.items segments.new.items }
 {
     let Some(start) = border(segments, first) else {
         return Ok(());
@@ -87,14 +80,11 @@ pub(crate) fn put_for_loose(
     loose: &mut Vec<Arc<Page>>,
 ) -> Result<(), NoMemory>
     requires few { length (arc_value merged).pages ≤ length loose.old.items }
-    requires first { (arc_value merged).first
-        ≡ length (pages_of (map arc_value segments.old.items)) }
+    requires first { (arc_value merged).first ≡ length (pages_in segments.old.items) }
     requires consecutive { AreConsecutive 0 (map arc_value segments.old.items) }
-    requires stands { IsSliceOf (arc_value merged)
-        (pages_of (map arc_value segments.old.items) ++ map arc_value loose.old.items) }
+    requires stands { IsSliceOf (arc_value merged) (indexed segments.old.items loose.old.items) }
     ensures consecutive { AreConsecutive 0 (map arc_value segments.new.items) }
-    ensures pages { pages_of (map arc_value segments.new.items) ++ map arc_value loose.new.items
-        ≡ pages_of (map arc_value segments.old.items) ++ map arc_value loose.old.items }
+    ensures pages { MovesPages segments.old segments.new loose.old loose.new }
 {
     let rest = shared(alloc, &loose[merged.pages().len()..])?;
     segments.push(merged)?;

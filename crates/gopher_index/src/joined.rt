@@ -1,11 +1,10 @@
 //! The verdicts and scores of a segment's pages, joined group by group of a query's terms.
 
-ghost use Rattle.std.specs.Prelude.{◌≡◌, ℕ, ◌+◌, ◌*◌, ◌^◌, ◌≤◌, ◌<◌, ◌∷◌, [], ◌++◌, List, length, map, max, replicate, MatchResult, IfOk, OnOk};
+ghost use Rattle.std.specs.Prelude.{◌≡◌, ◌+◌, ◌*◌, ◌^◌, ◌≤◌, ◌<◌, length, map, replicate, IfOk, OnOk};
 ghost use Rattle.std.specs.List.{All};
-ghost use Rattle.gopher_index.specs.Cells.{zipped};
-ghost use Rattle.gopher_index.specs.Joined.{AreBegun, AreJoined};
-ghost use Rattle.gopher_index.specs.Plan.{AreGroupCells, is_match, verdict_by, wanted_in};
-ghost use Rattle.gopher_index.specs.declared.plan.Group.{Group};
+ghost use Rattle.gopher_index.specs.Cells.{zipped, RisesAtMost};
+ghost use Rattle.gopher_index.specs.Joined.{AreBegun, AreJoined, AddsAll, AddsOne, BeginsSegment, JoinsMore, raised_verdicts};
+ghost use Rattle.gopher_index.specs.Plan.{is_match, wanted_in};
 
 use crate::cells::spread_term;
 use crate::plan::{Group, higher};
@@ -36,8 +35,7 @@ pub(crate) struct Joined {
 // Raises the verdict of each page to that of a group, from how often the page contains its words.
 fn raise_verdicts(group: &Group, verdicts: &mut [u32], counts: &[u32])
     requires { length verdicts.old ≡ length counts.now }
-    ensures { verdicts.new ≡ zipped (λ verdict count.
-        max verdict (verdict_by group.now count)) verdicts.old counts.now }
+    ensures { verdicts.new ≡ raised_verdicts group.now verdicts.old counts.now }
 {
     for (index, count) in counts.iter().enumerate() {
         verdicts[index] = higher(verdicts[index], group.verdict(*count));
@@ -70,11 +68,8 @@ fn join_group(
     requires verdicts { length verdicts.old ≡ length segment.now.pages }
     requires scores { length scores.old ≡ length segment.now.pages }
     requires room { All (λ score. score ≤ 2 ^ 31) scores.old }
-    ensures cells { (groups : List Group)
-        → AreGroupCells groups segment.now.pages verdicts.old scores.old
-        → AreGroupCells (groups ++ group.now ∷ []) segment.now.pages verdicts.new scores.new }
-    ensures few { (bound : ℕ) → All (λ score. score ≤ bound) scores.old
-        → All (λ score. score ≤ bound + 1048576 * group.now.wanted) scores.new }
+    ensures cells { AddsOne group.now segment.now verdicts.old scores.old verdicts.new scores.new }
+    ensures few { RisesAtMost (1048576 * group.now.wanted) scores.old scores.new }
 {
     spread_term(segment, &group.term, counts);
     raise_verdicts(group, verdicts, counts);
@@ -94,11 +89,8 @@ fn join_groups(
     requires verdicts { length verdicts.old ≡ length segment.now.pages }
     requires scores { length scores.old ≡ length segment.now.pages }
     requires room { All (λ score. score ≤ 2 ^ 30) scores.old }
-    ensures cells { (before : List Group)
-        → AreGroupCells before segment.now.pages verdicts.old scores.old
-        → AreGroupCells (before ++ groups.now) segment.now.pages verdicts.new scores.new }
-    ensures few { (bound : ℕ) → All (λ score. score ≤ bound) scores.old
-        → All (λ score. score ≤ bound + 1048576 * wanted_in groups.now) scores.new }
+    ensures cells { AddsAll groups.now segment.now verdicts.old scores.old verdicts.new scores.new }
+    ensures few { RisesAtMost (1048576 * wanted_in groups.now) scores.old scores.new }
 {
     for group in groups {
         join_group(segment, group, counts, verdicts, scores);
@@ -176,10 +168,7 @@ impl Joined {
     // Begins a segment, unless some groups are joined in it.
     fn begin(&mut self, segment: &Segment) -> Result<(), NoMemory>
         ensures groups { self.new.groups ≡ self.old.groups }
-        ensures cells { MatchResult result (λ _. (groups : List Group)
-            → AreBegun groups segment.now.pages self.old
-            → AreJoined groups segment.now.pages self.new)
-            (λ _. self.new.groups ≡ 0) }
+        ensures cells { BeginsSegment segment.now.pages self.old self.new result }
     {
         if self.groups > 0 {
             return Ok(());
@@ -202,8 +191,7 @@ impl Joined {
         requires ahead { self.old.groups < length groups.now }
         requires begun { AreBegun groups.now segment.now.pages self.old }
         ensures cells { OnOk result (AreJoined groups.now segment.now.pages self.new) }
-        ensures groups { MatchResult result (λ _. self.old.groups < self.new.groups)
-            (λ _. (self.old.groups ≡ 0) × (self.new.groups ≡ 0)) }
+        ensures groups { JoinsMore self.old self.new result }
     {
         self.begin(segment)?;
         let start = self.groups;

@@ -1,11 +1,12 @@
 //! Searching loose pages, by the counts of each: term by term in short searches, and by groups of
 //! equal terms in searches that are done in steps.
 
-ghost use Rattle.std.specs.Prelude.{◌≡◌, ◌≤◌, ◌∷◌, [], List, length, map, OnOk, if◌then◌else◌};
+ghost use Rattle.std.specs.Prelude.{◌≡◌, ◌≤◌, ◌∷◌, [], length, map, OnOk, if◌then◌else◌};
 ghost use Rattle.std.specs.Arc.{arc_value};
-ghost use Rattle.gopher_page.specs.Query.{TermData, is_not, matches, score};
+ghost use Rattle.gopher_page.specs.Query.{is_not, matches, score};
 ghost use Rattle.gopher_index.specs.Best.{TakesIn};
-ghost use Rattle.gopher_index.specs.Plan.{AreTermGroups, wanted_in};
+ghost use Rattle.gopher_index.specs.Plan.{wanted_in};
+ghost use Rattle.gopher_index.specs.Loose.{TakesByGroups};
 
 use crate::best::Best;
 use crate::plan::{Group, weigh_by_groups};
@@ -72,8 +73,7 @@ fn rank_page_by_groups<'a>(
     best: &mut Best<'a>,
 ) -> Result<(), NoMemory>
     requires { wanted_in groups.now ≤ MAX_LINE }
-    ensures { (terms : List TermData) → AreTermGroups terms groups.now
-        → OnOk result (TakesIn terms (arc_value page.now ∷ []) best.old best.new) }
+    ensures { TakesByGroups groups.now (arc_value page.now ∷ []) best.old best.new result }
 {
     let (is_match, score) = weigh_by_groups(groups, page);
     if !is_match {
@@ -89,8 +89,7 @@ pub(crate) fn rank_pages_by_groups<'a>(
     best: &mut Best<'a>,
 ) -> Result<(), NoMemory>
     requires { wanted_in groups.now ≤ MAX_LINE }
-    ensures { (terms : List TermData) → AreTermGroups terms groups.now
-        → OnOk result (TakesIn terms (map arc_value pages.now) best.old best.new) }
+    ensures { TakesByGroups groups.now (map arc_value pages.now) best.old best.new result }
 {
     for page in pages {
         rank_page_by_groups(page, groups, best)?;

@@ -1,9 +1,9 @@
 //! Listing the pages that contain a word.
 
-ghost use Rattle.std.specs.Prelude.{◌≡◌, ℕ, ◌++◌, false, List, length, map, IfOk, OnOk};
+ghost use Rattle.std.specs.Prelude.{◌≡◌, length, map, IfOk};
 ghost use Rattle.std.specs.Arc.{arc_value};
-ghost use Rattle.gopher_index.specs.Answer.{AreOccurrences, occurrences_among};
-ghost use Rattle.gopher_segment.specs.Segment.{pages_of, meant_counts};
+ghost use Rattle.gopher_index.specs.Answer.{FindsCounted, FindsIn, ListsOccurrences};
+ghost use Rattle.gopher_index.specs.Index.{pages_in};
 
 use gopher_item::{NoMemory, Place};
 use gopher_page::{Page, push_page};
@@ -17,9 +17,7 @@ fn push_counted(
     found: &mut Vec<(Place, u32)>,
 ) -> Result<(), NoMemory>
     requires { length counts.now ≡ length pages.now }
-    ensures { (word : List ℕ) → counts.now ≡ meant_counts false word (map arc_value pages.now)
-        → OnOk result (found.new.items
-        ≡ found.old.items ++ occurrences_among word (map arc_value pages.now)) }
+    ensures { FindsCounted pages.now counts.now found.old.items found.new.items result }
 {
     for (index, page) in pages.iter().enumerate() {
         push_page(page, counts[index], found)?;
@@ -33,8 +31,7 @@ fn push_segment(
     word: &[u8],
     found: &mut Vec<(Place, u32)>,
 ) -> Result<(), NoMemory>
-    ensures { OnOk result (found.new.items
-        ≡ found.old.items ++ occurrences_among word.now segment.now.pages) }
+    ensures { FindsIn word.now segment.now.pages found.old.items found.new.items result }
 {
     let pages = segment.pages();
     let mut counts = vec![in alloc; 0; pages.len()]?;
@@ -48,8 +45,7 @@ fn push_segments(
     word: &[u8],
     found: &mut Vec<(Place, u32)>,
 ) -> Result<(), NoMemory>
-    ensures { OnOk result (found.new.items
-        ≡ found.old.items ++ occurrences_among word.now (pages_of (map arc_value segments.now))) }
+    ensures { FindsIn word.now (pages_in segments.now) found.old.items found.new.items result }
 {
     for segment in segments {
         push_segment(alloc, segment, word, found)?;
@@ -62,8 +58,7 @@ fn push_loose(
     word: &[u8],
     found: &mut Vec<(Place, u32)>,
 ) -> Result<(), NoMemory>
-    ensures { OnOk result (found.new.items
-        ≡ found.old.items ++ occurrences_among word.now (map arc_value pages.now)) }
+    ensures { FindsIn word.now (map arc_value pages.now) found.old.items found.new.items result }
 {
     for page in pages {
         push_page(page, page.count(word), found)?;
@@ -78,8 +73,7 @@ pub(crate) fn occurrences(
     loose: &[Arc<Page>],
     word: &[u8],
 ) -> Result<Vec<(Place, u32)>, NoMemory>
-    ensures { IfOk result (λ list. AreOccurrences (pages_of (map arc_value segments.now)
-        ++ map arc_value loose.now) word.now list.items) }
+    ensures { IfOk result (λ list. ListsOccurrences segments.now loose.now word.now list.items) }
 {
     let mut found = Vec::new(alloc);
     push_segments(alloc, segments, word, &mut found)?;

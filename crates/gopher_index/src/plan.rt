@@ -1,8 +1,8 @@
 //! Groups of equal terms, so that a search counts the words of each group once.
 
-ghost use Rattle.std.specs.Prelude.{◌≡◌, ◌+◌, ◌≤◌, ◌<◌, ◌++◌, ◌∷◌, [], true, max, length, IfOk, IfSome, OnOk};
+ghost use Rattle.std.specs.Prelude.{◌≡◌, ◌+◌, ◌≤◌, ◌<◌, true, max, length, IfOk, IfSome, OnOk};
 ghost use Rattle.gopher_page.specs.Query.{IsQuery};
-ghost use Rattle.gopher_index.specs.Plan.{verdict_of, verdict_by, verdict, total, is_match, wanted_in, AddsTerm, IsGroupOf, IsPlan, Joins, SayAlike};
+ghost use Rattle.gopher_index.specs.Plan.{verdict_of, verdict_by, verdict, total, is_match, wanted_in, AddsTerm, IsGroupOf, IsPlan, Joins, SayAlike, MatchAlike};
 
 use gopher_item::{MAX_LINE, NoMemory};
 use gopher_page::{Operator, Page, Term};
@@ -70,8 +70,7 @@ impl Group {
 }
 
 fn is_same(a: &Term, b: &Term) -> bool
-    ensures { result ≡ true
-        → (a.now.word ≡ b.now.word) × (a.now.is_prefix ≡ b.now.is_prefix) }
+    ensures { result ≡ true → MatchAlike a.now b.now }
 {
     a.is_prefix() == b.is_prefix() && a.word() == b.word()
 }

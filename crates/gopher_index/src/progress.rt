@@ -1,15 +1,12 @@
 //! The state of a search that is done in steps: the pages that it shares, its terms, and the best
 //! of the pages that were searched.
 
-ghost use Rattle.std.specs.Prelude.{◌≡◌, ◌≤◌, ◌<◌, ◌++◌, ◌∷◌, [], None, Ok, List, length, map, IfOk, IfSome, OnOk};
+ghost use Rattle.std.specs.Prelude.{◌≡◌, ◌≤◌, ◌<◌, None, Ok, length, map, IfOk, IfSome, OnOk};
 ghost use Rattle.std.specs.Arc.{arc_value};
-ghost use Rattle.gopher_page.specs.Query.{IsQuery, TermData};
-ghost use Rattle.gopher_index.specs.Answer.{answer_of};
-ghost use Rattle.gopher_index.specs.Best.{TakesIn};
-ghost use Rattle.gopher_index.specs.Cells.{AreCells};
-ghost use Rattle.gopher_index.specs.Plan.{AreTermGroups, wanted_in};
-ghost use Rattle.gopher_index.specs.Progress.{all_pages, steps_left, AddsPages, IsProgress, IsSameSearch};
-ghost use Rattle.gopher_segment.specs.Segment.{pages_of};
+ghost use Rattle.gopher_page.specs.Query.{IsQuery};
+ghost use Rattle.gopher_index.specs.Plan.{wanted_in};
+ghost use Rattle.gopher_index.specs.Progress.{all_pages, steps_left, IsProgress, IsSameSearch, AddsByGroups, AddsCells, search_hits};
+ghost use Rattle.gopher_index.specs.Index.{indexed};
 
 use crate::best::{Best, Kept};
 use crate::by_cells::rank_cells;
@@ -58,8 +55,7 @@ fn kept_with_cells(
 ) -> Result<Vec<Kept>, NoMemory>
     requires truths { length truths.now ≡ length segment.now.pages }
     requires scores { length scores.now ≡ length segment.now.pages }
-    ensures { (terms : List TermData) → AreCells terms segment.now.pages truths.now scores.now
-        → IfOk result (λ new. AddsPages terms segment.now.pages kept.now new.items) }
+    ensures { AddsCells segment.now.pages truths.now scores.now kept.now result }
 {
     let mut best = Best::of(alloc, kept)?;
     rank_cells(segment, truths, scores, &mut best)?;
@@ -74,8 +70,7 @@ fn kept_with_pages(
     groups: &[Group],
 ) -> Result<Vec<Kept>, NoMemory>
     requires { wanted_in groups.now ≤ MAX_LINE }
-    ensures { (terms : List TermData) → AreTermGroups terms groups.now
-        → IfOk result (λ new. AddsPages terms (map arc_value pages.now) kept.now new.items) }
+    ensures { AddsByGroups groups.now (map arc_value pages.now) kept.now result }
 {
     let mut best = Best::of(alloc, kept)?;
     rank_pages_by_groups(pages, groups, &mut best)?;
@@ -110,8 +105,7 @@ impl Progress {
     ) -> Result<Progress, NoMemory>
         requires { IsQuery terms.now }
         ensures is { IfOk result IsProgress }
-        ensures pages { IfOk result (λ progress. all_pages progress
-            ≡ pages_of (map arc_value segments.now) ++ map arc_value loose.now) }
+        ensures pages { IfOk result (λ new. all_pages new ≡ indexed segments.now loose.now) }
         ensures terms { IfOk result (λ progress. progress.terms.items ≡ terms.now) }
     {
         Ok(Progress {
@@ -192,8 +186,7 @@ impl Progress {
         requires is { IsProgress self.now }
         requires segments { self.now.segments_done ≡ length self.now.segments.items }
         requires loose { self.now.loose_done ≡ length self.now.loose.items }
-        ensures { IfOk result (λ hits.
-            hits.items ≡ answer_of (all_pages self.now) self.now.terms.items) }
+        ensures { IfOk result (λ hits. hits.items ≡ search_hits self.now) }
     {
         Best::of(self.alloc, &self.kept)?.hits(self.alloc)
     }
@@ -202,8 +195,7 @@ impl Progress {
     pub fn step(&mut self) -> Result<Option<Vec<Hit>>, NoMemory>
         requires { IsProgress self.old }
         ensures same { IsSameSearch self.old self.new }
-        ensures found { IfOk result (λ found. IfSome found (λ hits.
-            hits.items ≡ answer_of (all_pages self.old) self.old.terms.items)) }
+        ensures found { IfOk result (λ it. IfSome it (λ hits. hits.items ≡ search_hits self.old)) }
         ensures fewer { result ≡ Ok None → steps_left self.new < steps_left self.old }
     {
         if self.groups.is_empty() {

@@ -1,12 +1,11 @@
 //! Short searches, which run to their end in one call: through posting lists (`by_postings`) or
 //! cells (`by_cells`), then through the loose pages (`loose`).
 
-ghost use Rattle.std.specs.Prelude.{◌≡◌, ◌++◌, false, map, IfOk};
-ghost use Rattle.std.specs.Arc.{arc_value};
+ghost use Rattle.std.specs.Prelude.{◌≡◌, false, IfOk};
 ghost use Rattle.gopher_page.specs.Query.{IsQuery};
-ghost use Rattle.gopher_index.specs.Answer.{answer_of};
+ghost use Rattle.gopher_index.specs.Answer.{answer_over};
 ghost use Rattle.gopher_index.specs.Best.{IsBestOf};
-ghost use Rattle.gopher_segment.specs.Segment.{pages_of};
+ghost use Rattle.gopher_index.specs.Index.{indexed, pages_in};
 
 use crate::best::Best;
 use crate::by_cells::best_of_terms;
@@ -28,8 +27,7 @@ fn best_of_segments<'a>(
     is_guessed: bool,
 ) -> Result<Best<'a>, NoMemory>
     requires { IsQuery terms.now }
-    ensures best { IfOk result (λ best.
-        IsBestOf terms.now (pages_of (map arc_value segments.now)) best) }
+    ensures best { IfOk result (λ best. IsBestOf terms.now (pages_in segments.now) best) }
     ensures plain { is_guessed ≡ false → IfOk result (λ best. best.least ≡ 0) }
 {
     match terms {
@@ -47,8 +45,7 @@ fn best_of_all<'a>(
     is_guessed: bool,
 ) -> Result<Best<'a>, NoMemory>
     requires { IsQuery terms.now }
-    ensures best { IfOk result (λ best. IsBestOf terms.now (pages_of (map arc_value segments.now)
-        ++ map arc_value loose.now) best) }
+    ensures best { IfOk result (λ best. IsBestOf terms.now (indexed segments.now loose.now) best) }
     ensures plain { is_guessed ≡ false → IfOk result (λ best. best.least ≡ 0) }
 {
     let mut best = best_of_segments(alloc, segments, terms, is_guessed)?;
@@ -64,8 +61,7 @@ pub(crate) fn search(
     terms: &[Term],
 ) -> Result<Vec<Hit>, NoMemory>
     requires { IsQuery terms.now }
-    ensures { IfOk result (λ hits. hits.items
-        ≡ answer_of (pages_of (map arc_value segments.now) ++ map arc_value loose.now) terms.now) }
+    ensures { IfOk result (λ hits. hits.items ≡ answer_over segments.now loose.now terms.now) }
 {
     let best = best_of_all(alloc, segments, loose, terms, true)?;
     if best.is_whole() {

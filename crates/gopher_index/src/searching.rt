@@ -1,10 +1,8 @@
 //! Searches that are done in steps.
 
-ghost use Rattle.std.specs.Prelude.{◌≡◌, ◌++◌, ◌<◌, map, None, Ok, IfOk, IfSome};
-ghost use Rattle.std.specs.Arc.{arc_value};
+ghost use Rattle.std.specs.Prelude.{◌≡◌, ◌<◌, None, Ok, IfOk, IfSome};
 ghost use Rattle.gopher_page.specs.Query.{IsQuery};
-ghost use Rattle.gopher_index.specs.Answer.{answer_of};
-ghost use Rattle.gopher_segment.specs.Segment.{pages_of};
+ghost use Rattle.gopher_index.specs.Answer.{answer_over};
 
 use crate::hit::Hit;
 use crate::progress::Progress;
@@ -25,14 +23,13 @@ pub struct Search {
 }
 
 impl Model for Search {
-    ghost use Rattle.gopher_index.specs.Answer.{answer_of};
-    ghost use Rattle.gopher_index.specs.Progress.{all_pages, steps_left, IsProgress};
+    ghost use Rattle.gopher_index.specs.Progress.{search_hits, steps_left, IsProgress};
     ghost use Rattle.gopher_index.specs.Search.{SearchData};
 
     ghost Value = { SearchData };
 
     ghost view = { λ s. record {
-      hits = answer_of (all_pages s.progress) s.progress.terms.items;
+      hits = search_hits s.progress;
       left = steps_left s.progress;
     } };
 
@@ -49,9 +46,7 @@ impl Search {
         terms: &[Term],
     ) -> Result<Search, NoMemory>
         requires { IsQuery terms.now }
-        ensures { IfOk result (λ search. search.hits
-            ≡ answer_of (pages_of (map arc_value segments.now) ++ map arc_value loose.now)
-            terms.now) }
+        ensures { IfOk result (λ new. new.hits ≡ answer_over segments.now loose.now terms.now) }
     {
         Ok(Search {
             progress: Progress::new(alloc, segments, loose, terms)?,

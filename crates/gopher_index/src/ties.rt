@@ -3,9 +3,8 @@
 
 ghost use Rattle.std.specs.Prelude.{◌≡◌, ◌<◌, Some, length, map, slice_get, OnOk};
 ghost use Rattle.std.specs.Arc.{arc_value};
-ghost use Rattle.gopher_page.specs.Page.{PageData};
-ghost use Rattle.gopher_index.specs.Best.{BestData, hit_with, TakesHit};
-ghost use Rattle.gopher_index.specs.Ties.{is_covered, AreTies};
+ghost use Rattle.gopher_index.specs.Best.{BestData};
+ghost use Rattle.gopher_index.specs.Ties.{is_covered, AreTies, TakesPageAt};
 ghost use Rattle.gopher_segment.specs.Ranks.{AreRanks};
 
 use crate::best::Best;
@@ -83,9 +82,7 @@ impl<'a> Ties<'a> {
         requires ties { AreTies self.old best.old }
         ensures same { self.new.pages ≡ self.old.pages }
         ensures ties { OnOk result (AreTies self.new best.new) }
-        ensures takes { (page : PageData)
-            → slice_get (map arc_value self.old.pages.now) index ≡ Some page
-            → OnOk result (TakesHit (hit_with score page) best.old best.new) }
+        ensures takes { TakesPageAt self.old index score best.old best.new result }
     {
         let page = &self.pages[index];
         best.insert(score, page)?;
@@ -104,9 +101,7 @@ impl<'a> Ties<'a> {
         requires ties { AreTies self.old best.old }
         ensures same { self.new.pages ≡ self.old.pages }
         ensures ties { OnOk result (AreTies self.new best.new) }
-        ensures takes { (page : PageData)
-            → slice_get (map arc_value self.old.pages.now) index ≡ Some page
-            → OnOk result (TakesHit (hit_with score page) best.old best.new) }
+        ensures takes { TakesPageAt self.old index score best.old best.new result }
     {
         if self.covers(index, score) {
             return Ok(());

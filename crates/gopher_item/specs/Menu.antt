@@ -1,5 +1,6 @@
 -- A menu, read from bytes (RFC 1436, section 2, and appendix: Menu; odd lines are this profile's).
-use Rattle.std.specs.Prelude.{◌≡◌, ℕ, Bool, false, ◌||◌, not, List, [], ◌∷◌, ◌++◌, codes, length, map, filter, Option, None, ◌==◌, nat_eq, if◌then◌else◌}
+use Rattle.std.specs.Prelude.{◌≡◌, ℕ, Bool, true, false, ◌||◌, not, List, [], ◌∷◌, ◌++◌, codes, length, map, filter, Option, None, MatchOption, ◌==◌, nat_eq, if◌then◌else◌}
+use Rattle.std.specs.Borrow.{Bor}
 use Rattle.std.specs.List.{before_first, list_any, slice_split}
 use Rattle.std.specs.Option.{option_map, option_map_or}
 use Rattle.std.specs.Cmp.Lexicographic.{pointwise}
@@ -26,6 +27,12 @@ any_last_line lines = list_any is_last_line lines
 -- the fields of a line: the pieces between TABs
 abbrev pub fields_of : List ℕ → List (List ℕ)
 fields_of line = slice_split (λ byte. byte == 9) line
+
+-- the first field of the bytes, and the bytes after its TAB, if there is a TAB
+abbrev pub SplitsField : List ℕ → Bor (List ℕ) × Option (Bor (List ℕ)) → Type 0
+SplitsField bytes parts =
+    MatchOption parts.1 (fields_of bytes ≡ parts.0.now ∷ [])
+    (λ rest. fields_of bytes ≡ parts.0.now ∷ fields_of rest.now)
 
 -- the item with these four fields, if the first isn't empty and the port is a number of at most
 -- 65535
@@ -63,11 +70,25 @@ pub record IsLastField (bytes first : List ℕ) : Type 0 where
   pub fields : fields_of bytes ≡ first ∷ []
   pub plain : has_return_or_nul bytes ≡ false
 
+-- the first field of the bytes, which contains no CR and no NUL, and the bytes after its TAB, if
+-- there is a TAB; no field only if the bytes contain a CR or a NUL
+abbrev pub SplitsPlainField : List ℕ → Option (Bor (List ℕ) × Option (Bor (List ℕ))) → Type 0
+SplitsPlainField bytes result =
+    MatchOption result (has_return_or_nul bytes ≡ true)
+    (λ parts. MatchOption parts.1 (IsLastField bytes parts.0.now)
+    (λ rest. BeginsWithField bytes parts.0.now rest.now))
+
 -- the first field of bytes that contain no CR and no NUL
 pub record HasFirstField (bytes first : List ℕ) : Type 0 where
   pub more : List (List ℕ)
   pub fields : fields_of bytes ≡ first ∷ more
   pub plain : has_return_or_nul bytes ≡ false
+
+-- the first field of the bytes; none exactly if they contain a CR or a NUL
+abbrev pub FindsFirstField : List ℕ → Option (Bor (List ℕ)) → Type 0
+FindsFirstField bytes result =
+    MatchOption result (has_return_or_nul bytes ≡ true)
+    (λ first. HasFirstField bytes first.now)
 
 -- the first four fields of a line that contains no CR and no NUL
 pub record HasFields (line first selector host port : List ℕ) : Type 0 where
@@ -75,6 +96,13 @@ pub record HasFields (line first selector host port : List ℕ) : Type 0 where
   pub more : List (List ℕ)
   pub fields : fields_of line ≡ first ∷ selector ∷ host ∷ port ∷ more
   pub stands : StandsAt line 0 (tabbed first selector host)
+
+-- the first four fields of the line, without CR and NUL; none only if the line has no item
+abbrev pub FindsFourFields : List ℕ
+    → Option (Bor (List ℕ) × Bor (List ℕ) × Bor (List ℕ) × Bor (List ℕ)) → Type 0
+FindsFourFields line result =
+    MatchOption result (item_of line ≡ None)
+    (λ f. HasFields line f.0.now f.1.now f.2.now f.3.now)
 
 -- the first of the fields
 abbrev pub first_field : List (List ℕ) → List ℕ

@@ -1,9 +1,13 @@
 -- One item of a menu (RFC 1436, section 2, and appendix: DirEntity).
-use Rattle.std.specs.Prelude.{◌≡◌, ℕ, ◌+◌, ◌^◌, ◌<◌, ◌≤◌, Bool, false, ◌||◌, ◌&&◌, not, nat_eq, List, [], ◌∷◌, ◌++◌, codes, length, drop, reverse, slice_range, Option, None, Some, is_some, ◌==◌, if◌then◌else◌}
+use Rattle.std.specs.Prelude.{◌≡◌, ℕ, ◌+◌, ◌^◌, ◌<◌, ◌≤◌, Bool, false, ◌||◌, ◌&&◌, not, nat_eq, List, [], ◌∷◌, ◌++◌, codes, length, drop, slice_range, Option, None, Some, is_some, Result, IfOk, OnOk, ◌==◌, if◌then◌else◌}
 use Rattle.std.specs.List.{flat_map}
+use Rattle.std.specs.Arc.{arc_value}
 use Rattle.std.specs.Fmt.{decimal}
+use Rattle.std.specs.Global.{Vec}
 use Rattle.std.specs.Cmp.Lexicographic.{pointwise}
+use Rattle.std.specs.declared.sync.Arc.{Arc}
 use Rattle.gopher_bytes.specs.Trim.{trim_spaces}
+use Rattle.gopher_item.specs.Fault.{Makes}
 use Rattle.gopher_item.specs.Special.{is_special, is_control, has_special}
 use Rattle.gopher_item.specs.Place.{PlaceData, is_host, is_selector, place_fault, place_of}
 use Rattle.gopher_item.specs.declared.fault.ItemFault.{ItemFault}
@@ -22,6 +26,11 @@ abbrev pub menu_line_of : ℕ → List ℕ → List ℕ → List ℕ → ℕ →
 menu_line_of kind display selector host port =
     record { kind = kind; display = display; selector = selector; host = host; port = port }
 
+-- the menu line has these five parts
+abbrev pub IsMenuLineOf : ℕ → List ℕ → List ℕ → List ℕ → ℕ → MenuLineData → Type 0
+IsMenuLineOf kind display selector host port line =
+    line ≡ menu_line_of kind display selector host port
+
 -- two menu lines have the same parts
 abbrev pub same_line : MenuLineData → MenuLineData → Bool
 same_line a b =
@@ -38,6 +47,11 @@ pub record IsMenuLine (line : MenuLineData) : Type 0 where
   pub host : has_special line.host ≡ false
   pub host_trimmed : trim_spaces line.host ≡ line.host
   pub port : line.port < 2 ^ 16
+
+-- with any port of 16 bits these are the parts of a menu line
+abbrev pub IsMenuLineWithAnyPort : ℕ → List ℕ → List ℕ → List ℕ → Type 0
+IsMenuLineWithAnyPort kind display selector host =
+    (port : ℕ) → port < 2 ^ 16 → IsMenuLine (menu_line_of kind display selector host port)
 
 -- the positions of a menu line's fields in a text: the display string, the selector and the host,
 -- one byte apart
@@ -84,12 +98,40 @@ tabbed display selector host = display ++ 9 ∷ (selector ++ 9 ∷ host)
 abbrev pub joined_after : ℕ → List ℕ → List ℕ → List ℕ → List ℕ
 joined_after kind display selector host = tabbed (kind ∷ display) selector host
 
+-- a call that succeeds returns a type, and three fields with a TAB between them
+abbrev pub JoinsFields : {E : Type 0} → ℕ → List ℕ → List ℕ → List ℕ → Result (Vec ℕ) E → Type 0
+JoinsFields kind display selector host result =
+    IfOk result (λ text. text.items ≡ joined_after kind display selector host)
+
+-- at `start` the shared text contains a type, and three fields with a TAB between them
+abbrev pub FieldsStandAt : {Z : Type 0} → Arc (List ℕ) Z → ℕ → ℕ → List ℕ → List ℕ → List ℕ
+    → Type 0
+FieldsStandAt text start kind display selector host =
+    StandsAt (arc_value text) start (joined_after kind display selector host)
+
 -- the bytes of a menu line: type, display, TAB, selector, TAB, host, TAB, port, CR LF (RFC 1436,
 -- appendix: DirEntity)
 abbrev pub menu_line_bytes : MenuLineData → List ℕ
 menu_line_bytes line =
     line.kind ∷ line.display ++ 9 ∷ line.selector ++ 9 ∷ line.host ++ 9 ∷ decimal line.port
     ++ codes "\r\n"
+
+-- a call that succeeds appends the start of a menu line: type, display, TAB
+abbrev pub PutsFront : {T E : Type 0} → ℕ → List ℕ → Vec ℕ → Vec ℕ → Result T E → Type 0
+PutsFront kind display old new result =
+    OnOk result (new.items ≡ old.items ++ (kind ∷ display ++ 9 ∷ []))
+
+-- a call that succeeds appends the end of a menu line: TAB, host, TAB, port, CR LF
+abbrev pub PutsServer : {T E : Type 0} → List ℕ → ℕ → Vec ℕ → Vec ℕ → Result T E → Type 0
+PutsServer host port old new result =
+    OnOk result (new.items ≡ old.items ++ (9 ∷ host ++ 9 ∷ decimal port ++ codes "\r\n"))
+
+-- a call that succeeds appends the menu line of an item with these five parts
+abbrev pub PutsItem : {T E : Type 0} → ℕ → List ℕ → List ℕ → List ℕ → ℕ → Vec ℕ → Vec ℕ
+    → Result T E → Type 0
+PutsItem kind display selector host port old new result =
+    OnOk result
+    (new.items ≡ old.items ++ menu_line_bytes (menu_line_of kind display selector host port))
 
 -- the bytes of a menu: its lines, and a single period (RFC 1436, appendix: Menu)
 abbrev pub menu_bytes : List MenuLineData → List ℕ
@@ -106,6 +148,14 @@ menu_line_fault kind display selector host =
     (if not (is_host host) then Some BadHost else
     (if has_special display then Some BadDisplay else
     (if is_bad_type kind then Some BadType else None)))
+
+-- making the menu line of these parts fails with their first fault, returns the line, or is out of
+-- memory
+abbrev pub MakesMenuLine : ℕ → List ℕ → List ℕ → List ℕ → ℕ → Result MenuLineData ItemFault
+    → Type 0
+MakesMenuLine kind display selector host port result =
+    Makes (menu_line_fault kind display selector host)
+    (menu_line_of kind display selector host port) result
 
 -- the place that a menu line names, if it names one
 abbrev pub place_named : MenuLineData → Option PlaceData

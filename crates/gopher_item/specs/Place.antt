@@ -1,10 +1,11 @@
 -- A place: one file or directory of one Gopher server.
-use Rattle.std.specs.Prelude.{ℕ, Bool, List, [], ◌∷◌, length, map, filter, nat_eq, Option, None, Some, ◌==◌, ◌||◌, ◌&&◌, not, nat_lt, nat_le, if◌then◌else◌}
+use Rattle.std.specs.Prelude.{ℕ, Bool, List, [], ◌∷◌, length, map, filter, nat_eq, Option, None, Some, Result, ◌==◌, ◌||◌, ◌&&◌, not, nat_lt, nat_le, if◌then◌else◌}
 use Rattle.std.specs.List.{list_any}
 use Rattle.std.specs.Ordering.{nat_cmp, on, then_cmp}
 use Rattle.std.specs.declared.cmp.Ordering.{Ordering}
 use Rattle.std.specs.Cmp.Lexicographic.{pointwise, slice_cmp}
 use Rattle.gopher_bytes.specs.Case.{lower_case}
+use Rattle.gopher_item.specs.Fault.{Makes}
 use Rattle.gopher_item.specs.Special.{has_special, is_control}
 use Rattle.gopher_item.specs.declared.fault.ItemFault.{ItemFault}
 use Rattle.gopher_item.specs.declared.fault.ItemFault.TheVariants.{BadKind, BadSelector, BadHost, BadPort}
@@ -43,6 +44,12 @@ address_fault host port =
     if not (is_host host) then Some BadHost else
     (if port == 0 then Some BadPort else None)
 
+-- making a server's address of these parts fails with their first fault, returns the address, or
+-- is out of memory
+abbrev pub MakesHome : List ℕ → ℕ → Result HomeData ItemFault → Type 0
+MakesHome host port result =
+    Makes (address_fault host port) (record { host = host; port = port }) result
+
 -- the first fault of the parts of a place, if they have one
 abbrev pub place_fault : ℕ → List ℕ → List ℕ → ℕ → Option ItemFault
 place_fault kind selector host port =
@@ -53,6 +60,12 @@ place_fault kind selector host port =
 abbrev pub place_of : ℕ → List ℕ → List ℕ → ℕ → PlaceData
 place_of kind selector host port =
     record { host = map lower_case host; port = port; selector = selector; kind = kind }
+
+-- making the place of these parts fails with their first fault, returns the place, or is out of
+-- memory
+abbrev pub MakesPlace : ℕ → List ℕ → List ℕ → ℕ → Result PlaceData ItemFault → Type 0
+MakesPlace kind selector host port result =
+    Makes (place_fault kind selector host port) (place_of kind selector host port) result
 
 -- two places have the same parts
 abbrev pub same_place : PlaceData → PlaceData → Bool

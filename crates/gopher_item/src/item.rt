@@ -1,10 +1,10 @@
 //! Reading one line of a menu: an item, or an odd line (`entry_of`).
 
-ghost use Rattle.std.specs.Prelude.{◌≡◌, false, true, [], ◌∷◌, None, IfOk, MatchOption};
+ghost use Rattle.std.specs.Prelude.{◌≡◌, false, IfOk};
 ghost use Rattle.std.specs.Arc.{arc_value};
 ghost use Rattle.gopher_item.specs.Special.{has_special};
 ghost use Rattle.gopher_bytes.specs.Lines.{has_feed};
-ghost use Rattle.gopher_item.specs.Menu.{BeginsWithField, HasFields, HasFirstField, IsItemOf, IsLastField, entry_of, fields_of, has_return_or_nul, item_of};
+ghost use Rattle.gopher_item.specs.Menu.{FindsFirstField, FindsFourFields, IsItemOf, SplitsField, SplitsPlainField, entry_of, has_return_or_nul, item_of};
 ghost use Rattle.gopher_item.specs.MenuLine.{StandsAt, tabbed};
 
 use crate::limits::MAX_PORT;
@@ -25,8 +25,7 @@ fn has_return_or_nul(line: &[u8]) -> bool
 
 // The bytes before the first TAB, or all bytes without a TAB, and the bytes after it.
 pub(crate) fn field(bytes: &[u8]) -> (&[u8], Option<&[u8]>)
-    ensures { MatchOption result.1 (fields_of bytes.now ≡ result.0.now ∷ [])
-        (λ rest. fields_of bytes.now ≡ result.0.now ∷ fields_of rest.now) }
+    ensures { SplitsField bytes.now result }
 {
     match split_once(TAB, bytes) {
         Some((first, rest)) => (first, Some(rest)),
@@ -37,9 +36,7 @@ pub(crate) fn field(bytes: &[u8]) -> (&[u8], Option<&[u8]>)
 // The bytes before the first TAB, or all bytes without a TAB, and the bytes after it; `None` if a
 // CR or a NUL comes before it.
 fn plain_field(bytes: &[u8]) -> Option<(&[u8], Option<&[u8]>)>
-    ensures { MatchOption result (has_return_or_nul bytes.now ≡ true)
-        (λ cut. MatchOption cut.1 (IsLastField bytes.now cut.0.now)
-        (λ rest. BeginsWithField bytes.now cut.0.now rest.now)) }
+    ensures { SplitsPlainField bytes.now result }
 {
     let Some(end) = memchr3(TAB, b'\r', 0, bytes) else {
         return Some((bytes, None));
@@ -53,8 +50,7 @@ fn plain_field(bytes: &[u8]) -> Option<(&[u8], Option<&[u8]>)>
 
 // The first four fields, if there are four and the line contains no CR and no NUL.
 fn four_fields(line: &[u8]) -> Option<(&[u8], &[u8], &[u8], &[u8])>
-    ensures { MatchOption result (item_of line.now ≡ None)
-        (λ f. HasFields line.now f.0.now f.1.now f.2.now f.3.now) }
+    ensures { FindsFourFields line.now result }
 {
     let (first, Some(rest)) = plain_field(line)? else {
         return None;
@@ -71,8 +67,7 @@ fn four_fields(line: &[u8]) -> Option<(&[u8], &[u8], &[u8], &[u8])>
 
 // The first field, if the bytes contain no CR and no NUL.
 fn last_field(bytes: &[u8]) -> Option<&[u8]>
-    ensures { MatchOption result (has_return_or_nul bytes.now ≡ true)
-        (λ first. HasFirstField bytes.now first.now) }
+    ensures { FindsFirstField bytes.now result }
 {
     let (first, rest) = plain_field(bytes)?;
     let Some(rest) = rest else {

@@ -1,13 +1,10 @@
 //! `MenuLine`: the type, display string, selector, host and port of an item.
 
-ghost use Rattle.std.specs.Prelude.{◌≡◌, ℕ, ◌==◌, ◌||◌, ◌<◌, ◌^◌, IfOk, IfNone};
-ghost use Rattle.std.specs.Arc.{arc_value};
+ghost use Rattle.std.specs.Prelude.{◌≡◌, IfOk, IfNone};
 ghost use Rattle.std.specs.Cmp;
-ghost use Rattle.gopher_item.specs.Special.{is_control};
-ghost use Rattle.gopher_item.specs.Fault.{Makes};
-ghost use Rattle.gopher_item.specs.Place.{place_fault, place_of};
+ghost use Rattle.gopher_item.specs.Place.{MakesPlace};
 ghost use Rattle.gopher_item.specs.Laws.{same_line_equiv};
-ghost use Rattle.gopher_item.specs.MenuLine.{IsMenuLine, StandsAt, is_bad_type, joined_after, menu_line_fault, menu_line_of, same_line};
+ghost use Rattle.gopher_item.specs.MenuLine.{FieldsStandAt, IsMenuLine, IsMenuLineOf, IsMenuLineWithAnyPort, JoinsFields, MakesMenuLine, is_bad_type, menu_line_fault, menu_line_of, same_line};
 
 use crate::fault::ItemFault;
 use crate::fields::{is_host, is_selector};
@@ -57,8 +54,7 @@ fn joined(
     selector: &[u8],
     host: &[u8],
 ) -> Result<Vec<u8>, AllocError>
-    ensures { IfOk result (λ text.
-        text.items ≡ joined_after kind display.now selector.now host.now) }
+    ensures { JoinsFields kind display.now selector.now host.now result }
 {
     let length = display
         .len()
@@ -84,8 +80,7 @@ pub fn is_bad_type(kind: u8) -> bool
 
 fn menu_line_fault(kind: u8, display: &[u8], selector: &[u8], host: &[u8]) -> Option<ItemFault>
     ensures fault { result ≡ menu_line_fault kind display.now selector.now host.now }
-    ensures plain { IfNone result ((port : ℕ) → port < 2 ^ 16
-        → IsMenuLine (menu_line_of kind display.now selector.now host.now port)) }
+    ensures plain { IfNone result (IsMenuLineWithAnyPort kind display.now selector.now host.now) }
 {
     if !is_selector(selector) {
         Some(ItemFault::BadSelector)
@@ -112,10 +107,8 @@ impl MenuLine {
         port: u16,
     ) -> Result<MenuLine, NoMemory>
         requires fields { IsMenuLine (menu_line_of kind display.now selector.now host.now port) }
-        requires stands { StandsAt (arc_value text.now) start
-            (joined_after kind display.now selector.now host.now) }
-        ensures { IfOk result (λ line.
-            line ≡ menu_line_of kind display.now selector.now host.now port) }
+        requires stands { FieldsStandAt text.now start kind display.now selector.now host.now }
+        ensures { IfOk result (IsMenuLineOf kind display.now selector.now host.now port) }
     {
         // The text's length fits a `usize`, and so does each position in it.
         let _length = text.as_slice().len();
@@ -144,8 +137,7 @@ impl MenuLine {
         port: u16,
     ) -> Result<MenuLine, NoMemory>
         requires { IsMenuLine (menu_line_of kind display.now selector.now host.now port) }
-        ensures { IfOk result (λ line.
-            line ≡ menu_line_of kind display.now selector.now host.now port) }
+        ensures { IfOk result (IsMenuLineOf kind display.now selector.now host.now port) }
     {
         let text = ByteString::from(joined(alloc, kind, display, selector, host)?);
         let text = Arc::new(alloc, text)?;
@@ -171,8 +163,7 @@ impl MenuLine {
         host: &[u8],
         port: u16,
     ) -> Result<MenuLine, ItemFault>
-        ensures { Makes (menu_line_fault kind display.now selector.now host.now)
-            (menu_line_of kind display.now selector.now host.now port) result }
+        ensures { MakesMenuLine kind display.now selector.now host.now port result }
     {
         if let Some(fault) = menu_line_fault(kind, display, selector, host) {
             return Err(fault);
@@ -218,8 +209,7 @@ impl MenuLine {
 
     /// Makes the place that the line names. The errors are those of `Place::new`.
     pub fn place(&self, alloc: Global) -> Result<Place, ItemFault>
-        ensures { Makes (place_fault self.now.kind self.now.selector self.now.host self.now.port)
-            (place_of self.now.kind self.now.selector self.now.host self.now.port) result }
+        ensures { MakesPlace self.now.kind self.now.selector self.now.host self.now.port result }
     {
         Place::new(
             alloc,

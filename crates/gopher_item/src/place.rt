@@ -3,9 +3,8 @@
 ghost use Rattle.std.specs.Prelude.{◌≡◌, refl, IfOk};
 ghost use Rattle.std.specs.Cmp;
 ghost use Rattle.std.specs.Ordering.{as_partial_cmp};
-ghost use Rattle.gopher_item.specs.Fault.{Makes};
 ghost use Rattle.gopher_item.specs.Laws.{same_place_equiv, place_cmp_total, same_place_ties};
-ghost use Rattle.gopher_item.specs.Place.{PlaceData, place_fault, place_of, same_place, place_cmp};
+ghost use Rattle.gopher_item.specs.Place.{MakesPlace, same_place, place_cmp};
 
 use crate::fault::ItemFault;
 use crate::fields::{is_selector, lowered_host};
@@ -56,8 +55,7 @@ impl Place {
         host: &[u8],
         port: u16,
     ) -> Result<Place, ItemFault>
-        ensures { Makes (place_fault kind selector.now host.now port)
-            (place_of kind selector.now host.now port) result }
+        ensures { MakesPlace kind selector.now host.now port result }
     {
         if !matches!(kind, b'0' | b'1') {
             return Err(ItemFault::BadKind);

@@ -1,9 +1,8 @@
 //! Writing menus: `write_menu`, and the parts of a menu line.
 
-ghost use Rattle.std.specs.Prelude.{◌≡◌, ◌++◌, [], ◌∷◌, true, codes, map, All, OnOk, OnErr};
-ghost use Rattle.std.specs.Fmt.{decimal};
+ghost use Rattle.std.specs.Prelude.{◌≡◌, ◌++◌, true, codes, map, All, OnOk, OnErr};
 ghost use Rattle.std.specs.Io.{StartsWith};
-ghost use Rattle.gopher_item.specs.MenuLine.{IsMenuLine, menu_line_bytes, menu_bytes, menu_line_of};
+ghost use Rattle.gopher_item.specs.MenuLine.{IsMenuLine, PutsFront, PutsItem, PutsServer, menu_line_bytes, menu_bytes};
 ghost use Rattle.gopher_item.specs.Menu.{ReadsMenu};
 ghost use Rattle.gopher_item.specs.declared.menu.Entry.TheVariants.{Item};
 
@@ -14,8 +13,7 @@ use std::alloc::AllocError;
 
 // Appends the start of a menu line. If out of memory, `out` can end with a prefix of it.
 fn put_front(kind: u8, display: &[u8], out: &mut Vec<u8>) -> Result<(), AllocError>
-    ensures written { OnOk result (out.new.items
-        ≡ out.old.items ++ (kind ∷ display.now ++ 9 ∷ [])) }
+    ensures written { PutsFront kind display.now out.old out.new result }
     ensures kept { StartsWith out.new.items out.old.items }
 {
     out.push(kind)?;
@@ -26,8 +24,7 @@ fn put_front(kind: u8, display: &[u8], out: &mut Vec<u8>) -> Result<(), AllocErr
 
 // Appends the end of a menu line. If out of memory, `out` can end with a prefix of it.
 fn put_server(host: &[u8], port: u16, out: &mut Vec<u8>) -> Result<(), AllocError>
-    ensures written { OnOk result (out.new.items ≡ out.old.items
-        ++ (9 ∷ host.now ++ 9 ∷ decimal port ++ codes "\r\n")) }
+    ensures written { PutsServer host.now port out.old out.new result }
     ensures kept { StartsWith out.new.items out.old.items }
 {
     let mut digits = Buffer::new();
@@ -47,8 +44,7 @@ fn put_menu_line(
     port: u16,
     out: &mut Vec<u8>,
 ) -> Result<(), AllocError>
-    ensures written { OnOk result (out.new.items ≡ out.old.items
-        ++ menu_line_bytes (menu_line_of kind display.now selector.now host.now port)) }
+    ensures written { PutsItem kind display.now selector.now host.now port out.old out.new result }
     ensures kept { StartsWith out.new.items out.old.items }
 {
     put_front(kind, display, out)?;
@@ -60,8 +56,7 @@ fn put_menu_line(
 ///
 /// If out of memory, `out` stays unchanged.
 pub fn push_front(kind: u8, display: &[u8], out: &mut Vec<u8>) -> Result<(), NoMemory>
-    ensures written { OnOk result (out.new.items
-        ≡ out.old.items ++ (kind ∷ display.now ++ 9 ∷ [])) }
+    ensures written { PutsFront kind display.now out.old out.new result }
     ensures refused { OnErr result (out.new.items ≡ out.old.items) }
 {
     let length = out.len();
@@ -76,8 +71,7 @@ pub fn push_front(kind: u8, display: &[u8], out: &mut Vec<u8>) -> Result<(), NoM
 ///
 /// If out of memory, `out` stays unchanged.
 pub fn push_server(host: &[u8], port: u16, out: &mut Vec<u8>) -> Result<(), NoMemory>
-    ensures written { OnOk result (out.new.items ≡ out.old.items
-        ++ (9 ∷ host.now ++ 9 ∷ decimal port ++ codes "\r\n")) }
+    ensures written { PutsServer host.now port out.old out.new result }
     ensures refused { OnErr result (out.new.items ≡ out.old.items) }
 {
     let length = out.len();
@@ -100,8 +94,7 @@ pub fn push_menu_line(
     port: u16,
     out: &mut Vec<u8>,
 ) -> Result<(), NoMemory>
-    ensures written { OnOk result (out.new.items ≡ out.old.items
-        ++ menu_line_bytes (menu_line_of kind display.now selector.now host.now port)) }
+    ensures written { PutsItem kind display.now selector.now host.now port out.old out.new result }
     ensures refused { OnErr result (out.new.items ≡ out.old.items) }
 {
     let length = out.len();

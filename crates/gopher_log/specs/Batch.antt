@@ -19,10 +19,12 @@ is_empty batch = (length batch.written == 0) && (batch.dropped == 0)
 
 -- one more request was dropped; the count stops at 2^64 - 1
 abbrev pub with_dropped : BatchData → BatchData
-with_dropped batch = record { written = batch.written; dropped = min (batch.dropped + 1) 18_446_744_073_709_551_615 }
+with_dropped batch =
+    record { written = batch.written; dropped = min (batch.dropped + 1) 18_446_744_073_709_551_615 }
 
 abbrev pub with_line : BatchData → RequestData → BatchData
-with_line batch request = record { written = batch.written ++ logged_bytes request; dropped = batch.dropped }
+with_line batch request =
+    record { written = batch.written ++ logged_bytes request; dropped = batch.dropped }
 
 -- a batch that is full takes no line
 abbrev pub with_request : BatchData → RequestData → BatchData
@@ -33,7 +35,8 @@ dropped_line dropped = codes "# dropped " ++ decimal dropped ++ codes "\n"
 
 -- the lines, followed by the line of the dropped requests, if any were dropped
 abbrev pub all_told : BatchData → List ℕ
-all_told batch = if batch.dropped == 0 then batch.written else batch.written ++ dropped_line batch.dropped
+all_told batch =
+    if batch.dropped == 0 then batch.written else batch.written ++ dropped_line batch.dropped
 
 abbrev pub with_told : BatchData → BatchData
 with_told batch = record { written = all_told batch; dropped = 0 }

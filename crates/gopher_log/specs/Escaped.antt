@@ -11,7 +11,9 @@ hex_digit number = if nat_lt number 10 then 48 + number else 87 + number
 
 -- a plain byte is written as it is; any other is a backslash, x, and its two hexadecimal digits
 abbrev pub escaped_byte : ℕ → List ℕ
-escaped_byte byte = if is_plain byte then byte ∷ [] else 92 ∷ 120 ∷ hex_digit (byte / 16) ∷ hex_digit (byte % 16) ∷ []
+escaped_byte byte =
+    if is_plain byte then byte ∷ []
+    else 92 ∷ 120 ∷ hex_digit (byte / 16) ∷ hex_digit (byte % 16) ∷ []
 
 abbrev pub escaped : List ℕ → List ℕ
 escaped bytes = flat_map escaped_byte bytes

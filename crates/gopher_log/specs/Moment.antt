@@ -22,11 +22,13 @@ pair number = (48 + number / 10 % 10) ∷ (48 + number % 10) ∷ []
 -- 2001-02-03
 abbrev pub day_bytes : Date → List ℕ
 day_bytes date =
-    pair (unsigned_abs date.year / 100) ++ pair (unsigned_abs date.year) ++ codes "-" ++ pair date.month ++ codes "-" ++ pair date.day
+    pair (unsigned_abs date.year / 100) ++ pair (unsigned_abs date.year) ++ codes "-"
+    ++ pair date.month ++ codes "-" ++ pair date.day
 
 -- 04:05:06
 abbrev pub clock_bytes : ℕ → List ℕ
-clock_bytes second = pair (second / 3_600) ++ codes ":" ++ pair (second / 60 % 60) ++ codes ":" ++ pair (second % 60)
+clock_bytes second =
+    pair (second / 3_600) ++ codes ":" ++ pair (second / 60 % 60) ++ codes ":" ++ pair (second % 60)
 
 -- 000789
 abbrev pub fraction_bytes : ℕ → List ℕ
@@ -35,4 +37,5 @@ fraction_bytes micro = pair (micro / 10_000) ++ pair (micro / 100) ++ pair micro
 -- 2001-02-03T04:05:06.000789Z
 unfoldable pub moment_bytes : Moment → List ℕ
 moment_bytes moment =
-    day_bytes moment.date ++ codes "T" ++ clock_bytes moment.second ++ codes "." ++ fraction_bytes moment.micro ++ codes "Z"
+    day_bytes moment.date ++ codes "T" ++ clock_bytes moment.second ++ codes "."
+    ++ fraction_bytes moment.micro ++ codes "Z"

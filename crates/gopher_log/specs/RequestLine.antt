@@ -16,7 +16,8 @@ pub record RequestData : Type 0 where
   pub micros : ℕ
 
 abbrev pub request_with : Moment → List ℕ → List ℕ → ℕ → ℕ → RequestData
-request_with ended peer asked sent micros = record { ended = ended; peer = peer; asked = asked; sent = sent; micros = micros }
+request_with ended peer asked sent micros =
+    record { ended = ended; peer = peer; asked = asked; sent = sent; micros = micros }
 
 -- the part of a line before its first TAB
 abbrev pub selector_of : List ℕ → List ℕ
@@ -34,5 +35,6 @@ numbers_bytes sent micros = codes "\t" ++ decimal sent ++ codes "\t" ++ decimal 
 
 abbrev pub logged_bytes : RequestData → List ℕ
 logged_bytes request =
-    moment_bytes request.ended ++ codes "\t" ++ escaped request.peer ++ codes "\t" ++ asked_bytes request.asked
+    moment_bytes request.ended ++ codes "\t" ++ escaped request.peer ++ codes "\t"
+    ++ asked_bytes request.asked
     ++ numbers_bytes request.sent request.micros ++ codes "\n"

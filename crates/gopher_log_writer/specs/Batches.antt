@@ -9,7 +9,8 @@ IsHandedOn before after = (after ≡ no_lines) ⊎ (after ≡ before)
 
 -- the line of a request was added to a batch, or the request was counted as dropped
 abbrev pub AddsRequestTo : RequestData → BatchData → BatchData → Type 0
-AddsRequestTo request before after = (after ≡ with_request before request) ⊎ (after ≡ with_dropped before)
+AddsRequestTo request before after =
+    (after ≡ with_request before request) ⊎ (after ≡ with_dropped before)
 
 -- the line of a request, with this line asked and this many bytes sent, was added to a batch or to
 -- the next one

@@ -1,9 +1,9 @@
 -- A batch while it is written.
-use Rattle.std.specs.Prelude.{◌≡◌, ℕ, ◌+◌, Bool, List, length, take, drop, nat_lt, Option, Result, Ok, Err, if◌then◌else◌}
+use Rattle.std.specs.Prelude.{◌≡◌, ℕ, ◌+◌, Bool, true, false, List, length, take, drop, nat_lt, Option, Result, Ok, Err, if◌then◌else◌}
 use Rattle.std.specs.Io.KnownBytes.{Appends, Keeps}
 use Rattle.std.specs.declared.io.ErrorKind.{ErrorKind}
 use Rattle.std.specs.declared.io.ErrorKind.TheVariants as kind
-use Rattle.gopher_log.specs.Batch.{BatchData, no_lines, with_told}
+use Rattle.gopher_log.specs.Batch.{BatchData, is_empty, no_lines, with_told}
 use Rattle.gopher_log_writer.specs.declared.pending.Step.{Step}
 use Rattle.gopher_log_writer.specs.declared.pending.Step.TheVariants as step
 
@@ -27,14 +27,23 @@ told pending = record { batch = with_told pending.batch; written = pending.writt
 -- `count` more bytes are written; a batch that is written to its end is gone
 abbrev pub advanced : ℕ → PendingData → PendingData
 advanced count pending =
-    if nat_lt count (length (rest_of pending)) then record { batch = pending.batch; written = pending.written + count }
+    if nat_lt count (length (rest_of pending))
+    then record { batch = pending.batch; written = pending.written + count }
     else unwritten no_lines
 
--- one write of the bytes that remain: the writer's contents before and after, and the batch before
--- and after
-abbrev pub WritesRest : {E : Type 0} → Option (List ℕ) → Option (List ℕ) → PendingData → PendingData → Result ℕ E → Type 0
-WritesRest old new before after (Ok count) = Appends old new (take count (rest_of before)) × (after ≡ advanced count before)
-WritesRest old new before after (Err why) = Keeps old new × (after ≡ before)
+-- one write of the bytes that remain, by the contents of a writer, the writer before and after, and
+-- the batch before and after
+abbrev pub WritesRest : {W E : Type 0} → (W → Option (List ℕ)) → W → W → PendingData → PendingData
+    → Result ℕ E → Type 0
+WritesRest contents old new before after (Ok count) =
+    Appends (contents old) (contents new) (take count (rest_of before))
+    × (after ≡ advanced count before)
+WritesRest contents old new before after (Err why) =
+    Keeps (contents old) (contents new) × (after ≡ before)
+
+-- a batch that isn't empty is kept, and `more` says that there is something to write
+abbrev pub KeepsPending : PendingData → PendingData → Bool → Type 0
+KeepsPending before after more = is_empty before.batch ≡ false → (more ≡ true) × (after ≡ before)
 
 -- what a write that failed leaves to do: an interrupted one is tried again at once
 abbrev pub step_after : ErrorKind → Step

@@ -25,4 +25,7 @@ next_rest is_closed rests = if gives_up is_closed rests then None else Some rest
 abbrev pub rested : Bool → RestsData → RestsData
 rested is_closed rests =
     if gives_up is_closed rests then rests
-    else record { next = min (rests.next * 2) 100; tries = if is_last is_closed rests then rests.tries + 1 else rests.tries }
+    else record {
+      next = min (rests.next * 2) 100;
+      tries = if is_last is_closed rests then rests.tries + 1 else rests.tries;
+    }

@@ -85,8 +85,7 @@ impl Pending {
     /// That of `writer`: nothing was written.
     pub fn write_to<W: Write>(&mut self, alloc: Global, writer: &mut W) -> io::Result<usize>
         requires { self.old.batch.dropped ≡ 0 }
-        ensures { WritesRest (W.contents writer.old) (W.contents writer.new)
-            self.old self.new result }
+        ensures { WritesRest W.contents writer.old writer.new self.old self.new result }
     {
         let count = writer.write(&self.batch.lines()[self.written..])?;
         self.advance(alloc, count);

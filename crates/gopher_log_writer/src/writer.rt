@@ -1,7 +1,7 @@
 //! The thread that writes the log.
 
-ghost use Rattle.std.specs.Prelude.{◌≡◌, true, false};
-ghost use Rattle.gopher_log.specs.Batch.{is_empty};
+ghost use Rattle.std.specs.Prelude.{◌≡◌};
+ghost use Rattle.gopher_log_writer.specs.Pending.{KeepsPending};
 
 use crate::pending::{Pending, Step, step_after};
 use crate::queue::LogQueue;
@@ -85,8 +85,7 @@ impl LogWriter {
         receiver: &Receiver<Batch, Global>,
         queue: &LogQueue,
     ) -> bool
-        ensures { is_empty self.old.pending.batch ≡ false
-            → (result ≡ true) × (self.new.pending ≡ self.old.pending) }
+        ensures { KeepsPending self.old.pending self.new.pending result }
     {
         if !self.pending.is_empty() {
             return true;

@@ -70,13 +70,13 @@ insert_all-from held (place ∷ places) = by (is_among held place) refl (λ some
         ∙ ap (λ l. held ++ place ∷ l) (sym (filter_both (new held) (λ other. not (same_place place other)) (new (held ++ place ∷ [])) (new_apart-push held place) (distinct places)))
 
 -- inserting the places of some items and then of more, if they pass a test
-pub insert_all-more : {X : Type 0} (name : X → Option PlaceData) (test : PlaceData → Bool) (items more : List X)
-    → insert_all same_place (insert_all same_place [] (filter test (filter_map name items))) (filter test (filter_map name more)) ≡ insert_all same_place [] (filter test (filter_map name (items ++ more)))
-insert_all-more name test items more =
+pub insert_all-more : {X : Type 0} (held : List PlaceData) (name : X → Option PlaceData) (test : PlaceData → Bool) (items more : List X)
+    → insert_all same_place (insert_all same_place held (filter test (filter_map name items))) (filter test (filter_map name more)) ≡ insert_all same_place held (filter test (filter_map name (items ++ more)))
+insert_all-more held name test items more =
     sym (
-    ap (λ l. insert_all same_place [] (filter test l)) (filter_map-append name items more)
-    ∙ ap (insert_all same_place []) (filter-append test (filter_map name items) (filter_map name more))
-    ∙ fold-append (insert_key same_place) [] (filter test (filter_map name items)) (filter test (filter_map name more))
+    ap (λ l. insert_all same_place held (filter test l)) (filter_map-append name items more)
+    ∙ ap (insert_all same_place held) (filter-append test (filter_map name items) (filter_map name more))
+    ∙ fold-append (insert_key same_place) held (filter test (filter_map name items)) (filter test (filter_map name more))
     )
 
 -- inserting places into an empty set

@@ -37,9 +37,13 @@ place_of_entry (Odd bytes) = None
 abbrev pub allowed_places : ScopeData → List Entry → List PlaceData
 allowed_places scope entries = filter (allows scope) (filter_map place_of_entry entries)
 
+-- the links after more entries
+abbrev pub with_entries : ScopeData → List PlaceData → List Entry → List PlaceData
+with_entries scope links entries = insert_all same_place links (allowed_places scope entries)
+
 -- the links after one more entry
 abbrev pub with_entry : ScopeData → List PlaceData → Entry → List PlaceData
-with_entry scope links entry = insert_all same_place links (allowed_places scope (entry ∷ []))
+with_entry scope links entry = with_entries scope links (entry ∷ [])
 
 -- the links of entries: each allowed place once, in the order of first mention
 abbrev pub links_in : ScopeData → List Entry → List PlaceData

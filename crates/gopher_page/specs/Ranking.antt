@@ -8,7 +8,8 @@ use Rattle.gopher_page.specs.Page.{PageData}
 -- the order of places with their scores: by score, highest first, and places of equal score in
 -- place order
 abbrev pub scored_cmp : (ℕ × PlaceData) → (ℕ × PlaceData) → Ordering
-scored_cmp = then_cmp (on (λ scored. scored.0) (flip_args nat_cmp)) (on (λ scored. scored.1) place_cmp)
+scored_cmp =
+    then_cmp (on (λ scored. scored.0) (flip_args nat_cmp)) (on (λ scored. scored.1) place_cmp)
 
 -- the place of a page with a word's count in it, unless the count is 0
 abbrev pub counted_place : PageData → ℕ → List (PlaceData × ℕ)

@@ -1,12 +1,13 @@
 //! The links of a menu: `links_of_entries`.
 
-ghost use Rattle.std.specs.Prelude.{◌≡◌, map, IfOk, OnOk};
+ghost use Rattle.std.specs.Prelude.{◌≡◌, ◌++◌, map, IfOk, OnOk};
 ghost use Rattle.std.specs.Arc.{arc_value};
-ghost use Rattle.gopher_page.specs.Page.{place_of_entry, links_in, with_entry};
+ghost use Rattle.gopher_page.specs.Page.{place_of_entry, links_in, with_entries, with_entry};
 
 use gopher_item::{Entry, ItemFault, NoMemory, Place};
 use gopher_scope::Scope;
 use indexmap::IndexSet;
+use indexmap::set::IntoIter;
 use std::alloc::Global;
 use std::sync::Arc;
 
@@ -24,6 +25,7 @@ fn place_of_entry(alloc: Global, entry: &Entry) -> Result<Option<Place>, NoMemor
     }
 }
 
+// Adds the place that an entry names, if it is allowed and isn't there yet.
 #[tactic(auto, using(crate::proofs::Added::allowed_entry))]
 fn add_link(
     alloc: Global,
@@ -41,23 +43,41 @@ fn add_link(
     Ok(())
 }
 
-fn links_among(alloc: Global, scope: &Scope, entries: &[Entry]) -> Result<IndexSet<Place>, NoMemory>
-    ensures { IfOk result (λ links. links.keys ≡ links_in scope.now entries.now) }
+// Adds the links of all entries to those that are there.
+fn add_links(
+    alloc: Global,
+    scope: &Scope,
+    entries: &[Entry],
+    links: &mut IndexSet<Place>,
+) -> Result<(), NoMemory>
+    ensures { OnOk result (links.new.keys ≡ with_entries scope.now links.old.keys entries.now) }
 {
-    let mut links = IndexSet::new(alloc);
     for entry in entries {
-        add_link(alloc, scope, entry, &mut links)?;
+        add_link(alloc, scope, entry, links)?;
     }
-    Ok(links)
+    Ok(())
 }
 
-fn shared(alloc: Global, places: IndexSet<Place>) -> Result<Vec<Arc<Place>>, NoMemory>
-    ensures { IfOk result (λ links. map arc_value links.items ≡ places.keys) }
+// Takes the places that are left, and appends each to the list `out`.
+fn push_links(
+    alloc: Global,
+    left: &mut IntoIter<Place>,
+    out: &mut Vec<Arc<Place>>,
+) -> Result<(), NoMemory>
+    ensures { OnOk result (map arc_value out.new.items ≡ map arc_value out.old.items ++ left.old) }
+{
+    while let Some(place) = left.next() {
+        out.push(Arc::new(alloc, place)?)?;
+    }
+    Ok(())
+}
+
+// Takes the places that are left, and returns them as a list of shared ones.
+fn shared(alloc: Global, places: &mut IntoIter<Place>) -> Result<Vec<Arc<Place>>, NoMemory>
+    ensures { IfOk result (λ links. map arc_value links.items ≡ places.old) }
 {
     let mut links = Vec::with_capacity(alloc, places.len())?;
-    for place in places {
-        links.push(Arc::new(alloc, place)?)?;
-    }
+    push_links(alloc, places, &mut links)?;
     Ok(links)
 }
 
@@ -70,6 +90,7 @@ pub fn links_of_entries(
 ) -> Result<Vec<Arc<Place>>, NoMemory>
     ensures { IfOk result (λ links. map arc_value links.items ≡ links_in scope.now entries.now) }
 {
-    let places = links_among(alloc, scope, entries)?;
-    shared(alloc, places)
+    let mut places = IndexSet::new(alloc);
+    add_links(alloc, scope, entries, &mut places)?;
+    shared(alloc, &mut places.into_iter())
 }

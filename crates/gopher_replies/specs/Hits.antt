@@ -6,7 +6,14 @@ use Rattle.gopher_index.specs.declared.hit.Hit.{Hit}
 
 -- a hit as a line of a menu: the type, title, selector, host and port of the page that was found
 abbrev pub hit_line : Hit → MenuLineData
-hit_line hit = record { kind = hit.place.kind; display = hit.title; selector = hit.place.selector; host = hit.place.host; port = hit.place.port }
+hit_line hit =
+    record {
+      kind = hit.place.kind;
+      display = hit.title;
+      selector = hit.place.selector;
+      host = hit.place.host;
+      port = hit.place.port;
+    }
 
 -- the lines of hits
 abbrev pub hit_lines : List Hit → List ℕ

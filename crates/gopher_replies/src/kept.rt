@@ -1,11 +1,8 @@
 //! The replies that are made once and kept (`KeptReplies`): texts and menus.
 
-ghost use Rattle.std.specs.Prelude.{◌≡◌, ◌≤◌, ◌+◌, [], ◌∷◌, ◌++◌, List, IfOk, IfSome, OnOk};
+ghost use Rattle.std.specs.Prelude.{◌≡◌, ◌≤◌, IfOk, OnOk};
 ghost use Rattle.std.specs.List.{All};
-ghost use Rattle.gopher_item.specs.Place.{HomeData};
-ghost use Rattle.gopher_tree.specs.Files.{File};
-ghost use Rattle.gopher_tree.specs.Reply.{tree_reply};
-ghost use Rattle.gopher_replies.specs.Kept.{IsReply, IsKept, kept_bytes};
+ghost use Rattle.gopher_replies.specs.Kept.{AddsReply, FindsReply, HaveMoreBytes, IsKept, IsReply};
 
 use gopher_item::{ByteString, Home, MAX_HOST, NoMemory};
 use gopher_tree::{MAX_NODES, Node, Tree};
@@ -82,8 +79,7 @@ impl KeptReplies {
     }
 
     pub(crate) fn reply(&self, selector: &[u8]) -> Option<&[u8]>
-        ensures { (files : List File) (home : HomeData) → IsKept files home self.now
-            → IfSome result (λ bytes. bytes.now ≡ tree_reply files home selector.now) }
+        ensures { FindsReply self.now selector.now result }
     {
         let place = self
             .replies
@@ -115,8 +111,7 @@ fn push_within(
 ) -> Result<usize, NoMemory>
     requires { All (IsReply tree.now home.now) replies.old.items }
     ensures right { OnOk result (All (IsReply tree.now home.now) replies.new.items) }
-    ensures whole { IfOk result (λ count.
-        kept_bytes replies.new.items ≡ kept_bytes replies.old.items + count) }
+    ensures whole { IfOk result (HaveMoreBytes replies.old.items replies.new.items) }
     ensures within { IfOk result (λ count. count ≤ room) }
 {
     let bytes = tree.reply(alloc, &selector, home)?;
@@ -133,8 +128,7 @@ fn push_reply(
     bytes: Vec<u8>,
     replies: &mut Vec<KeptReply>,
 ) -> Result<(), NoMemory>
-    ensures { OnOk result (replies.new.items
-        ≡ replies.old.items ++ record { selector = selector.items; bytes = bytes.items } ∷ []) }
+    ensures { OnOk result (AddsReply selector bytes replies.old replies.new) }
 {
     let mut bytes = bytes;
     bytes.shrink_to_fit();

@@ -1,10 +1,8 @@
 //! The replies of a tree, by selector (`Replies`, `Reply`).
 
-ghost use Rattle.std.specs.Prelude.{◌≡◌, ◌≤◌, ◌+◌, ◌*◌, [], ℕ, List, length, IfOk, IfSome, MatchResult};
-ghost use Rattle.gopher_item.specs.Place.{HomeData};
-ghost use Rattle.gopher_tree.specs.Files.{File, total_bytes};
-ghost use Rattle.gopher_tree.specs.Reply.{tree_reply, not_found_bytes};
-ghost use Rattle.gopher_replies.specs.Kept.{IsKept, reply_bytes};
+ghost use Rattle.std.specs.Prelude.{◌≡◌, ◌≤◌, ◌+◌, ◌*◌, IfOk, MatchResult};
+ghost use Rattle.gopher_tree.specs.Files.{total_bytes};
+ghost use Rattle.gopher_replies.specs.Kept.{AreRepliesOf, GivesBack, HaveSameReply, IsReplyOf, reply_bytes};
 
 use crate::kept::KeptReplies;
 use gopher_item::{ByteString, Home, NoMemory};
@@ -86,8 +84,7 @@ pub struct RepliesRefused {
 
 // The selector, or `/` for the empty one, which also names the root.
 fn full_selector(selector: &[u8]) -> &[u8]
-    ensures { (files : List File) (home : HomeData)
-        → tree_reply files home result.now ≡ tree_reply files home selector.now }
+    ensures { HaveSameReply selector.now result.now }
 {
     match selector {
         [] => b"/",
@@ -98,9 +95,7 @@ fn full_selector(selector: &[u8]) -> &[u8]
 impl Replies {
     /// Makes the replies of a tree for a server with the address `home`.
     pub fn new(alloc: Global, tree: Tree, home: Home) -> Result<Replies, RepliesRefused>
-        ensures { MatchResult result
-            (λ replies. (replies.files ≡ tree) × (replies.home ≡ home))
-            (λ refused. (refused.tree ≡ tree) × (refused.home ≡ home)) }
+        ensures { MatchResult result (AreRepliesOf tree home) (GivesBack tree home) }
     {
         let Ok(not_found) = not_found(alloc, &home) else {
             return Err(RepliesRefused {
@@ -127,8 +122,7 @@ impl Replies {
     /// Returns the reply to a selector. It is the reply of `Tree::reply`, and only replies that
     /// aren't kept need memory.
     pub fn reply(&self, alloc: Global, selector: &[u8]) -> Result<Reply<'_>, NoMemory>
-        ensures { IfOk result (λ reply.
-            reply_bytes reply ≡ tree_reply self.now.files self.now.home selector.now) }
+        ensures { IfOk result (IsReplyOf self.now selector.now) }
     {
         if let Some(bytes) = self.kept.reply(full_selector(selector)) {
             return Ok(Reply::Kept(bytes));

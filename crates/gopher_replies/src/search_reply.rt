@@ -1,7 +1,8 @@
 //! The reply of a search that goes on in steps (`SearchReply`).
 
-ghost use Rattle.std.specs.Prelude.{◌≡◌, ◌<◌, IfOk, MatchOption};
+ghost use Rattle.std.specs.Prelude.{◌≡◌, IfOk};
 ghost use Rattle.gopher_replies.specs.Hits.{hits_bytes};
+ghost use Rattle.gopher_replies.specs.SearchReply.{EndsOrNears};
 
 use crate::hits::hits_menu;
 use gopher_index::Search;
@@ -39,8 +40,7 @@ impl SearchReply {
     /// Takes the next step, and returns the bytes if it was the last one.
     pub fn step(&mut self, alloc: Global) -> Result<Option<Vec<u8>>, NoMemory>
         ensures same { self.new.bytes ≡ self.old.bytes }
-        ensures nears { IfOk result (λ made. MatchOption made (self.new.left < self.old.left)
-            (λ bytes. bytes.items ≡ self.old.bytes)) }
+        ensures nears { IfOk result (EndsOrNears self.old self.new) }
     {
         match self.search.step()? {
             Some(hits) => Ok(Some(hits_menu(alloc, &hits)?)),

@@ -14,7 +14,7 @@ use Rattle.gopher_item.specs.declared.fault.ItemFault.TheVariants.{BadKind, BadS
 use Rattle.gopher_item.specs.Fault.{Makes}
 use Rattle.gopher_scope.specs.Rows.{all_keys, key_name, key_form, element_fields, is_in_range}
 use Rattle.gopher_scope.specs.Reading.{elements, first_of, field_value, field_problem, integer_problem, number_read, text_problem, scalar_problem, table_problem, integer_read, text_read, element_problem, array_problem, tables_problem, values_read, form_problem}
-use Rattle.gopher_scope.specs.Settings.{key_value, key_fault, settings_have_unknown, settings_fault, settings_read, settings_data, integer_in, integer_at, text_at, field_integer, field_text, kind_read, Answers, IsUpTo, AreInRange, IsNumberAt, AreValuesIn, SettingsData}
+use Rattle.gopher_scope.specs.Settings.{key_value, key_fault, settings_have_unknown, settings_fault, settings_read, settings_data, integer_in, integer_at, text_at, field_integer, field_text, kind_read, Answers, ReadsTable, IsUpTo, AreInRange, IsNumberAt, AreValuesIn, SettingsData}
 use Rattle.gopher_scope.specs.declared.settings.Settings.{Settings}
 use Rattle.gopher_scope.specs.declared.fault.SettingsFault.{SettingsFault}
 use Rattle.gopher_scope.specs.declared.settings.key.Form.TheVariants.{Scalar as One}
@@ -214,7 +214,7 @@ settings_stand table none = record {
 }
 
 -- a property of the settings of a table, for a call that returns them
-answers_with : (P : SettingsData → Type 0) (table : Members) (result : Result Settings SettingsFault) → (settings_fault table ≡ None → P (settings_read table)) → Answers (settings_fault table) (settings_read table) result
+answers_with : (P : SettingsData → Type 0) (table : Members) (result : Result Settings SettingsFault) → (settings_fault table ≡ None → P (settings_read table)) → ReadsTable table result
     → IfOk result (λ settings. P (settings_data settings))
 answers_with P table (Err found) holds answers = tt
 answers_with P table (Ok made) holds answers = by (settings_fault table) refl answers
@@ -223,10 +223,10 @@ answers_with P table (Ok made) holds answers = by (settings_fault table) refl an
     by None none same = subst P (sym same) (holds none)
     by (Some fault) none same = absurd cc
 
-pub answers_in_range : (table : Members) (result : Result Settings SettingsFault) → Answers (settings_fault table) (settings_read table) result → IfOk result (λ settings. AreInRange (settings_data settings))
+pub answers_in_range : (table : Members) (result : Result Settings SettingsFault) → ReadsTable table result → IfOk result (λ settings. AreInRange (settings_data settings))
 answers_in_range table result answers = answers_with AreInRange table result (settings_in_range table) answers
 
-pub answers_stand : (text : Option Members) (table : Members) (result : Result Settings SettingsFault) → text ≡ Some table → Answers (settings_fault table) (settings_read table) result
+pub answers_stand : (text : Option Members) (table : Members) (result : Result Settings SettingsFault) → text ≡ Some table → ReadsTable table result
     → IfOk result (λ settings. IfSome text (λ read. AreValuesIn read (settings_data settings)))
 answers_stand text table result is answers =
     subst (λ t. IfOk result (λ settings. IfSome t (λ read. AreValuesIn read (settings_data settings)))) (sym is)

@@ -1,9 +1,12 @@
 -- The fault of a key's value, if it has one, and the value that is read.
 use Rattle.std.specs.Prelude.{ℕ, ℤ, pos, negsuc, Bool, false, ◌&&◌, ◌||◌, not, List, [], ◌∷◌, length, Option, None, Some, is_some, unwrap_or, nat_eq, nat_le, if◌then◌else◌}
 use Rattle.std.specs.List.{list_any}
-use Rattle.std.specs.Option.{option_or, option_map_or}
+use Rattle.std.specs.Borrow.{Bor}
+use Rattle.std.specs.Option.{option_map, option_or, option_map_or}
 use Rattle.std.specs.Cmp.Lexicographic.{pointwise}
 use Rattle.toml.specs.Data.{Data, Items, no_items, item, Members, no_members, member, get_member, as_integer, as_str, as_array, as_table}
+use Rattle.toml.specs.View.{view}
+use Rattle.toml.specs.declared.value.Value.{Value}
 use Rattle.gopher_scope.specs.Rows.{element_fields, field_name, field_scalar, absent_text, is_in_range}
 use Rattle.gopher_scope.specs.declared.settings.tables.Field.{Field}
 use Rattle.gopher_scope.specs.declared.settings.key.Form.{Form}
@@ -42,6 +45,10 @@ scalar_problem (Text kind) (Some value) = text_problem kind (as_str value)
 abbrev pub elements : Items → List Data
 elements no_items = []
 elements (item value more) = value ∷ elements more
+
+-- the value of a key as data, if it has one
+abbrev pub value_data : Option (Bor Value) → Option Data
+value_data value = option_map (λ v. view v.now) value
 
 abbrev pub field_value : Members → Field → Option Data
 field_value table field = get_member (field_name field) table

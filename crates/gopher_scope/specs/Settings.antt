@@ -1,9 +1,10 @@
 -- Settings and how they are read.
-use Rattle.std.specs.Prelude.{◌≡◌, ℕ, pos, ◌<◌, ◌≤◌, Bool, ◌||◌, List, [], length, map, Option, None, Some, IsSomeAnd, MatchOption, Result, Ok, Err, nat_eq, codes, string_bytes, if◌then◌else◌}
+use Rattle.std.specs.Prelude.{◌≡◌, ◌≢◌, ℕ, pos, ◌<◌, ◌≤◌, Bool, ◌||◌, List, [], length, map, Option, None, Some, IfSome, IsSomeAnd, MatchOption, Result, Ok, Err, nat_eq, codes, string_bytes, if◌then◌else◌}
 use Rattle.std.specs.List.{list_any, filter_map}
 use Rattle.std.specs.Option.{option_map}
 use Rattle.std.specs.Cmp.Lexicographic.{pointwise}
 use Rattle.toml.specs.Data.{Data, Members, get_member, as_integer, as_str, as_table}
+use Rattle.toml.specs.Parse.{parse_document}
 use Rattle.gopher_item.specs.Place.{PlaceData, HomeData, place_of}
 use Rattle.gopher_scope.specs.Rule.{RuleData, rule_of}
 use Rattle.gopher_scope.specs.Scope.{ScopeData}
@@ -132,9 +133,6 @@ integer_at table key = integer_in (key_form key) (key_value table key)
 abbrev pub text_at : Members → Key → List ℕ
 text_at table key = text_in (key_form key) (key_value table key)
 
-abbrev pub tables_at : Members → Key → List Members
-tables_at table key = filter_map as_table (values_read (key_value table key))
-
 abbrev pub field_integer : Members → Field → ℕ
 field_integer table field = integer_read (field_scalar field) (field_value table field)
 
@@ -157,17 +155,29 @@ rule_read table =
     rule_of (field_text table field.Host) (field_integer table field.Port)
     (field_text table field.Prefix)
 
+-- the places of the tables among these values
+abbrev pub seeds_read : List Data → List PlaceData
+seeds_read values = map seed_read (filter_map as_table values)
+
+-- the rules of the tables among these values
+abbrev pub rules_read : List Data → List RuleData
+rules_read values = map rule_read (filter_map as_table values)
+
+-- the places of `seeds`
+abbrev pub seeds_at : Members → List PlaceData
+seeds_at table = seeds_read (values_read (key_value table key.Seeds))
+
+-- the rules of `allow` or `deny`
+abbrev pub rules_at : Members → Key → List RuleData
+rules_at table key = rules_read (values_read (key_value table key))
+
 -- the settings of a table without a fault
 abbrev pub settings_read : Members → SettingsData
 settings_read table = record {
   home = record { host = text_at table key.Host; port = integer_at table key.Port };
   root = text_at table key.Root;
-  seeds = map seed_read (tables_at table key.Seeds);
-  scope =
-      record {
-        allow = map rule_read (tables_at table key.Allow);
-        deny = map rule_read (tables_at table key.Deny);
-      };
+  seeds = seeds_at table;
+  scope = record { allow = rules_at table key.Allow; deny = rules_at table key.Deny };
   places = integer_at table key.Places;
   workers = integer_at table key.Workers;
   threads = integer_at table key.Threads;
@@ -189,3 +199,24 @@ abbrev pub Answers : Option SettingsFault → SettingsData → Result Settings S
 Answers (Some found) settings result = result ≡ Err found
 Answers None settings (Ok made) = settings_data made ≡ settings
 Answers None settings (Err found) = found ≡ fault.NoMemory
+
+-- reading this table fails with its fault, returns its settings, or is out of memory
+abbrev pub ReadsTable : Members → Result Settings SettingsFault → Type 0
+ReadsTable table result = Answers (settings_fault table) (settings_read table) result
+
+-- these are the settings of a table without a fault
+abbrev pub AreReadFrom : Members → Settings → Type 0
+AreReadFrom table settings = settings_data settings ≡ settings_read table
+
+-- these are the settings in a text, which has no fault
+abbrev pub AreSettingsOf : List ℕ → Settings → Type 0
+AreSettingsOf text settings = settings_of (parse_document text) ≡ Ok (settings_data settings)
+
+-- the numbers and texts in these settings are the values of a text's keys, if the text is TOML
+abbrev pub AreValuesInText : List ℕ → Settings → Type 0
+AreValuesInText text settings =
+    IfSome (parse_document text) (λ table. AreValuesIn table (settings_data settings))
+
+-- this is the fault of the settings in a text, unless memory ran out
+abbrev pub IsFaultOf : List ℕ → SettingsFault → Type 0
+IsFaultOf text found = found ≢ fault.NoMemory → settings_of (parse_document text) ≡ Err found

@@ -1,9 +1,8 @@
 //! `Settings`: the fields, and how they are read from a text in TOML.
 
-ghost use Rattle.std.specs.Prelude.{◌≡◌, ◌≢◌, map, Ok, Err, Some, None, IfOk, IfErr, IfSome};
-ghost use Rattle.toml.specs.Parse.{parse_document};
+ghost use Rattle.std.specs.Prelude.{◌≡◌, None, IfOk, IfErr};
 ghost use Rattle.toml.specs.View.{table_view};
-ghost use Rattle.gopher_scope.specs.Settings.{settings_data, settings_fault, settings_read, settings_of, integer_at, text_at, tables_at, seed_read, rule_read, Answers, AreInRange, AreValuesIn};
+ghost use Rattle.gopher_scope.specs.Settings.{settings_data, settings_fault, integer_at, text_at, seeds_at, rules_at, ReadsTable, AreReadFrom, AreSettingsOf, AreInRange, AreValuesInText, IsFaultOf};
 
 mod check;
 mod items;
@@ -79,18 +78,15 @@ fn home(alloc: Global, table: &Table) -> Result<Home, NoMemory>
 
 fn seeds_at(alloc: Global, table: &Table) -> Result<Vec<Place>, NoMemory>
     requires { settings_fault (table_view table.now) ≡ None }
-    ensures { IfOk result (λ seeds.
-        seeds.items ≡ map seed_read (tables_at (table_view table.now) Key.Seeds)) }
+    ensures { IfOk result (λ seeds. seeds.items ≡ seeds_at (table_view table.now)) }
 {
     seeds(alloc, values_at(table, Key::Seeds.name()))
 }
 
 fn scope_at(alloc: Global, table: &Table) -> Result<Scope, NoMemory>
     requires { settings_fault (table_view table.now) ≡ None }
-    ensures allow { IfOk result (λ scope.
-        scope.allow ≡ map rule_read (tables_at (table_view table.now) Key.Allow)) }
-    ensures deny { IfOk result (λ scope.
-        scope.deny ≡ map rule_read (tables_at (table_view table.now) Key.Deny)) }
+    ensures allow { IfOk result (λ scope. scope.allow ≡ rules_at (table_view table.now) Key.Allow) }
+    ensures deny { IfOk result (λ scope. scope.deny ≡ rules_at (table_view table.now) Key.Deny) }
 {
     let allow = rules(alloc, values_at(table, Key::Allow.name()))?;
     let deny = rules(alloc, values_at(table, Key::Deny.name()))?;
@@ -99,8 +95,7 @@ fn scope_at(alloc: Global, table: &Table) -> Result<Scope, NoMemory>
 
 fn settings_read(alloc: Global, table: &Table) -> Result<Settings, NoMemory>
     requires { settings_fault (table_view table.now) ≡ None }
-    ensures { IfOk result (λ settings.
-        settings_data settings ≡ settings_read (table_view table.now)) }
+    ensures { IfOk result (AreReadFrom (table_view table.now)) }
 {
     Ok(Settings {
         home: home(alloc, table)?,
@@ -115,8 +110,7 @@ fn settings_read(alloc: Global, table: &Table) -> Result<Settings, NoMemory>
 }
 
 fn settings_of(alloc: Global, table: &Table) -> Result<Settings, SettingsFault>
-    ensures { Answers (settings_fault (table_view table.now))
-        (settings_read (table_view table.now)) result }
+    ensures { ReadsTable (table_view table.now) result }
 {
     if let Some(fault) = settings_fault(table) {
         return Err(fault);
@@ -144,14 +138,10 @@ impl Settings {
     /// A fault inside an array names the key of the array. The array's type and length are checked
     /// first, then its elements in order, and the keys of each element in order.
     pub fn read(alloc: Global, text: &str) -> Result<Settings, SettingsFault>
-        ensures read { IfOk result (λ settings.
-            settings_of (parse_document text.now) ≡ Ok (settings_data settings)) }
+        ensures read { IfOk result (AreSettingsOf text.now) }
         ensures ranges { IfOk result (λ settings. AreInRange (settings_data settings)) }
-        ensures table { IfOk result (λ settings.
-            IfSome (parse_document text.now)
-            (λ table. AreValuesIn table (settings_data settings))) }
-        ensures refused { IfErr result (λ fault. fault ≢ SettingsFault.NoMemory
-            → settings_of (parse_document text.now) ≡ Err fault) }
+        ensures table { IfOk result (AreValuesInText text.now) }
+        ensures refused { IfErr result (IsFaultOf text.now) }
     {
         match toml::table_from_str(alloc, text) {
             Ok(table) => settings_of(alloc, &table),

@@ -1,5 +1,5 @@
 -- A run, statement by statement.
-use Rattle.std.proofs.Common.{◌≡◌, ℕ, ◌+◌, ◌<◌, ◌≤◌, ◌⊎◌, List, [], ◌∷◌, ◌++◌, Option, None, Some, Result, Ok, Err, refl, sym, ap, subst, ◌∙◌, inl, inr, append_assoc, append-nil, arith}
+use Rattle.std.proofs.Common.{◌≡◌, ℕ, ◌≤◌, List, [], ◌∷◌, ◌++◌, Option, None, Some, Ok, Err, refl, sym, ap, subst, ◌∙◌, inl, inr, append_assoc, append-nil, arith}
 use Rattle.std.specs.Prelude.{All}
 use Rattle.std.specs.Option.{option_map_or}
 use Rattle.std.specs.Io.KnownBytes.{Appends}
@@ -8,7 +8,7 @@ use Rattle.std.proofs.lemmas.List.Elements.{All-head, All-tail}
 use Rattle.gopher_text.specs.Watched.{HasFailed}
 use Rattle.gopher_script.specs.Statement.{StatementData, HasSmallReply}
 use Rattle.gopher_script.specs.Script.{RunData, run_statements, prepend, answer_at, after_at, ended_at, ended_well}
-use Rattle.gopher_script.specs.Replay.{AppendsPart, RunEnds, StatementEnds}
+use Rattle.gopher_script.specs.Replay.{RunEnds, StatementEnds}
 use Rattle.gopher_script.specs.declared.stage.Stage.{Stage}
 use Rattle.gopher_script.specs.declared.fault.ReplayFault.{ReplayFault}
 use Rattle.gopher_script.specs.declared.fault.ReplayFault.TheVariants.{ReadFailed, TooManyTurns, ScriptTooLong, WriteFailed, BadScript, NoMemory}

@@ -1,10 +1,10 @@
 -- Sending bytes in several parts, and flushing the writer.
-use Rattle.std.proofs.Common.{◌≡◌, ℕ, ◌+◌, ◌-◌, ◌^◌, ◌<◌, ◌≤◌, ◌⊎◌, List, [], ◌∷◌, ◌++◌, Option, None, Some, Result, Ok, Err, refl, sym, ap, ◌∙◌, inl, inr, append_assoc, append-nil, arith}
-use Rattle.std.specs.Io.KnownBytes.{Appends, IsAtEnd, Keeps}
+use Rattle.std.proofs.Common.{ℕ, ◌≤◌, ◌⊎◌, List, ◌++◌, Option, Result, Ok, Err, sym, ap, ◌∙◌, inl, inr, append_assoc, arith}
+use Rattle.std.specs.Io.KnownBytes.{Consumes, IsAtEnd, Keeps}
 use Rattle.std.proofs.KnownBytes.{Appends-trans, Appends-kept, Keeps-trans}
-use Rattle.gopher_text.specs.Watched.{HasFailed, CountsFailure, CountsErrors}
+use Rattle.gopher_text.specs.Watched.{HasFailed, CountsErrors}
 use Rattle.gopher_script.specs.Script.{script_output}
-use Rattle.gopher_script.specs.Replay.{AppendsPart, AnswerEnds, ReplayEnds, Replays}
+use Rattle.gopher_script.specs.Replay.{AppendsPart, AnswerEnds, ReplayEnds}
 use Rattle.gopher_script.specs.declared.fault.ReplayFault.{ReplayFault}
 use Rattle.gopher_script.specs.declared.fault.ReplayFault.TheVariants.{ReadFailed, TooManyTurns, ScriptTooLong, WriteFailed, BadScript, NoMemory}
 use Rattle.gopher_script.proofs.Runs.{has_failed-since}
@@ -77,6 +77,7 @@ ends-kept bytes left missed missing old mid new before after later (Err TooManyT
 
 -- the contents of the writer stay, and its count of failures never decreases
 pub replays-kept : {T : Type 0} (had left : Option (List ℕ)) (missed missing : ℕ) (old mid new : Option (List ℕ)) (before after later : ℕ) (end : Result T ReplayFault)
-    → Keeps mid new → after ≤ later → Replays had left missed missing old mid before after end → Replays had left missed missing old new before later end
+    → Keeps mid new → after ≤ later → ((bytes : List ℕ) × Consumes had left bytes × ReplayEnds bytes left missed missing old mid before after end)
+    → (bytes : List ℕ) × Consumes had left bytes × ReplayEnds bytes left missed missing old new before later end
 replays-kept had left missed missing old mid new before after later end kept more (bytes, read, ends) =
     (bytes, read, ends-kept bytes left missed missing old mid new before after later end kept more ends)

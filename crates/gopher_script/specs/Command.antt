@@ -16,7 +16,8 @@ use Rattle.gopher_script.specs.declared.command.Command.TheVariants.{Nothing, Al
 
 -- the number of a field of at most `width` digits, if it is at most `limit`
 abbrev pub short_number : ℕ → ℕ → List ℕ → Option ℕ
-short_number width limit digits = if nat_le (length digits) width then number_of limit digits else None
+short_number width limit digits =
+    if nat_le (length digits) width then number_of limit digits else None
 
 -- a port: 1 to 5 digits
 abbrev pub port_in : List ℕ → Option ℕ
@@ -34,7 +35,12 @@ kind_in field = None
 -- the reason why a place could not be fetched: its number, as one digit
 abbrev pub why_by_digit : ℕ → Option Why
 why_by_digit digit =
-    if digit == 49 then Some Connect else if digit == 50 then Some Read else if digit == 51 then Some Write else if digit == 52 then Some TooLong else if digit == 53 then Some NoMemory else None
+    if digit == 49 then Some Connect
+    else if digit == 50 then Some Read
+    else if digit == 51 then Some Write
+    else if digit == 52 then Some TooLong
+    else if digit == 53 then Some NoMemory
+    else None
 
 abbrev pub why_in : List ℕ → Option Why
 why_in (digit ∷ []) = why_by_digit digit
@@ -44,29 +50,36 @@ why_in field = None
 
 -- a host, a port and a prefix
 abbrev pub rule_in : List (List ℕ) → Option RuleData
-rule_in (host ∷ port ∷ prefix ∷ []) = option_map (λ number. record { host = host; port = number; prefix = prefix }) (port_in port)
+rule_in (host ∷ port ∷ prefix ∷ []) =
+    option_map (λ number. record { host = host; port = number; prefix = prefix }) (port_in port)
 rule_in fields = None
 
 -- a type, a host, a port and a selector
 abbrev pub place_in : List (List ℕ) → Option PlaceData
 place_in (kind ∷ host ∷ port ∷ selector ∷ []) =
-    option_and_then (λ byte. option_map (λ number. record { host = host; port = number; selector = selector; kind = byte }) (port_in port)) (kind_in kind)
+    option_and_then (λ byte. option_map (λ number.
+    record { host = host; port = number; selector = selector; kind = byte })
+    (port_in port)) (kind_in kind)
 place_in fields = None
 
 -- the limits of places and of tries; without the second, one try
 abbrev pub start_in : List (List ℕ) → Option Command
 start_in (places ∷ []) = option_map (λ limit. Start limit 1) (number_in places)
-start_in (places ∷ tries ∷ []) = option_and_then (λ limit. option_map (λ number. Start limit number) (number_in tries)) (number_in places)
+start_in (places ∷ tries ∷ []) =
+    option_and_then (λ limit. option_map (λ number. Start limit number) (number_in tries))
+    (number_in places)
 start_in fields = None
 
 -- a place's number, and the place
 abbrev pub found_in : List (List ℕ) → Option Command
 found_in [] = None
-found_in (number ∷ place) = option_and_then (λ n. option_map (λ p. Found n p) (place_in place)) (number_in number)
+found_in (number ∷ place) =
+    option_and_then (λ n. option_map (λ p. Found n p) (place_in place)) (number_in number)
 
 -- a place's number, and the reason why it failed
 abbrev pub fail_in : List (List ℕ) → Option Command
-fail_in (number ∷ why ∷ []) = option_and_then (λ n. option_map (λ w. Fail n w) (why_in why)) (number_in number)
+fail_in (number ∷ why ∷ []) =
+    option_and_then (λ n. option_map (λ w. Fail n w) (why_in why)) (number_in number)
 fail_in fields = None
 
 -- the only field

@@ -1,5 +1,5 @@
 -- The fields of a line, which TABs separate.
-use Rattle.std.specs.Prelude.{ℕ, List, [], Option, None, Some}
+use Rattle.std.specs.Prelude.{◌≡◌, ℕ, List, [], ◌∷◌, Option, None, Some, MatchOption}
 use Rattle.std.specs.Borrow.{Bor}
 use Rattle.gopher_item.specs.Menu.{fields_of}
 
@@ -7,3 +7,8 @@ use Rattle.gopher_item.specs.Menu.{fields_of}
 abbrev pub fields_left : Option (Bor (List ℕ)) → List (List ℕ)
 fields_left None = []
 fields_left (Some line) = fields_of line.now
+
+-- the next field, if there is one: the fields before it is taken, and those after
+abbrev pub TakesField : List (List ℕ) → List (List ℕ) → Option (Bor (List ℕ)) → Type 0
+TakesField old new next =
+    MatchOption next ((old ≡ []) × (new ≡ [])) (λ field. old ≡ field.now ∷ new)

@@ -7,4 +7,5 @@ pub mod Parts
 pub mod Replay
 pub mod Script
 pub mod Stage
+pub mod Reading
 pub mod Statement

@@ -17,4 +17,5 @@ abbrev pub made_place : PlaceData → PlaceData
 made_place place = place_of place.kind place.selector place.host place.port
 
 abbrev pub place_with : ℕ → List ℕ → ℕ → List ℕ → PlaceData
-place_with kind host port selector = record { host = host; port = port; selector = selector; kind = kind }
+place_with kind host port selector =
+    record { host = host; port = port; selector = selector; kind = kind }

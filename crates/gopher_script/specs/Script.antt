@@ -7,9 +7,9 @@ use Rattle.gopher_script.specs.Command.{command_of}
 use Rattle.gopher_script.specs.Statement.{StatementData}
 use Rattle.gopher_script.specs.Stage.{command_answer, after}
 use Rattle.gopher_script.specs.declared.command.Command.{Command}
-use Rattle.gopher_script.specs.declared.command.Command.TheVariants.{Nothing, Allow, Deny, Seed, Start, Claim, Found, Fail, Status}
+use Rattle.gopher_script.specs.declared.command.Command.TheVariants.{Found}
 use Rattle.gopher_script.specs.declared.stage.Stage.{Stage}
-use Rattle.gopher_script.specs.declared.stage.Stage.TheVariants.{Gathering, Crawling}
+use Rattle.gopher_script.specs.declared.stage.Stage.TheVariants.{Gathering}
 
 -- ---- blocks
 
@@ -47,7 +47,8 @@ unfoldable pub statements_of : ℕ → Bool → List (List ℕ) → List Stateme
 statements_of number in_block [] = []
 statements_of number in_block (line ∷ lines) =
     if in_block && is_block_line line then statements_of (number + 1) true lines
-    else ((record { number = number; command = command_of line; reply = reply_after (command_of line) lines })
+    else ((record
+    { number = number; command = command_of line; reply = reply_after (command_of line) lines })
     ∷ statements_of (number + 1) (takes_block (command_of line)) lines)
 
 -- ---- running
@@ -60,10 +61,12 @@ pub record RunData : Type 0 where
 -- the answer of a statement, or none if its line is bad: no command, or one that isn't valid at
 -- this stage
 abbrev pub answer_at : Stage → StatementData → Option (List ℕ)
-answer_at stage statement = option_and_then (λ command. command_answer stage command statement.reply) statement.command
+answer_at stage statement =
+    option_and_then (λ command. command_answer stage command statement.reply) statement.command
 
 abbrev pub after_at : Stage → StatementData → Stage
-after_at stage statement = option_map_or (λ command. after stage command statement.reply) statement.command stage
+after_at stage statement =
+    option_map_or (λ command. after stage command statement.reply) statement.command stage
 
 abbrev pub prepend : List ℕ → RunData → RunData
 prepend answer run = record { output = answer ++ run.output; bad_line = run.bad_line }
@@ -78,7 +81,8 @@ ended_at number = record { output = []; bad_line = Some number }
 unfoldable pub run_statements : Stage → List StatementData → RunData
 run_statements stage [] = ended_well
 run_statements stage (statement ∷ statements) =
-    option_map_or (λ answer. prepend answer (run_statements (after_at stage statement) statements)) (answer_at stage statement) (ended_at statement.number)
+    option_map_or (λ answer. prepend answer (run_statements (after_at stage statement) statements))
+    (answer_at stage statement) (ended_at statement.number)
 
 -- a script begins without rules and seeds
 abbrev pub first_stage : Stage

@@ -1,5 +1,6 @@
 -- The effects and answers of a script's commands, if memory suffices.
-use Rattle.std.specs.Prelude.{◌≡◌, ℕ, List, [], ◌∷◌, ◌++◌, Option, None, Some, is_some, if◌then◌else◌}
+use Rattle.std.specs.Prelude.{◌≡◌, ℕ, List, [], ◌∷◌, ◌++◌, Option, None, Some, Result, IfOk, OnOk, is_some, if◌then◌else◌}
+use Rattle.std.specs.Global.{Vec}
 use Rattle.std.specs.Option.{option_map_or}
 use Rattle.gopher_item.specs.Fault.{item_fault_code}
 use Rattle.gopher_item.specs.Place.{PlaceData}
@@ -10,7 +11,6 @@ use Rattle.gopher_page.specs.Page.{PageData, page_of}
 use Rattle.gopher_page.specs.Query.{TermData, query_of}
 use Rattle.gopher_index.specs.Answer.{answer_of as hits_found, occurrences_of}
 use Rattle.gopher_catalogue.specs.Pages.{pages_found}
-use Rattle.gopher_catalogue.specs.Opening.{OpeningData}
 use Rattle.gopher_catalogue.specs.declared.event.EventData.{EventData}
 use Rattle.gopher_catalogue.specs.declared.event.EventData.TheVariants.{Opened, Found as FoundEvent, Failed}
 use Rattle.gopher_catalogue.specs.Fault.{open_fault_code, found_fault_code}
@@ -37,7 +37,20 @@ abbrev pub with_rule : List RuleData → RuleData → List RuleData
 with_rule rules rule = if is_some (fault_of_rule rule) then rules else rules ++ made_rule rule ∷ []
 
 abbrev pub with_seed : List PlaceData → PlaceData → List PlaceData
-with_seed seeds seed = if is_some (fault_of_place seed) then seeds else seeds ++ made_place seed ∷ []
+with_seed seeds seed =
+    if is_some (fault_of_place seed) then seeds else seeds ++ made_place seed ∷ []
+
+-- a call adds a rule and returns the answer, unless it fails: the rules before, and those after
+abbrev pub TakesRule : {E : Type 0} → Vec RuleData → RuleData → Vec RuleData
+    → Result (Vec ℕ) E → Type 0
+TakesRule old rule new result = IfOk result (λ answer.
+    (answer.items ≡ taken_line (fault_of_rule rule)) × (new.items ≡ with_rule old.items rule))
+
+-- a call adds a seed and returns the answer, unless it fails: the seeds before, and those after
+abbrev pub TakesSeed : {E : Type 0} → Vec PlaceData → PlaceData → Vec PlaceData
+    → Result (Vec ℕ) E → Type 0
+TakesSeed old seed new result = IfOk result (λ answer.
+    (answer.items ≡ taken_line (fault_of_place seed)) × (new.items ≡ with_seed old.items seed))
 
 abbrev pub scope_of_draft : DraftData → ScopeData
 scope_of_draft draft = record { allow = draft.allow; deny = draft.deny }
@@ -55,7 +68,8 @@ start_line (Some fault) = refused_line (open_fault_code fault)
 -- after a failed start the rules and seeds are unchanged
 abbrev pub after_start : DraftData → ℕ → ℕ → Stage
 after_start draft places tries =
-    if is_some (fault_of_start draft places tries) then Gathering draft else Crawling (opened_record (scope_of_draft draft) draft.seeds places tries)
+    if is_some (fault_of_start draft places tries) then Gathering draft
+    else Crawling (opened_record (scope_of_draft draft) draft.seeds places tries)
 
 -- the answer of a command before the crawl, or none for a command that needs a crawl
 abbrev pub answer_before : DraftData → Command → Option (List ℕ)
@@ -80,6 +94,10 @@ turn_line (Take number place) = take_line number place
 turn_line Idle = idle_line
 turn_line Finished = finished_line
 
+-- a call leaves the record with the next place claimed, unless it fails
+abbrev pub RecordsClaim : {V E : Type 0} → List EventData → List EventData → Result V E → Type 0
+RecordsClaim old new result = OnOk result (new ≡ after_turn old (turn_of old))
+
 -- the scope of a record
 abbrev pub scope_in : List EventData → ScopeData
 scope_in (Opened opening ∷ events) = opening.scope
@@ -88,10 +106,25 @@ scope_in events = record { allow = []; deny = [] }
 -- the answer to a page for a number
 abbrev pub page_line : List EventData → ℕ → PageData → List ℕ
 page_line events number page =
-    option_map_or (λ fault. refused_line (found_fault_code fault)) (found_fault events number page.place) (added_line (added_by events number page))
+    option_map_or (λ fault. refused_line (found_fault_code fault))
+    (found_fault events number page.place) (added_line (added_by events number page))
 
 abbrev pub after_page : List EventData → ℕ → PageData → List EventData
-after_page events number page = if is_some (found_fault events number page.place) then events else events ++ FoundEvent number page ∷ []
+after_page events number page =
+    if is_some (found_fault events number page.place) then events
+    else events ++ FoundEvent number page ∷ []
+
+-- the answer to the page of a reply for a number, if its place is valid
+abbrev pub reply_line : List EventData → ℕ → PlaceData → List ℕ → List ℕ
+reply_line events number place reply =
+    page_line events number (page_of (scope_in events) place reply)
+
+-- a call leaves the record with the page of a reply for a number, unless it fails: the record
+-- before, the number, the valid place, the reply, and the record after
+abbrev pub RecordsPage : {V E : Type 0} → List EventData → ℕ → PlaceData → List ℕ
+    → List EventData → Result V E → Type 0
+RecordsPage old number place reply new result =
+    OnOk result (new ≡ after_page old number (page_of (scope_in old) place reply))
 
 -- the page of a reply, in the scope of the record
 abbrev pub page_in : List EventData → PlaceData → List ℕ → PageData
@@ -99,16 +132,27 @@ page_in events place reply = page_of (scope_in events) (made_place place) reply
 
 abbrev pub found_line : List EventData → ℕ → PlaceData → List ℕ → List ℕ
 found_line events number place reply =
-    option_map_or (λ fault. refused_line (item_fault_code fault)) (fault_of_place place) (page_line events number (page_in events place reply))
+    option_map_or (λ fault. refused_line (item_fault_code fault)) (fault_of_place place)
+    (page_line events number (page_in events place reply))
 
 abbrev pub after_found : List EventData → ℕ → PlaceData → List ℕ → List EventData
-after_found events number place reply = if is_some (fault_of_place place) then events else after_page events number (page_in events place reply)
+after_found events number place reply =
+    if is_some (fault_of_place place) then events
+    else after_page events number (page_in events place reply)
+
+-- a call leaves the record with the page of a reply for a number, if its place is valid, unless it
+-- fails: the record before, the number, the place, the reply, and the record after
+abbrev pub RecordsReply : {V E : Type 0} → List EventData → ℕ → PlaceData → List ℕ
+    → List EventData → Result V E → Type 0
+RecordsReply old number place reply new result =
+    OnOk result (new ≡ after_found old number place reply)
 
 abbrev pub fail_line : List EventData → ℕ → List ℕ
 fail_line events number = if is_out_in events number then ok_line else refused_line 52
 
 abbrev pub after_fail : List EventData → ℕ → Why → List EventData
-after_fail events number why = if is_out_in events number then events ++ Failed number why ∷ [] else events
+after_fail events number why =
+    if is_out_in events number then events ++ Failed number why ∷ [] else events
 
 -- a text without words is refused with 40
 abbrev pub query_lines : List EventData → List TermData → List ℕ
@@ -149,8 +193,22 @@ abbrev pub after : Stage → Command → List ℕ → Stage
 after (Gathering draft) command reply = after_before draft command
 after (Crawling events) command reply = Crawling (after_in events command reply)
 
+-- the bytes of an answer, or no answer
+abbrev pub IsAnswer : Option (List ℕ) → Option (Vec ℕ) → Type 0
+IsAnswer answer None = answer ≡ None
+IsAnswer answer (Some bytes) = answer ≡ Some bytes.items
+
 -- the result of a command: this answer and this stage, or nothing if the command isn't valid at
 -- this stage
 abbrev pub IsPerformed : Option (List ℕ) → Stage → Option Performed → Type 0
 IsPerformed answer next None = answer ≡ None
 IsPerformed answer next (Some done) = (answer ≡ Some done.answer.items) × (done.stage ≡ next)
+
+-- the result of a command at this stage, with the reply of its block
+abbrev pub Performs : Stage → Command → List ℕ → Option Performed → Type 0
+Performs stage command reply performed =
+    IsPerformed (command_answer stage command reply) (after stage command reply) performed
+
+-- the crawl hasn't started after a command, and these are the rules and seeds
+abbrev pub HasDraft : DraftData → Performed → Type 0
+HasDraft draft done = done.stage ≡ Gathering draft

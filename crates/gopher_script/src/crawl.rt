@@ -1,9 +1,9 @@
 //! The commands of a script during its crawl. Each function returns the bytes of the answer.
 
-ghost use Rattle.std.specs.Prelude.{◌≡◌, ◌≤◌, IfOk, OnOk, length};
-ghost use Rattle.gopher_catalogue.specs.Step.{turn_of, after_turn};
-ghost use Rattle.gopher_page.specs.Page.{page_of};
-ghost use Rattle.gopher_script.specs.Stage.{turn_line, scope_in, page_line, after_page, found_line, after_found, fail_line, after_fail, search_lines, occurs_lines};
+ghost use Rattle.std.specs.Prelude.{◌≡◌, ◌≤◌, OnOk, length};
+ghost use Rattle.gopher_catalogue.specs.Step.{turn_of};
+ghost use Rattle.gopher_script.specs.Answer.{ReturnsBytes};
+ghost use Rattle.gopher_script.specs.Stage.{turn_line, RecordsClaim, page_line, after_page, reply_line, RecordsPage, found_line, RecordsReply, fail_line, after_fail, search_lines, occurs_lines};
 
 use crate::command::{PlaceParts, QueryText};
 use crate::lines::{
@@ -18,9 +18,8 @@ use std::alloc::Global;
 
 /// Claims the next place.
 pub fn claim(alloc: Global, catalogue: &mut Catalogue) -> Result<Vec<u8>, NoMemory>
-    ensures answer { IfOk result (λ answer. answer.items ≡ turn_line (turn_of catalogue.old)) }
-    ensures record { OnOk result
-        (catalogue.new ≡ after_turn catalogue.old (turn_of catalogue.old)) }
+    ensures answer { ReturnsBytes result (turn_line (turn_of catalogue.old)) }
+    ensures record { RecordsClaim catalogue.old catalogue.new result }
 {
     match catalogue.claim()? {
         Turn::Take(claim) => take_line(alloc, claim.number, &claim.place),
@@ -38,10 +37,8 @@ pub fn found(
     reply: &[u8],
 ) -> Result<Vec<u8>, NoMemory>
     requires { length reply.now ≤ MAX_REPLY }
-    ensures answer { IfOk result
-        (λ answer. answer.items ≡ found_line catalogue.old number parts.now reply.now) }
-    ensures record { OnOk result
-        (catalogue.new ≡ after_found catalogue.old number parts.now reply.now) }
+    ensures answer { ReturnsBytes result (found_line catalogue.old number parts.now reply.now) }
+    ensures record { RecordsReply catalogue.old number parts.now reply.now catalogue.new result }
 {
     match parts.make(alloc) {
         Ok(place) => found_at(alloc, catalogue, number, &place, reply),
@@ -57,10 +54,8 @@ fn found_at(
     reply: &[u8],
 ) -> Result<Vec<u8>, NoMemory>
     requires { length reply.now ≤ MAX_REPLY }
-    ensures answer { IfOk result (λ answer. answer.items
-        ≡ page_line catalogue.old number (page_of (scope_in catalogue.old) place.now reply.now)) }
-    ensures record { OnOk result (catalogue.new
-        ≡ after_page catalogue.old number (page_of (scope_in catalogue.old) place.now reply.now)) }
+    ensures answer { ReturnsBytes result (reply_line catalogue.old number place.now reply.now) }
+    ensures record { RecordsPage catalogue.old number place.now reply.now catalogue.new result }
 {
     let page = Page::of(alloc, catalogue.opening().scope(), place, reply)?;
     hand_in(alloc, catalogue, number, page)
@@ -72,7 +67,7 @@ fn hand_in(
     number: u32,
     page: Page,
 ) -> Result<Vec<u8>, NoMemory>
-    ensures answer { IfOk result (λ answer. answer.items ≡ page_line catalogue.old number page) }
+    ensures answer { ReturnsBytes result (page_line catalogue.old number page) }
     ensures record { OnOk result (catalogue.new ≡ after_page catalogue.old number page) }
 {
     match catalogue.found(number, page) {
@@ -97,7 +92,7 @@ pub fn fail(
     number: u32,
     why: Why,
 ) -> Result<Vec<u8>, NoMemory>
-    ensures answer { IfOk result (λ answer. answer.items ≡ fail_line catalogue.old number) }
+    ensures answer { ReturnsBytes result (fail_line catalogue.old number) }
     ensures record { OnOk result (catalogue.new ≡ after_fail catalogue.old number why) }
 {
     match catalogue.fail(number, why) {
@@ -112,7 +107,7 @@ pub fn search(
     catalogue: &Catalogue,
     text: &QueryText<'_>,
 ) -> Result<Vec<u8>, NoMemory>
-    ensures { IfOk result (λ answer. answer.items ≡ search_lines catalogue.now text.now) }
+    ensures { ReturnsBytes result (search_lines catalogue.now text.now) }
 {
     match Query::read(alloc, text.as_slice()) {
         Ok(query) => hits_lines(alloc, &catalogue.search(&query)?),
@@ -123,7 +118,7 @@ pub fn search(
 
 /// Looks up the places of the pages that contain a word.
 pub fn occurs(alloc: Global, catalogue: &Catalogue, word: &[u8]) -> Result<Vec<u8>, NoMemory>
-    ensures { IfOk result (λ answer. answer.items ≡ occurs_lines catalogue.now word.now) }
+    ensures { ReturnsBytes result (occurs_lines catalogue.now word.now) }
 {
     places_lines(alloc, &catalogue.occurrences(word)?)
 }

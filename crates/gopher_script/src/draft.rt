@@ -1,9 +1,8 @@
 //! The rules and seeds of a script before its crawl starts.
 
-ghost use Rattle.std.specs.Prelude.{◌≡◌, [], IfOk};
+ghost use Rattle.std.specs.Prelude.{◌≡◌, []};
 ghost use Rattle.gopher_script.specs.Draft.{DraftData};
-ghost use Rattle.gopher_script.specs.Parts.{fault_of_rule, fault_of_place};
-ghost use Rattle.gopher_script.specs.Stage.{taken_line, with_rule, with_seed};
+ghost use Rattle.gopher_script.specs.Stage.{TakesRule, TakesSeed};
 
 use crate::command::{PlaceParts, RuleParts};
 use crate::lines::refusal;
@@ -47,8 +46,7 @@ pub fn add_rule(
     rules: &mut Vec<Rule>,
     parts: &RuleParts<'_>,
 ) -> Result<Vec<u8>, NoMemory>
-    ensures { IfOk result (λ answer. (answer.items ≡ taken_line (fault_of_rule parts.now))
-        × (rules.new.items ≡ with_rule rules.old.items parts.now)) }
+    ensures { TakesRule rules.old parts.now rules.new result }
 {
     match parts.make(alloc) {
         Ok(rule) => {
@@ -65,8 +63,7 @@ pub fn add_seed(
     seeds: &mut Vec<Place>,
     parts: &PlaceParts<'_>,
 ) -> Result<Vec<u8>, NoMemory>
-    ensures { IfOk result (λ answer. (answer.items ≡ taken_line (fault_of_place parts.now))
-        × (seeds.new.items ≡ with_seed seeds.old.items parts.now)) }
+    ensures { TakesSeed seeds.old parts.now seeds.new result }
 {
     match parts.make(alloc) {
         Ok(seed) => {

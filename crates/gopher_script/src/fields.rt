@@ -1,7 +1,8 @@
 //! The fields of a line, which TABs separate.
 
-ghost use Rattle.std.specs.Prelude.{◌≡◌, ◌∷◌, [], MatchOption};
+ghost use Rattle.std.specs.Prelude.{◌≡◌};
 ghost use Rattle.gopher_item.specs.Menu.{fields_of};
+ghost use Rattle.gopher_script.specs.Fields.{TakesField};
 
 use gopher_item::split_once;
 use std::marker::Model;
@@ -31,8 +32,7 @@ impl<'a> Fields<'a> {
 
     /// Returns the next field, if there is one.
     pub fn next(&mut self) -> Option<&'a [u8]>
-        ensures { MatchOption result ((self.old ≡ []) × (self.new ≡ []))
-            (λ field. self.old ≡ field.now ∷ self.new) }
+        ensures { TakesField self.old self.new result }
     {
         let line = self.rest?;
         let Some((field, rest)) = split_once(b'\t', line) else {

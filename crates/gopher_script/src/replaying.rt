@@ -1,9 +1,8 @@
 //! Replaying scripts: running their statements, and sending the answers (`replay`).
 
-ghost use Rattle.std.specs.Prelude.{◌≡◌, ◌≤◌, ◌⊎◌, [], All, length};
+ghost use Rattle.std.specs.Prelude.{◌≤◌, length};
 ghost use Rattle.gopher_script.specs.Statement.{HasSmallReply};
-ghost use Rattle.gopher_script.specs.Script.{run_statements, script_output, first_stage};
-ghost use Rattle.gopher_script.specs.Replay.{RunEnds, AnswerEnds, StatementEnds, Replays};
+ghost use Rattle.gopher_script.specs.Replay.{SendsAnswer, RunsStatement, RunsScript, Replays};
 
 use crate::draft::Draft;
 use crate::fault::ReplayFault;
@@ -20,8 +19,7 @@ use std::io::{Read, Write};
 /// `WriteFailed` (13): a write failed or took no bytes, or 4,096 writes were interrupted. A prefix
 /// of the bytes was sent.
 pub fn send_all<W: Write>(output: &mut Watched<W>, answer: &[u8]) -> Result<(), ReplayFault>
-    ensures { AnswerEnds answer.now (W.contents output.old.device) (W.contents output.new.device)
-        output.old.failures output.new.failures result }
+    ensures { SendsAnswer W.contents answer.now output.old output.new result }
 {
     match send(output, answer) {
         Ok(()) => Ok(()),
@@ -37,9 +35,7 @@ fn run_statement<W: Write>(
     output: &mut Watched<W>,
 ) -> Result<Stage, ReplayFault>
     requires { HasSmallReply statement }
-    ensures { StatementEnds stage statement.entry
-        (W.contents output.old.device) (W.contents output.new.device)
-        output.old.failures output.new.failures result }
+    ensures { RunsStatement W.contents stage statement.entry output.old output.new result }
 {
     let Statement {
         number,
@@ -64,9 +60,7 @@ fn run_script<W: Write>(
     output: &mut Watched<W>,
 ) -> Result<(), ReplayFault>
     requires { length bytes.now ≤ MAX_REPLY }
-    ensures { RunEnds (script_output bytes.now)
-        (W.contents output.old.device) (W.contents output.new.device)
-        output.old.failures output.new.failures result }
+    ensures { RunsScript W.contents bytes.now output.old output.new result }
 {
     let mut stage = Stage::Gathering(Draft::new(alloc));
     let mut script = Script::of(bytes);
@@ -100,10 +94,7 @@ pub fn replay<R: Read, W: Write>(
     input: &mut Watched<R>,
     output: &mut Watched<W>,
 ) -> Result<(), ReplayFault>
-    ensures { Replays (R.remaining input.old.device) (R.remaining input.new.device)
-        input.old.failures input.new.failures
-        (W.contents output.old.device) (W.contents output.new.device)
-        output.old.failures output.new.failures result }
+    ensures { Replays R.remaining W.contents input.old input.new output.old output.new result }
 {
     match read_reply(alloc, input, MAX_REPLY) {
         Ok(script) => run_script(alloc, &script, output),

@@ -1,9 +1,9 @@
 //! The statements of a script.
 
-ghost use Rattle.std.specs.Prelude.{◌≡◌, ◌+◌, ◌^◌, ◌<◌, ◌≤◌, [], ◌∷◌, true, false, length, IfOk, IfSome, MatchOption};
+ghost use Rattle.std.specs.Prelude.{◌≡◌, ◌+◌, ◌^◌, ◌<◌, true, length, IfOk, IfSome};
 ghost use Rattle.gopher_bytes.specs.Lines.{lines_of};
-ghost use Rattle.gopher_script.specs.Statement.{StatementData};
-ghost use Rattle.gopher_script.specs.Script.{begins_block, block_of, block_reply, reply_after, takes_block, statements_of, statements_after, statements_in};
+ghost use Rattle.gopher_script.specs.Script.{block_of, block_reply, reply_after, takes_block, statements_in};
+ghost use Rattle.gopher_script.specs.Reading.{TakesBlockLine, HasReply, LeavesStatements, HasFewLines, TakesStatement};
 
 use crate::command::Command;
 use crate::reading::read_command;
@@ -62,8 +62,7 @@ struct Block<'a> {
 
 /// Returns the text of the block line at the start of the bytes, and the bytes after that line.
 fn block_line(bytes: &[u8]) -> Option<(&[u8], &[u8])>
-    ensures line { MatchOption result (begins_block (lines_of bytes.now) ≡ false)
-        (λ parts. lines_of bytes.now ≡ (124 ∷ parts.0.now) ∷ lines_of parts.1.now) }
+    ensures line { TakesBlockLine (lines_of bytes.now) result }
     ensures shorter { IfSome result (λ parts. length parts.1.now < length bytes.now) }
 {
     let (line, rest) = first_line(bytes)?;
@@ -76,12 +75,9 @@ fn block_line(bytes: &[u8]) -> Option<(&[u8], &[u8])>
 /// Reads the block at the start of the bytes, which follow the first `before` lines.
 fn take_block<'a>(alloc: Global, before: usize, bytes: &'a [u8]) -> Result<Block<'a>, NoMemory>
     requires { before + length bytes.now < 2 ^ 64 }
-    ensures reply { IfOk result
-        (λ block. block.reply.items ≡ block_reply (block_of (lines_of bytes.now))) }
-    ensures rest { IfOk result (λ block. statements_after block.lines_read block.rest.now
-        ≡ statements_of (before + 1) true (lines_of bytes.now)) }
-    ensures size { IfOk result
-        (λ block. block.lines_read + length block.rest.now ≤ before + length bytes.now) }
+    ensures reply { IfOk result (HasReply (block_reply (block_of (lines_of bytes.now)))) }
+    ensures rest { IfOk result (LeavesStatements before true bytes.now) }
+    ensures size { IfOk result (HasFewLines before bytes.now) }
 {
     let mut reply = Vec::new(alloc);
     let mut lines_read = before;
@@ -107,12 +103,9 @@ fn block_after<'a>(
     bytes: &'a [u8],
 ) -> Result<Block<'a>, NoMemory>
     requires { before + length bytes.now < 2 ^ 64 }
-    ensures reply { IfOk result
-        (λ block. block.reply.items ≡ reply_after command.now (lines_of bytes.now)) }
-    ensures rest { IfOk result (λ block. statements_after block.lines_read block.rest.now
-        ≡ statements_of (before + 1) (takes_block command.now) (lines_of bytes.now)) }
-    ensures size { IfOk result
-        (λ block. block.lines_read + length block.rest.now ≤ before + length bytes.now) }
+    ensures reply { IfOk result (HasReply (reply_after command.now (lines_of bytes.now))) }
+    ensures rest { IfOk result (LeavesStatements before (takes_block command.now) bytes.now) }
+    ensures size { IfOk result (HasFewLines before bytes.now) }
 {
     if let Some(Command::Found(..)) = command {
         return take_block(alloc, before, bytes);
@@ -137,8 +130,7 @@ impl<'a> Script<'a> {
 
     /// Returns the next statement, or `None` after the last one.
     pub fn next(&mut self, alloc: Global) -> Result<Option<Statement<'a>>, NoMemory>
-        ensures { IfOk result (λ next. MatchOption next (self.old ≡ [])
-            (λ statement. self.old ≡ statement ∷ self.new)) }
+        ensures { IfOk result (TakesStatement self.old self.new) }
     {
         let Some((line, rest)) = first_line(self.rest) else {
             return Ok(None);

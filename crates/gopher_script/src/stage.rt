@@ -1,9 +1,9 @@
 //! What each command does before the crawl and during it (`perform`).
 
-ghost use Rattle.std.specs.Prelude.{◌≡◌, ◌≤◌, ◌≢◌, [], IfOk, OnOk, MatchOption, None, Some, length};
+ghost use Rattle.std.specs.Prelude.{◌≡◌, ◌≤◌, ◌≢◌, [], IfOk, OnOk, length};
 ghost use Rattle.gopher_catalogue.specs.Fault.{open_fault_code};
 ghost use Rattle.gopher_script.specs.Answer.{refused_line};
-ghost use Rattle.gopher_script.specs.Stage.{answer_before, after_before, answer_in, after_in, command_answer, after, draft_of, start_line, fault_of_start, after_start, IsPerformed};
+ghost use Rattle.gopher_script.specs.Stage.{draft_of, start_line, fault_of_start, after_start, answer_in, after_in, IsAnswer, Performs, HasDraft};
 
 use crate::command::Command;
 use crate::crawl::{claim, fail, found, occurs, search};
@@ -54,21 +54,17 @@ fn restored(alloc: Global, refused: OpenRefused) -> Result<Performed, NoMemory>
     ensures cause { OnOk result (refused.fault ≢ OpenFault.NoMemory) }
     ensures answer { IfOk result
         (λ done. done.answer.items ≡ refused_line (open_fault_code refused.fault)) }
-    ensures stage { IfOk result (λ done. done.stage
-        ≡ Stage.Gathering (draft_of refused.scope refused.seeds.items)) }
+    ensures stage { IfOk result (HasDraft (draft_of refused.scope refused.seeds.items)) }
 {
-    let OpenRefused {
-        fault,
-        scope,
-        seeds,
-    } = refused;
-    if fault == OpenFault::NoMemory {
+    if refused.fault == OpenFault::NoMemory {
         return Err(NoMemory);
     }
-    let (allow, deny) = scope.into_rules();
+    let answer = refused_line(alloc, refused.fault.code())?;
+    let (allow, deny) = refused.scope.into_rules();
+    let seeds = refused.seeds;
     Ok(Performed {
         stage: Stage::Gathering(Draft { allow, deny, seeds }),
-        answer: refused_line(alloc, fault.code())?,
+        answer,
     })
 }
 
@@ -78,8 +74,7 @@ fn perform_before(
     draft: Draft,
     command: Command<'_>,
 ) -> Result<Option<Performed>, NoMemory>
-    ensures { IfOk result
-        (IsPerformed (answer_before draft command.entry) (after_before draft command.entry)) }
+    ensures { IfOk result (Performs (Stage.Gathering draft) command.entry []) }
 {
     let mut draft = draft;
     let answer = match command {
@@ -99,6 +94,33 @@ fn perform_before(
     Ok(Some(Performed { stage, answer }))
 }
 
+/// Performs a command in the crawl, with the reply of its block. Returns its answer, or `None` for
+/// a command that has to come before the crawl.
+fn answer_in(
+    alloc: Global,
+    catalogue: &mut Catalogue,
+    command: Command<'_>,
+    reply: &[u8],
+) -> Result<Option<Vec<u8>>, NoMemory>
+    requires { length reply.now ≤ MAX_REPLY }
+    ensures answer { IfOk result (IsAnswer (answer_in catalogue.old command.entry reply.now)) }
+    ensures record { OnOk result (catalogue.new ≡ after_in catalogue.old command.entry reply.now) }
+{
+    let answer = match command {
+        Command::Nothing => Vec::new(alloc),
+        Command::Claim => claim(alloc, catalogue)?,
+        Command::Found(number, place) => found(alloc, catalogue, number, &place, reply)?,
+        Command::Fail(number, why) => fail(alloc, catalogue, number, why)?,
+        Command::Search(text) => search(alloc, catalogue, &text)?,
+        Command::Occurs(word) => occurs(alloc, catalogue, word.bytes)?,
+        Command::Status => status_line(alloc, catalogue.status())?,
+        Command::Allow(_) | Command::Deny(_) | Command::Seed(_) | Command::Start(..) => return Ok(
+            None,
+        ),
+    };
+    Ok(Some(answer))
+}
+
 /// Performs a command in the crawl, with the reply of its block. Returns `None` for a command that
 /// has to come before the crawl.
 fn perform_in(
@@ -108,21 +130,11 @@ fn perform_in(
     reply: &[u8],
 ) -> Result<Option<Performed>, NoMemory>
     requires { length reply.now ≤ MAX_REPLY }
-    ensures { IfOk result (IsPerformed (answer_in catalogue command.entry reply.now)
-        (Stage.Crawling (after_in catalogue command.entry reply.now))) }
+    ensures { IfOk result (Performs (Stage.Crawling catalogue) command.entry reply.now) }
 {
     let mut catalogue = catalogue;
-    let answer = match command {
-        Command::Nothing => Vec::new(alloc),
-        Command::Claim => claim(alloc, &mut catalogue)?,
-        Command::Found(number, place) => found(alloc, &mut catalogue, number, &place, reply)?,
-        Command::Fail(number, why) => fail(alloc, &mut catalogue, number, why)?,
-        Command::Search(text) => search(alloc, &catalogue, &text)?,
-        Command::Occurs(word) => occurs(alloc, &catalogue, word.bytes)?,
-        Command::Status => status_line(alloc, catalogue.status())?,
-        Command::Allow(_) | Command::Deny(_) | Command::Seed(_) | Command::Start(..) => return Ok(
-            None,
-        ),
+    let Some(answer) = answer_in(alloc, &mut catalogue, command, reply)? else {
+        return Ok(None);
     };
     let stage = Stage::Crawling(catalogue);
     Ok(Some(Performed { stage, answer }))
@@ -137,8 +149,7 @@ pub fn perform(
     reply: &[u8],
 ) -> Result<Option<Performed>, NoMemory>
     requires { length reply.now ≤ MAX_REPLY }
-    ensures { IfOk result (IsPerformed (command_answer stage command.entry reply.now)
-        (after stage command.entry reply.now)) }
+    ensures { IfOk result (Performs stage command.entry reply.now) }
 {
     match stage {
         Stage::Gathering(draft) => perform_before(alloc, draft, command),

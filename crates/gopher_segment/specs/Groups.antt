@@ -3,6 +3,7 @@ use Rattle.std.specs.Prelude.{ℕ, ◌+◌, ◌-◌, ◌*◌, ◌/◌, ◌%◌, 
 use Rattle.std.specs.List.{AllByRecursion}
 use Rattle.gopher_page.specs.Words.{same_word}
 use Rattle.gopher_page.specs.Numbered.{leading}
+use Rattle.gopher_segment.specs.Rows.{IsJoined}
 
 -- the row of a head: its word, and its list among all lists
 abbrev pub head_row : List (List (ℕ × ℕ)) → List ℕ × ℕ → List ℕ × List (ℕ × ℕ)
@@ -11,6 +12,12 @@ head_row chains head = (head.0, slice_index_or chains head.1 [])
 -- the rows of heads
 abbrev pub rows_of_heads : List (List (ℕ × ℕ)) → List (List ℕ × ℕ) → List (List ℕ × List (ℕ × ℕ))
 rows_of_heads chains heads = map (head_row chains) heads
+
+-- the heads from `start` up to, not including, `end` are those of one word, and become one row with
+-- these postings
+abbrev pub AreOneRow : List (List (ℕ × ℕ)) → List (List ℕ × ℕ) → ℕ → ℕ → List (ℕ × ℕ) → Type 0
+AreOneRow chains heads start end postings =
+    IsJoined (rows_of_heads chains heads) start end postings
 
 -- the rows of heads, from the last head to the first
 abbrev pub latest : List (List (ℕ × ℕ)) → List (List ℕ × ℕ) → List (List ℕ × List (ℕ × ℕ))

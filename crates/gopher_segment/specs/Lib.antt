@@ -1,7 +1,10 @@
+pub mod Cells
 pub mod Chains
 pub mod Groups
+pub mod PostingList
 pub mod Postings
 pub mod Rows
 pub mod Segment
 pub mod SegmentRows
+pub mod Sharing
 pub mod Ranks

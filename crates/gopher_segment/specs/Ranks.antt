@@ -19,6 +19,12 @@ pub record AreNumbered (pages : List PageData) (placed : List (PlaceData × ℕ)
   pub place : (k : ℕ) (d : PageData) (e : PlaceData × ℕ) → k < length pages
       → (slice_index_or placed k e).0 ≡ (slice_index_or pages k d).place
 
+-- each index in the list is below the list's length
+abbrev pub HaveIndices : List (PlaceData × ℕ) → Type 0
+HaveIndices sorted =
+    (k : ℕ) (e : PlaceData × ℕ) → k < length sorted
+    → (slice_index_or sorted k e).1 < length sorted
+
 -- the rank of an index is one of its positions in the list, at most 65,535
 pub record HasPosition (sorted : List (PlaceData × ℕ)) (ranks : List ℕ) (index : ℕ) : Type 0 where
   pub at : ℕ

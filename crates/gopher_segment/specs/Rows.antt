@@ -1,6 +1,6 @@
 -- Rows: words, each with its postings.
 use Rattle.std.specs.Prelude.{ℕ, ◌+◌, ◌-◌, ◌^◌, ◌≡◌, ◌<◌, ◌≤◌, Bool, true, false, List, [], ◌∷◌, ◌++◌, map, drop, Option, Some, None, length, slice_index_or, if◌then◌else◌}
-use Rattle.std.specs.List.{AllByRecursion}
+use Rattle.std.specs.List.{AllByRecursion, flat_map}
 use Rattle.std.specs.List.Sorted.{IsStrictlySortedBy}
 use Rattle.std.specs.Ordering.{nat_cmp}
 use Rattle.std.specs.Cmp.Lexicographic.{slice_cmp}
@@ -8,7 +8,7 @@ use Rattle.std.specs.declared.cmp.Ordering.TheVariants.{Less}
 use Rattle.gopher_page.specs.Words.{same_word}
 use Rattle.gopher_page.specs.Counts.{is_before, is_meant}
 use Rattle.gopher_page.specs.Numbered.{IsNumbered}
-use Rattle.gopher_segment.specs.Postings.{count_in, pieces}
+use Rattle.gopher_segment.specs.Postings.{AreWithin, RunsData, count_in, pieces}
 
 abbrev pub words_of_rows : List (List ℕ × List (ℕ × ℕ)) → List (List ℕ)
 words_of_rows rows = map (λ row. row.0) rows
@@ -26,15 +26,30 @@ rows_count test page [] = 0
 rows_count test page (row ∷ rows) =
     (if test row.0 then count_in page row.1 else 0) + rows_count test page rows
 
+-- the number of occurrences, in a page, of the sought word or, if it is a prefix, of all words
+-- that begin with it
+abbrev pub rows_meant : List (List ℕ × List (ℕ × ℕ)) → Bool → List ℕ → ℕ → ℕ
+rows_meant rows is_prefix sought page = rows_count (is_meant is_prefix sought) page rows
+
 -- the postings of a word; none if no row has the word
 abbrev pub postings_of : List ℕ → List (List ℕ × List (ℕ × ℕ)) → List (ℕ × ℕ)
 postings_of word [] = []
 postings_of word (row ∷ rows) =
     (if same_word word row.0 then row.1 else []) ++ postings_of word rows
 
+-- each posting of each word is of one of `size` consecutive pages, the first of which has this
+-- number
+abbrev pub AreRowsWithin : ℕ → ℕ → List (List ℕ × List (ℕ × ℕ)) → Type 0
+AreRowsWithin first size rows = (word : List ℕ) → AreWithin first size (postings_of word rows)
+
 -- the word of the row at an index comes before the sought one
 abbrev pub is_before_at : List (List ℕ × List (ℕ × ℕ)) → List ℕ → ℕ → Bool
 is_before_at rows sought index = is_before (slice_index_or (words_of_rows rows) index []) sought
+
+-- no word from an index on comes before the sought one
+abbrev pub NoneIsBefore : List (List ℕ × List (ℕ × ℕ)) → List ℕ → ℕ → Type 0
+NoneIsBefore rows sought start =
+    (k : ℕ) → start ≤ k → k < length rows → is_before_at rows sought k ≡ false
 
 -- the word of the row at an index equals the sought one or, if that is a prefix, begins with it
 abbrev pub is_meant_at : List (List ℕ × List (ℕ × ℕ)) → Bool → List ℕ → ℕ → Bool
@@ -91,6 +106,11 @@ abbrev pub taken : List ℕ → List (List ℕ × List (ℕ × ℕ)) → List (�
 taken word [] = []
 taken word (row ∷ rows) = if same_word row.0 word then row.1 else []
 
+-- the postings of a word, from each table that begins with it, were appended to the run that isn't
+-- ended yet
+abbrev pub TakesRuns : List ℕ → List (List (List ℕ × List (ℕ × ℕ))) → RunsData → RunsData → Type 0
+TakesRuns word tables old new = new.begun ≡ old.begun ++ flat_map (taken word) tables
+
 -- none of the tables before an index begins with a word
 abbrev pub LackBefore : List ℕ → ℕ → List (List (List ℕ × List (ℕ × ℕ))) → Type 0
 LackBefore word first tables = (k : ℕ) → k < first → is_at word (slice_index_or tables k []) ≡ false
@@ -120,6 +140,18 @@ abbrev pub tables_count : (List ℕ → Bool) → ℕ → List (List (List ℕ �
 tables_count test page [] = 0
 tables_count test page (rows ∷ tables) = rows_count test page rows + tables_count test page tables
 
+-- the rows count in each page what the tables together count, for each test of words
+abbrev pub HaveCountsOf : List (List (List ℕ × List (ℕ × ℕ))) → List (List ℕ × List (ℕ × ℕ))
+    → Type 0
+HaveCountsOf tables rows =
+    (test : List ℕ → Bool) (page : ℕ) → rows_count test page rows ≡ tables_count test page tables
+
+-- the rows have the postings of each word from all tables, in order
+abbrev pub HavePostingsOf : List (List (List ℕ × List (ℕ × ℕ))) → List (List ℕ × List (ℕ × ℕ))
+    → Type 0
+HavePostingsOf tables rows =
+    (word : List ℕ) → postings_of word rows ≡ flat_map (postings_of word) tables
+
 -- the number of rows of all tables
 abbrev pub rows_left : List (List (List ℕ × List (ℕ × ℕ))) → ℕ
 rows_left [] = 0
@@ -147,6 +179,13 @@ pub record TellAlike (rows others : List (List ℕ × List (ℕ × ℕ))) : Type
   pub counts : (test : List ℕ → Bool) (page : ℕ)
       → rows_count test page others ≡ rows_count test page rows
   pub runs : (word : List ℕ) → postings_of word others ≡ postings_of word rows
+
+-- if some rows tell the same as the old ones, then the new ones tell the same as these rows with
+-- one more in front
+abbrev pub AddsRow : List ℕ × List (ℕ × ℕ) → List (List ℕ × List (ℕ × ℕ))
+    → List (List ℕ × List (ℕ × ℕ)) → Type 0
+AddsRow row old new =
+    (rows : List (List ℕ × List (ℕ × ℕ))) → TellAlike rows old → TellAlike (row ∷ rows) new
 
 -- the rows after neighbours with equal words are joined, beginning with this row
 abbrev pub joined_from : List ℕ × List (ℕ × ℕ) → List (List ℕ × List (ℕ × ℕ))

@@ -1,6 +1,7 @@
 //! Lists of postings that share their last parts.
 
-ghost use Rattle.std.specs.Prelude.{◌≡◌, [], ◌∷◌, ◌++◌, length, slice_index_or, IfOk, OnOk, OnErr};
+ghost use Rattle.std.specs.Prelude.{◌≡◌, [], length, IfOk, OnOk, OnErr};
+ghost use Rattle.gopher_segment.specs.Chains.{AddsList, with_list};
 ghost use Rattle.gopher_segment.specs.Postings.{pieces};
 
 use crate::runs::Runs;
@@ -46,8 +47,7 @@ impl Chains {
     /// Appends a list: the postings of a page that has the word `count` times, then those of the
     /// list `next`, if there is one.
     pub fn push(&mut self, page: u16, count: u32, next: u32) -> Result<(), NoMemory>
-        ensures added { OnOk result (self.new ≡ self.old
-            ++ (pieces page count ++ slice_index_or self.old next []) ∷ []) }
+        ensures added { OnOk result (self.new ≡ with_list self.old (pieces page count) next) }
         ensures err { OnErr result (self.new ≡ self.old) }
     {
         self.links.push((page, count, next))?;
@@ -59,8 +59,7 @@ impl Chains {
     /// If out of memory, the run can end with a prefix of them.
     pub fn add_to(&self, list: u32, runs: &mut Runs) -> Result<(), NoMemory>
         ensures whole { runs.new.whole ≡ runs.old.whole }
-        ensures begun { OnOk result (runs.new.begun
-            ≡ runs.old.begun ++ slice_index_or self.now list []) }
+        ensures begun { OnOk result (AddsList self.now list runs.old runs.new) }
     {
         let mut at = list as usize;
         while at < self.links.len() {

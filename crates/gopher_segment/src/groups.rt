@@ -1,7 +1,7 @@
 //! Rows grouped by their words.
 
-ghost use Rattle.std.specs.Prelude.{◌≡◌, ℕ, ◌*◌, ◌/◌, ◌%◌, ◌^◌, ◌<◌, [], ◌∷◌, List, IfOk, OnOk};
-ghost use Rattle.gopher_segment.specs.Rows.{TellAlike};
+ghost use Rattle.std.specs.Prelude.{◌≡◌, ◌<◌, [], IfOk, OnOk};
+ghost use Rattle.gopher_segment.specs.Rows.{AddsRow, TellAlike};
 ghost use Rattle.gopher_segment.specs.Groups.{slot_of_number};
 
 use crate::chains::Chains;
@@ -66,8 +66,7 @@ impl<'a> Groups<'a> {
     ///
     /// `NoMemory` (90): out of memory, or there would be over 4,294,967,295 rows (`MAX_PACKED`).
     pub fn add(&mut self, row: &Row<'a>) -> Result<(), NoMemory>
-        ensures { OnOk result ((rows : List (List ℕ × List (ℕ × ℕ)))
-            → TellAlike rows self.old → TellAlike (row.now ∷ rows) self.new) }
+        ensures { OnOk result (AddsRow row.now self.old self.new) }
     {
         if self.chains.len() >= MAX_PACKED || self.heads.len() >= MAX_PACKED {
             return Err(NoMemory);

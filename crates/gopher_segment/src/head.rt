@@ -1,10 +1,11 @@
 //! Words with their lists of postings, sorted for a table.
 
-ghost use Rattle.std.specs.Prelude.{◌≡◌, ◌++◌, [], Some, nat_eq, refl, slice_index_or, OnOk};
+ghost use Rattle.std.specs.Prelude.{◌≡◌, Some, nat_eq, refl, OnOk};
 ghost use Rattle.std.specs.Ordering.{nat_cmp};
 ghost use Rattle.std.specs.Cmp;
 ghost use Rattle.std.specs.Cmp.Lexicographic.{pointwise, slice_cmp, nat_list_eq_equiv, nat_list_cmp_total, texts_ties, texts_po};
 ghost use Rattle.gopher_page.specs.Words.{same_word};
+ghost use Rattle.gopher_segment.specs.Chains.{AddsList};
 
 use crate::chains::Chains;
 use crate::runs::Runs;
@@ -48,8 +49,7 @@ impl<'a> Head<'a> {
     /// If out of memory, the run can end with a prefix of them.
     pub fn add_to(&self, chains: &Chains, runs: &mut Runs) -> Result<(), NoMemory>
         ensures whole { runs.new.whole ≡ runs.old.whole }
-        ensures begun { OnOk result (runs.new.begun
-            ≡ runs.old.begun ++ slice_index_or chains.now self.now.1 []) }
+        ensures begun { OnOk result (AddsList chains.now self.now.1 runs.old runs.new) }
     {
         chains.add_to(self.list, runs)
     }

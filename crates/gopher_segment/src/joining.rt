@@ -4,8 +4,8 @@ ghost use Rattle.std.specs.Prelude.{◌≡◌, ◌<◌, ◌≤◌, [], length, I
 ghost use Rattle.std.specs.Ordering.{nat_cmp};
 ghost use Rattle.std.specs.Cmp.Lexicographic.{slice_cmp};
 ghost use Rattle.std.specs.List.Sorted.{IsSorted};
-ghost use Rattle.gopher_segment.specs.Rows.{AreInOrder, TellAlike, joined_rows, IsJoined};
-ghost use Rattle.gopher_segment.specs.Groups.{rows_of_heads};
+ghost use Rattle.gopher_segment.specs.Rows.{AreInOrder, TellAlike, joined_rows};
+ghost use Rattle.gopher_segment.specs.Groups.{AreOneRow, rows_of_heads};
 
 use crate::chains::Chains;
 use crate::groups::{Groups, grouped};
@@ -54,8 +54,7 @@ fn take_word(
     ensures whole { runs.new.whole ≡ runs.old.whole }
     ensures forward { IfOk result (λ end. start < end) }
     ensures inside { IfOk result (λ end. end ≤ length heads.now) }
-    ensures joined { IfOk result (λ end.
-        IsJoined (rows_of_heads chains.now heads.now) start end runs.new.begun) }
+    ensures joined { IfOk result (λ end. AreOneRow chains.now heads.now start end runs.new.begun) }
 {
     heads[start].add_to(chains, runs)?;
     let mut end = start + 1;

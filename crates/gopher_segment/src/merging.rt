@@ -1,9 +1,8 @@
 //! Merging the tables of consecutive segments into one.
 
-ghost use Rattle.std.specs.Prelude.{◌≡◌, ℕ, Bool, ◌<◌, List, None, ◌++◌, length, map, drop, option_map, IfOk, IfSome, OnOk};
-ghost use Rattle.std.specs.List.{flat_map};
+ghost use Rattle.std.specs.Prelude.{◌≡◌, ◌<◌, None, ◌++◌, length, map, drop, option_map, IfOk, IfSome, OnOk};
 ghost use Rattle.std.specs.Option.{option_copied};
-ghost use Rattle.gopher_segment.specs.Rows.{AreInOrder, rows_count, postings_of, first_word, first_run, IsNumberOf, is_at, LackBefore, is_lower, passed, taken, lowest_from, AreAllInOrder, tables_count};
+ghost use Rattle.gopher_segment.specs.Rows.{AreInOrder, first_word, first_run, IsNumberOf, is_at, LackBefore, is_lower, passed, taken, lowest_from, AreAllInOrder, HaveCountsOf, HavePostingsOf, TakesRuns};
 
 use crate::runs::{Run, Runs};
 use crate::table::Table;
@@ -187,8 +186,7 @@ fn take_runs(
     requires { LackBefore word.now first cursors.old }
     ensures cursors { OnOk result (cursors.new ≡ map (passed word.now) cursors.old) }
     ensures whole { runs.new.whole ≡ runs.old.whole }
-    ensures begun { OnOk result (runs.new.begun
-        ≡ runs.old.begun ++ flat_map (taken word.now) cursors.old) }
+    ensures begun { OnOk result (TakesRuns word.now cursors.old runs.old runs.new) }
 {
     for index in first..cursors.len() {
         take_run(word, &mut cursors[index], runs)?;
@@ -228,10 +226,8 @@ fn room_of(cursors: &[Cursor<'_>]) -> Room {
 pub(crate) fn merge(alloc: Global, cursors: &mut [Cursor<'_>]) -> Result<Table, NoMemory>
     requires { AreAllInOrder cursors.old }
     ensures order { IfOk result (λ table. AreInOrder table) }
-    ensures counts { IfOk result (λ table. (test : List ℕ → Bool) (page : ℕ)
-        → rows_count test page table ≡ tables_count test page cursors.old) }
-    ensures runs { IfOk result (λ table.
-        (word : List ℕ) → postings_of word table ≡ flat_map (postings_of word) cursors.old) }
+    ensures counts { IfOk result (λ table. HaveCountsOf cursors.old table) }
+    ensures runs { IfOk result (λ table. HavePostingsOf cursors.old table) }
 {
     let room = room_of(cursors);
     let mut words = ByteStrings::with_capacity(alloc, room.rows, room.bytes)?;

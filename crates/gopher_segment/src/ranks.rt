@@ -1,11 +1,11 @@
 //! The ranks of pages in place order, by which searches compare the places of a segment's pages.
 
-ghost use Rattle.std.specs.Prelude.{◌≡◌, ℕ, ◌<◌, Some, length, map, refl, slice_index_or, IfOk};
+ghost use Rattle.std.specs.Prelude.{Some, map, refl, IfOk};
 ghost use Rattle.std.specs.Arc.{arc_value};
 ghost use Rattle.std.specs.Cmp;
 ghost use Rattle.gopher_item.specs.Laws.{same_place_equiv, place_cmp_total, same_place_ties};
-ghost use Rattle.gopher_item.specs.Place.{PlaceData, place_cmp, same_place};
-ghost use Rattle.gopher_segment.specs.Ranks.{AreNumbered, AreRanks, AreScattered};
+ghost use Rattle.gopher_item.specs.Place.{place_cmp, same_place};
+ghost use Rattle.gopher_segment.specs.Ranks.{AreNumbered, AreRanks, AreScattered, HaveIndices};
 
 use gopher_bytes::NoMemory;
 use gopher_item::Place;
@@ -88,8 +88,7 @@ fn placed_of<'a>(alloc: Global, pages: &'a [Arc<Page>]) -> Result<Vec<Placed<'a>
 
 // The position of each index in a list of places. Positions from 65,535 on count as that.
 fn positions(alloc: Global, sorted: &[Placed<'_>]) -> Result<Vec<u16>, NoMemory>
-    requires { (k : ℕ) (e : PlaceData × ℕ) → k < length sorted.now
-        → (slice_index_or sorted.now k e).1 < length sorted.now }
+    requires { HaveIndices sorted.now }
     ensures { IfOk result (λ ranks. AreScattered sorted.now ranks.items) }
 {
     let mut ranks = vec![in alloc; 0; sorted.len()]?;

@@ -1,8 +1,9 @@
 //! A row: one word of one page, with its count.
 
-ghost use Rattle.std.specs.Prelude.{◌≡◌, [], ◌∷◌, ◌++◌, slice_index_or, OnOk, OnErr};
+ghost use Rattle.std.specs.Prelude.{◌≡◌, OnOk, OnErr};
 ghost use Rattle.gopher_page.specs.Words.{same_word};
 ghost use Rattle.gopher_page.specs.Numbered.{IsNumbered};
+ghost use Rattle.gopher_segment.specs.Chains.{with_list};
 ghost use Rattle.gopher_segment.specs.Postings.{pieces};
 
 use crate::chains::Chains;
@@ -67,8 +68,7 @@ impl<'a> Row<'a> {
 
     /// Appends a list: the postings of the row, then those of the list `next`, if there is one.
     pub fn add_to_chains(&self, next: u32, chains: &mut Chains) -> Result<(), NoMemory>
-        ensures added { OnOk result (chains.new ≡ chains.old
-            ++ (self.now.1 ++ slice_index_or chains.old next []) ∷ []) }
+        ensures added { OnOk result (chains.new ≡ with_list chains.old self.now.1 next) }
         ensures err { OnErr result (chains.new ≡ chains.old) }
     {
         chains.push(self.number, self.count, next)

@@ -1,7 +1,8 @@
 //! The postings of each word, packed in one list: appending them, and adding their counts to cells.
 
-ghost use Rattle.std.specs.Prelude.{◌≡◌, ℕ, ◌+◌, ◌^◌, ◌<◌, ◌≤◌, Some, [], ◌∷◌, ◌++◌, ◌-◌, length, take, drop, slice_get, slice_index, ◌==◌, if◌then◌else◌, IfOk, OnOk};
+ghost use Rattle.std.specs.Prelude.{◌≡◌, ◌+◌, ◌<◌, ◌≤◌, Some, [], ◌∷◌, ◌++◌, ◌-◌, length, take, drop, slice_get, ◌==◌, if◌then◌else◌, IfOk, OnOk};
 ghost use Rattle.std.specs.List.{zip};
+ghost use Rattle.gopher_segment.specs.Cells.{AreRaised, HaveRoom};
 ghost use Rattle.gopher_segment.specs.Postings.{AreWithin, count_in, one_run, pieces};
 
 use gopher_bytes::{MAX_PACKED, NoMemory, range_at, span_at};
@@ -32,10 +33,8 @@ impl<'a> Model for Run<'a> {
 fn add_count(cells: &mut [u32], first: usize, page: usize, count: u32)
     requires from { first ≤ page }
     requires within { page < first + length cells.old }
-    requires room { (k : ℕ) → k < length cells.old
-        → slice_index cells.old k + (if page == first + k then count else 0) < 2 ^ 32 }
-    ensures { (k : ℕ) → k < length cells.old → slice_index cells.new k
-        ≡ slice_index cells.old k + (if page == first + k then count else 0) }
+    requires room { HaveRoom first cells.old (λ number. if page == number then count else 0) }
+    ensures { AreRaised first cells.old cells.new (λ number. if page == number then count else 0) }
 {
     cells[page - first] += count;
 }
@@ -62,10 +61,8 @@ impl<'a> Run<'a> {
     /// Adds the counts to the cells of their pages. The first cell is that of page `first`.
     pub fn add_to(&self, first: usize, cells: &mut [u32])
         requires within { AreWithin first (length cells.old) self.now }
-        requires room { (k : ℕ) → k < length cells.old
-            → slice_index cells.old k + count_in (first + k) self.now < 2 ^ 32 }
-        ensures { (k : ℕ) → k < length cells.old → slice_index cells.new k
-            ≡ slice_index cells.old k + count_in (first + k) self.now }
+        requires room { HaveRoom first cells.old (λ page. count_in page self.now) }
+        ensures { AreRaised first cells.old cells.new (λ page. count_in page self.now) }
     {
         for (index, page) in self.pages.iter().enumerate() {
             add_count(

@@ -1,13 +1,13 @@
 //! `Segment`: consecutive pages with a table of their words; made of pages, searched by word.
 
-ghost use Rattle.std.specs.Prelude.{◌≡◌, ◌+◌, ◌≤◌, ◌-◌, ◌^◌, false, ◌++◌, length, map, min, replicate, IfOk, OnOk};
+ghost use Rattle.std.specs.Prelude.{◌≡◌, ◌+◌, ◌≤◌, ◌-◌, ◌^◌, length, map, min, replicate, IfOk};
 ghost use Rattle.std.specs.Arc.{arc_value};
-ghost use Rattle.std.specs.List.{All, zip};
-ghost use Rattle.gopher_page.specs.Counts.{count_meant};
-ghost use Rattle.gopher_segment.specs.Postings.{run_of};
+ghost use Rattle.std.specs.List.{All};
+ghost use Rattle.gopher_segment.specs.PostingList.{IsPostingListOf};
 ghost use Rattle.gopher_segment.specs.Ranks.{AreRanks};
 ghost use Rattle.gopher_segment.specs.Segment.{pages_of, meant_counts};
 ghost use Rattle.gopher_segment.specs.SegmentRows.{AreSmall, AreRowsOf, AreConsecutive, AreTablesOf};
+ghost use Rattle.gopher_segment.specs.Sharing.{SharesPages};
 
 use crate::gathering::rows_of;
 use crate::joining::join;
@@ -78,9 +78,8 @@ impl Segment {
         segments: &[Arc<Segment>],
     ) -> Result<Segment, NoMemory>
         requires { AreConsecutive first (map arc_value segments.now) }
-        ensures first { IfOk result (λ segment. segment.first ≡ first) }
-        ensures pages { IfOk result (λ segment.
-            segment.pages ≡ pages_of (map arc_value segments.now)) }
+        ensures first { IfOk result (λ made. made.first ≡ first) }
+        ensures pages { IfOk result (λ made. made.pages ≡ pages_of (map arc_value segments.now)) }
     {
         let mut cursors = cursors_of(alloc, segments)?;
         let table = merge(alloc, &mut cursors)?;
@@ -124,8 +123,7 @@ impl Segment {
     /// `cells` has a 0 for each page.
     pub fn spread(&self, is_prefix: bool, sought: &[u8], cells: &mut [u32])
         requires { cells.old ≡ replicate (length self.now.pages) 0 }
-        ensures counts { cells.new
-            ≡ map (λ page. count_meant is_prefix sought.now page.counts) self.now.pages }
+        ensures counts { cells.new ≡ meant_counts is_prefix sought.now self.now.pages }
         ensures few { All (λ count. count ≤ MAX_REPLY) cells.new }
     {
         self.table.spread(is_prefix, sought, self.first, cells);
@@ -133,8 +131,7 @@ impl Segment {
 
     /// Returns the posting list of a word, which is empty if no page contains it.
     pub fn postings(&self, word: &[u8]) -> Postings<'_>
-        ensures run { zip result.numbers.now result.counts.now
-            ≡ run_of result.first (meant_counts false word.now self.now.pages) }
+        ensures run { IsPostingListOf word.now self.now.pages result }
         ensures beside { length result.counts.now ≡ length result.numbers.now }
     {
         let (numbers, counts) = self.table.find(word).parts();
@@ -168,8 +165,7 @@ pub fn pages_len(segments: &[Arc<Segment>]) -> usize
 }
 
 fn shared_pages(alloc: Global, segments: &[Arc<Segment>]) -> Result<Vec<Arc<Page>>, NoMemory>
-    ensures pages { IfOk result (λ pages.
-        map arc_value pages.items ≡ pages_of (map arc_value segments.now)) }
+    ensures pages { IfOk result (λ pages. SharesPages segments.now pages.items) }
     ensures small { IfOk result (λ pages. AreSmall (map arc_value pages.items)) }
 {
     let mut pages = Vec::with_capacity(alloc, pages_len(segments))?;

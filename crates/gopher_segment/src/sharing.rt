@@ -1,7 +1,8 @@
 //! Shared values in several lists.
 
-ghost use Rattle.std.specs.Prelude.{◌≡◌, ◌++◌, length, map, take, IfOk, OnOk, OnErr};
+ghost use Rattle.std.specs.Prelude.{◌≡◌, length, map, take, IfOk, OnOk, OnErr};
 ghost use Rattle.std.specs.Arc.{arc_value};
+ghost use Rattle.gopher_segment.specs.Sharing.{SharesItems};
 
 use gopher_bytes::NoMemory;
 use std::alloc::Global;
@@ -10,8 +11,7 @@ use std::sync::Arc;
 // Appends the items to a list, which then shares them. If out of memory, the list can end with some
 // of them.
 fn push_shared<T: Drop>(items: &[Arc<T>], list: &mut Vec<Arc<T>>) -> Result<(), NoMemory>
-    ensures shared { OnOk result (map arc_value list.new.items
-        ≡ map arc_value list.old.items ++ map arc_value items.now) }
+    ensures shared { OnOk result (SharesItems items.now list.old.items list.new.items) }
     ensures kept { take (length list.old.items) list.new.items ≡ list.old.items }
 {
     list.reserve(items.len())?;
@@ -25,8 +25,7 @@ fn push_shared<T: Drop>(items: &[Arc<T>], list: &mut Vec<Arc<T>>) -> Result<(), 
 ///
 /// If out of memory, the list stays unchanged.
 pub fn share<T: Drop>(items: &[Arc<T>], list: &mut Vec<Arc<T>>) -> Result<(), NoMemory>
-    ensures shared { OnOk result (map arc_value list.new.items
-        ≡ map arc_value list.old.items ++ map arc_value items.now) }
+    ensures shared { OnOk result (SharesItems items.now list.old.items list.new.items) }
     ensures refused { OnErr result (list.new.items ≡ list.old.items) }
 {
     let length = list.len();

@@ -1,6 +1,7 @@
 //! `Size`: how large a segment is, and whether one can be as large.
 
-ghost use Rattle.std.specs.Prelude.{◌≡◌, ◌+◌, ◌-◌, ◌^◌, ◌&&◌, not, nat_lt, length, min};
+ghost use Rattle.std.specs.Prelude.{◌≡◌, ◌+◌, ◌-◌, ◌^◌, length, min};
+ghost use Rattle.gopher_segment.specs.Segment.{segment_fits};
 
 use crate::segment::Segment;
 use gopher_bytes::MAX_PACKED;
@@ -47,8 +48,7 @@ impl Size {
     /// Returns whether a segment can have this size: at most 16,384 pages (`MAX_PAGES`),
     /// 4,294,967,295 bytes of words (`MAX_PACKED`) and 8,388,608 postings (`MAX_POSTINGS`).
     pub fn fits(self) -> bool
-        ensures { result ≡ (not (nat_lt 16384 self.pages) && not (nat_lt 4294967295 self.bytes)
-            && not (nat_lt 8388608 self.postings)) }
+        ensures { result ≡ segment_fits self.pages self.bytes self.postings }
     {
         self.pages <= MAX_PAGES && self.bytes <= MAX_PACKED && self.postings <= MAX_POSTINGS
     }

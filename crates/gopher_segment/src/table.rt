@@ -1,10 +1,10 @@
 //! `Table`, the rows of a segment: each is a word with its postings. Finds the row of a word.
 
-ghost use Rattle.std.specs.Prelude.{◌≡◌, true, false, ℕ, ◌+◌, ◌^◌, ◌<◌, ◌≤◌, List, Some, length, slice_get, slice_index};
+ghost use Rattle.std.specs.Prelude.{◌≡◌, true, ℕ, ◌<◌, ◌≤◌, Some, length, slice_get};
 ghost use Rattle.std.specs.List.{zip};
 ghost use Rattle.gopher_page.specs.Counts.{is_meant};
-ghost use Rattle.gopher_segment.specs.Postings.{AreWithin};
-ghost use Rattle.gopher_segment.specs.Rows.{words_of_rows, runs_of_rows, is_before_at, is_meant_at, AreInOrder, AreMeant, rows_count, postings_of};
+ghost use Rattle.gopher_segment.specs.Cells.{AreRaised, HaveRoom};
+ghost use Rattle.gopher_segment.specs.Rows.{words_of_rows, runs_of_rows, is_before_at, is_meant_at, AreInOrder, AreMeant, AreRowsWithin, NoneIsBefore, rows_count, rows_meant, postings_of};
 
 use crate::runs::{Run, Runs};
 use gopher_bytes::ByteStrings;
@@ -94,8 +94,7 @@ impl Table {
         requires { AreInOrder self.now }
         ensures within { result ≤ length self.now }
         ensures before { (k : ℕ) → k < result → is_before_at self.now sought.now k ≡ true }
-        ensures after { (k : ℕ) → result ≤ k → k < length self.now
-            → is_before_at self.now sought.now k ≡ false }
+        ensures after { NoneIsBefore self.now sought.now result }
     {
         let mut low = 0;
         let mut high = self.len();
@@ -133,8 +132,7 @@ impl Table {
     fn words_meant(&self, is_prefix: bool, sought: &[u8], start: usize) -> usize
         requires order { AreInOrder self.now }
         requires start { start ≤ length self.now }
-        requires from { (k : ℕ) → start ≤ k → k < length self.now
-            → is_before_at self.now sought.now k ≡ false }
+        requires from { NoneIsBefore self.now sought.now start }
         ensures { AreMeant self.now is_prefix sought.now start result }
     {
         let mut low = start;
@@ -154,13 +152,9 @@ impl Table {
     /// all words that begin with it. The first cell is that of page `first`.
     pub fn spread(&self, is_prefix: bool, sought: &[u8], first: usize, cells: &mut [u32])
         requires order { AreInOrder self.now }
-        requires within { (word : List ℕ)
-            → AreWithin first (length cells.old) (postings_of word self.now) }
-        requires fits { (k : ℕ) → k < length cells.old
-            → slice_index cells.old k + rows_count (λ word. true) (first + k) self.now < 2 ^ 32 }
-        ensures { (k : ℕ) → k < length cells.old → slice_index cells.new k
-            ≡ slice_index cells.old k + rows_count (is_meant is_prefix sought.now)
-            (first + k) self.now }
+        requires within { AreRowsWithin first (length cells.old) self.now }
+        requires fits { HaveRoom first cells.old (λ page. rows_count (λ word. true) page self.now) }
+        ensures { AreRaised first cells.old cells.new (rows_meant self.now is_prefix sought.now) }
     {
         let start = self.words_before(sought);
         let end = self.words_meant(is_prefix, sought, start);

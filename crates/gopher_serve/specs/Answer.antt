@@ -1,7 +1,8 @@
 -- The reply to a request line: a function of the tree's files, the server's address, the line, and
 -- the hits of its search.
-use Rattle.std.specs.Prelude.{◌≡◌, ℕ, Bool, nat_eq, codes, List, [], ◌∷◌, Option, None, Some, if◌then◌else◌}
+use Rattle.std.specs.Prelude.{◌≡◌, ℕ, ◌<◌, Bool, nat_eq, codes, List, [], ◌∷◌, length, Option, None, Some, MatchOption, if◌then◌else◌}
 use Rattle.std.specs.Cmp.Lexicographic.{pointwise}
+use Rattle.std.specs.Global.{Vec}
 use mathlib.Core.List.{IsPrefix}
 use Rattle.gopher_item.specs.Place.{HomeData}
 use Rattle.gopher_item.specs.Request.{request_fault, request_of}
@@ -11,7 +12,10 @@ use Rattle.gopher_page.specs.Query.{TermData, query_of}
 use Rattle.gopher_index.specs.declared.hit.Hit.{Hit}
 use Rattle.gopher_tree.specs.Files.{File}
 use Rattle.gopher_tree.specs.Reply.{error_bytes, tree_reply}
+use Rattle.gopher_replies.specs.Answer.{answer_bytes}
 use Rattle.gopher_replies.specs.Hits.{hits_bytes}
+use Rattle.gopher_replies.specs.Kept.{RepliesData}
+use Rattle.gopher_replies.specs.declared.answer.Answer.{Answer}
 use Rattle.gopher_catalogue.specs.Legal.{IsLegal}
 use Rattle.gopher_crew.specs.Crew.{PassData, hits_of}
 
@@ -34,6 +38,11 @@ abbrev pub asked : Option (List ℕ) → List TermData
 asked None = []
 asked (Some text) = query_of text
 
+-- a query that asks for these terms; there is none if there are no terms
+abbrev pub IsQueryFor : List TermData → Option (List TermData) → Type 0
+IsQueryFor terms query =
+    MatchOption query (terms ≡ []) (λ found. (found ≡ terms) × (0 < length found))
+
 -- the reply to a search for these terms; `None` if the published version couldn't be entered
 abbrev pub search_reply : HomeData → List TermData → Option (List Hit) → List ℕ
 search_reply home [] outcome = no_words_bytes home
@@ -42,15 +51,18 @@ search_reply home (term ∷ terms) (Some hits) = hits_bytes hits
 
 abbrev pub request_reply : List File → HomeData → Request → Option (List Hit) → List ℕ
 request_reply files home request outcome =
-    if is_search request.selector then search_reply home (asked request.search) outcome else tree_reply files home request.selector
+    if is_search request.selector then search_reply home (asked request.search) outcome
+    else tree_reply files home request.selector
 
-abbrev pub reply_at : List File → HomeData → Option RequestFault → Request → Option (List Hit) → List ℕ
+abbrev pub reply_at : List File → HomeData → Option RequestFault → Request → Option (List Hit)
+    → List ℕ
 reply_at files home (Some fault) request outcome = bad_request_bytes home
 reply_at files home None request outcome = request_reply files home request outcome
 
 -- the reply to a line, given without its end
 abbrev pub reply_of : List File → HomeData → List ℕ → Option (List Hit) → List ℕ
-reply_of files home line outcome = reply_at files home (request_fault line) (request_of line) outcome
+reply_of files home line outcome =
+    reply_at files home (request_fault line) (request_of line) outcome
 
 -- the terms for which a request searches; none if it is invalid, is no search, or has no words
 abbrev pub terms_at : Option RequestFault → Request → List TermData
@@ -81,19 +93,52 @@ Searches old new (term ∷ terms) None = SeesOn old new
 Searches old new (term ∷ terms) (Some hits) = FindsHits old new (term ∷ terms) hits
 
 -- the reply to a search for these terms
-pub record AnswersTerms (home : HomeData) (old new : PassData) (terms : List TermData) (reply : List ℕ) : Type 0 where
+pub record AnswersTerms (home : HomeData) (old new : PassData) (terms : List TermData)
+    (reply : List ℕ) : Type 0 where
   pub outcome : Option (List Hit)
   pub searched : Searches old new terms outcome
   pub reply_is : reply ≡ search_reply home terms outcome
 
 -- the reply to a request
-pub record AnswersRequest (files : List File) (home : HomeData) (old new : PassData) (request : Request) (reply : List ℕ) : Type 0 where
+pub record AnswersRequest (files : List File) (home : HomeData) (old new : PassData)
+    (request : Request) (reply : List ℕ) : Type 0 where
   pub outcome : Option (List Hit)
   pub searched : Searches old new (terms_at None request) outcome
   pub reply_is : reply ≡ request_reply files home request outcome
 
 -- the reply to a line, and the pass before and after
-pub record AnswersLine (files : List File) (home : HomeData) (old new : PassData) (line reply : List ℕ) : Type 0 where
+pub record AnswersLine (files : List File) (home : HomeData) (old new : PassData)
+    (line reply : List ℕ) : Type 0 where
   pub outcome : Option (List Hit)
   pub searched : Searches old new (terms_of_line line) outcome
   pub reply_is : reply ≡ reply_of files home line outcome
+
+-- ---- replies that were made
+
+-- the reply to a search for these terms
+abbrev pub IsSearchReply : HomeData → PassData → PassData → List TermData → Vec ℕ → Type 0
+IsSearchReply home old new terms reply = AnswersTerms home old new terms reply.items
+
+-- the reply to a request
+abbrev pub IsReplyTo : List File → HomeData → PassData → PassData → Request → Vec ℕ → Type 0
+IsReplyTo files home old new request reply = AnswersRequest files home old new request reply.items
+
+-- the reply to a line
+abbrev pub IsReplyToLine : List File → HomeData → PassData → PassData → List ℕ → Vec ℕ → Type 0
+IsReplyToLine files home old new line reply = AnswersLine files home old new line reply.items
+
+-- ---- answers: replies that are kept or were made, or searches that make them
+
+-- the answer to a search for these terms
+abbrev pub IsSearchAnswer : HomeData → PassData → PassData → List TermData → Answer → Type 0
+IsSearchAnswer home old new terms answer = AnswersTerms home old new terms (answer_bytes answer)
+
+-- the answer to a request, from these replies
+abbrev pub IsAnswerTo : RepliesData → PassData → PassData → Request → Answer → Type 0
+IsAnswerTo replies old new request answer =
+    AnswersRequest replies.files replies.home old new request (answer_bytes answer)
+
+-- the answer to a line, from these replies
+abbrev pub IsAnswerToLine : RepliesData → PassData → PassData → List ℕ → Answer → Type 0
+IsAnswerToLine replies old new line answer =
+    AnswersLine replies.files replies.home old new line (answer_bytes answer)

@@ -1,8 +1,7 @@
 //! The reply to a request line, made anew (`answer`) or from kept replies (`answer_kept`).
 
 ghost use Rattle.std.specs.Prelude.{◌≡◌, ◌≤◌, IfOk, IfSome, OnErr, length};
-ghost use Rattle.gopher_replies.specs.Answer.{answer_bytes};
-ghost use Rattle.gopher_serve.specs.Answer.{AnswersLine, AnswersRequest, SeesOn, bad_request_bytes, is_search};
+ghost use Rattle.gopher_serve.specs.Answer.{IsReplyTo, IsReplyToLine, IsAnswerTo, IsAnswerToLine, SeesOn, bad_request_bytes, is_search};
 
 use crate::searching::{begin_search, search};
 use gopher_crew::{Crew, Pass};
@@ -34,8 +33,7 @@ pub fn answer<C: Crew>(
     pass: &mut Pass<C>,
     line: &[u8],
 ) -> Result<Vec<u8>, NoMemory>
-    ensures answered { IfOk result (λ reply.
-        AnswersLine tree.now home.now pass.old pass.new line.now reply.items) }
+    ensures answered { IfOk result (IsReplyToLine tree.now home.now pass.old pass.new line.now) }
     ensures refused { OnErr result (SeesOn pass.old pass.new) }
 {
     match read_request(alloc, line) {
@@ -54,8 +52,7 @@ fn answer_request<C: Crew>(
     request: &Request,
 ) -> Result<Vec<u8>, NoMemory>
     requires { IfSome request.now.search (λ text. length text ≤ MAX_LINE) }
-    ensures answered { IfOk result (λ reply.
-        AnswersRequest tree.now home.now pass.old pass.new request.now reply.items) }
+    ensures answered { IfOk result (IsReplyTo tree.now home.now pass.old pass.new request.now) }
     ensures refused { OnErr result (SeesOn pass.old pass.new) }
 {
     if is_search(request.selector.as_slice()) {
@@ -76,9 +73,7 @@ pub fn answer_kept<'a, C: Crew>(
     pass: &mut Pass<C>,
     line: &[u8],
 ) -> Result<Answer<'a>, NoMemory>
-    ensures answered { IfOk result (λ answer.
-        AnswersLine replies.now.files replies.now.home pass.old pass.new line.now
-        (answer_bytes answer)) }
+    ensures answered { IfOk result (IsAnswerToLine replies.now pass.old pass.new line.now) }
     ensures refused { OnErr result (SeesOn pass.old pass.new) }
 {
     match read_request(alloc, line) {
@@ -97,9 +92,7 @@ fn answer_kept_request<'a, C: Crew>(
     request: &Request,
 ) -> Result<Answer<'a>, NoMemory>
     requires { IfSome request.now.search (λ text. length text ≤ MAX_LINE) }
-    ensures answered { IfOk result (λ answer.
-        AnswersRequest replies.now.files replies.now.home pass.old pass.new request.now
-        (answer_bytes answer)) }
+    ensures answered { IfOk result (IsAnswerTo replies.now pass.old pass.new request.now) }
     ensures refused { OnErr result (SeesOn pass.old pass.new) }
 {
     if is_search(request.selector.as_slice()) {

@@ -1,8 +1,8 @@
 //! The reply to a line that searches.
 
-ghost use Rattle.std.specs.Prelude.{◌≡◌, ◌<◌, ◌≤◌, [], IfOk, IfSome, MatchOption, OnErr, length};
+ghost use Rattle.std.specs.Prelude.{◌≡◌, ◌<◌, ◌≤◌, IfOk, IfSome, OnErr, length};
 ghost use Rattle.gopher_replies.specs.Answer.{answer_bytes};
-ghost use Rattle.gopher_serve.specs.Answer.{AnswersTerms, SeesOn, asked, no_catalogue_bytes, no_words_bytes};
+ghost use Rattle.gopher_serve.specs.Answer.{IsQueryFor, IsSearchReply, IsSearchAnswer, SeesOn, asked, no_catalogue_bytes, no_words_bytes};
 
 use gopher_crew::{Crew, Pass, SearchFault};
 use gopher_index::Begun;
@@ -15,8 +15,7 @@ use std::alloc::Global;
 // The query of a search string, of at most 1,024 bytes (`MAX_LINE`); none if there are no words.
 fn query_of(alloc: Global, search: &Option<ByteString>) -> Result<Option<Query>, NoMemory>
     requires { IfSome search.now (λ text. length text ≤ MAX_LINE) }
-    ensures { IfOk result (λ query. MatchOption query (asked search.now ≡ [])
-        (λ terms. (terms ≡ asked search.now) × (0 < length terms))) }
+    ensures { IfOk result (IsQueryFor (asked search.now)) }
 {
     let Some(text) = search else {
         return Ok(None);
@@ -37,8 +36,7 @@ pub fn search<C: Crew>(
     search: &Option<ByteString>,
 ) -> Result<Vec<u8>, NoMemory>
     requires { IfSome search.now (λ text. length text ≤ MAX_LINE) }
-    ensures answered { IfOk result (λ reply.
-        AnswersTerms home.now pass.old pass.new (asked search.now) reply.items) }
+    ensures answered { IfOk result (IsSearchReply home.now pass.old pass.new (asked search.now)) }
     ensures refused { OnErr result (SeesOn pass.old pass.new) }
 {
     match query_of(alloc, search)? {
@@ -55,8 +53,7 @@ pub fn begin_search<'a, C: Crew>(
     search: &Option<ByteString>,
 ) -> Result<Answer<'a>, NoMemory>
     requires { IfSome search.now (λ text. length text ≤ MAX_LINE) }
-    ensures answered { IfOk result (λ answer.
-        AnswersTerms home.now pass.old pass.new (asked search.now) (answer_bytes answer)) }
+    ensures answered { IfOk result (IsSearchAnswer home.now pass.old pass.new (asked search.now)) }
     ensures refused { OnErr result (SeesOn pass.old pass.new) }
 {
     match query_of(alloc, search)? {
@@ -81,8 +78,7 @@ fn look_up<C: Crew>(
     query: &Query,
 ) -> Result<Vec<u8>, NoMemory>
     requires { 0 < length query.now }
-    ensures answered { IfOk result (λ reply.
-        AnswersTerms home.now pass.old pass.new query.now reply.items) }
+    ensures answered { IfOk result (IsSearchReply home.now pass.old pass.new query.now) }
     ensures refused { OnErr result (SeesOn pass.old pass.new) }
 {
     match pass.search(query) {
@@ -101,8 +97,7 @@ fn begin_look_up<'a, C: Crew>(
     query: &Query,
 ) -> Result<Answer<'a>, NoMemory>
     requires { 0 < length query.now }
-    ensures answered { IfOk result (λ answer.
-        AnswersTerms home.now pass.old pass.new query.now (answer_bytes answer)) }
+    ensures answered { IfOk result (IsSearchAnswer home.now pass.old pass.new query.now) }
     ensures refused { OnErr result (SeesOn pass.old pass.new) }
 {
     match pass.begin(query) {

@@ -12,7 +12,8 @@ is_short error = (((error == 12) || (error == 23)) || (error == 24)) || (error =
 abbrev pub is_lost : ℕ → Bool
 is_lost error =
     ((((((((((error == 1) || (error == 4)) || (error == 64)) || (error == 71)) || (error == 92))
-    || (error == 95)) || (error == 100)) || (error == 101)) || (error == 103)) || (error == 112)) || (error == 113)
+    || (error == 95)) || (error == 100)) || (error == 101)) || (error == 103)) || (error == 112))
+    || (error == 113)
 
 abbrev pub failure_of : ℕ → AcceptFailure
 failure_of error = if is_short error then IsShort else (if is_lost error then IsLost else IsBroken)

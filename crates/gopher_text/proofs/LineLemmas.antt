@@ -8,7 +8,8 @@ use Rattle.std.specs.declared.option.Option.{Option}
 use Rattle.std.specs.Io.KnownBytes.{Consumes}
 use Rattle.std.specs.Io.BufRead.{take_through, drop_through, ends_with_byte, strip_last, first_line, DropsThrough}
 use Rattle.gopher_text.specs.Reply.{SpendsTurns}
-use Rattle.gopher_text.specs.Line.{has_feed, without_end, IsWholeLine, StopsInLine, RefusesLine, RefusesLength}
+use Rattle.gopher_text.specs.Watched.{WatchedData, HasRead}
+use Rattle.gopher_text.specs.Line.{has_feed, without_end, IsWholeLine, StopsInLine, RefusesLine, RefusesLength, FailsToReadLine}
 use Rattle.gopher_text.specs.declared.fault.LineFault.{LineFault}
 use Rattle.gopher_text.specs.declared.fault.LineFault.TheVariants.{LineTooLong, ReadFailed, TooManyTurns, NoMemory}
 
@@ -131,12 +132,12 @@ long_line_begun (Some all) (Some left) bytes read unfed long =
     )
 
 -- reading stopped before the line's end
-pub line_refused : (old new : Option (List ℕ)) (before after : ℕ) (bytes : List ℕ) (fault : LineFault) → Consumes old new bytes
-    → StopsInLine {T = Unit {0}} new before after bytes (Err fault) → RefusesLine old new before after fault
-line_refused old new before after bytes LineTooLong read stop = long_line_begun old new bytes read stop.0 stop.1
-line_refused old new before after bytes ReadFailed read stop = (bytes, (read, stop.0, stop.1, stop.2))
-line_refused old new before after bytes TooManyTurns read stop = (bytes, ((read, stop.0, stop.1, stop.2), stop.3))
-line_refused old new before after bytes NoMemory read stop = absurd stop
+pub line_refused : {R : Type 0} (remaining : R → Option (List ℕ)) (old new : WatchedData R) (bytes : List ℕ) (fault : LineFault)
+    → HasRead remaining old new bytes → StopsInLine {T = Unit {0}} remaining old new bytes (Err fault) → FailsToReadLine remaining old new fault
+line_refused remaining old new bytes LineTooLong read stop = long_line_begun (remaining old.device) (remaining new.device) bytes read stop.0 stop.1
+line_refused remaining old new bytes ReadFailed read stop = (bytes, (read, stop.0, stop.1, stop.2))
+line_refused remaining old new bytes TooManyTurns read stop = (bytes, ((read, stop.0, stop.1, stop.2), stop.3))
+line_refused remaining old new bytes NoMemory read stop = absurd stop
 
 -- the whole line was read, but the call fails
 pub whole_line_refused : (old new : Option (List ℕ)) (before after : ℕ) (bytes : List ℕ) (fault : LineFault) → Consumes old new bytes → IsWholeLine new bytes

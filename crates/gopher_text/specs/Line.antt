@@ -1,23 +1,27 @@
 -- Reading one line of a stream.
-use Rattle.std.specs.Prelude.{◌≡◌, ℕ, ◌<◌, ◌≤◌, ◌⊎◌, false, List, [], ◌∷◌, ◌++◌, length, take, Option, Result, Ok, Err, IfSome, if◌then◌else◌}
+use Rattle.std.specs.Prelude.{◌≡◌, ℕ, ◌+◌, ◌<◌, ◌≤◌, ◌⊎◌, false, List, [], ◌∷◌, ◌++◌, length, take, Option, Result, Ok, Err, IfSome, if◌then◌else◌}
 use Rattle.std.specs.Io.BufRead.{take_through, first_line, ends_with_byte, strip_last, DropsThrough}
 use Rattle.std.specs.Io.KnownBytes.{Consumes, IsAtEnd}
 pub use Rattle.gopher_bytes.specs.Lines.{has_feed}
 use Rattle.gopher_item.specs.declared.limits.TheConstants.{MAX_LINE}
-use Rattle.gopher_text.specs.Watched.{CountsFailure, HasFailed}
+use Rattle.gopher_text.specs.Watched.{WatchedData, CountsFailure, HasFailed, HasRead}
 use Rattle.gopher_text.specs.Reply.{SpendsTurns}
 use Rattle.gopher_text.specs.declared.fault.LineFault.{LineFault}
 use Rattle.gopher_text.specs.declared.fault.LineFault.TheVariants.{LineTooLong, ReadFailed, TooManyTurns, NoMemory}
 use Rattle.gopher_text.specs.declared.reading.ByteRead.{ByteRead}
 use Rattle.gopher_text.specs.declared.reading.ByteRead.TheVariants.{Byte, Ended, Interrupted, Failed}
 
--- the outcome of reading one byte: the bytes left to read before and after, and the count of
--- failures before and after
-abbrev pub ReadsByte : Option (List ℕ) → Option (List ℕ) → ℕ → ℕ → ByteRead → Type 0
-ReadsByte old new before after (Byte byte) = Consumes old new (byte ∷ []) × (after ≡ before)
-ReadsByte old new before after Ended = Consumes old new [] × IsAtEnd new × (after ≡ before)
-ReadsByte old new before after Interrupted = Consumes old new [] × CountsFailure before after
-ReadsByte old new before after Failed = Consumes old new [] × CountsFailure before after
+-- the outcome of reading one byte: the reader before and after
+abbrev pub ReadsByte : {R : Type 0} → (R → Option (List ℕ)) → WatchedData R → WatchedData R
+    → ByteRead → Type 0
+ReadsByte remaining old new (Byte byte) =
+    HasRead remaining old new (byte ∷ []) × (new.failures ≡ old.failures)
+ReadsByte remaining old new Ended =
+    HasRead remaining old new [] × IsAtEnd (remaining new.device) × (new.failures ≡ old.failures)
+ReadsByte remaining old new Interrupted =
+    HasRead remaining old new [] × CountsFailure old.failures new.failures
+ReadsByte remaining old new Failed =
+    HasRead remaining old new [] × CountsFailure old.failures new.failures
 
 -- the bytes of a line without its end
 abbrev pub without_end : List ℕ → List ℕ
@@ -50,21 +54,51 @@ RefusesLine old new before after TooManyTurns =
 RefusesLine old new before after NoMemory =
     IfSome old (λ bytes. length (first_line bytes) ≤ MAX_LINE) × DropsThrough old new 10
 
--- why reading stopped after these bytes of a line
-abbrev pub StopsInLine : {T : Type 0} → Option (List ℕ) → ℕ → ℕ → List ℕ → Result T LineFault
-    → Type 0
-StopsInLine new before after bytes (Ok value) = IsWholeLine new bytes
-StopsInLine new before after bytes (Err LineTooLong) =
+-- why reading stopped after these bytes of a line: the reader before and after
+abbrev pub StopsInLine : {R T : Type 0} → (R → Option (List ℕ)) → WatchedData R → WatchedData R
+    → List ℕ → Result T LineFault → Type 0
+StopsInLine remaining old new bytes (Ok value) = IsWholeLine (remaining new.device) bytes
+StopsInLine remaining old new bytes (Err LineTooLong) =
     (has_feed bytes ≡ false) × (length bytes ≡ 1026)
-StopsInLine new before after bytes (Err ReadFailed) =
-    (has_feed bytes ≡ false) × (length bytes ≤ 1025) × HasFailed before after
-StopsInLine new before after bytes (Err TooManyTurns) =
-    (has_feed bytes ≡ false) × (length bytes ≤ 1025) × HasFailed before after
-    × SpendsTurns 4096 before after (length bytes)
-StopsInLine new before after bytes (Err NoMemory) = ⊥
+StopsInLine remaining old new bytes (Err ReadFailed) =
+    (has_feed bytes ≡ false) × (length bytes ≤ 1025) × HasFailed old.failures new.failures
+StopsInLine remaining old new bytes (Err TooManyTurns) =
+    (has_feed bytes ≡ false) × (length bytes ≤ 1025) × HasFailed old.failures new.failures
+    × SpendsTurns 4096 old.failures new.failures (length bytes)
+StopsInLine remaining old new bytes (Err NoMemory) = ⊥
 
 -- why a call fails after it has read all of a line of this length
 abbrev pub RefusesLength : ℕ → LineFault → Type 0
 RefusesLength length LineTooLong = MAX_LINE < length
 RefusesLength length NoMemory = length ≤ MAX_LINE
 RefusesLength length _ = ⊥
+
+-- the line is the reader's next one, without its end
+abbrev pub IsNextLine : {R : Type 0} → (R → Option (List ℕ)) → WatchedData R → List ℕ → Type 0
+IsNextLine remaining reader line =
+    IfSome (remaining reader.device) (λ bytes. line ≡ first_line bytes)
+
+-- exactly the next line and its end were read: the reader before and after
+abbrev pub ReadsLine : {R : Type 0} → (R → Option (List ℕ)) → WatchedData R → WatchedData R → Type 0
+ReadsLine remaining old new = DropsThrough (remaining old.device) (remaining new.device) 10
+
+-- the bytes that a failed call read, by its fault: the reader before and after
+abbrev pub FailsToReadLine : {R : Type 0} → (R → Option (List ℕ)) → WatchedData R → WatchedData R
+    → LineFault → Type 0
+FailsToReadLine remaining old new fault =
+    RefusesLine (remaining old.device) (remaining new.device) old.failures new.failures fault
+
+-- the number of bytes taken and the failures counted in between are at most this many together: the
+-- reader before and after
+abbrev pub TakesAndFailsAtMost : {R : Type 0} → WatchedData R → WatchedData R → ℕ → ℕ → Type 0
+TakesAndFailsAtMost old new taken limit =
+    (old.failures ≤ new.failures) × (new.failures + taken ≤ old.failures + limit)
+
+-- the bytes read and the failures counted in between are at most this many together: the reader
+-- before and after
+abbrev pub ReadsAndFailsAtMost : {R : Type 0} → (R → Option (List ℕ)) → WatchedData R
+    → WatchedData R → ℕ → Type 0
+ReadsAndFailsAtMost remaining old new limit =
+    (old.failures ≤ new.failures)
+    × ((bytes : List ℕ) × HasRead remaining old new bytes
+    × (new.failures + length bytes ≤ old.failures + limit))

@@ -1,23 +1,25 @@
 -- Reading a stream to its end.
 use Rattle.std.specs.Prelude.{◌≡◌, ℕ, ◌+◌, ◌-◌, ◌^◌, ◌<◌, ◌≤◌, ◌⊎◌, List, [], length, take, drop, Option, Result, Ok, Err}
-use Rattle.std.specs.Io.KnownBytes.{Consumes, Keeps, IsAtEnd}
-use Rattle.gopher_text.specs.Watched.{CountsFailure, HasFailed}
+use Rattle.std.specs.Io.KnownBytes.{Keeps, IsAtEnd}
+use Rattle.gopher_text.specs.Watched.{WatchedData, CountsFailure, HasFailed, HasRead}
 use Rattle.gopher_text.specs.declared.fault.ReplyFault.{ReplyFault}
 use Rattle.gopher_text.specs.declared.fault.ReplyFault.TheVariants.{ReadFailed, TooManyTurns, ReplyTooLong, NoMemory}
 use Rattle.gopher_text.specs.declared.reading.Reading.{Reading}
 use Rattle.gopher_text.specs.declared.reading.Reading.TheVariants.{Took, Ended, Interrupted, Failed}
 
--- the outcome of one read into the buffer after its first `filled` bytes: the bytes left to read
--- before and after, the count of failures before and after, and the buffer after
-abbrev pub ReadsAfter : Option (List ℕ) → Option (List ℕ) → ℕ → ℕ → List ℕ → ℕ → Reading → Type 0
-ReadsAfter old new before after buffer filled (Took count) =
-    Consumes old new (take count (drop filled buffer)) × (0 < count)
-    × (filled + count ≤ length buffer) × (after ≡ before)
-ReadsAfter old new before after buffer filled Ended =
-    Consumes old new [] × IsAtEnd new × (after ≡ before)
-ReadsAfter old new before after buffer filled Interrupted =
-    Keeps old new × CountsFailure before after
-ReadsAfter old new before after buffer filled Failed = Keeps old new × CountsFailure before after
+-- the outcome of one read into the buffer after its first `filled` bytes: the reader before and
+-- after, and the buffer after
+abbrev pub ReadsAfter : {R : Type 0} → (R → Option (List ℕ)) → WatchedData R → WatchedData R
+    → List ℕ → ℕ → Reading → Type 0
+ReadsAfter remaining old new buffer filled (Took count) =
+    HasRead remaining old new (take count (drop filled buffer)) × (0 < count)
+    × (filled + count ≤ length buffer) × (new.failures ≡ old.failures)
+ReadsAfter remaining old new buffer filled Ended =
+    HasRead remaining old new [] × IsAtEnd (remaining new.device) × (new.failures ≡ old.failures)
+ReadsAfter remaining old new buffer filled Interrupted =
+    Keeps (remaining old.device) (remaining new.device) × CountsFailure old.failures new.failures
+ReadsAfter remaining old new buffer filled Failed =
+    Keeps (remaining old.device) (remaining new.device) × CountsFailure old.failures new.failures
 
 -- at least this many reads happened, each of which took bytes or failed; or the count of failures
 -- is at its maximum
@@ -33,8 +35,25 @@ RefusesReply limit before after bytes TooManyTurns =
 RefusesReply limit before after bytes ReplyTooLong = length bytes ≡ limit + 1
 RefusesReply limit before after bytes NoMemory = length bytes ≤ limit
 
--- why reading stopped after these bytes, at the end of the input or before it
-abbrev pub StopsReading : {T : Type 0} → Option (List ℕ) → ℕ → ℕ → ℕ → List ℕ → Result T ReplyFault
-    → Type 0
-StopsReading new limit before after bytes (Ok value) = IsAtEnd new × (length bytes ≤ limit)
-StopsReading new limit before after bytes (Err fault) = RefusesReply limit before after bytes fault
+-- the bytes that a failed call read, by its fault: the reader before and after, and the limit
+abbrev pub FailsToReadReply : {R : Type 0} → (R → Option (List ℕ)) → WatchedData R → WatchedData R
+    → ℕ → ReplyFault → Type 0
+FailsToReadReply remaining old new limit fault =
+    (bytes : List ℕ) × HasRead remaining old new bytes
+    × RefusesReply limit old.failures new.failures bytes fault
+
+-- why reading stopped after these bytes, at the end of the input or before it: the reader before
+-- and after, and the limit
+abbrev pub StopsReading : {R T : Type 0} → (R → Option (List ℕ)) → WatchedData R → WatchedData R
+    → ℕ → List ℕ → Result T ReplyFault → Type 0
+StopsReading remaining old new limit bytes (Ok value) =
+    IsAtEnd (remaining new.device) × (length bytes ≤ limit)
+StopsReading remaining old new limit bytes (Err fault) =
+    RefusesReply limit old.failures new.failures bytes fault
+
+-- why reading into this buffer stopped, with the number of bytes read: the reader before and after,
+-- and the limit
+abbrev pub StopsFilling : {R T : Type 0} → (R → Option (List ℕ)) → WatchedData R → WatchedData R
+    → ℕ → List ℕ → ℕ × Result T ReplyFault → Type 0
+StopsFilling remaining old new limit buffer result =
+    StopsReading remaining old new limit (take result.0 buffer) result.1

@@ -1,9 +1,10 @@
 -- Texts (RFC 1436, appendix: TextFile Entity).
-use Rattle.std.specs.Prelude.{◌≡◌, ℕ, Bool, false, ◌==◌, ◌&&◌, List, [], ◌∷◌, ◌++◌, codes, map, All, if◌then◌else◌}
+use Rattle.std.specs.Prelude.{◌≡◌, ℕ, Bool, false, not, ◌==◌, ◌&&◌, List, [], ◌∷◌, ◌++◌, codes, map, length, All, Option, MatchOption, if◌then◌else◌}
 use Rattle.std.specs.List.{flat_map}
 use Rattle.gopher_bytes.specs.Lines.{lines_of}
 use Rattle.gopher_item.specs.Menu.{lines_before_last, any_last_line}
 use Rattle.gopher_text.specs.Line.{has_feed}
+use denote.Ref.{Bor}
 
 abbrev pub begins_with_period : List ℕ → Bool
 begins_with_period [] = false
@@ -26,6 +27,10 @@ text_line_bytes line = line_sent line ++ codes "\r\n"
 abbrev pub text_bytes : List (List ℕ) → List ℕ
 text_bytes lines = flat_map text_line_bytes lines ++ codes ".\r\n"
 
+-- the bytes of a file's text as it is sent
+abbrev pub file_text_bytes : List ℕ → List ℕ
+file_text_bytes bytes = text_bytes (lines_of bytes)
+
 -- the lines of a text, up to the first last line
 abbrev pub text_lines : List ℕ → List (List ℕ)
 text_lines bytes = map line_read (lines_before_last (lines_of bytes))
@@ -34,6 +39,20 @@ text_lines bytes = map line_read (lines_before_last (lines_of bytes))
 pub record ReadsText (bytes : List ℕ) (lines : List (List ℕ)) (ended : Bool) : Type 0 where
   pub all_lines : lines ≡ text_lines bytes
   pub is_ended : ended ≡ any_last_line (lines_of bytes)
+
+-- a text is its first line, as it is read, and the text of the bytes after the line's end; if
+-- nothing is given, it has no line
+abbrev pub CutsTextLine : List ℕ → Option (Bor (List ℕ) × Bor (List ℕ)) → Type 0
+CutsTextLine bytes given =
+    MatchOption given (text_lines bytes ≡ [])
+    (λ parts. text_lines bytes ≡ parts.0.now ∷ text_lines parts.1.now)
+
+-- a single period ends the text of these bytes exactly if it ends that of the bytes after the first
+-- line; if nothing is given, exactly if there are bytes
+abbrev pub EndsLikeRest : List ℕ → Option (Bor (List ℕ) × Bor (List ℕ)) → Type 0
+EndsLikeRest bytes given =
+    MatchOption given (any_last_line (lines_of bytes) ≡ not (length bytes == 0))
+    (λ parts. any_last_line (lines_of bytes) ≡ any_last_line (lines_of parts.1.now))
 
 -- no line contains an LF
 abbrev pub HoldNoFeed : List (List ℕ) → Type 0

@@ -1,10 +1,41 @@
 -- Readers and writers that count their failed calls.
-use Rattle.std.specs.Prelude.{◌≡◌, ℕ, ◌+◌, ◌-◌, ◌^◌, ◌<◌, ◌⊎◌, List, length, Result, Ok, Err}
+use Rattle.std.specs.Prelude.{◌≡◌, ℕ, ◌+◌, ◌-◌, ◌^◌, ◌<◌, ◌≤◌, ◌⊎◌, List, length, Option, Result, Ok, Err}
+use Rattle.std.specs.Io.KnownBytes.{Appends, Consumes, ReadConsumes, WriteAppends}
 
 -- a reader or a writer, and the number of its failed calls
 pub record WatchedData (D : Type 0) : Type 0 where
   pub device : D
   pub failures : ℕ
+
+-- exactly these bytes were read: the bytes that a device has left to read are given as a function
+-- of it, and the reader before and after
+abbrev pub HasRead : {R : Type 0} → (R → Option (List ℕ)) → WatchedData R → WatchedData R → List ℕ
+    → Type 0
+HasRead remaining old new bytes = Consumes (remaining old.device) (remaining new.device) bytes
+
+-- exactly these bytes were written: the bytes that a device has taken are given as a function of
+-- it, and the writer before and after
+abbrev pub HasSent : {W : Type 0} → (W → Option (List ℕ)) → WatchedData W → WatchedData W → List ℕ
+    → Type 0
+HasSent contents old new bytes = Appends (contents old.device) (contents new.device) bytes
+
+-- one read, with the buffer after it: the result says how many bytes were read, which are the first
+-- of the buffer. It is 0 only at the end of the input or with an empty buffer; an error reads none
+abbrev pub ReadsInto : {R E : Type 0} → (R → Option (List ℕ)) → WatchedData R → WatchedData R
+    → List ℕ → Result ℕ E → Type 0
+ReadsInto remaining old new buffer result =
+    ReadConsumes (remaining old.device) (remaining new.device) result buffer
+
+-- one write of these bytes: the result says how many of the first were written, and an error writes
+-- none
+abbrev pub WritesFrom : {W E : Type 0} → (W → Option (List ℕ)) → WatchedData W → WatchedData W
+    → List ℕ → Result ℕ E → Type 0
+WritesFrom contents old new bytes result =
+    WriteAppends (contents old.device) (contents new.device) result bytes
+
+-- at most this many failures were counted in between: the reader or writer before and after
+abbrev pub FailsAtMost : {D : Type 0} → WatchedData D → WatchedData D → ℕ → Type 0
+FailsAtMost old new limit = (old.failures ≤ new.failures) × (new.failures ≤ old.failures + limit)
 
 -- one more failure, unless the count is at its maximum
 abbrev pub CountsFailure : ℕ → ℕ → Type 0

@@ -1,9 +1,8 @@
 //! Reading one line of a stream: `read_line_from`.
 
-ghost use Rattle.std.specs.Prelude.{◌≡◌, ℕ, ◌+◌, ◌≤◌, List, length, take, IfErr, IfOk, IfSome, OnOk, vec_len};
-ghost use Rattle.std.specs.Io.BufRead.{DropsThrough, first_line};
-ghost use Rattle.std.specs.Io.KnownBytes.{Consumes};
-ghost use Rattle.gopher_text.specs.Line.{RefusesLine, StopsInLine, RefusesLength, without_end};
+ghost use Rattle.std.specs.Prelude.{◌≡◌, ◌≤◌, length, take, IfErr, IfOk, OnOk, vec_len};
+ghost use Rattle.gopher_text.specs.Line.{FailsToReadLine, IsNextLine, ReadsAndFailsAtMost, ReadsLine, RefusesLength, StopsInLine, TakesAndFailsAtMost, without_end};
+ghost use Rattle.gopher_text.specs.Watched.{HasRead};
 
 use crate::fault::LineFault;
 use crate::reading::{ByteRead, read_byte};
@@ -32,17 +31,11 @@ const MAX_WITH_END: usize = MAX_LINE + 2;
 /// - `TooManyTurns` (11): 4,096 reads, including interrupted ones, didn't reach the end of the line
 /// - `NoMemory` (90): the whole line and its end were read
 pub fn read_line_from<R: Read>(alloc: Global, reader: &mut Watched<R>) -> Result<Vec<u8>, LineFault>
-    ensures line { IfOk result (λ line. IfSome (R.remaining reader.old.device)
-        (λ bytes. line.items ≡ first_line bytes)) }
-    ensures rest { OnOk result
-        (DropsThrough (R.remaining reader.old.device) (R.remaining reader.new.device) 10) }
+    ensures line { IfOk result (λ line. IsNextLine R.remaining reader.old line.items) }
+    ensures rest { OnOk result (ReadsLine R.remaining reader.old reader.new) }
     ensures short { IfOk result (λ line. vec_len line ≤ MAX_LINE) }
-    ensures refused { IfErr result (RefusesLine (R.remaining reader.old.device)
-        (R.remaining reader.new.device) reader.old.failures reader.new.failures) }
-    ensures turns { (reader.old.failures ≤ reader.new.failures)
-        × ((bytes : List ℕ)
-        × Consumes (R.remaining reader.old.device) (R.remaining reader.new.device) bytes
-        × (reader.new.failures + length bytes ≤ reader.old.failures + 4096)) }
+    ensures refused { IfErr result (FailsToReadLine R.remaining reader.old reader.new) }
+    ensures turns { ReadsAndFailsAtMost R.remaining reader.old reader.new 4096 }
 {
     let mut held = [0; MAX_WITH_END];
     let (filled, end) = fill(reader, &mut held);
@@ -70,12 +63,9 @@ fn line_of(alloc: Global, bytes: &[u8]) -> Result<Vec<u8>, LineFault>
 fn fill<R: Read>(reader: &mut Watched<R>, held: &mut [u8]) -> (usize, Result<(), LineFault>)
     requires { length held.old ≡ 1026 }
     ensures within { result.0 ≤ 1026 }
-    ensures read { Consumes (R.remaining reader.old.device) (R.remaining reader.new.device)
-        (take result.0 held.new) }
-    ensures stop { StopsInLine (R.remaining reader.new.device) reader.old.failures
-        reader.new.failures (take result.0 held.new) result.1 }
-    ensures turns { (reader.old.failures ≤ reader.new.failures)
-        × (reader.new.failures + result.0 ≤ reader.old.failures + 4096) }
+    ensures read { HasRead R.remaining reader.old reader.new (take result.0 held.new) }
+    ensures stop { StopsInLine R.remaining reader.old reader.new (take result.0 held.new) result.1 }
+    ensures turns { TakesAndFailsAtMost reader.old reader.new result.0 4096 }
 {
     let mut filled = 0;
     for _turn in 0..MAX_TURNS {

@@ -23,8 +23,7 @@ pub(crate) enum Reading {
 /// Reads once into `buffer`.
 pub(crate) fn read_once<R: Read>(reader: &mut Watched<R>, buffer: &mut [u8]) -> Reading
     requires { 0 < length buffer.old }
-    ensures { ReadsAfter (R.remaining reader.old.device) (R.remaining reader.new.device)
-        reader.old.failures reader.new.failures buffer.new 0 result }
+    ensures { ReadsAfter R.remaining reader.old reader.new buffer.new 0 result }
 {
     match reader.read(buffer) {
         Ok(0) => Reading::Ended,
@@ -54,8 +53,7 @@ pub(crate) enum ByteRead {
 
 /// Reads one byte, in one read.
 pub(crate) fn read_byte<R: Read>(reader: &mut Watched<R>) -> ByteRead
-    ensures { ReadsByte (R.remaining reader.old.device) (R.remaining reader.new.device)
-        reader.old.failures reader.new.failures result }
+    ensures { ReadsByte R.remaining reader.old reader.new result }
 {
     let mut byte = [0];
     match read_once(reader, &mut byte) {

@@ -1,8 +1,9 @@
 //! Reading a stream to its end, within a limit: `read_reply`.
 
-ghost use Rattle.std.specs.Prelude.{◌≡◌, ℕ, ◌+◌, ◌-◌, ◌<◌, ◌≤◌, List, length, take, drop, IfOk, IfErr, OnOk, vec_len};
-ghost use Rattle.std.specs.Io.KnownBytes.{Consumes, IsAtEnd};
-ghost use Rattle.gopher_text.specs.Reply.{ReadsAfter, RefusesReply, StopsReading};
+ghost use Rattle.std.specs.Prelude.{◌≡◌, ◌+◌, ◌<◌, ◌≤◌, length, take, IfOk, IfErr, OnOk, vec_len};
+ghost use Rattle.std.specs.Io.KnownBytes.{IsAtEnd};
+ghost use Rattle.gopher_text.specs.Reply.{FailsToReadReply, ReadsAfter, StopsFilling, StopsReading};
+ghost use Rattle.gopher_text.specs.Watched.{FailsAtMost, HasRead};
 
 use crate::fault::ReplyFault;
 use crate::reading::{Reading, read_once};
@@ -37,15 +38,11 @@ pub fn read_reply<R: Read>(
     limit: usize,
 ) -> Result<Vec<u8>, ReplyFault>
     requires { limit ≤ MAX_REPLY }
-    ensures read { IfOk result (λ bytes.
-        Consumes (R.remaining reader.old.device) (R.remaining reader.new.device) bytes.items) }
+    ensures read { IfOk result (λ bytes. HasRead R.remaining reader.old reader.new bytes.items) }
     ensures whole { OnOk result (IsAtEnd (R.remaining reader.new.device)) }
     ensures within_limit { IfOk result (λ bytes. vec_len bytes ≤ limit) }
-    ensures refused { IfErr result (λ fault. (bytes : List ℕ)
-        × Consumes (R.remaining reader.old.device) (R.remaining reader.new.device) bytes
-        × RefusesReply limit reader.old.failures reader.new.failures bytes fault) }
-    ensures turns { (reader.old.failures ≤ reader.new.failures)
-        × (reader.new.failures ≤ reader.old.failures + 2097152) }
+    ensures refused { IfErr result (FailsToReadReply R.remaining reader.old reader.new limit) }
+    ensures turns { FailsAtMost reader.old reader.new 2097152 }
 {
     let mut bytes = Vec::new(alloc);
     read_within(reader, &mut bytes, limit)?;
@@ -60,12 +57,9 @@ fn read_within<R: Read>(
 ) -> Result<(), ReplyFault>
     requires limit { limit ≤ MAX_REPLY }
     requires empty { length bytes.old.items ≡ 0 }
-    ensures read { Consumes (R.remaining reader.old.device) (R.remaining reader.new.device)
-        bytes.new.items }
-    ensures stop { StopsReading (R.remaining reader.new.device) limit reader.old.failures
-        reader.new.failures bytes.new.items result }
-    ensures turns { (reader.old.failures ≤ reader.new.failures)
-        × (reader.new.failures ≤ reader.old.failures + 2097152) }
+    ensures read { HasRead R.remaining reader.old reader.new bytes.new.items }
+    ensures stop { StopsReading R.remaining reader.old reader.new limit bytes.new.items result }
+    ensures turns { FailsAtMost reader.old reader.new 2097152 }
 {
     let (filled, end) = fill(reader, bytes, limit);
     bytes.truncate(filled);
@@ -82,12 +76,9 @@ fn fill<R: Read>(
     requires limit { limit ≤ MAX_REPLY }
     requires empty { length bytes.old.items ≡ 0 }
     ensures within { result.0 ≤ length bytes.new.items }
-    ensures read { Consumes (R.remaining reader.old.device) (R.remaining reader.new.device)
-        (take result.0 bytes.new.items) }
-    ensures stop { StopsReading (R.remaining reader.new.device) limit reader.old.failures
-        reader.new.failures (take result.0 bytes.new.items) result.1 }
-    ensures turns { (reader.old.failures ≤ reader.new.failures)
-        × (reader.new.failures ≤ reader.old.failures + 2097152) }
+    ensures read { HasRead R.remaining reader.old reader.new (take result.0 bytes.new.items) }
+    ensures stop { StopsFilling R.remaining reader.old reader.new limit bytes.new.items result }
+    ensures turns { FailsAtMost reader.old reader.new 2097152 }
 {
     let mut filled = 0;
     for _turn in 0..MAX_TURNS {
@@ -132,8 +123,7 @@ fn read_after<R: Read>(reader: &mut Watched<R>, bytes: &mut Vec<u8>, filled: usi
     requires { filled < length bytes.old.items }
     ensures length { length bytes.new.items ≡ length bytes.old.items }
     ensures front { take filled bytes.new.items ≡ take filled bytes.old.items }
-    ensures read { ReadsAfter (R.remaining reader.old.device) (R.remaining reader.new.device)
-        reader.old.failures reader.new.failures bytes.new.items filled result }
+    ensures read { ReadsAfter R.remaining reader.old reader.new bytes.new.items filled result }
 {
     read_once(reader, &mut bytes[filled..])
 }

@@ -1,9 +1,8 @@
 //! Sending all bytes to a writer: `send`.
 
-ghost use Rattle.std.specs.Prelude.{◌≡◌, ◌+◌, ◌<◌, ◌≤◌, length, take, IfErr, OnOk, OnErr};
-ghost use Rattle.std.specs.Io.KnownBytes.{Appends};
-ghost use Rattle.gopher_text.specs.Watched.{HasFailed};
-ghost use Rattle.gopher_text.specs.Send.{WritesAfter};
+ghost use Rattle.std.specs.Prelude.{◌<◌, length, IfErr, OnOk, OnErr};
+ghost use Rattle.gopher_text.specs.Watched.{FailsAtMost, HasFailed, HasSent};
+ghost use Rattle.gopher_text.specs.Send.{HasSentPart, WritesAfter};
 
 use crate::fault::SendFault;
 use crate::watched::Watched;
@@ -31,14 +30,11 @@ enum Writing {
 /// or 4,096 writes of the call were interrupted. Exactly the first `sent` bytes were sent.
 #[tactic(auto, using(crate::proofs::Streams::appends_more))]
 pub fn send<W: Write>(writer: &mut Watched<W>, bytes: &[u8]) -> Result<(), SendFault>
-    ensures all { OnOk result (Appends (W.contents writer.old.device)
-        (W.contents writer.new.device) bytes.now) }
-    ensures sent { IfErr result (λ fault. Appends (W.contents writer.old.device)
-        (W.contents writer.new.device) (take fault.sent bytes.now)) }
+    ensures all { OnOk result (HasSent W.contents writer.old writer.new bytes.now) }
+    ensures sent { IfErr result (HasSentPart W.contents writer.old writer.new bytes.now) }
     ensures part { IfErr result (λ fault. fault.sent < length bytes.now) }
     ensures failed { OnErr result (HasFailed writer.old.failures writer.new.failures) }
-    ensures interruptions { (writer.old.failures ≤ writer.new.failures)
-        × (writer.new.failures ≤ writer.old.failures + 4096) }
+    ensures interruptions { FailsAtMost writer.old writer.new 4096 }
 {
     let mut sent = 0;
     let mut interruptions = 0;
@@ -60,8 +56,7 @@ pub fn send<W: Write>(writer: &mut Watched<W>, bytes: &[u8]) -> Result<(), SendF
 // Writes once from the part of `bytes` after the first `sent` bytes.
 fn write_after<W: Write>(writer: &mut Watched<W>, bytes: &[u8], sent: usize) -> Writing
     requires { sent < length bytes.now }
-    ensures { WritesAfter (W.contents writer.old.device) (W.contents writer.new.device)
-        writer.old.failures writer.new.failures bytes.now sent result }
+    ensures { WritesAfter W.contents writer.old writer.new bytes.now sent result }
 {
     match writer.write(&bytes[sent..]) {
         Ok(0) => Writing::Failed,

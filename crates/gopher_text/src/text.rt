@@ -1,13 +1,9 @@
 //! Reading texts, without doubled periods: `read_text`, `first_text_line`.
 
-ghost use Rattle.std.specs.Prelude.{◌≡◌, ◌<◌, ◌++◌, ◌==◌, [], ◌∷◌, false, true, not, length, IfOk, IfSome, MatchOption, OnOk, OnErr};
-ghost use Rattle.std.specs.Io.{StartsWith};
+ghost use Rattle.std.specs.Prelude.{◌≡◌, ◌<◌, false, length, IfOk, IfSome};
 ghost use Rattle.std.specs.Io.BufRead.{drop_through};
-ghost use Rattle.std.specs.List.{flat_map};
-ghost use Rattle.gopher_bytes.specs.Lines.{lines_of};
-ghost use Rattle.gopher_item.specs.Menu.{any_last_line};
 ghost use Rattle.gopher_text.specs.Line.{has_feed};
-ghost use Rattle.gopher_text.specs.Text.{HoldNoFeed, ReadsText, line_read, text_bytes, text_line_bytes, text_lines};
+ghost use Rattle.gopher_text.specs.Text.{CutsTextLine, EndsLikeRest, HoldNoFeed, ReadsText, line_read};
 
 use gopher_item::{ByteStrings, NoMemory, first_line, is_last_line};
 use std::alloc::Global;
@@ -52,11 +48,8 @@ pub fn read_text(alloc: Global, bytes: &[u8]) -> Result<Text, NoMemory>
 /// are no bytes, or the first line is the single period that ends the text (RFC 1436, appendix:
 /// Lastline).
 pub fn first_text_line(bytes: &[u8]) -> Option<(&[u8], &[u8])>
-    ensures line { MatchOption result (text_lines bytes.now ≡ [])
-        (λ parts. text_lines bytes.now ≡ parts.0.now ∷ text_lines parts.1.now) }
-    ensures ended { MatchOption result
-        (any_last_line (lines_of bytes.now) ≡ not (length bytes.now == 0))
-        (λ parts. any_last_line (lines_of bytes.now) ≡ any_last_line (lines_of parts.1.now)) }
+    ensures line { CutsTextLine bytes.now result }
+    ensures ended { EndsLikeRest bytes.now result }
     ensures no_feed { IfSome result (λ parts. has_feed parts.0.now ≡ false) }
     ensures rest { IfSome result (λ parts. parts.1.now ≡ drop_through 10 bytes.now) }
     ensures shorter { IfSome result (λ parts. length parts.1.now < length bytes.now) }

@@ -1,9 +1,9 @@
 //! `Watched`: a reader or writer that counts its failed calls.
 
-ghost use Rattle.std.specs.Prelude.{◌≡◌, ℕ, ◌+◌, ◌-◌, ◌^◌, ◌<◌, ◌≤◌, min, length, OnOk};
+ghost use Rattle.std.specs.Prelude.{◌≡◌};
 ghost use Rattle.std.specs.Io.{ReadsAtMost, WritesAtMost};
-ghost use Rattle.std.specs.Io.KnownBytes.{Keeps, ReadConsumes, WriteAppends};
-ghost use Rattle.gopher_text.specs.Watched.{WatchedData, CountsFailure, CountsErrors, CountsWrite};
+ghost use Rattle.std.specs.Io.KnownBytes.{Keeps};
+ghost use Rattle.gopher_text.specs.Watched.{WatchedData, CountsFailure, CountsErrors, CountsWrite, ReadsInto, WritesFrom};
 
 use std::io::{self, Read, Write};
 use std::marker::Model;
@@ -65,8 +65,7 @@ impl<D: Read> Read for Watched<D> {
 
     fn read(&mut self, buf: &mut [u8]) -> io::Result<usize>
         ensures bound { ReadsAtMost result buf.new }
-        ensures bytes { ReadConsumes (D.remaining self.old.device) (D.remaining self.new.device)
-            result buf.new }
+        ensures bytes { ReadsInto D.remaining self.old self.new buf.new result }
         ensures count { CountsErrors self.old.failures self.new.failures result }
     {
         let outcome = self.device.read(buf);
@@ -82,8 +81,7 @@ impl<D: Write> Write for Watched<D> {
 
     fn write(&mut self, buf: &[u8]) -> io::Result<usize>
         ensures bound { WritesAtMost result buf.now }
-        ensures bytes { WriteAppends (D.contents self.old.device) (D.contents self.new.device)
-            result buf.now }
+        ensures bytes { WritesFrom D.contents self.old self.new buf.now result }
         ensures count { CountsWrite self.old.failures self.new.failures buf.now result }
     {
         let answer = self.device.write(buf);

@@ -2,8 +2,7 @@
 
 ghost use Rattle.std.specs.Prelude.{◌≡◌, ◌++◌, true, OnOk, OnErr};
 ghost use Rattle.std.specs.Io.{StartsWith};
-ghost use Rattle.gopher_bytes.specs.Lines.{lines_of};
-ghost use Rattle.gopher_text.specs.Text.{HoldNoFeed, ReadsText, begins_with_period, text_bytes, text_line_bytes};
+ghost use Rattle.gopher_text.specs.Text.{HoldNoFeed, ReadsText, begins_with_period, file_text_bytes, text_bytes, text_line_bytes};
 
 use gopher_item::{ByteStrings, NoMemory, first_line};
 use std::alloc::AllocError;
@@ -32,8 +31,7 @@ pub fn write_text(lines: &ByteStrings, out: &mut Vec<u8>) -> Result<(), NoMemory
 /// Appends the text of the lines of `bytes`, the contents of a file, which a single period ends
 /// (RFC 1436, appendix: TextFile Entity).
 pub fn write_text_of(bytes: &[u8], out: &mut Vec<u8>) -> Result<(), NoMemory>
-    ensures written { OnOk result
-        (out.new.items ≡ out.old.items ++ text_bytes (lines_of bytes.now)) }
+    ensures written { OnOk result (out.new.items ≡ out.old.items ++ file_text_bytes bytes.now) }
     ensures refused { OnErr result (out.new.items ≡ out.old.items) }
 {
     let length = out.len();
@@ -66,8 +64,7 @@ fn push_lines(lines: &ByteStrings, out: &mut Vec<u8>) -> Result<(), AllocError>
 
 // Appends the lines of `bytes` and the last line.
 fn push_lines_of(bytes: &[u8], out: &mut Vec<u8>) -> Result<(), AllocError>
-    ensures written { OnOk result
-        (out.new.items ≡ out.old.items ++ text_bytes (lines_of bytes.now)) }
+    ensures written { OnOk result (out.new.items ≡ out.old.items ++ file_text_bytes bytes.now) }
     ensures kept { StartsWith out.new.items out.old.items }
 {
     let mut rest = bytes;

@@ -7,7 +7,7 @@ use Rattle.std.specs.declared.io.traits.Take.{Take}
 use Rattle.std.specs.Io.Take.{take_limit, take_inner, take_remaining}
 use Rattle.gopher_tree.specs.Files.{File}
 use Rattle.gopher_tree.specs.Fault.{path_fault, or_fault, file_fault, fault_after, files_fault, AddsFile}
-use Rattle.gopher_tree.specs.Load.{folder_fault, LoadStops, Lists, WalksTo, Loads, LoadsTo, IsUnreadable, RefusesFile}
+use Rattle.gopher_tree.specs.Load.{folder_fault, LoadStops, Lists, WalksTo, Loads, LoadsTo, IsUnreadable, Refuses}
 use Rattle.gopher_tree.specs.declared.fault.TreeFault.{TreeFault}
 use Rattle.gopher_tree.specs.declared.fault.TreeFault.TheVariants.{LongSelector, TooBig, NoMemory}
 use Rattle.gopher_tree.proofs.FaultLemmas.{or_fault-none, adds_refused}
@@ -59,11 +59,11 @@ folders_among : (files : List File) (nodes : ℕ) → length files < nodes → (
 folders_among files nodes more = (nodes - 1 - length files, omega arith)
 
 -- a file with an invalid path
-pub path_refused : (files : List File) (nodes : ℕ) (path bytes : List ℕ) (number : ℕ) (fault : TreeFault) → number ≡ length files → path_fault number path ≡ Some fault → RefusesFile files nodes (path, bytes) fault
+pub path_refused : (files : List File) (nodes : ℕ) (path bytes : List ℕ) (number : ℕ) (fault : TreeFault) → number ≡ length files → path_fault number path ≡ Some fault → Refuses files nodes (path, bytes) fault
 path_refused files nodes path bytes number fault same is =
     inl (or_fault-some (path_fault (length files) path) _ fault (ap (λ n. path_fault n path) (sym same) ∙ is))
 
-pub stops_file : (files : List File) (nodes : ℕ) (path bytes : List ℕ) (fault : TreeFault) → length files < nodes → RefusesFile files nodes (path, bytes) fault → LoadStops files path fault
+pub stops_file : (files : List File) (nodes : ℕ) (path bytes : List ℕ) (fault : TreeFault) → length files < nodes → Refuses files nodes (path, bytes) fault → LoadStops files path fault
 stops_file files nodes path bytes fault more (inl is) = (0, inl (bytes, is))
 stops_file files nodes path bytes fault more (inr (inl many)) = let folders = folders_among files nodes more in (folders.0, inr (inr (inl (omega (arith, folders.1, many.0), many.1))))
 stops_file files nodes path bytes fault more (inr (inr memory)) = stops_memory files path fault memory.1
@@ -71,7 +71,7 @@ stops_file files nodes path bytes fault more (inr (inr memory)) = stops_memory f
 -- a walk that reaches a file
 pub walks_file : {T : Type 0} (listed : T → List File) (first : List File) (nodes : ℕ) (path bytes : List ℕ) (result : Result T TreeFault)
     → IfOk result (λ walk. (file_fault first (path, bytes) ≡ None) × (listed walk ≡ first ++ (path, bytes) ∷ []))
-    → length first < nodes → IfErr result (RefusesFile first nodes (path, bytes)) → WalksTo listed first path result
+    → length first < nodes → IfErr result (Refuses first nodes (path, bytes)) → WalksTo listed first path result
 walks_file listed first nodes path bytes (Ok walk) lists more refused = lists_one first (path, bytes) (listed walk) lists.0 lists.1
 walks_file listed first nodes path bytes (Err fault) lists more refused = (first, lists_none first, stops_file first nodes path bytes fault more refused)
 
@@ -88,10 +88,10 @@ stops_folder files nodes path fault more is = by (ltb 254 (length path)) (ltb 40
     by false false long many h = absurd cc
 
 -- a file that is added to the tree, or fails
-pub file_refused : {T : Type 0} (files : List File) (nodes : ℕ) (path bytes : List ℕ) (after : T) (fault : TreeFault) → AddsFile (file_fault files (path, bytes)) after (Err fault) → RefusesFile files nodes (path, bytes) fault
+pub file_refused : {T : Type 0} (files : List File) (nodes : ℕ) (path bytes : List ℕ) (after : T) (fault : TreeFault) → AddsFile (file_fault files (path, bytes)) after (Err fault) → Refuses files nodes (path, bytes) fault
 file_refused files nodes path bytes after fault adds = by (adds_refused (file_fault files (path, bytes)) after fault adds)
   where
-    by : (file_fault files (path, bytes) ≡ Some fault) ⊎ ((file_fault files (path, bytes) ≡ None) × (fault ≡ NoMemory)) → RefusesFile files nodes (path, bytes) fault
+    by : (file_fault files (path, bytes) ≡ Some fault) ⊎ ((file_fault files (path, bytes) ≡ None) × (fault ≡ NoMemory)) → Refuses files nodes (path, bytes) fault
     by (inl is) = inl is
     by (inr memory) = inr (inr memory)
 

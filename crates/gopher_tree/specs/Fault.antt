@@ -69,6 +69,10 @@ AddsFile (Some fault) files result = result ≡ Err fault
 AddsFile None files (Ok tree) = tree ≡ files
 AddsFile None files (Err fault) = fault ≡ NoMemory
 
+-- adding a file to these files
+abbrev pub AddsFileTo : List File → File → Result (List File) TreeFault → Type 0
+AddsFileTo files file result = AddsFile (file_fault files file) (files ++ file ∷ []) result
+
 -- the fault of the first file
 abbrev pub first_fault : List File → Option TreeFault
 first_fault [] = None

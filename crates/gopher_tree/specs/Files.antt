@@ -1,11 +1,11 @@
 -- A list of files, each a path and its bytes, as a tree of folders.
-use Rattle.std.specs.Prelude.{◌≡◌, ℕ, Bool, true, false, ◌||◌, nat_eq, ◌==◌, List, [], ◌∷◌, ◌++◌, length, fold, find, Option, None, Some, is_some, sum_by, if◌then◌else◌}
+use Rattle.std.specs.Prelude.{◌≡◌, ℕ, Bool, true, false, ◌||◌, ◌&&◌, nat_eq, ◌==◌, List, [], ◌∷◌, ◌++◌, length, take, fold, find, Option, None, Some, is_some, sum_by, if◌then◌else◌}
 use Rattle.std.specs.List.{list_any, filter_map, flat_map}
 use Rattle.std.specs.List.Sorted.{IsStrictlySortedBy}
 use Rattle.std.specs.Ordering.{nat_cmp}
 use Rattle.std.specs.Cmp.Lexicographic.{pointwise, slice_cmp}
 use Rattle.std.specs.BTreeMap.{insert_entry}
-use Rattle.gopher_tree.specs.Path.{names_of, is_menu_name, rest_after, rest_below, is_below, folders_of}
+use Rattle.gopher_tree.specs.Path.{names_of, is_menu_name, is_slash, rest_after, rest_below, is_below, folders_of}
 use Rattle.gopher_tree.specs.Kind.{kind_of}
 
 -- a file: its path and its bytes
@@ -70,6 +70,16 @@ paths_of path = [] ∷ folders_of path ++ path ∷ []
 abbrev pub nodes : List File → List (List ℕ)
 nodes files = fold add_path ([] ∷ []) (flat_map (λ file. paths_of file.0) files)
 
+-- a path has a slash at this position, and a node before it
+abbrev pub is_node_before : List File → List ℕ → ℕ → Bool
+is_node_before files path place =
+    is_slash path place && is_path_among (nodes files) (take place path)
+
+-- a path has a slash at this position, and a file or a folder before it
+abbrev pub is_file_or_folder_before : List File → List ℕ → ℕ → Bool
+is_file_or_folder_before files path place =
+    is_slash path place && (is_file files (take place path) || is_folder files (take place path))
+
 -- the distinct nodes in byte order
 pub record AreNodes (files : List File) (paths : List (List ℕ)) : Type 0 where
   pub order : IsStrictlySortedBy (slice_cmp nat_cmp) paths
@@ -80,5 +90,7 @@ total_bytes files = sum_by (λ file. length file.1) files
 
 -- the folders above a path are among the nodes, and none of them is a file
 pub record AboveAreFolders (files : List File) (path : List ℕ) : Type 0 where
-  pub known : (folder : List ℕ) → is_below folder path ≡ true → is_path_among (nodes files) folder ≡ true
+  pub known :
+      (folder : List ℕ)
+      → is_below folder path ≡ true → is_path_among (nodes files) folder ≡ true
   pub no_file : leads_through_file files path ≡ false

@@ -4,9 +4,11 @@ use Rattle.std.specs.List.Sorted.{IsStrictlySortedBy}
 use Rattle.std.specs.Ordering.{nat_cmp}
 use Rattle.std.specs.Cmp.Lexicographic.{pointwise, slice_cmp}
 use Rattle.std.specs.BTreeMap.{BTreeMap, get_by}
+use Rattle.std.specs.Borrow.{Bor}
 use Rattle.std.specs.declared.vec.Vec.{Vec}
 use Rattle.gopher_tree.specs.Path.{names_of, is_slash, rest_below, is_below}
 use Rattle.gopher_tree.specs.Files.{File, Child, has_path, is_file, is_folder, child_of, child_of_rest, add_child, children, nodes, is_path_among}
+use Rattle.gopher_tree.specs.Child.{child_data}
 use Rattle.gopher_tree.specs.declared.tree.index.Entry.{Entry}
 use Rattle.gopher_tree.specs.declared.tree.index.Entry.TheVariants as entry
 
@@ -64,6 +66,37 @@ abbrev pub entry_after : Option Entry → ℕ → ℕ → List ℕ → List ℕ 
 entry_after held number kind added path =
     if pointwise nat_eq path added then Some (entry.File number)
     else folders_after held kind added path
+
+-- the entry at this path was set, or removed, and all others are as before
+abbrev pub SetsEntry : {A : Type 0} → BTreeMap (Vec ℕ A) Entry → BTreeMap (Vec ℕ A) Entry
+    → List ℕ → Option Entry → Type 0
+SetsEntry old new path held =
+    (q : List ℕ) → held_at new q ≡ (if pointwise nat_eq q path then held else held_at old q)
+
+-- a child, if there is one, was added to a folder, which is made if it doesn't exist
+abbrev pub AddsChild : {A : Type 0} → BTreeMap (Vec ℕ A) Entry → BTreeMap (Vec ℕ A) Entry
+    → List ℕ → Option (Bor (List ℕ) × ℕ) → Type 0
+AddsChild old new folder child =
+    SetsEntry old new folder (folder_with (held_at old folder) (child_data child))
+
+abbrev pub has_folder : {A : Type 0} → BTreeMap (Vec ℕ A) Entry → List ℕ → Bool
+has_folder index path = is_some (folder_at (held_at index path))
+
+-- the path has a slash at this position, and the index a folder before it
+abbrev pub has_folder_before : {A : Type 0} → BTreeMap (Vec ℕ A) Entry → List ℕ → ℕ → Bool
+has_folder_before index path place = is_slash path place && has_folder index (take place path)
+
+-- a file was added to the folders that its path leads through
+abbrev pub AddsToFolders : {A : Type 0} → BTreeMap (Vec ℕ A) Entry → BTreeMap (Vec ℕ A) Entry → ℕ
+    → List ℕ → Type 0
+AddsToFolders old new kind path =
+    (q : List ℕ) → held_at new q ≡ folders_after (held_at old q) kind path q
+
+-- the file with this number was added, and to the folders that its path leads through
+abbrev pub AddsToIndex : {A : Type 0} → BTreeMap (Vec ℕ A) Entry → BTreeMap (Vec ℕ A) Entry → ℕ → ℕ
+    → List ℕ → Type 0
+AddsToIndex old new number kind path =
+    (q : List ℕ) → held_at new q ≡ entry_after (held_at old q) number kind path q
 
 -- the entries after a file was added to the folder before this position, if a slash is at the
 -- position

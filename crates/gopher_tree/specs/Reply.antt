@@ -1,14 +1,26 @@
 -- The reply of a tree to a selector (RFC 1436, section 2; folders as menus are this profile's).
-use Rattle.std.specs.Prelude.{ℕ, length, ◌==◌, List, [], ◌∷◌, ◌++◌, codes, map, Option, None, Some, if◌then◌else◌}
+use Rattle.std.specs.Prelude.{◌≡◌, ℕ, length, ◌==◌, List, [], ◌∷◌, ◌++◌, codes, map, Option, None, Some, Result, OnOk, if◌then◌else◌}
+use Rattle.std.specs.List.{flat_map}
 use Rattle.std.specs.Option.{option_map}
+use Rattle.std.specs.declared.vec.Vec.{Vec}
 use Rattle.gopher_bytes.specs.Lines.{lines_of}
-use Rattle.gopher_item.specs.MenuLine.{MenuLineData, menu_bytes}
+use Rattle.gopher_item.specs.MenuLine.{MenuLineData, menu_line_bytes, menu_bytes}
 use Rattle.gopher_item.specs.Place.{HomeData}
 use Rattle.gopher_text.specs.Text.{text_bytes}
 use Rattle.gopher_tree.specs.Path.{is_menu_path, path_of, menu_path}
 use Rattle.gopher_tree.specs.Kind.{kind_of}
 use Rattle.gopher_tree.specs.MenuFile.{written_menu}
 use Rattle.gopher_tree.specs.Files.{File, Child, file_at, is_folder, children}
+
+-- a call that succeeds appends the bytes of this menu line to a reply
+abbrev pub PutsLine : {A T E : Type 0} → MenuLineData → Vec ℕ A → Vec ℕ A → Result T E → Type 0
+PutsLine line old new result = OnOk result (new.items ≡ old.items ++ menu_line_bytes line)
+
+-- a call that succeeds appends the bytes of these menu lines to a reply
+abbrev pub PutsLines : {A T E : Type 0} → List MenuLineData → Vec ℕ A → Vec ℕ A → Result T E
+    → Type 0
+PutsLines lines old new result =
+    OnOk result (new.items ≡ old.items ++ flat_map menu_line_bytes lines)
 
 -- the file or folder that a selector names
 pub data Named : Type 0 where
@@ -60,6 +72,9 @@ head_lines home folder = if length folder == 0 then search_line home ∷ [] else
 abbrev pub listing_of : HomeData → List ℕ → List Child → List MenuLineData
 listing_of home folder names =
     head_lines home folder ++ map (child_line home (front_of folder)) names
+
+abbrev pub listing_bytes : HomeData → List ℕ → List Child → List ℕ
+listing_bytes home folder names = menu_bytes (listing_of home folder names)
 
 abbrev pub listing : List File → HomeData → List ℕ → List MenuLineData
 listing files home folder = listing_of home folder (children files folder)

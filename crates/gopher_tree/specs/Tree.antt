@@ -1,7 +1,8 @@
 -- The invariant of a tree.
-use Rattle.std.specs.Prelude.{◌≡◌, ℕ, ◌+◌, ◌≤◌, List, length, fold}
+use Rattle.std.specs.Prelude.{◌≡◌, ℕ, ◌+◌, ◌≤◌, List, [], ◌∷◌, length, fold}
 use Rattle.std.specs.BTreeMap.{BTreeMap}
 use Rattle.std.specs.declared.vec.Vec.{Vec}
+use Rattle.gopher_tree.specs.Path.{folders_of}
 use Rattle.gopher_tree.specs.Files.{File, add_path, paths_of, nodes, total_bytes}
 use Rattle.gopher_tree.specs.Index.{IsPathIndex}
 use Rattle.gopher_tree.specs.declared.tree.index.Entry.{Entry}
@@ -19,3 +20,8 @@ pub record IsTree {A : Type 0} (files : List File) (held : BTreeMap (Vec ℕ A) 
 abbrev pub AddsNodes : List File → List ℕ → ℕ → Type 0
 AddsNodes files path count =
     length (fold add_path (nodes files) (paths_of path)) ≡ length (nodes files) + count
+
+-- the folders that a path leads through add this many nodes to those of the files
+abbrev pub AddsFolders : List File → List ℕ → ℕ → Type 0
+AddsFolders files path count =
+    length (fold add_path (nodes files) ([] ∷ folders_of path)) ≡ length (nodes files) + count

@@ -1,8 +1,7 @@
 //! Loading a tree from a folder of the file system (`Tree::load`): the walk, depth first.
 
-ghost use Rattle.std.specs.Prelude.{◌≡◌, ◌<◌, ◌≤◌, ◌+◌, ◌++◌, [], ◌∷◌, length, None, Some, IfOk, IfErr, OnOk, MatchResult};
-ghost use Rattle.gopher_tree.specs.Fault.{file_fault, files_fault};
-ghost use Rattle.gopher_tree.specs.Load.{folder_fault, RefusesFile, WalksTo, Loads, LoadsTo, LoadsAt};
+ghost use Rattle.std.specs.Prelude.{◌≡◌, ◌<◌, ◌≤◌, ◌+◌, [], length, None, IfOk, IfErr, OnOk, MatchResult};
+ghost use Rattle.gopher_tree.specs.Load.{folder_fault, Refuses, ListsFile, RefusesFolder, WalksTo, Loads, LoadsTo, LoadsAt};
 
 pub(crate) mod folder;
 
@@ -35,8 +34,7 @@ fn note_path(at: &mut Vec<u8>, path: &[u8]) -> Result<(), NoMemory>
 
 impl Walk {
     fn new(alloc: Global) -> Result<Walk, TreeFault>
-        ensures { MatchResult result
-            (λ walk. walk.tree ≡ []) (λ fault. fault ≡ TreeFault.NoMemory) }
+        ensures { MatchResult result (λ walk. walk.tree ≡ []) (λ why. why ≡ TreeFault.NoMemory) }
     {
         let Ok(tree) = Tree::empty(alloc) else {
             return Err(TreeFault::NoMemory);
@@ -46,13 +44,9 @@ impl Walk {
 
     // Lists a file, or fails with its first fault. Empty folders count among the nodes.
     fn with_file(self, alloc: Global, path: Vec<u8>, bytes: Vec<u8>) -> Result<Walk, TreeFault>
-        ensures listed { IfOk result (λ walk.
-            (file_fault self.tree (path.items, bytes.items) ≡ None)
-            × (walk.tree ≡ self.tree ++ (path.items, bytes.items) ∷ [])) }
-        ensures counted { IfOk result (λ walk.
-            (self.nodes < 4096) × (walk.nodes ≡ self.nodes + 1)) }
-        ensures refused { IfErr result
-            (RefusesFile self.tree self.nodes (path.items, bytes.items)) }
+        ensures listed { IfOk result (λ w. ListsFile self.tree (path.items, bytes.items) w.tree) }
+        ensures counted { IfOk result (λ w. (self.nodes < 4096) × (w.nodes ≡ self.nodes + 1)) }
+        ensures refused { IfErr result (Refuses self.tree self.nodes (path.items, bytes.items)) }
     {
         let number = self.tree.number_of_files();
         if let Some(fault) = path_fault(number, &path) {
@@ -68,12 +62,10 @@ impl Walk {
 
     // Visits a folder, or fails with its first fault.
     fn with_folder(self, path: &[u8]) -> Result<Walk, TreeFault>
-        ensures visited { IfOk result (λ walk.
-            (walk.tree ≡ self.tree) × (walk.nodes ≡ self.nodes + 1)
-            × (folder_fault (length self.tree) self.nodes path.now ≡ None)) }
+        ensures visited { IfOk result (λ w. (w.tree ≡ self.tree) × (w.nodes ≡ self.nodes + 1)) }
+        ensures good { OnOk result (folder_fault (length self.tree) self.nodes path.now ≡ None) }
         ensures short { IfOk result (λ walk. length path.now ≤ 254) }
-        ensures refused { IfErr result (λ fault.
-            folder_fault (length self.tree) self.nodes path.now ≡ Some fault) }
+        ensures refused { IfErr result (RefusesFolder self.tree self.nodes path.now) }
     {
         let number = self.tree.number_of_files();
         if path.len() > MAX_PATH {

@@ -1,14 +1,10 @@
 //! Reading `.menu` files, whose lines are the menu of their folder. The format is this profile's.
 
-ghost use Rattle.std.specs.Prelude.{◌≡◌, ℕ, ◌++◌, ◌&&◌, ◌||◌, ◌==◌, not, [], ◌∷◌, None, Some, MatchOption, OnOk, map};
-ghost use Rattle.std.specs.Io.{StartsWith};
-ghost use Rattle.std.specs.List.{filter_map, flat_map};
-ghost use Rattle.std.specs.Option.{option_map};
-ghost use Rattle.gopher_item.specs.Special.{is_control};
+ghost use Rattle.std.specs.Prelude.{◌≡◌, ◌∷◌};
 ghost use Rattle.gopher_item.specs.Menu.{fields_of};
-ghost use Rattle.gopher_item.specs.MenuLine.{menu_line_bytes, menu_bytes};
-ghost use Rattle.gopher_tree.specs.MenuFile.{is_item, written_item, line_of_fields, server_of, written_line, bad_line, written_menu, sent_line};
-ghost use Rattle.gopher_tree.specs.WrittenLine.{line_data, server_data, IsWrittenLine};
+ghost use Rattle.gopher_tree.specs.MenuFile.{is_item, line_of_fields, server_of, written_line, bad_line, written_menu, sent_line};
+ghost use Rattle.gopher_tree.specs.WrittenLine.{line_data, server_data, IsWrittenItem, IsWrittenLine};
+ghost use Rattle.gopher_tree.specs.Reply.{PutsLine, PutsLines};
 
 use gopher_item::{
     Home, NoMemory, first_line, has_special, is_bad_type, is_host, is_selector, push_menu_line,
@@ -40,8 +36,7 @@ fn written_item<'a>(
     selector: &'a [u8],
     server: Option<(&'a [u8], u16)>,
 ) -> Option<WrittenLine<'a>>
-    ensures { IsWrittenLine (written_item kind display.now selector.now
-        (server_data server.entry)) result }
+    ensures { IsWrittenItem kind display.now selector.now server.entry result }
 {
     if !is_item(kind, display, selector) {
         return None;
@@ -112,8 +107,7 @@ pub(crate) fn bad_line(bytes: &[u8]) -> Option<usize>
 
 // Appends the line as a server with the address `home` sends it.
 fn push_written(line: WrittenLine, home: &Home, out: &mut Vec<u8>) -> Result<(), NoMemory>
-    ensures written { OnOk result (out.new.items ≡ out.old.items
-        ++ menu_line_bytes (sent_line home.now (line_data line.entry))) }
+    ensures written { PutsLine (sent_line home.now (line_data line.entry)) out.old out.new result }
 {
     let (host, port) = match line.server {
         Some(server) => server,
@@ -128,8 +122,7 @@ pub(crate) fn push_written_lines(
     home: &Home,
     out: &mut Vec<u8>,
 ) -> Result<(), NoMemory>
-    ensures { OnOk result (out.new.items ≡ out.old.items
-        ++ flat_map menu_line_bytes (written_menu home.now bytes.now)) }
+    ensures { PutsLines (written_menu home.now bytes.now) out.old out.new result }
 {
     let mut rest = bytes;
     while let Some((line, after)) = first_line(rest) {

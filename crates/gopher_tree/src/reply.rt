@@ -1,11 +1,10 @@
 //! Making replies: menus of folders, menus of `.menu` files, texts, raw files and errors.
 
-ghost use Rattle.std.specs.Prelude.{◌≡◌, false, ◌++◌, ◌==◌, length, IfOk, OnOk, if◌then◌else◌};
-ghost use Rattle.std.specs.List.{flat_map};
+ghost use Rattle.std.specs.Prelude.{◌≡◌, false, IfOk};
 ghost use Rattle.gopher_item.specs.Special.{has_special};
-ghost use Rattle.gopher_item.specs.MenuLine.{menu_line_bytes, menu_bytes};
+ghost use Rattle.gopher_item.specs.MenuLine.{menu_bytes};
 ghost use Rattle.gopher_tree.specs.MenuFile.{written_menu};
-ghost use Rattle.gopher_tree.specs.Reply.{front_of, head_lines, listing_of, file_reply, error_bytes, not_found_bytes};
+ghost use Rattle.gopher_tree.specs.Reply.{PutsLines, front_of, head_lines, listing_bytes, file_reply, error_bytes, not_found_bytes};
 
 use crate::menu_file::push_written_lines;
 use crate::tree::children::Children;
@@ -61,8 +60,7 @@ fn front_of(alloc: Global, folder: &[u8]) -> Result<Vec<u8>, NoMemory>
 
 // Appends the search line if the folder is the root.
 fn push_head(folder: &[u8], home: &Home, out: &mut Vec<u8>) -> Result<(), NoMemory>
-    ensures { OnOk result (out.new.items ≡ out.old.items
-        ++ flat_map menu_line_bytes (head_lines home.now folder.now)) }
+    ensures { PutsLines (head_lines home.now folder.now) out.old out.new result }
 {
     if !folder.is_empty() {
         return Ok(());
@@ -78,8 +76,7 @@ pub(crate) fn listing_reply(
     children: &Children,
     home: &Home,
 ) -> Result<Vec<u8>, NoMemory>
-    ensures { IfOk result (λ bytes.
-        bytes.items ≡ menu_bytes (listing_of home.now folder.now children.now)) }
+    ensures { IfOk result (λ bytes. bytes.items ≡ listing_bytes home.now folder.now children.now) }
 {
     let front = front_of(alloc, folder)?;
     let mut out = Vec::new(alloc);

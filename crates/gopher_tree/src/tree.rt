@@ -1,13 +1,11 @@
-//! `Tree`: its limits, how a file is added, and the node and the reply at a selector.
+//! `Tree`: its limits, its numbers, and how a file is added.
 
-ghost use Rattle.std.specs.Prelude.{◌≡◌, ℕ, ◌+◌, ◌≤◌, ◌<◌, ◌++◌, ◌∷◌, ◌||◌, ◌&&◌, ◌==◌, not, [], None, Some, List, length, take, slice_index, if◌then◌else◌, map, fold, count_by, IfOk, IsTrue, MatchResult};
-ghost use Rattle.gopher_tree.specs.Path.{is_menu_path, is_slash, folders_of};
-ghost use Rattle.gopher_tree.specs.Files.{is_file, is_folder, leads_through_file, AboveAreFolders, children, add_path, nodes, is_path_among, AreNodes, total_bytes};
-ghost use Rattle.gopher_tree.specs.Fault.{is_too_big, is_twice, menu_fault, path_fault, file_fault, first_fault, AddsFile, MakesTree};
-ghost use Rattle.gopher_tree.specs.Tree.{AddsNodes};
-ghost use Rattle.std.specs.Option.{option_map};
-ghost use Rattle.gopher_tree.specs.Reply.{named, menu_file, folder_reply, tree_reply};
-ghost use Rattle.gopher_tree.specs.Found.{FindsPath, Shows, file_data};
+ghost use Rattle.std.specs.Prelude.{◌≡◌, ◌≤◌, ◌<◌, ◌++◌, ◌∷◌, ◌||◌, [], None, length, take, map, count_by, IfOk, IsTrue};
+ghost use Rattle.gopher_tree.specs.Path.{is_menu_path};
+ghost use Rattle.gopher_tree.specs.Files.{is_file, is_folder, leads_through_file, AboveAreFolders, nodes, is_node_before, is_file_or_folder_before, is_path_among, AreNodes, total_bytes};
+ghost use Rattle.gopher_tree.specs.Fault.{is_too_big, is_twice, path_fault, file_fault, AddsFileTo, MakesTree};
+ghost use Rattle.gopher_tree.specs.Tree.{AddsNodes, AddsFolders};
+ghost use Rattle.gopher_tree.specs.Found.{FindsPath, file_data};
 
 pub(crate) mod child_line;
 pub(crate) mod children;
@@ -16,15 +14,15 @@ pub(crate) mod file_faults;
 pub(crate) mod index;
 pub(crate) mod kind;
 pub(crate) mod path;
+pub(crate) mod selector;
 
 use crate::fault::TreeFault;
-use crate::reply::{file_reply, listing_reply, not_found, written_reply};
 use crate::tree::children::Children;
 use crate::tree::file::File;
 use crate::tree::file_faults::{MAX_FILE, first_fault, menu_fault};
 use crate::tree::index::{Entry, Index, add_file, is_file_entry, paths_in};
-use crate::tree::path::{is_menu_path, menu_path, path_fault, path_of, slashes_at};
-use gopher_item::{Home, NoMemory};
+use crate::tree::path::{is_menu_path, path_fault, slashes_at};
+use gopher_item::NoMemory;
 use std::alloc::Global;
 use std::collections::BTreeMap;
 use std::marker::Model;
@@ -146,11 +144,8 @@ impl Tree {
     // Whether the path has a slash at this position, with a node before it.
     fn has_node_before(&self, path: &[u8], place: usize) -> bool
         requires { place < length path.now }
-        ensures among { result
-            ≡ (is_slash path.now place && is_path_among (nodes self.now) (take place path.now)) }
-        ensures either { result ≡ (is_slash path.now place
-            && (is_file self.now (take place path.now)
-            || is_folder self.now (take place path.now))) }
+        ensures among { result ≡ is_node_before self.now path.now place }
+        ensures either { result ≡ is_file_or_folder_before self.now path.now place }
         ensures above { IsTrue result → AboveAreFolders self.now (take place path.now) }
     {
         if path[place] != b'/' {
@@ -196,8 +191,7 @@ impl Tree {
     // How many folders a path adds.
     fn new_folders(&self, path: &[u8]) -> usize
         requires { 0 < length path.now }
-        ensures count { length (fold add_path (nodes self.now) ([] ∷ folders_of path.now))
-            ≡ length (nodes self.now) + result }
+        ensures count { AddsFolders self.now path.now result }
         ensures bound { result < length path.now }
     {
         let mut count = 0;
@@ -275,8 +269,7 @@ impl Tree {
         path: Vec<u8>,
         bytes: Vec<u8>,
     ) -> Result<Tree, TreeFault>
-        ensures { AddsFile (file_fault self (path.items, bytes.items))
-            (self ++ (path.items, bytes.items) ∷ []) result }
+        ensures { AddsFileTo self (path.items, bytes.items) result }
     {
         if let Some(fault) = path_fault(self.files.len(), &path) {
             return Err(fault);
@@ -288,36 +281,6 @@ impl Tree {
         match self.add(alloc, path, bytes, new_nodes) {
             Ok(tree) => Ok(tree),
             Err(_) => Err(TreeFault::NoMemory),
-        }
-    }
-
-    /// Returns the bytes of the menu file in the folder with this path, if it has one.
-    pub fn menu_file(&self, alloc: Global, folder: &[u8]) -> Result<Option<&[u8]>, NoMemory>
-        ensures { IfOk result (λ menu.
-            option_map (λ bytes. bytes.now) menu ≡ menu_file self.now folder.now) }
-    {
-        let path = menu_path(alloc, folder)?;
-        match self.found(&path) {
-            Some(Found::File(file)) => Ok(Some(file.bytes())),
-            Some(Found::Folder(_)) => Ok(None),
-            None => Ok(None),
-        }
-    }
-
-    // The menu of a folder with these names.
-    fn folder_reply(
-        &self,
-        alloc: Global,
-        folder: &[u8],
-        names: &Children,
-        home: &Home,
-    ) -> Result<Vec<u8>, NoMemory>
-        requires { names.now ≡ children self.now folder.now }
-        ensures { IfOk result (λ menu. menu.items ≡ folder_reply self.now home.now folder.now) }
-    {
-        match self.menu_file(alloc, folder)? {
-            Some(bytes) => written_reply(alloc, bytes, home),
-            None => listing_reply(alloc, folder, names, home),
         }
     }
 
@@ -346,47 +309,5 @@ impl Tree {
             tree = tree.with_file(alloc, path, bytes)?;
         }
         Ok(tree)
-    }
-
-    /// Returns the file or folder that a selector names. It is `None` if a nonempty selector
-    /// doesn't begin with a slash, if no node has its path, or if the path is a `.menu` file.
-    pub fn find(&self, selector: &[u8]) -> Option<Node<'_>>
-        ensures { Shows (named self.now selector.now) result }
-    {
-        let path = path_of(selector)?;
-        match self.found(path)? {
-            Found::File(file) => {
-                if is_menu_path(path) {
-                    None
-                } else {
-                    Some(Node::File(file.kind(), file.bytes()))
-                }
-            }
-            Found::Folder(_) => Some(Node::Folder),
-        }
-    }
-
-    /// Makes the reply to a selector from a server with the address `home` (RFC 1436, section 2,
-    /// and appendix: Menu Transaction and Textfile Transaction).
-    ///
-    /// For a folder it is a menu: the lines of its `.menu` file or, without one, its names in byte
-    /// order; the root's names follow a search line. For a file of type `0` it is a text, for other
-    /// files their bytes. If the selector names nothing, it is the error reply `Not found`.
-    pub fn reply(&self, alloc: Global, selector: &[u8], home: &Home) -> Result<Vec<u8>, NoMemory>
-        ensures { IfOk result (λ sent. sent.items ≡ tree_reply self.now home.now selector.now) }
-    {
-        let Some(path) = path_of(selector) else {
-            return not_found(alloc, home);
-        };
-        match self.found(path) {
-            Some(Found::File(file)) => {
-                if is_menu_path(path) {
-                    return not_found(alloc, home);
-                }
-                file_reply(alloc, file.kind(), file.bytes())
-            }
-            Some(Found::Folder(children)) => self.folder_reply(alloc, path, children, home),
-            None => not_found(alloc, home),
-        }
     }
 }

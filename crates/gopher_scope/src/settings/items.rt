@@ -1,11 +1,10 @@
 //! Reading seeds and rules from tables that have no fault.
 
 ghost use Rattle.std.specs.Prelude.{◌≡◌, map, Some, None, IfOk};
-ghost use Rattle.std.specs.List.{filter_map};
-ghost use Rattle.toml.specs.Data.{get_member, as_table};
+ghost use Rattle.toml.specs.Data.{get_member};
 ghost use Rattle.toml.specs.View.{view, table_view};
 ghost use Rattle.gopher_scope.specs.Reading.{first_of, field_problem, table_problem, element_problem, values_read};
-ghost use Rattle.gopher_scope.specs.Settings.{field_integer, field_text, kind_read, seed_read, rule_read};
+ghost use Rattle.gopher_scope.specs.Settings.{field_integer, field_text, kind_read, seed_read, rule_read, seeds_read, rules_read};
 
 use super::tables::{Element, Field};
 use super::value::value_at;
@@ -90,8 +89,7 @@ fn rule(alloc: Global, table: &Table) -> Result<Rule, NoMemory>
 /// Reads the tables of `seeds`.
 pub(crate) fn seeds(alloc: Global, values: &[Value]) -> Result<Vec<Place>, NoMemory>
     requires { first_of (element_problem Element.Seed) (map view values.now) ≡ None }
-    ensures { IfOk result (λ seeds.
-        seeds.items ≡ map seed_read (filter_map as_table (map view values.now))) }
+    ensures { IfOk result (λ seeds. seeds.items ≡ seeds_read (map view values.now)) }
 {
     let mut seeds = Vec::new(alloc);
     for value in values {
@@ -105,8 +103,7 @@ pub(crate) fn seeds(alloc: Global, values: &[Value]) -> Result<Vec<Place>, NoMem
 /// Reads the tables of `allow` or `deny`.
 pub(crate) fn rules(alloc: Global, values: &[Value]) -> Result<Vec<Rule>, NoMemory>
     requires { first_of (element_problem Element.Rule) (map view values.now) ≡ None }
-    ensures { IfOk result (λ rules.
-        rules.items ≡ map rule_read (filter_map as_table (map view values.now))) }
+    ensures { IfOk result (λ rules. rules.items ≡ rules_read (map view values.now)) }
 {
     let mut rules = Vec::new(alloc);
     for value in values {

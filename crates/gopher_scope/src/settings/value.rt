@@ -2,11 +2,11 @@
 //! `Problem`.
 
 ghost use Rattle.std.specs.Prelude.{◌≡◌, ◌≤◌, None};
-ghost use Rattle.std.specs.Option.{option_copied, option_map};
+ghost use Rattle.std.specs.Option.{option_copied};
 ghost use Rattle.toml.specs.Data.{as_integer, as_str, get_member};
 ghost use Rattle.toml.specs.View.{view, table_view};
 ghost use Rattle.gopher_scope.specs.Rows.{absent_text, is_in_range};
-ghost use Rattle.gopher_scope.specs.Reading.{integer_problem, number_read, text_problem, scalar_problem, integer_read, text_read};
+ghost use Rattle.gopher_scope.specs.Reading.{integer_problem, number_read, text_problem, scalar_problem, integer_read, text_read, value_data};
 ghost use Rattle.gopher_scope.specs.Settings.{fault_at};
 
 use super::key::Key;
@@ -98,8 +98,7 @@ pub(crate) enum Scalar {
 
 /// Returns the value of a key.
 pub(crate) fn value_at<'a>(table: &'a Table, name: &str) -> Option<&'a Value>
-    ensures { option_map (λ value. view value.now) result
-        ≡ get_member name.now (table_view table.now) }
+    ensures { value_data result ≡ get_member name.now (table_view table.now) }
 {
     table.get(name)
 }

@@ -3,17 +3,17 @@
 //! A name can vanish between any two calls, because other programs change the folder while it is
 //! read. A name that has vanished counts as a link that leads nowhere.
 
-ghost use Rattle.std.specs.Prelude.{◌≡◌, ◌≢◌, true, IfErr, IfOk, IfSome, None, Some, take, string_bytes, string_cmp};
-ghost use Rattle.std.specs.List.{All};
+ghost use Rattle.std.specs.Prelude.{◌≡◌, ◌≢◌, IfErr, IfOk, None, Some, string_cmp};
 ghost use Rattle.std.specs.List.Sorted.{IsSorted};
-ghost use Rattle.std.specs.Fs.{IsDir, IsFile, file_type, metadata_len};
+ghost use Rattle.std.specs.Fs.{metadata_len};
 ghost use Rattle.std.specs.IoError.{error_kind};
-ghost use Rattle.gopher_tree.specs.Load.{is_shown, IsUnreadable, most_read};
+ghost use Rattle.std.specs.declared.io.ErrorKind.TheVariants.{OutOfMemory};
+ghost use Rattle.gopher_tree.specs.Load.{is_shown, AreShown, IsOfFolder, IsOfFile, IsUnreadable, most_read, ReadsMost};
 
 use crate::fault::TreeFault;
 use crate::tree::file_faults::MAX_FILE;
 use crate::tree::path::is_menu_name;
-use std::alloc::{AllocError, Global};
+use std::alloc::{AllocError, AllocGlobal, Global};
 use std::fs::{Files, OpenFile};
 use std::io::{ErrorKind, Read};
 use std::path::{Path, PathBuf};
@@ -32,9 +32,8 @@ pub(crate) enum Target {
 
 // The fault of a file or folder that can't be read; `number` files were listed before.
 fn read_fault(error: io::Error, number: usize) -> TreeFault
-    ensures memory { error_kind error ≡ ErrorKind.OutOfMemory → result ≡ TreeFault.NoMemory }
-    ensures unreadable { error_kind error ≢ ErrorKind.OutOfMemory
-        → result ≡ TreeFault.Unreadable number }
+    ensures memory { error_kind error ≡ OutOfMemory → result ≡ TreeFault.NoMemory }
+    ensures unreadable { error_kind error ≢ OutOfMemory → result ≡ TreeFault.Unreadable number }
     ensures refused { IsUnreadable number result }
 {
     match error.kind() {
@@ -56,8 +55,8 @@ fn is_shown(name: &[u8]) -> bool
 
 // Appends the name if it is listed.
 fn push_shown(alloc: Global, name: &str, names: &mut Vec<String>) -> Result<(), AllocError>
-    requires { All (λ shown. is_shown (string_bytes shown) ≡ true) names.old.items }
-    ensures { All (λ shown. is_shown (string_bytes shown) ≡ true) names.new.items }
+    requires { AreShown names.old.items }
+    ensures { AreShown names.new.items }
 {
     if is_shown(name.as_bytes()) {
         names.push(String::from_str(alloc, name)?)?;
@@ -65,15 +64,27 @@ fn push_shown(alloc: Global, name: &str, names: &mut Vec<String>) -> Result<(), 
     Ok(())
 }
 
+// Appends the listed names of a folder.
+fn push_names<R: Files + AllocGlobal + Clone + Drop>(
+    rt: &R,
+    folder: Path<'_>,
+    names: &mut Vec<String>,
+) -> io::Result<()>
+    requires { AreShown names.old.items }
+    ensures { AreShown names.new.items }
+{
+    for entry in fs::read_dir(rt, folder)? {
+        push_shown(rt.alloc(), entry?.file_name(), names)?;
+    }
+    Ok(())
+}
+
 // The listed names of a folder.
 fn shown_names<R: Files>(rt: &R, alloc: Global, folder: Path<'_>) -> io::Result<Vec<String>>
-    ensures { IfOk result (λ names.
-        All (λ name. is_shown (string_bytes name) ≡ true) names.items) }
+    ensures { IfOk result (λ names. AreShown names.items) }
 {
     let mut names = Vec::new(alloc);
-    for entry in fs::read_dir(&(rt, alloc), folder)? {
-        push_shown(alloc, entry?.file_name(), &mut names)?;
-    }
+    push_names(&(rt, alloc), folder, &mut names)?;
     Ok(names)
 }
 
@@ -90,8 +101,7 @@ fn names_there<R: Files>(
     is_root: bool,
     number: usize,
 ) -> Result<Vec<String>, TreeFault>
-    ensures shown { IfOk result (λ names.
-        All (λ name. is_shown (string_bytes name) ≡ true) names.items) }
+    ensures shown { IfOk result (λ names. AreShown names.items) }
     ensures refused { IfErr result (IsUnreadable number) }
 {
     match shown_names(rt, alloc, folder) {
@@ -110,8 +120,7 @@ pub(crate) fn names_in<R: Files>(
     is_root: bool,
     number: usize,
 ) -> Result<Vec<String>, TreeFault>
-    ensures shown { IfOk result (λ names.
-        All (λ name. is_shown (string_bytes name) ≡ true) names.items) }
+    ensures shown { IfOk result (λ names. AreShown names.items) }
     ensures order { IfOk result (λ names. IsSorted string_cmp names.items) }
     ensures refused { IfErr result (IsUnreadable number) }
 {
@@ -140,10 +149,9 @@ pub(crate) fn target_of<R: Files>(
 
 // The target by its metadata.
 fn target_found(found: fs::Metadata) -> Target
-    ensures folder { IsDir (file_type found) → result ≡ Target.Folder }
-    ensures file { IsFile (file_type found) → result ≡ Target.File }
-    ensures neither { (IsDir (file_type found) → ⊥) → (IsFile (file_type found) → ⊥)
-        → result ≡ Target.Neither }
+    ensures folder { IsOfFolder found → result ≡ Target.Folder }
+    ensures file { IsOfFile found → result ≡ Target.File }
+    ensures neither { (IsOfFolder found → ⊥) → (IsOfFile found → ⊥) → result ≡ Target.Neither }
 {
     if found.is_dir() {
         Target::Folder
@@ -173,9 +181,8 @@ pub(crate) fn without_links<R: Files>(
 // How many bytes of an open file are read: at most its length, and one over the largest file;
 // `None` if it isn't a regular file.
 fn most_read(found: &fs::Metadata) -> Option<u64>
-    ensures file { IsFile (file_type found.now)
-        → result ≡ Some (most_read (metadata_len found.now)) }
-    ensures other { (IsFile (file_type found.now) → ⊥) → result ≡ None }
+    ensures file { IsOfFile found.now → result ≡ Some (most_read (metadata_len found.now)) }
+    ensures other { (IsOfFile found.now → ⊥) → result ≡ None }
 {
     if !found.is_file() {
         return None;
@@ -230,8 +237,7 @@ fn read_most<R: Read + Drop>(
     most: u64,
     number: usize,
 ) -> Result<Vec<u8>, TreeFault>
-    ensures read { IfSome (R.remaining reader) (λ all.
-        IfOk result (λ bytes. bytes.items ≡ take most all)) }
+    ensures read { ReadsMost most (R.remaining reader) result }
     ensures refused { IfErr result (IsUnreadable number) }
 {
     let mut bytes = Vec::new(alloc);

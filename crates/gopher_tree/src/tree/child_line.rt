@@ -1,8 +1,6 @@
 //! Appending the menu line of one name in a folder.
 
-ghost use Rattle.std.specs.Prelude.{◌≡◌, ◌++◌, OnOk};
-ghost use Rattle.gopher_item.specs.MenuLine.{menu_line_bytes};
-ghost use Rattle.gopher_tree.specs.Reply.{child_line};
+ghost use Rattle.gopher_tree.specs.Reply.{PutsLine, child_line};
 
 use gopher_item::{Home, NoMemory, push_front, push_server};
 
@@ -14,8 +12,7 @@ pub(crate) fn push_child_line(
     home: &Home,
     out: &mut Vec<u8>,
 ) -> Result<(), NoMemory>
-    ensures { OnOk result (out.new.items ≡ out.old.items
-        ++ menu_line_bytes (child_line home.now front.now (name.now, kind))) }
+    ensures { PutsLine (child_line home.now front.now (name.now, kind)) out.old out.new result }
 {
     push_front(kind, name, out)?;
     out.extend_from_slice(front)?;

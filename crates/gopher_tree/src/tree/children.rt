@@ -1,12 +1,10 @@
 //! `Children`: the names in a folder in order, and their menu lines.
 
-ghost use Rattle.std.specs.Prelude.{◌≡◌, ◌++◌, [], map, OnOk};
-ghost use Rattle.std.specs.List.{flat_map};
+ghost use Rattle.std.specs.Prelude.{◌≡◌, [], map, OnOk};
 ghost use Rattle.std.specs.Ordering.{nat_cmp};
 ghost use Rattle.std.specs.Cmp.Lexicographic.{slice_cmp};
 ghost use Rattle.std.specs.BTreeMap.{insert_entry};
-ghost use Rattle.gopher_item.specs.MenuLine.{menu_line_bytes};
-ghost use Rattle.gopher_tree.specs.Reply.{child_line};
+ghost use Rattle.gopher_tree.specs.Reply.{PutsLines, child_line};
 
 use crate::tree::child_line::push_child_line;
 use gopher_item::{ByteString, Home, NoMemory};
@@ -52,8 +50,7 @@ impl Children {
         home: &Home,
         out: &mut Vec<u8>,
     ) -> Result<(), NoMemory>
-        ensures { OnOk result (out.new.items ≡ out.old.items
-            ++ flat_map menu_line_bytes (map (child_line home.now front.now) self.now)) }
+        ensures { PutsLines (map (child_line home.now front.now) self.now) out.old out.new result }
     {
         for (name, kind) in &self.held {
             push_child_line(*kind, name.as_slice(), front, home, out)?;

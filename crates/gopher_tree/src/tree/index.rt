@@ -1,11 +1,10 @@
 //! The index of a tree: the file or folder at each path, and adding a file to it.
 
-ghost use Rattle.std.specs.Prelude.{◌≡◌, ℕ, ◌+◌, ◌<◌, List, [], length, take, drop, ◌&&◌, None, Some, is_some, map, IfOk, OnOk, nat_eq, if◌then◌else◌};
-ghost use Rattle.std.specs.Cmp.Lexicographic.{pointwise};
+ghost use Rattle.std.specs.Prelude.{◌≡◌, ◌+◌, ◌<◌, length, take, drop, None, Some, map, IfOk, OnOk};
 ghost use Rattle.std.specs.Option.{option_copied};
-ghost use Rattle.gopher_tree.specs.Path.{names_of, is_slash};
+ghost use Rattle.gopher_tree.specs.Path.{names_of};
 ghost use Rattle.gopher_tree.specs.Files.{child_of};
-ghost use Rattle.gopher_tree.specs.Index.{held_at, is_file_entry, folder_at, names_at, with_child, folder_with, folders_after, entry_after, AddsBefore, IsSettled, IndexPaths};
+ghost use Rattle.gopher_tree.specs.Index.{held_at, is_file_entry, folder_at, names_at, with_child, SetsEntry, AddsChild, has_folder, has_folder_before, AddsToFolders, AddsToIndex, AddsBefore, IsSettled, IndexPaths};
 ghost use Rattle.gopher_tree.specs.Child.{child_data};
 
 use crate::tree::children::Children;
@@ -55,8 +54,7 @@ pub(crate) fn paths_in(alloc: Global, index: &Index) -> Result<Vec<&[u8]>, NoMem
 // Removes and returns the folder at the path, if there is one.
 fn take_folder(index: &mut Index, folder: &[u8]) -> Option<Children>
     ensures children { result ≡ folder_at (held_at index.old folder.now) }
-    ensures others { (path : List ℕ) → held_at index.new path
-        ≡ (if pointwise nat_eq path folder.now then None else held_at index.old path) }
+    ensures others { SetsEntry index.old index.new folder.now None }
 {
     match index.remove(folder) {
         Some(Entry::Folder(children)) => Some(children),
@@ -65,8 +63,7 @@ fn take_folder(index: &mut Index, folder: &[u8]) -> Option<Children>
 }
 
 fn put(alloc: Global, index: &mut Index, path: &[u8], entry: Entry) -> Result<(), NoMemory>
-    ensures { OnOk result ((q : List ℕ) → held_at index.new q
-        ≡ (if pointwise nat_eq q path.now then Some entry else held_at index.old q)) }
+    ensures { OnOk result (SetsEntry index.old index.new path.now (Some entry)) }
 {
     index.insert(Vec::from_slice(alloc, path)?, entry)?;
     Ok(())
@@ -109,12 +106,8 @@ fn add_child(
     folder: &[u8],
     child: Option<(&[u8], u8)>,
 ) -> Result<bool, NoMemory>
-    ensures added { OnOk result ((path : List ℕ) → held_at index.new path
-        ≡ (if pointwise nat_eq path folder.now
-        then folder_with (held_at index.old folder.now) (child_data child.entry)
-        else held_at index.old path)) }
-    ensures known { IfOk result (λ known. known
-        ≡ is_some (folder_at (held_at index.old folder.now))) }
+    ensures added { OnOk result (AddsChild index.old index.new folder.now child.entry) }
+    ensures known { IfOk result (λ known. known ≡ has_folder index.old folder.now) }
 {
     let held = take_folder(index, folder);
     let known = held.is_some();
@@ -143,8 +136,7 @@ fn add_before(
 ) -> Result<bool, NoMemory>
     requires { place < length path.now }
     ensures added { OnOk result (AddsBefore index.old index.new kind path.now place) }
-    ensures known { IfOk result (λ known. known ≡ (is_slash path.now place
-        && is_some (folder_at (held_at index.old (take place path.now))))) }
+    ensures known { IfOk result (λ known. known ≡ has_folder_before index.old path.now place) }
 {
     if path[place] != b'/' {
         return Ok(false);
@@ -158,8 +150,7 @@ fn add_before(
 fn add_to_folders(alloc: Global, index: &mut Index, path: &[u8], kind: u8) -> Result<(), NoMemory>
     requires some { 0 < length path.now }
     requires settled { IsSettled index.old kind path.now }
-    ensures { OnOk result ((q : List ℕ) → held_at index.new q
-        ≡ folders_after (held_at index.old q) kind path.now q) }
+    ensures { OnOk result (AddsToFolders index.old index.new kind path.now) }
 {
     let mut place = path.len();
     while place > 1 {
@@ -182,8 +173,7 @@ pub(crate) fn add_file(
 ) -> Result<(), NoMemory>
     requires some { 0 < length path.now }
     requires settled { IsSettled index.old kind path.now }
-    ensures { OnOk result ((q : List ℕ) → held_at index.new q
-        ≡ entry_after (held_at index.old q) number kind path.now q) }
+    ensures { OnOk result (AddsToIndex index.old index.new number kind path.now) }
 {
     add_to_folders(alloc, index, path, kind)?;
     put(alloc, index, path, Entry::File(number))?;

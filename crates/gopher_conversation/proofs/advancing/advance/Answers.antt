@@ -14,7 +14,7 @@ pub returns-in-Asks-clause-goes_on : goal.returns-in-Asks-clause-goes_on
 returns-in-Asks-clause-goes_on g c =
     let leads_to = g.A.Answers.leads_to in
     asks_on (Leads leads_to) g.A.Answers.gives (leads_stays leads_to) (leads_joins leads_to) c.args.conversation.now c.ask.new.conversation c.args.answers.now c.ask.new.answers
-    (stream_of g.R.Read.remaining c.args.reader.now) (stream_of g.W.Write.contents c.args.writer.now) c.ask.result c.in-Asks.ensures c.ask.ensures.replied
+    (stream_of g.R.Read.remaining c.args.reader.now) (stream_of g.W.Write.contents c.args.writer.now) c.ask.result c.in-Asks.ensures c.ask.ensures.ask
 
 pub returns-in-Responds-clause-goes_on : goal.returns-in-Responds-clause-goes_on
 returns-in-Responds-clause-goes_on g c =

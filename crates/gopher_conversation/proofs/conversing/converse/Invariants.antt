@@ -7,7 +7,6 @@ use Rattle.gopher_conversation.proofs.conversing.converse.Given as goal
 abbrev pub invariant-loop-step : goal.invariant-loop-step
 invariant-loop-step g l =
     Leads g.A.Answers.leads_to l.initial.answers l.answers
-    × GoesOn g.A.Answers.leads_to g.A.Answers.gives l.initial.conversation l.conversation l.initial.answers l.answers
-    (g.R.Read.remaining l.initial.reader.device) (g.R.Read.remaining l.reader.device)
-    (g.W.Write.contents l.initial.writer.device) (g.W.Write.contents l.writer.device)
+    × GoesOn g.A.Answers.leads_to g.A.Answers.gives g.R.Read.remaining g.W.Write.contents l.initial.conversation l.conversation
+    l.initial.answers l.answers l.initial.reader l.reader l.initial.writer l.writer
     × (l.initial.reader.failures ≤ l.reader.failures) × (l.initial.writer.failures ≤ l.writer.failures)

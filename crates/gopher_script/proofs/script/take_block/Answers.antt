@@ -1,4 +1,4 @@
-use Rattle.std.proofs.Common.{◌≡◌, ◌+◌, ◌∙◌, sym, arith}
+use Rattle.std.proofs.Common.{◌∙◌, sym, arith}
 use Rattle.gopher_script.proofs.Blocks.{reply-step, statements-step, statements-end}
 use Rattle.gopher_script.proofs.script.take_block.Goals as goal
 

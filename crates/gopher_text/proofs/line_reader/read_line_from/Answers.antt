@@ -19,7 +19,7 @@ returns-in-Ok-clause-refused g c =
     refusal_answered _ _ _ _ _ c.line_of.result c.fill-filled.ensures.read whole within c.line_of.ensures.refused
 
 pub returns-in-Err-clause-refused : goal.returns-in-Err-clause-refused
-returns-in-Err-clause-refused g c = line_refused _ _ _ _ _ _ c.fill-filled.ensures.read (rw c.in-Err.is at c.fill-filled.ensures.stop)
+returns-in-Err-clause-refused g c = line_refused g.R.Read.remaining _ _ _ _ c.fill-filled.ensures.read (rw c.in-Err.is at c.fill-filled.ensures.stop)
 
 pub returns-in-Ok-clause-turns : goal.returns-in-Ok-clause-turns
 returns-in-Ok-clause-turns g c =

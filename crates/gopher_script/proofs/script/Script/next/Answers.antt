@@ -1,4 +1,4 @@
-use Rattle.std.proofs.Common.{◌≡◌, ◌∙◌, sym}
+use Rattle.std.proofs.Common.{◌∙◌, sym}
 use Rattle.gopher_script.proofs.Blocks.{statements-none, statements-next}
 use Rattle.gopher_script.proofs.script.Script.next.Goals as goal
 

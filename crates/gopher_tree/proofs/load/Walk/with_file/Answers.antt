@@ -2,7 +2,7 @@ use Rattle.std.proofs.Common.{◌≡◌, ◌++◌, [], ◌∷◌, List, length, 
 use Rattle.std.proofs.lemmas.List.{length-append}
 use Rattle.gopher_tree.specs.Files.{File}
 use Rattle.gopher_tree.specs.Fault.{file_fault, AddsFile}
-use Rattle.gopher_tree.specs.Load.{RefusesFile}
+use Rattle.gopher_tree.specs.Load.{Refuses}
 use Rattle.gopher_tree.proofs.FaultLemmas.{adds_one}
 use Rattle.gopher_tree.proofs.LoadLemmas.{path_refused, file_refused}
 use Rattle.gopher_tree.proofs.load.Walk.with_file.Goals as goal
@@ -17,7 +17,7 @@ returns-in_err-tree-clause-refused c =
     let file : File = (c.args.path.items, c.args.bytes.items) in
     let adds : AddsFile (file_fault files file) (files ++ file ∷ []) (Err c.in_err-tree.field-0.0) = search rules in
     let result_is : c.from_residual.result ≡ Err c.in_err-tree.field-0.0 = search rules in
-    subst (λ r. IfErr r (RefusesFile files c.args.self.nodes file)) (sym result_is)
+    subst (λ r. IfErr r (Refuses files c.args.self.nodes file)) (sym result_is)
     (file_refused files c.args.self.nodes c.args.path.items c.args.bytes.items (files ++ file ∷ []) c.in_err-tree.field-0.0 adds)
 
 pub invariant_of-result : goal.invariant_of-result

@@ -1,7 +1,7 @@
 use Rattle.std.proofs.Common.{◌≡◌, true, string_bytes}
 use Rattle.std.specs.List.{All}
 use Rattle.gopher_tree.specs.Load.{is_shown}
-use Rattle.gopher_tree.proofs.load.folder.shown_names.Given as goal
+use Rattle.gopher_tree.proofs.load.folder.push_names.Given as goal
 
 abbrev pub invariant-loop-entry : goal.invariant-loop-entry
 invariant-loop-entry g l =

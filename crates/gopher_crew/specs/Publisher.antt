@@ -1,0 +1,46 @@
+-- The published version of a writer, and the updates that wait.
+use Rattle.std.specs.Prelude.{◌≡◌, Bool, List, drop}
+use Rattle.left_right.specs.declared.Absorb.{Ghosts}
+use Rattle.left_right.specs.declared.writer.Writer.{Writer}
+use Rattle.logbook.specs.Pages.{Book}
+use Rattle.gopher_page.specs.Page.{PageData}
+use Rattle.gopher_crew.specs.declared.update.Update.{Update}
+use Rattle.gopher_crew.specs.History.{RecordPrefixData}
+use Rattle.gopher_crew.specs.Version.{VersionData, FollowsVersion, CatchesUp, Follows, version_data, after_update, last_of}
+
+-- the update makes the version of these pages and this record
+abbrev pub MakesVersion : VersionData → List PageData → RecordPrefixData → Update → Type 0
+MakesVersion before pages prefix update = after_update before update ≡ version_data pages prefix
+
+-- the version of these pages and this record is one of this history, and its record begins with
+-- that of the version before
+abbrev pub PagesFollow : Book → VersionData → List PageData → RecordPrefixData → Type 0
+PagesFollow history before pages prefix = FollowsVersion history before (version_data pages prefix)
+
+module _ {V P A S : Type 0} {g : Ghosts VersionData Update S} where
+  -- the updates that wait: they are in the log, but not in the published version
+  abbrev pub waiting_updates : Writer VersionData Update V P A S g → List Update
+  waiting_updates writer = drop writer.behind writer.log.items
+
+  -- the version that the waiting updates make
+  abbrev pub next_version : Writer VersionData Update V P A S g → VersionData
+  next_version writer = last_of writer.desk.shown.value (waiting_updates writer)
+
+  -- the version that the waiting updates make is one of this history, and its record begins with
+  -- that of the published version
+  abbrev pub NextFollows : Book → Writer VersionData Update V P A S g → Type 0
+  NextFollows history writer =
+      FollowsVersion history writer.desk.shown.value (next_version writer)
+
+  -- whether the updates that waited were applied and published
+  abbrev pub WriterCatchesUp : Bool → Writer VersionData Update V P A S g
+      → Writer VersionData Update V P A S g → Type 0
+  WriterCatchesUp done old new =
+      CatchesUp done old.desk.shown.value (waiting_updates old) new.desk.shown.value
+      (waiting_updates new)
+
+  -- whether this version was published, with none that waited before; if not, it waits at most
+  abbrev pub WriterFollows : Bool → VersionData → Writer VersionData Update V P A S g
+      → Writer VersionData Update V P A S g → Type 0
+  WriterFollows done version old new =
+      Follows done version old.desk.shown.value new.desk.shown.value (waiting_updates new)
