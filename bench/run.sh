@@ -10,7 +10,13 @@ set -euo pipefail
 output=$(realpath -m "${1:-/dev/null}")
 cd "$(dirname "$0")/.."
 folder=$(mktemp -d)
+calls=crates/test_library/out/test_library_tests
 trap 'rm -rf "$folder"' EXIT
+
+# what a test of timings prints, without the words of the one that runs it
+time_calls() {
+    "$calls" "timings::$1" "$2" | sed '/^$/,$d'
+}
 
 measure() {
     bench/replay.sh crates/hole/out/hole
@@ -18,7 +24,7 @@ measure() {
     cc -O2 -o "$folder/splits" bench/splits.c
     for file in menu reply text; do
         kind=${file/reply/menu}
-        crates/test_calls/out/test_calls "$kind" "$folder/$file"
+        time_calls "${kind}s" "$folder/$file"
         "$folder/splits" "$kind" "$folder/$file"
     done
     printf 'host = "localhost"\nroot = "%s"\n' "$folder/site" > "$folder/site.toml"
@@ -27,19 +33,19 @@ measure() {
     cc -O2 -pthread -o "$folder/clients" bench/clients.c
     bench/speeds.py crates/hole/out/hole "$folder/plain_server" "$folder/clients"
     bench/pages.py "$folder/pages"
-    crates/test_calls/out/test_calls search "$folder/pages"
+    time_calls searches "$folder/pages"
     cc -O2 -o "$folder/postings" bench/postings.c
     echo "the plain C program:"
     "$folder/postings" "$folder/pages"
     bench/pages.py "$folder/crawled" 16384
-    crates/test_calls/out/test_calls crawl "$folder/crawled"
+    time_calls crawls "$folder/crawled"
     cc -O2 -pthread -o "$folder/crew" bench/crew.c
     for workers in 4 2 1; do
         "$folder/crew" "$folder/crawled" "$workers"
     done
     echo "the same pages made and added by 4 programs at once, without a crew:"
     for _ in 1 2 3 4; do
-        crates/test_calls/out/test_calls search "$folder/crawled" > "$folder/alone" &
+        time_calls searches "$folder/crawled" > "$folder/alone" &
     done
     wait
     head -n 1 "$folder/alone"
@@ -47,7 +53,7 @@ measure() {
 }
 
 (cd crates/hole && rt run -- replay < stdin > /dev/null)
-(cd crates/test_calls && rt run -- refusals > /dev/null)
+(cd crates/test_library && rt test > /dev/null)
 measure | tee "$folder/output"
 cp "$folder/output" "$output"
 echo

@@ -7,7 +7,7 @@ A script that is replayed, a check of a site and a server that ends at once prin
 until then, or words that can't be read (status 2), if the refused allocation was theirs; or go on to their whole output, if the
 program can do without the allocation. A server that is refused an allocation for a request sends a beginning of the reply, and
 answers the same request with the whole of it then. Calls that change or consume what they
-are given are made by `test_calls refusals`, a program of its own crate, which makes a refused one again.
+are given are made by a test of crates/test_library, which makes a refused one again.
 
 The last line is 'refusals: N passed, M failed'.
 """
@@ -24,8 +24,10 @@ import time
 from models import model
 from running.server import HOST, PROGRAM, ROOT, WAIT, Server, Tally, ask, free_port
 
-CRATE = ROOT / "crates" / "test_calls"
-CALLS = CRATE / "out" / "test_calls"
+CRATE = ROOT / "crates" / "test_library"
+CALLS = CRATE / "out" / "test_library_tests"
+CALLED = "refusals::refused_calls_succeed_when_made_again"
+CALLED_WELL = b"replies: as wanted\na catalogue: as wanted\na desk: as wanted\na crawl: as wanted\n"
 MOST_RUNS = 100_000
 SECONDS = 20
 # Links that are twice there, denied and foreign; a word of over 254 times; so many texts that pages are merged.
@@ -242,10 +244,13 @@ def check_crawl(refusals, program, folder, root):
 
 
 def check_growths(refusals):
-    """The program that makes each refused call again."""
+    """The test that makes each refused call again. Behind what it prints stands what says that it passed."""
     if not os.access(CALLS, os.X_OK):
-        subprocess.run(["rt", "run"], cwd=CRATE, check=True, stdout=subprocess.DEVNULL)
-    refusals.each("test_calls refusals", [CALLS, "refusals"], b"", ((CRATE / "stdout").read_bytes(), b"", 0), never)
+        subprocess.run(["rt", "test"], cwd=CRATE, check=True, stdout=subprocess.DEVNULL)
+    words = [CALLS, CALLED]
+    wanted = refusals.run(words, b"", 0)[0]
+    refusals.tally.expect(CALLED, (wanted[0].startswith(CALLED_WELL), *wanted[1:]), (True, b"", 0))
+    refusals.each(CALLED, words, b"", wanted, never)
 
 
 def main():

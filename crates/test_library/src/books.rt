@@ -1,6 +1,7 @@
 // A book takes in the events of a crawl, one by one, and answers as its catalogue does.
 use crate::calls::{claimed, crawl, page_of};
-use gopher_catalogue::{Book, Catalogue, Event, Hit, Why};
+use crate::tables::is_root;
+use gopher_catalogue::{Book, Catalogue, Event, Why};
 use gopher_index::Index;
 use gopher_page::Query;
 use std::alloc::Global;
@@ -44,18 +45,6 @@ fn book_of(alloc: Global, events: usize) -> Option<Book> {
 
 fn query(alloc: Global) -> Option<Query> {
     Query::read(alloc, b"docs").ok()
-}
-
-// The root alone is found, with the word once.
-fn is_root(hits: &[Hit]) -> bool {
-    match hits {
-        [hit] => {
-            hit.place.selector().is_empty()
-                && hit.title.as_slice() == b"Docs".as_slice()
-                && hit.score == 1
-        }
-        _ => false,
-    }
 }
 
 fn finds_root(alloc: Global, book: &Book) -> Option<bool> {

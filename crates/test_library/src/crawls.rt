@@ -1,12 +1,13 @@
 // Crawls by one worker and by more.
 ghost use Rattle.std.specs.Prelude.{◌≡◌, []};
 
+use crate::sites::closed;
 use crate::tables::{
-    FOUR_FILES, Fate, HOME_AND_FILE, Host, MOON, ONE_DIRECTORY, TWO_FILES, answered, are_files,
-    catalogue, hits, opened,
+    FOUR_FILES, Fate, HOME_AND_FILE, Host, MOON, ONE_DIRECTORY, TWO_FILES, all_done, answered,
+    are_files, catalogue, hits, opened,
 };
 use gopher_catalogue::{Catalogue, Event, Status, Why};
-use gopher_crew::{Answer, Blank, Crew, Desk, Fetch, Stop, WorkEnd, crawl};
+use gopher_crew::{Answer, Blank, Crew, Desk, Fetch, Share, Stop, WorkEnd, crawl};
 use std::marker::Brand;
 use std::process::Abort;
 use std::sync::Wait;
@@ -85,7 +86,7 @@ pub fn crawled<C: Crew + Send + Sync, R: Threads + Wait + Clock + Abort + AllocG
     let moons = answered(rt, pass, b"moon");
     let status = desk.status(rt);
     EndedCrawl {
-        catalogue: closed(rt, desk, ends),
+        catalogue: closed_at_last(rt, desk, ends),
         status,
         moons,
         least_calls,
@@ -109,13 +110,11 @@ fn least_calls<C: Crew, R: Clock + Abort>(
     least
 }
 
-// Closes a desk with the shares of its workers, after it was refused without them. The record has
-// as many events as the refusal told, and as many pages as the workers found.
-fn closed<C: Crew, R: Wait + Abort + AllocGlobal, F: Drop>(
+// The shares of workers, and how many pages these found.
+fn shares_of<C: Crew, R: Abort + AllocGlobal, F: Drop>(
     rt: &R,
-    desk: Desk<C, &R>,
     ends: Vec<WorkEnd<F, C>>,
-) -> Catalogue {
+) -> (Vec<Share<C>>, u64) {
     let mut shares = Vec::new(rt.alloc());
     let mut found = 0_u64;
     for end in ends {
@@ -124,12 +123,31 @@ fn closed<C: Crew, R: Wait + Abort + AllocGlobal, F: Drop>(
             panic!(rt; "no memory");
         };
     }
+    (shares, found)
+}
+
+// A desk that was refused to be closed without its shares, and the number of events that this told.
+fn refused_without_shares<'r, C: Crew, R: Wait + Abort + AllocGlobal>(
+    rt: &R,
+    desk: Desk<C, &'r R>,
+) -> (Desk<C, &'r R>, u64) {
     let Err(refused) = desk.close(Vec::new(rt.alloc())) else {
         panic!(rt; "the desk is closed without its shares");
     };
     assert!(rt; refused.code() == 62);
-    let events = refused.events;
-    let Ok(catalogue) = refused.desk.close(shares) else {
+    (refused.desk, refused.events)
+}
+
+// Closes a desk with the shares of its workers, after it was refused without them. The record has
+// as many events as the refusal told, and as many pages as the workers found.
+fn closed_at_last<C: Crew, R: Wait + Abort + AllocGlobal, F: Drop>(
+    rt: &R,
+    desk: Desk<C, &R>,
+    ends: Vec<WorkEnd<F, C>>,
+) -> Catalogue {
+    let (shares, found) = shares_of(rt, ends);
+    let (desk, events) = refused_without_shares(rt, desk);
+    let Some(catalogue) = closed(desk, shares) else {
         panic!(rt; "the desk isn't closed");
     };
     assert!(rt; catalogue.record().len() as u64 == events.saturating_add(1));
@@ -140,13 +158,7 @@ fn closed<C: Crew, R: Wait + Abort + AllocGlobal, F: Drop>(
 // The crawl has finished with `known` places, and both the pass and the catalogue find these files
 // by `moon`.
 fn has_files<R: Abort + AllocGlobal>(rt: &R, crawled: &EndedCrawl, known: u32, letters: &[u8]) {
-    let wanted = Status {
-        known,
-        waiting: 0,
-        out: 0,
-        done: known,
-        dropped: 0,
-    };
+    let wanted = all_done(known);
     assert!(rt; crawled.status == wanted && crawled.catalogue.status() == wanted);
     assert!(rt; are_files(&crawled.moons.hits, letters));
     assert!(rt; are_files(&hits(rt, &crawled.catalogue, b"moon"), letters));

@@ -1,6 +1,8 @@
-//! Tests of the crates up to gopher_serve: worked examples with their bytes, devices and connections
-//! that fail, what calls of the catalogue and the book hand out and give back, a crew at its desk,
-//! answers, fetches and conversations; what no script can show.
+//! Tests of the crates up to gopher_serve: worked examples with their bytes, devices and
+//! connections that fail, what calls of the catalogue and the book hand out and give back, a crew
+//! at its desk, answers, fetches and conversations; what no script can show. Then calls that are
+//! made again after a refused allocation (`refusals`), for `tests/refusals.py`, and timings
+//! (`timings`), for `bench/run.sh`.
 #![tactic(auto)]
 
 #[cfg(test)]
@@ -38,6 +40,18 @@ mod pages;
 #[cfg(test)]
 mod queries;
 #[cfg(test)]
+mod refusals;
+#[cfg(test)]
+mod refused_catalogues;
+#[cfg(test)]
+mod refused_crawls;
+#[cfg(test)]
+mod refused_desks;
+#[cfg(test)]
+mod refused_opening;
+#[cfg(test)]
+mod refused_replies;
+#[cfg(test)]
 mod replies;
 #[cfg(test)]
 mod runs;
@@ -51,3 +65,17 @@ mod streams;
 mod tables;
 #[cfg(test)]
 mod texts;
+#[cfg(test)]
+mod timed_crawls;
+#[cfg(test)]
+mod timed_formats;
+#[cfg(test)]
+mod timed_host;
+#[cfg(test)]
+mod timed_opening;
+#[cfg(test)]
+mod timed_searches;
+#[cfg(test)]
+mod timing;
+#[cfg(test)]
+mod timings;

@@ -106,10 +106,15 @@ pub fn finds_docs<C: Crew, R: Wait>(
     }
 }
 
+/// The catalogue of a desk, if it is closed with these shares.
+pub fn closed<C: Crew, R: Wait>(desk: Desk<C, &R>, shares: Vec<Share<C>>) -> Option<Catalogue> {
+    desk.close(shares).ok()
+}
+
 /// Whether the desk is closed with its one share.
 pub fn closes<C: Crew, R: Wait>(alloc: Global, desk: Desk<C, &R>, share: Share<C>) -> bool {
     let mut shares = Vec::new(alloc);
-    shares.push(share).is_ok() && desk.close(shares).is_ok()
+    shares.push(share).is_ok() && closed(desk, shares).is_some()
 }
 
 // The share, and the pass.

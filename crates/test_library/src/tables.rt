@@ -2,7 +2,7 @@
 ghost use Rattle.std.specs.Prelude.{◌≡◌, ◌≤◌, length};
 ghost use mathlib.Core.List.{IsPrefix};
 
-use gopher_catalogue::{Catalogue, Hit, Why};
+use gopher_catalogue::{Catalogue, Hit, Status, Why};
 use gopher_crew::{Answer, Blank, Crew, Desk, Pass, Share};
 use gopher_item::Place;
 use gopher_page::Query;
@@ -116,6 +116,29 @@ impl<R: Clock> Table for Host<'_, R> {
                 Ok(self.rest)
             }
         }
+    }
+}
+
+/// Whether the root is the one hit, with its title and one occurrence of the word.
+pub fn is_root(hits: &[Hit]) -> bool {
+    match hits {
+        [hit] => {
+            hit.place.selector().is_empty()
+                && hit.title.as_slice() == b"Docs".as_slice()
+                && hit.score == 1
+        }
+        _ => false,
+    }
+}
+
+/// The status of a finished crawl with `known` places.
+pub fn all_done(known: u32) -> Status {
+    Status {
+        known,
+        waiting: 0,
+        out: 0,
+        done: known,
+        dropped: 0,
     }
 }
 

@@ -1,10 +1,11 @@
 //! Calls that change or consume what they are given, of which one growth is refused. A refused call
 //! changes nothing, gives back what it was handed, and succeeds then.
 //!
-//! This prints the same whichever allocation is refused: `tests/refusals.py` refuses each in turn. It
-//! also shows the calls that only read what they are given, by the built program.
+//! The test prints the same whichever allocation is refused: `tests/refusals.py` refuses each in
+//! turn. It also shows the calls that only read what they are given, by the built program.
 
 use crate::refused_opening::Checked;
+use crate::timing::Failed;
 use crate::{refused_catalogues, refused_crawls, refused_desks, refused_replies};
 use gopher_crew::Blank;
 use std::marker::Brand;
@@ -15,8 +16,8 @@ fn tell<R: Runtime>(rt: &R, subject: &str, checked: Checked<()>) -> Option<()> {
     println!(rt; "{subject}: {}", checked.err().unwrap_or("as wanted")).ok()
 }
 
-/// Makes each of these calls, and prints for each kind whether it ended as wanted.
-pub fn check<R: Runtime + AllocGlobal + Wait>(rt: &R) -> Option<()> {
+// Makes each of these calls, and prints for each kind whether it ended as wanted.
+fn check<R: Runtime + AllocGlobal + Wait>(rt: &R) -> Option<()> {
     let alloc = rt.alloc();
     tell(rt, "replies", refused_replies::check(alloc))?;
     tell(rt, "a catalogue", refused_catalogues::check(alloc))?;
@@ -30,4 +31,9 @@ pub fn check<R: Runtime + AllocGlobal + Wait>(rt: &R) -> Option<()> {
         "a crawl",
         refused_crawls::check::<Brand, R>(rt, Blank::new()),
     )
+}
+
+#[test]
+fn refused_calls_succeed_when_made_again(rt: HostRuntime) -> Result<(), Failed> {
+    check(&rt).ok_or(Failed)
 }

@@ -3,7 +3,8 @@
 ghost use Rattle.std.specs.Prelude.{◌≡◌, []};
 
 use crate::refused_opening::{Checked, opened, scope_at_last, seeds_at_last};
-use gopher_catalogue::{Added, FoundRefused, Hit, Status, Turn};
+use crate::tables::is_root;
+use gopher_catalogue::{Added, FoundRefused, Status, Turn};
 use gopher_crew::{Answer, Blank, Crew, Desk, Note, Pass, SearchFault, Share};
 use gopher_item::Place;
 use gopher_page::{Page, Query};
@@ -139,22 +140,10 @@ fn found<C: Crew, R: Wait>(
     }
 }
 
-// Whether the page of the root is the one hit.
-fn is_docs(hits: &[Hit]) -> bool {
-    match hits {
-        [hit] => {
-            hit.place.selector().is_empty()
-                && hit.title.as_slice() == b"Docs".as_slice()
-                && hit.score == 1
-        }
-        _ => false,
-    }
-}
-
 // Whether a pass sees `at` events, and the page from the third event on.
 fn sees<C: Crew>(pass: &mut Pass<C>, query: &Query, at: u32) -> Checked<()> {
     let answer = searched(pass, query)?;
-    if answer.at != at || is_docs(&answer.hits) != (at >= 3) {
+    if answer.at != at || is_root(&answer.hits) != (at >= 3) {
         return Err("a search answers something else");
     }
     Ok(())

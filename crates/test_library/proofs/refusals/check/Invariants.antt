@@ -1,4 +1,4 @@
-use Rattle.test_calls.proofs.refusals.check.Given as goal
+use Rattle.test_library.proofs.refusals.check.Given as goal
 
 -- the names of the blanks that were made
 abbrev pub ghosts-check-C-Ledger : goal.ghosts-check-C-Ledger

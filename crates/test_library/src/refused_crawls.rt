@@ -4,6 +4,8 @@ ghost use Rattle.std.specs.Prelude.{◌≡◌, []};
 
 use crate::refused_desks::{query, searched};
 use crate::refused_opening::{Checked, opened};
+use crate::sites::closed;
+use crate::tables::all_done;
 use gopher_catalogue::{Event, Status, Why};
 use gopher_crew::{Blank, Crew, Desk, Pass, Share, Stop, work};
 use gopher_page::Query;
@@ -35,15 +37,8 @@ fn has_other_failure(record: &[Event]) -> bool {
 // Whether all that is known was done: three places, or the root alone if it failed.
 fn is_whole(status: Status, failed: u32) -> bool {
     let known = status.known;
-    let wanted = Status {
-        known,
-        waiting: 0,
-        out: 0,
-        done: known,
-        dropped: 0,
-    };
     let is_all = if known == 1 { failed == 1 } else { known == 3 };
-    is_all && failed <= 1 && status == wanted
+    is_all && failed <= 1 && status == all_done(known)
 }
 
 // Whether a pass answers from the whole record, with a claim and an outcome of each place, and
@@ -102,13 +97,13 @@ fn crawls_by<C: Crew, R: Wait + AllocGlobal>(
 }
 
 fn closes<C: Crew, R: Wait>(desk: Desk<C, &R>, shares: Vec<Share<C>>) -> Checked<()> {
-    match desk.close(shares) {
-        Ok(catalogue) if has_other_failure(catalogue.record()) => {
-            Err("a place fails for another reason")
-        }
-        Ok(_catalogue) => Ok(()),
-        Err(_refused) => Err("a desk isn't closed"),
+    let Some(catalogue) = closed(desk, shares) else {
+        return Err("a desk isn't closed");
+    };
+    if has_other_failure(catalogue.record()) {
+        return Err("a place fails for another reason");
     }
+    Ok(())
 }
 
 /// Crawls a root with two files by one worker. A refused growth fails one place, or stops the

@@ -1,13 +1,30 @@
-//! Spans of time, and the memory of this process.
+//! What is timed, spans of time, and the memory of this process.
 
 ghost use Rattle.std.specs.Prelude.{◌<◌, IfSome};
 
-use std::fs;
 use std::rt::{Clock, Runtime};
 use std::time::Instant;
+use std::{env, fs};
 
 /// How many rounds each measurement has.
 pub const ROUNDS: u32 = 5;
+
+/// Calls that gave up, because memory, the file, the clock or the output failed.
+#[derive(Clone, Copy, Debug)]
+pub struct Failed;
+
+// The word behind the program's and the test's.
+fn file_named(rt: &HostRuntime) -> Option<String> {
+    env::args(rt).ok()?.nth(2)
+}
+
+/// What a measurement is of: the bytes of the file that is named behind the test, or else `few`.
+pub fn measured(rt: &HostRuntime, few: &[u8]) -> Option<Vec<u8>> {
+    match file_named(rt) {
+        Some(path) => fs::read(rt, path.as_str()).ok(),
+        None => few.to_vec(rt.alloc()).ok(),
+    }
+}
 
 /// The moment.
 pub fn now<R: Clock>(rt: &R) -> Option<Instant> {

@@ -1,4 +1,4 @@
-use Rattle.test_calls.proofs.timed_crawls.measure_by.Given as goal
+use Rattle.test_library.proofs.timed_crawls.measure_by.Given as goal
 
 -- the names of the blank that was made
 abbrev pub ghosts-crawled-C-Ledger : goal.ghosts-crawled-C-Ledger
