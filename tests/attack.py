@@ -36,7 +36,7 @@ SILENT, SLOW, DEAF, ORDINARY, HEAVY = 1_000, 200, 50, 4, 64
 RESETS_A_SECOND = 15
 SOON = 5.0
 MOST_MEMORY = 24_576  # KiB, of a server whose files have 9 MiB
-PLACES = 100
+PLACES, EXCESS, MOST_ABOVE = 100, 10, 20
 MAX_HELD = 300_000_000
 DEAF_TO_MENUS = 20
 MAX_FOR_MENUS = 16_384  # KiB, less than one copy of the menu
@@ -342,6 +342,45 @@ def attack_by_waiting(tally, folder, root, files, given):
             tally.expect("a server that is ended by SIGTERM", server.end(), (b"", b"", -15))
 
 
+class Polls:
+    """What the threads of a server wait for, as the system tells it of their polls."""
+
+    def __init__(self, server, threads):
+        process, until = pathlib.Path(f"/proc/{server.process.pid}"), time.monotonic() + SOON
+        self.infos = []
+        while len(self.infos) < threads and time.monotonic() < until:
+            names = sorted(map(int, os.listdir(process / "fd")))
+            self.infos = [process / "fdinfo" / str(name) for name in names if "eventpoll" in os.readlink(process / "fd" / str(name))]
+
+    def held(self):
+        """How many descriptors each thread waits for, its listeners' among them."""
+        return [info.read_text().count("\ntfd:") for info in self.infos]
+
+    def changed(self, before):
+        """How many they are once they are other ones than before."""
+        until = time.monotonic() + SOON
+        while (held := self.held()) == before and time.monotonic() < until:
+            time.sleep(0.001)
+        return held
+
+
+def attack_by_excess(tally, folder, root, _files, given):
+    """Clients that come one by one, so that one thread holds more than its share: it is that thread that closes for the other."""
+    with contextlib.ExitStack() as ends:
+        server = ends.enter_context(Server(given.program, folder, root, more="threads = 2\n", before=with_few_files(PLACES + 64)))
+        server.started()
+        polls, silent = Polls(server, 2), []
+        for _ in range(PLACES):
+            before = polls.held()
+            silent.append(ends.enter_context(connect(server.port)))
+            held = polls.changed(before)
+        tally.expect(f"of two threads one holds more than its share: {held}", max(held) > min(held) + 2 * EXCESS, True)
+        tally.expect(f"but not many more: {held}", max(held) <= PLACES // 2 + MOST_ABOVE, True)
+        for more in range(1, EXCESS + 1):
+            silent.append(ends.enter_context(connect(server.port)))
+            tally.expect(f"clients closed for {more} more than there are places", len(settled(silent, more)), more)
+
+
 def attack_by_use(tally, folder, root, _files, given):
     """A client that sends on is not the longest idle."""
     with contextlib.ExitStack() as ends:
@@ -363,7 +402,7 @@ def open_files(number):
     held = None
     while held != (now := len(os.listdir(f"/proc/{number}/fd"))):
         held = now
-        time.sleep(0.2)
+        time.sleep(0.5)
     return held
 
 
@@ -487,8 +526,8 @@ def attack_by_searches(tally, folder, root, files, given):
 
 
 ATTACKS = (
-    attack_by_crowd, attack_by_lines, attack_by_senders, attack_by_waiting, attack_by_use, attack_by_refused_accepts,
-    attack_by_deaf, attack_by_large_menus, attack_by_searches,
+    attack_by_crowd, attack_by_lines, attack_by_senders, attack_by_waiting, attack_by_excess, attack_by_use,
+    attack_by_refused_accepts, attack_by_deaf, attack_by_large_menus, attack_by_searches,
 )
 
 

@@ -26,7 +26,7 @@ import tempfile
 import time
 from concurrent.futures import ThreadPoolExecutor
 
-from running.server import HOST, PROGRAM, ROOT, WAIT, Server, Tally, ask, connect, refusing
+from running.server import HOST, PROGRAM, ROOT, WAIT, Server, Tally, ask, connect, read_all, refusing
 
 LARGE = bytes(range(256)) * 32_768
 LINE = re.compile(rb"(\d{4})-(\d\d)-(\d\d)T(\d\d):(\d\d):(\d\d)\.(\d{6})Z\t([^\t]*)\t([^\t]*)\t([^\t]*)\t(\d+)\t(\d+)")
@@ -35,6 +35,7 @@ SIZES = b"known 0 waiting 0 out 0 done 0 dropped 0\n"
 MOST_SECONDS_FOR_LATE = 5.0
 LINES_FOR_PIPE = 1_700  # of some 4,100 bytes each: more than the pipe and all batches hold
 ROUNDS, REQUESTS = 7, 4_000
+STEADY = 15
 
 Request = collections.namedtuple("Request", "time peer selector search sent micros")
 
@@ -99,6 +100,25 @@ def check_fields(tally, room):
         tally.expect(f"the line of {line[:30]!r}", request[1:5], (b"127.0.0.1", selector, search, len(reply)))
         tally.expect(f"the time of {line[:30]!r}", before - 1 <= request.time <= before + spent + 1, True)
         tally.expect(f"the microseconds of {line[:30]!r}", 0 <= request.micros <= spent * 1e6 + 1e6, True)
+
+
+def check_steady(tally, room):
+    """Lines are written while requests go on, and the microseconds of one count from the accept."""
+    path, waits = room.folder / "steady", 0.1
+    with room.serve("--log", path, "--requests", STEADY, more="threads = 1\n") as server:
+        server.started()
+        for _ in range(STEADY - 1):
+            with connect(server.port) as client:
+                time.sleep(waits)
+                client.sendall(b"/a.txt\r\n")
+                read_all(client)
+        early = len(logged(path))
+        ask(server.port, b"/a.txt\r\n")
+        tally.expect("a server with steady requests ends well", server.end(), (SIZES, b"", 0))
+    found = logged(path)
+    tally.expect(f"{early} of {len(found)} lines are written meanwhile", (early >= STEADY // 2, len(found)), (True, STEADY))
+    short = [request.micros for request in found[:-1] if request.micros < waits * 0.5e6]
+    tally.expect("the microseconds of a client that waits before its line", short, [])
 
 
 def check_escapes(tally, room):
@@ -342,8 +362,8 @@ def check_ratio(tally, room, least):
 
 
 CHECKS = (
-    check_fields, check_escapes, check_idle, check_refused_watch, check_closed, check_silence, check_reset, check_threads,
-    check_unread, check_never_read, check_progress,
+    check_fields, check_steady, check_escapes, check_idle, check_refused_watch, check_closed, check_silence, check_reset,
+    check_threads, check_unread, check_never_read, check_progress,
 )
 
 

@@ -3,7 +3,7 @@
 
 The program serves a folder of 150 texts and crawls itself, while a library that is loaded before it (preloads/refusals.c) refuses
 every allocation of at least so many bytes, or one of these. Merging 64 pages takes the largest ones, of over 100,000 bytes:
-without them the crawl finds all pages, with one worker and with several. A crawl that isn't over after 6 seconds fails.
+without them the crawl finds all pages, with one worker and with several. A crawl that isn't over after 30 seconds fails.
 """
 import argparse
 import os
@@ -20,7 +20,7 @@ WORDS = 100
 MERGE = 100_000
 SIZES = (8_192, 16_384, 32_768, 65_536, MERGE)
 WORKERS = (1, 4)
-MOST_SECONDS = 6.0
+MOST_SECONDS = 30.0
 # Until then the crawl's own fetches are all requests.
 ALONE = 2.0
 WHOLE = f"known {TEXTS + 1} waiting 0 out 0 done {TEXTS + 1} dropped 0\n"
