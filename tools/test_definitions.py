@@ -1,6 +1,6 @@
 #!/usr/bin/env python3
 """Tests the words of the crates: each definition of specs/ has a name of its own and cites no lemma of this repository, and no
-comment of the program's crates is over 100 columns."""
+comment, clause or definition of the program's crates is over 100 columns."""
 import collections
 import pathlib
 import re
@@ -13,6 +13,9 @@ import list_files
 ROOT = pathlib.Path(__file__).resolve().parent.parent
 DEFINITION = re.compile(r"(?m)^(?:(?:pub|abbrev|unfoldable|opaque) )*(?:(?:record|data) (\w\S*)|(\w\S*) (?::|[({][^=\n]*[)}] :))")
 COMMENT = re.compile(r"(?m)^ *(?://|--).*$")
+CLAUSE = re.compile(r"(?m)^ *(?:requires|ensures)\b.*$")
+# what stands in definitions and isn't a list of names or a text
+DEFINED = re.compile(r'(?m)^(?!(?:pub )?use )[^"\n]*$')
 LEMMAS = re.compile(r"(?m)^use Rattle\.(?!std\b)\w+\.proofs\..*$")
 
 
@@ -38,6 +41,13 @@ class Definitions(unittest.TestCase):
             for path in sorted([*folder.glob("src/**/*.rt"), *folder.glob("specs/**/*.antt")]):
                 long = [line for line in COMMENT.findall(path.read_text()) if len(line) > 100]
                 self.assertEqual(long, [], str(path))
+
+    def test_clauses_and_definitions_are_short(self):
+        for folder in list_files.crates():
+            for pattern, kind in ((CLAUSE, "src/**/*.rt"), (DEFINED, "specs/**/*.antt")):
+                for path in sorted(folder.glob(kind)):
+                    long = [line for line in pattern.findall(path.read_text()) if len(line) > 100]
+                    self.assertEqual(long, [], str(path))
 
     def test_names_are_found(self):
         text = "\n".join(

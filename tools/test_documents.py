@@ -9,7 +9,8 @@ import re
 import sys
 import unittest
 
-sys.path.insert(0, str(pathlib.Path(__file__).resolve().parent))
+sys.path[:0] = [str(pathlib.Path(__file__).resolve().parent), str(pathlib.Path(__file__).resolve().parent.parent / "packaging")]
+import dist
 import draw_crates
 import draw_ratios
 import list_files
@@ -34,6 +35,12 @@ class Documents(unittest.TestCase):
             for name in re.findall(r"\b((?:gopher|test|bench|example)_[a-z_]+)\b", page.read_text()):
                 known = (ROOT / "crates" / name).is_dir() or [*ROOT.glob(f"t*/{name}*")]
                 self.assertTrue(known, f"{page.name}: {name}")
+
+    def test_installed_documents_name_none_that_stays_here(self):
+        installed = {pathlib.Path(name).name: ROOT / name for name in dist.DOCUMENTS}
+        for path in installed.values():
+            named = set(re.findall(r"\b[\w-]+\.md\b", path.read_text()))
+            self.assertEqual(named - set(installed), set(), path.name)
 
     def test_avoided_words_stay_away(self):
         for page in [*PAGES, *sorted(ROOT.glob("man/*")), *sorted(ROOT.glob("packaging/*.md"))]:

@@ -159,6 +159,15 @@ class WrongBodies(unittest.TestCase):
         said = f"fn small::third: no proof: `search` did not prove `returns`; {passes}\nonly=2 proved=1\n"
         self.assertEqual(wrong_bodies.lacking("small", said, {}), {"third": "`search` did not prove `returns`"})
 
+    def test_a_crate_of_tests_is_checked_with_its_tests(self):
+        with tempfile.TemporaryDirectory() as room:
+            folder = pathlib.Path(room)
+            write_crate(folder / "crates" / "small", SOURCE, {})
+            write_crate(folder / "crates" / "tests", SOURCE + "\n#[test]\nfn adds() {\n}\n", {})
+            (folder / "crates.txt").write_text("small:\ntests:\n")
+            words = {name: wrong_bodies.words_of_check(folder / "crates" / name, []) for name in ("small", "tests")}
+            self.assertEqual({name: "--test" in it for name, it in words.items()}, {"small": False, "tests": True})
+
     def test_a_copy_has_the_places_of_its_edits_and_the_proofs_of_what_is_left(self):
         with tempfile.TemporaryDirectory() as room:
             kept, wrong_bodies.ROOT = wrong_bodies.ROOT, pathlib.Path(room) / "root"

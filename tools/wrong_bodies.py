@@ -15,7 +15,7 @@ All edits of a crate are tried in one check of a copy of the crate, since the pr
 function what it lacks. Of a second edit of a function, a twin of the function is written beside it, with its contract, its
 proof files and a name of its own; methods of traits have no twins, and their further edits are tried in further checks. Every
 other function is blank there, with a body whose proof fails at once: callers are judged by its contract, and what it calls
-isn't proved again. An edit counts as refused only if its own function
+isn't proved again. A crate of tests is checked with its tests. An edit counts as refused only if its own function
 lacks the proof of a goal: not if the function only calls a refused one or passes an impl that has one, and not if a proof
 file only names what the edit took away. What isn't refused in company is tried alone, with no blank body: 'NOT REFUSED' is
 then said of a function that is proved, and 'NOT PROVED, BY NAMES ALONE' of one whose proof file no longer fits, which shows
@@ -171,7 +171,8 @@ def words_of_check(folder, functions):
     """The prover's own words for a check of these functions. `rt check` would first compare each library with its sources."""
     rtlib, only = toolchain(), [word for function in functions for word in ("--only", function)]
     crate = next(it for it in rtlib.crates_below(str(folder.parent.parent)) if it.name == folder.name)
-    return [rtlib.RATTLE, "check", *crate.words(["--jobs", "1", *only], keeps=False), *rtlib.KEPT]
+    tests = ["--test"] if crate.has_tests() else []
+    return [rtlib.RATTLE, "check", *crate.words(["--jobs", "1", *only, *tests], keeps=False), *rtlib.KEPT]
 
 
 def check(folder, functions):
