@@ -1,7 +1,8 @@
 -- The reports of a check: of a fault, and of a site without one.
-use Rattle.std.specs.Prelude.{◌≡◌, ℕ, List, [], ◌∷◌, ◌++◌, codes, length, count_by, Option, None, Some, IfSome, Ok, Err}
+use Rattle.std.specs.Prelude.{◌≡◌, ℕ, List, [], ◌∷◌, ◌++◌, codes, length, count_by, Option, None, Some, IsSomeAnd, Ok, Err}
 use Rattle.std.specs.List.{flat_map}
 use Rattle.toml.specs.Parse.{parse_document}
+use Rattle.toml.specs.declared.de.error.Error.{Error}
 use Rattle.gopher_item.specs.Place.{PlaceData, HomeData}
 use Rattle.gopher_scope.specs.Rule.{RuleData}
 use Rattle.gopher_scope.specs.Scope.{first_outside}
@@ -17,7 +18,7 @@ use Rattle.gopher_tree.specs.declared.fault.TreeFault.{TreeFault}
 use Rattle.gopher_tree.specs.declared.fault.TreeFault.TheVariants as tree_fault
 use Rattle.gopher_check.specs.Fault.{site_fault_code, cause, remedy}
 use Rattle.gopher_check.specs.Lines.{words_line, number_line, server_words, place_rest}
-use Rattle.gopher_check.specs.Text.{IsLineOf, IsKeyOf}
+use Rattle.gopher_check.specs.Text.{toml_fault_line, IsTomlFault, IsLineOf, IsKeyOf}
 use Rattle.gopher_check.specs.Unknown.{unknown_name}
 use Rattle.gopher_check.specs.declared.checking.Report.{Report}
 use Rattle.gopher_check.specs.declared.fault.SiteFault.{SiteFault}
@@ -117,9 +118,9 @@ TellsSite path settings words (Some other) = ⊥
 abbrev pub IsReportOnSite : List ℕ → SettingsData → Report → Type 0
 IsReportOnSite path settings report = TellsSite path settings report.words.items report.fault
 
--- the line at which settings aren't TOML, if the parser names one; other faults have no line
+-- settings that aren't TOML have a line: that of the parser's fault; other faults have none
 abbrev pub HasLine : List ℕ → SettingsFault → Option ℕ → Type 0
-HasLine text settings_fault.NotToml line = IfSome line (IsLineOf text)
+HasLine text settings_fault.NotToml line = IsSomeAnd line (IsLineOf text)
 HasLine text why line = line ≡ None
 
 -- the unknown key, if that is the fault
@@ -133,11 +134,11 @@ TellsRefused path text words why =
     (line : Option ℕ) × (unknown : List ℕ) × HasLine text why line × HasKey text why unknown
     × (words ≡ fault_report (fault.Settings why) path line unknown)
 
--- the report on settings that give a key twice
+-- the report on settings that give a key twice: the line and the key of one fault of the parser
 abbrev pub TellsTwice : List ℕ → List ℕ → List ℕ → Type 0
 TellsTwice path text words =
-    (line : Option ℕ) × (key : List ℕ) × IfSome line (IsLineOf text) × IsKeyOf text key
-    × (words ≡ fault_report fault.KeyTwice path line key)
+    (broken : Error) × (key : List ℕ) × IsTomlFault text broken × IsKeyOf text broken key
+    × (words ≡ fault_report fault.KeyTwice path (Some (toml_fault_line text broken)) key)
 
 -- the report, with its fault, is the one on settings that give a key twice
 abbrev pub IsReportOnTwice : List ℕ → List ℕ → Report → Type 0

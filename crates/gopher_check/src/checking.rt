@@ -9,7 +9,7 @@ ghost use Rattle.gopher_scope.specs.declared.fault.SettingsFault.TheVariants as 
 ghost use Rattle.gopher_tree.specs.Fault.{files_fault};
 ghost use Rattle.gopher_check.specs.declared.fault.SiteFault.TheVariants.{SettingsUnreadable};
 ghost use Rattle.gopher_check.specs.Report.{unreadable_report, line_of_fault, path_below, HasKey, HasLine, IsReportOnSite, IsReportOnText, IsReportOnTwice};
-ghost use Rattle.gopher_check.specs.Text.{line_at, key_of, IsKeyOf, IsLineOf};
+ghost use Rattle.gopher_check.specs.Text.{line_at, key_of, toml_fault_line, IsKeyOf, IsTomlFault};
 
 use crate::fault::SiteFault;
 use crate::fault_report::fault_report;
@@ -21,6 +21,7 @@ use gopher_scope::{Scope, Settings, SettingsFault};
 use gopher_tree::{Tree, TreeFault};
 use std::alloc::Global;
 use std::fs::Files;
+use toml::de::Error as TomlFault;
 
 // The message of the TOML parser for a key that is given twice.
 const DUPLICATE: &str = "duplicate key";
@@ -82,13 +83,21 @@ fn line_at(text: &[u8], offset: usize) -> usize
     text[..offset].iter().filter(|byte| **byte == b'\n').count() + 1
 }
 
-// The line, from 1, at which a text isn't TOML, if it isn't.
-fn broken_line(alloc: Global, text: &str) -> Option<usize>
-    ensures { IfSome result (IsLineOf text.now) }
+// The fault with which the TOML parser refuses a text.
+fn toml_fault(alloc: Global, text: &str) -> Result<TomlFault, NoMemory>
+    ensures { IfOk result (IsTomlFault text.now) }
 {
-    let Err(fault) = toml::table_from_str(alloc, text) else {
-        return None;
-    };
+    match toml::table_from_str(alloc, text) {
+        Err(fault) if !fault.is_memory() => Ok(fault),
+        _ => Err(NoMemory),
+    }
+}
+
+// The line, from 1, at which a fault of the TOML parser begins.
+fn broken_line(text: &str, fault: &TomlFault) -> Option<usize>
+    requires { IsTomlFault text.now fault.now }
+    ensures { result ≡ Some (toml_fault_line text.now fault.now) }
+{
     let start = fault.span()?.start;
     Some(line_at(text.as_bytes(), start))
 }
@@ -139,16 +148,6 @@ fn settings_report<R: Files>(
     }
 }
 
-// The line at which the settings aren't TOML, if that is the fault.
-fn settings_line(alloc: Global, text: &str, fault: SettingsFault) -> Option<usize>
-    ensures { HasLine text.now fault result }
-{
-    match fault {
-        SettingsFault::NotToml => broken_line(alloc, text),
-        _ => None,
-    }
-}
-
 // The key of a piece of TOML: a key with its value, or the line that begins a table.
 fn key_of(piece: &[u8]) -> &[u8]
     ensures { result.now ≡ key_of piece.now }
@@ -159,37 +158,40 @@ fn key_of(piece: &[u8]) -> &[u8]
     }
 }
 
-// The key that a text gives twice, if that is why it isn't TOML.
-fn key_twice(alloc: Global, text: &str) -> Result<Option<Vec<u8>>, NoMemory>
-    ensures { IfOk result (λ found. IfSome found (λ key. IsKeyOf text.now key.items)) }
+// The key that a text gives twice, if that is the fault of the TOML parser.
+fn key_twice<'a>(text: &'a str, fault: &TomlFault) -> Option<&'a [u8]>
+    requires { IsTomlFault text.now fault.now }
+    ensures { IfSome result (λ key. IsKeyOf text.now fault.now key.now) }
 {
-    let Err(fault) = toml::table_from_str(alloc, text) else {
-        return Ok(None);
-    };
     if fault.message() != DUPLICATE {
-        return Ok(None);
+        return None;
     }
-    let Some(span) = fault.span() else {
-        return Ok(None);
-    };
-    let piece = &text.as_bytes()[span.start..span.end];
-    Ok(Some(Vec::from_slice(alloc, key_of(piece))?))
+    let span = fault.span()?;
+    match key_of(&text.as_bytes()[span.start..span.end]) {
+        [] => None,
+        key => Some(key),
+    }
 }
 
-// The report of settings that aren't TOML, if that is because they give a key twice.
-fn twice_report(alloc: Global, path: &str, text: &str) -> Result<Option<Report>, NoMemory>
-    ensures { IfOk result (λ found. IfSome found (IsReportOnTwice path.now text.now)) }
+// The report of settings that give a key twice.
+fn twice_report(
+    alloc: Global,
+    path: &str,
+    text: &str,
+    broken: &TomlFault,
+    key: &[u8],
+) -> Result<Report, NoMemory>
+    requires broken { IsTomlFault text.now broken.now }
+    requires key { IsKeyOf text.now broken.now key.now }
+    ensures { IfOk result (IsReportOnTwice path.now text.now) }
 {
-    let Some(key) = key_twice(alloc, text)? else {
-        return Ok(None);
-    };
     let fault = SiteFault::KeyTwice;
-    let line = broken_line(alloc, text);
-    let words = fault_report(alloc, fault, path.as_bytes(), line, &key)?;
-    Ok(Some(Report {
+    let line = broken_line(text, broken);
+    let words = fault_report(alloc, fault, path.as_bytes(), line, key)?;
+    Ok(Report {
         words,
         fault: Some(fault),
-    }))
+    })
 }
 
 // The unknown key of the settings, if that is the fault.
@@ -209,12 +211,13 @@ fn refused_report(
     path: &str,
     text: &str,
     refused: SettingsFault,
+    line: Option<usize>,
 ) -> Result<Report, NoMemory>
-    requires { IsFaultOf text.now refused }
+    requires fault { IsFaultOf text.now refused }
+    requires line { HasLine text.now refused line }
     ensures { IfOk result (IsReportOnText path.now text.now) }
 {
     let fault = SiteFault::Settings(refused);
-    let line = settings_line(alloc, text, refused);
     let key = settings_key(alloc, text, refused)?;
     let words = fault_report(alloc, fault, path.as_bytes(), line, &key)?;
     Ok(Report {
@@ -229,9 +232,13 @@ fn not_toml_report(alloc: Global, path: &str, text: &str) -> Result<Report, NoMe
     requires { settings_of (parse_document text.now) ≡ Err settings_fault.NotToml }
     ensures { IfOk result (IsReportOnText path.now text.now) }
 {
-    match twice_report(alloc, path, text)? {
-        Some(report) => Ok(report),
-        None => refused_report(alloc, path, text, SettingsFault::NotToml),
+    let broken = toml_fault(alloc, text)?;
+    match key_twice(text, &broken) {
+        Some(key) => twice_report(alloc, path, text, &broken, key),
+        None => {
+            let line = broken_line(text, &broken);
+            refused_report(alloc, path, text, SettingsFault::NotToml, line)
+        }
     }
 }
 
@@ -239,8 +246,9 @@ fn not_toml_report(alloc: Global, path: &str, text: &str) -> Result<Report, NoMe
 /// the settings file, for the report.
 ///
 /// The report names the first fault in this order: of the settings (30 to 34), of the folder (20 to
-/// 26), of the seeds (50). For 30 it also names the line, and the key if it is given twice, for 34
-/// the key. For 26 it reads the file or folder once more and names the system's reason.
+/// 26), of the seeds (50). For 30 it also names the line at which the TOML parser's fault begins,
+/// and the key there if it is given twice, for 34 the key. For 26 it reads the file or folder once
+/// more and names the system's reason.
 #[tactic(auto, using(crate::proofs::Tells::tells_text))]
 pub fn check<R: Files>(rt: &R, alloc: Global, path: &str, text: &str) -> Result<Report, NoMemory>
     ensures { IfOk result (IsReportOnText path.now text.now) }
@@ -251,6 +259,6 @@ pub fn check<R: Files>(rt: &R, alloc: Global, path: &str, text: &str) -> Result<
             Ok(report)
         }
         Err(SettingsFault::NotToml) => not_toml_report(alloc, path, text),
-        Err(refused) => refused_report(alloc, path, text, refused),
+        Err(refused) => refused_report(alloc, path, text, refused, None),
     }
 }
