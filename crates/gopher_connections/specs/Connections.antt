@@ -1,8 +1,10 @@
 -- Connections and their keys.
 use Rattle.std.specs.Prelude.{◌≡◌, ℕ, ◌+◌, min, nat_eq, Option}
-use Rattle.std.specs.Map.{lookup}
-use Rattle.lru.specs.LruCache.{put_entries}
+use Rattle.std.specs.Borrow.{Fml, LendsIf, MutBor, RattleType}
+use Rattle.std.specs.Map.{lookup, set_value}
+use Rattle.lru.specs.LruCache.{lru_cache, put_entries}
 use Rattle.gopher_connections.specs.declared.connections.Connections.{Connections}
+use Rattle.gopher_connections.specs.contracts.connections.Connections.{the_row}
 
 -- the key after this one; the last is 2^64 - 1
 abbrev pub key_after : ℕ → ℕ
@@ -16,3 +18,16 @@ connection_at all key = lookup (nat_eq key) all.held.entries
 abbrev pub PutsConnection : {T : Type 0} → Connections T → Connections T → T → Type 0
 PutsConnection old new connection =
     new.held.entries ≡ put_entries nat_eq old.held old.next connection
+
+-- all connections in their order, with this one in place of the one at a key
+abbrev pub with_connection : {T : Type 0} → Connections T → ℕ → T → Connections T
+with_connection all key connection =
+    let entries = set_value (nat_eq key) all.held.entries connection
+    in record all { held = lru_cache entries all.held.cap }
+
+-- when the borrow of the connection at a key ends, that key has what was written last, and all else
+-- is unchanged; if the key has no connection, nothing changes
+abbrev pub LendsConnection : (T : RattleType) → MutBor (Connections T.Denot) → ℕ
+    → Option (MutBor T.Denot) → Fml
+LendsConnection T all key result =
+    LendsIf (the_row T) T all result (with_connection all.now key) all.now

@@ -2,9 +2,10 @@
 
 ghost use Rattle.std.specs.Prelude.{◌≡◌, ◌==◌, [], Some, length, nat_eq, IfOk, IfErr, OnErr, OnOk};
 ghost use Rattle.std.specs.Option.{is_some, option_map, option_copied_mut};
+ghost use Rattle.std.specs.Borrow.{sem};
 ghost use Rattle.std.specs.Map.{remove_entry};
 ghost use Rattle.lru.specs.LruCache.{last_entry, promoted};
-ghost use Rattle.gopher_connections.specs.Connections.{key_after, connection_at, PutsConnection};
+ghost use Rattle.gopher_connections.specs.Connections.{key_after, connection_at, LendsConnection, PutsConnection};
 
 use lru::LruCache;
 use std::alloc::{AllocError, Global};
@@ -51,14 +52,14 @@ impl<T: Drop> Connections<T> {
     ///
     /// # Errors
     ///
-    /// The connection that was passed in, if out of memory.
+    /// The connection that was passed in, if out of memory; nothing changes.
     pub fn put(&mut self, connection: T) -> Result<usize, T>
         ensures key { IfOk result (λ key. key ≡ self.old.next) }
         ensures named { IfOk result (λ key. connection_at self.new key ≡ Some connection) }
         ensures others { OnOk result (PutsConnection self.old self.new connection) }
         ensures next { OnOk result (self.new.next ≡ key_after self.old.next) }
         ensures returned { IfErr result (λ refused. refused ≡ connection) }
-        ensures kept { OnErr result (self.new.held.entries ≡ self.old.held.entries) }
+        ensures kept { OnErr result (self.new ≡ self.old) }
     {
         let key = self.next;
         match self.held.put(key, connection) {
@@ -90,9 +91,11 @@ impl<T: Drop> Connections<T> {
         self.held.promote(&key)
     }
 
-    /// Returns the connection at a key, or `None` if there is none.
+    /// Returns the connection at a key, or `None` if there is none. What is written to it stays at
+    /// that key. The other connections, the keys, and the order of last use don't change.
     pub fn get_mut(&mut self, key: usize) -> Option<&mut T>
-        ensures { option_copied_mut result ≡ connection_at self.old key }
+        ensures* written { sem 𝓛 (LendsConnection T.row self.entry key result) }
+        ensures found { option_copied_mut result ≡ connection_at self.old key }
     {
         self.held.peek_mut(&key)
     }

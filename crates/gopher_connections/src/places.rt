@@ -1,6 +1,6 @@
 //! How many connections all server threads may hold together, and the fair share of one thread.
 
-ghost use Rattle.std.specs.Prelude.{◌≡◌, ◌-◌, nat_lt, None, Some, if◌then◌else◌};
+ghost use Rattle.std.specs.Prelude.{◌≡◌, ◌-◌, ◌<◌, ◌≤◌, max, nat_lt, true, false, None, Some, if◌then◌else◌};
 ghost use Rattle.gopher_connections.specs.Places.{max_places as most, fair_share};
 
 use std::sync::atomic::{AtomicU64, Ordering};
@@ -83,8 +83,11 @@ impl Places {
     }
 
     /// Returns whether a thread that holds `held` connections holds more than its share of the
-    /// places.
-    pub fn is_above_share(&self, held: u64) -> bool {
+    /// places. The share is at least 1, and at most all places if there are any.
+    pub fn is_above_share(&self, held: u64) -> bool
+        ensures above { max self.now.most 1 < held → result ≡ true }
+        ensures within { held ≤ 1 → result ≡ false }
+    {
         held > fair_share(self.most, self.threads.load(Ordering::SeqCst))
     }
 
