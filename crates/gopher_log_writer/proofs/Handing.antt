@@ -1,5 +1,7 @@
 -- The lines of a server thread, until it hands them on.
 use Rattle.std.proofs.Common.{◌≡◌, ℕ, List, refl, ◌∙◌, inl, inr}
+use Rattle.std.specs.Net.Text.{ip_text}
+use Rattle.std.specs.declared.net.ip_addr.IpAddr.{IpAddr}
 use Rattle.gopher_log.specs.declared.moment.Moment.{Moment}
 use Rattle.gopher_log.specs.RequestLine.{request_with}
 use Rattle.gopher_log.specs.Batch.{BatchData}
@@ -12,7 +14,8 @@ handed_again a b c (inl gone) (inr kept) = inl (kept ∙ gone)
 handed_again a b c (inr kept) (inr stays) = inr (stays ∙ kept)
 
 -- a line was added, after room was made for it
-pub adds_line : (ended : Moment) (peer asked : List ℕ) (sent micros : ℕ) (before between after : BatchData)
-    → IsHandedOn before between → AddsRequestTo (request_with ended peer asked sent micros) between after → AddsLine asked sent before after
-adds_line ended peer asked sent micros before between after room adds =
-    inr (request_with ended peer asked sent micros, refl, refl, (between, room, adds))
+pub adds_line : (address : IpAddr) (ended : Moment) (peer asked : List ℕ) (sent micros : ℕ) (before between after : BatchData)
+    → peer ≡ ip_text address → IsHandedOn before between → AddsRequestTo (request_with ended peer asked sent micros) between after
+    → AddsLine address asked sent before after
+adds_line address ended peer asked sent micros before between after text room adds =
+    inr (request_with ended peer asked sent micros, text, refl, refl, (between, room, adds))

@@ -1,12 +1,13 @@
 //! A server thread's part of the log: adding lines, and handing on batches.
 
-ghost use Rattle.std.specs.Prelude.{◌≡◌, not};
+ghost use Rattle.std.specs.Prelude.{◌≡◌, not, true, false, None, IfSome};
 ghost use Rattle.std.specs.Option.{is_some};
-ghost use Rattle.gopher_log.specs.Batch.{is_empty, no_lines};
+ghost use Rattle.gopher_log.specs.Batch.{is_empty, is_full, no_lines};
 ghost use Rattle.gopher_log_writer.specs.Batches.{AddsLine, AddsRequestTo, IsHandedOn};
+ghost use Rattle.gopher_log_writer.specs.Timing.{IsDueAfter, KeepsDue, is_due};
 
 use crate::queue::LogQueue;
-use crate::timing::{is_due, kept_until, max_kept, micros_of, moment_at};
+use crate::timing::{due_with, is_due, kept_until, max_kept, micros_of, moment_at};
 use gopher_log::{Batch, Moment, RequestLine};
 use std::alloc::Global;
 use std::net::IpAddr;
@@ -36,6 +37,8 @@ fn moment_now(clock: &impl Clock) -> Option<Moment> {
 
 /// A server thread's part of the log. It never waits for the thread that writes: if the queue is
 /// full, it keeps its lines, and counts the requests for which it has no room.
+///
+/// Contracts see its lines as `batch`, and the time from which they are handed on as `due`.
 #[derive(Drop)]
 pub struct ThreadLog {
     batch: Batch,
@@ -47,7 +50,8 @@ impl ThreadLog {
     /// Makes a part without lines, whose batches go to `queue`. Without a queue, nothing is logged.
     /// Takes no memory.
     pub fn new(alloc: Global, queue: Option<Arc<LogQueue>>) -> ThreadLog
-        ensures { result.batch ≡ no_lines }
+        ensures lines { result.batch ≡ no_lines }
+        ensures due { result.due ≡ None }
     {
         ThreadLog {
             batch: Batch::new(alloc),
@@ -58,7 +62,10 @@ impl ThreadLog {
 
     /// Records that a connection from an address is accepted now. Returns `None` if nothing is
     /// logged, or the clock can't be read.
-    pub fn accept(&self, clock: &impl Clock, peer: IpAddr) -> Option<Accepted> {
+    pub fn accept(&self, clock: &impl Clock, peer: IpAddr) -> Option<Accepted>
+        ensures none { self.now.queue ≡ None → result ≡ None }
+        ensures peer { IfSome result (λ accepted. accepted.peer ≡ peer) }
+    {
         if self.queue.is_none() {
             return None;
         }
@@ -67,7 +74,8 @@ impl ThreadLog {
     }
 
     /// Adds the line of a request that ends now: how its connection was accepted, the line that was
-    /// asked, and how many bytes were sent. Does nothing if a clock can't be read.
+    /// asked, and how many bytes were sent. Does nothing if a clock can't be read. A `due` that is
+    /// set isn't put off, unless there is no room for the line.
     pub fn add<R: Wait + Clock>(
         &mut self,
         rt: &R,
@@ -76,7 +84,8 @@ impl ThreadLog {
         asked: &[u8],
         sent: u64,
     )
-        ensures { AddsLine asked.now sent self.old.batch self.new.batch }
+        ensures lines { AddsLine accepted.peer asked.now sent self.old.batch self.new.batch }
+        ensures due { is_full self.old.batch ≡ false → KeepsDue self.old.due self.new.due }
     {
         let (Ok(now), Some(ended)) = (Instant::now(rt), moment_now(rt)) else {
             return;
@@ -94,14 +103,13 @@ impl ThreadLog {
             micros: micros_of(now.duration_since(accepted.began)),
         };
         self.add_request(&request);
-        if self.due.is_none() {
-            self.due = kept_until(now);
-        }
+        self.due = due_with(self.due, now);
     }
 
     // Hands on its lines if there is no room for another.
     fn make_room<R: Wait + Clock>(&mut self, rt: &R, alloc: Global)
-        ensures { IsHandedOn self.old.batch self.new.batch }
+        ensures lines { IsHandedOn self.old.batch self.new.batch }
+        ensures room { is_full self.old.batch ≡ false → self.new ≡ self.old }
     {
         if self.batch.is_full() {
             self.hand_on(rt, alloc);
@@ -110,7 +118,8 @@ impl ThreadLog {
 
     // Adds the line of a request, or counts the request as dropped.
     fn add_request(&mut self, request: &RequestLine<'_>)
-        ensures { AddsRequestTo request.now self.old.batch self.new.batch }
+        ensures lines { AddsRequestTo request.now self.old.batch self.new.batch }
+        ensures due { self.new.due ≡ self.old.due }
     {
         let _refused = self.batch.add(request);
     }
@@ -126,21 +135,31 @@ impl ThreadLog {
         }
     }
 
-    /// Hands on its lines, if the first of them was kept for 250 ms.
+    /// Hands on its lines, if the first of them was kept for 250 ms. Does nothing if `due` is
+    /// `None`.
     pub fn hand_on_due<R: Wait + Clock>(&mut self, rt: &R, alloc: Global)
-        ensures { IsHandedOn self.old.batch self.new.batch }
+        ensures lines { IsHandedOn self.old.batch self.new.batch }
+        ensures none { self.old.due ≡ None → self.new ≡ self.old }
     {
-        let Ok(now) = Instant::now(rt) else {
-            return;
-        };
+        if let Ok(now) = Instant::now(rt) {
+            self.hand_on_at(rt, alloc, now);
+        }
+    }
+
+    // Hands on its lines, if they are due at the time `now`.
+    fn hand_on_at<R: Wait + Clock>(&mut self, rt: &R, alloc: Global, now: Instant)
+        ensures lines { IsHandedOn self.old.batch self.new.batch }
+        ensures early { is_due self.old.due now ≡ false → self.new ≡ self.old }
+    {
         if is_due(self.due, now) {
             self.hand_on(rt, alloc);
         }
     }
 
-    /// Hands on its lines, if the queue has room.
+    /// Hands on its lines, if the queue has room; then `due` is `None`.
     pub fn hand_on<R: Wait + Clock>(&mut self, rt: &R, alloc: Global)
-        ensures { IsHandedOn self.old.batch self.new.batch }
+        ensures lines { IsHandedOn self.old.batch self.new.batch }
+        ensures due { is_empty self.new.batch ≡ true → self.new.due ≡ None }
     {
         self.due = None;
         let Some(queue) = &self.queue else {
@@ -152,7 +171,9 @@ impl ThreadLog {
         let batch = self.batch.take(alloc);
         if let Err(batch) = queue.offer(rt, batch) {
             self.batch = batch;
-            self.keep_on(rt);
+            if let Ok(now) = Instant::now(rt) {
+                self.keep_on(now);
+            }
         }
     }
 
@@ -170,12 +191,11 @@ impl ThreadLog {
         }
     }
 
-    // Keeps its lines for 250 ms more.
-    fn keep_on(&mut self, clock: &impl Clock)
-        ensures { self.new.batch ≡ self.old.batch }
+    // Keeps its lines for 250 ms from now.
+    fn keep_on(&mut self, now: Instant)
+        ensures lines { self.new.batch ≡ self.old.batch }
+        ensures due { IsDueAfter now self.new.due }
     {
-        if let Ok(now) = Instant::now(clock) {
-            self.due = kept_until(now);
-        }
+        self.due = kept_until(now);
     }
 }

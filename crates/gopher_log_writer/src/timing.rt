@@ -3,7 +3,7 @@
 ghost use Rattle.std.specs.Prelude.{◌≡◌, ◌/◌, MatchOption};
 ghost use Rattle.std.specs.Duration.{as_nanos};
 ghost use Rattle.gopher_log.specs.Moment.{IsMomentAt, IsPastLastDay};
-ghost use Rattle.gopher_log_writer.specs.Timing.{IsKeptUntil, IsPastClock, is_due, micros_of};
+ghost use Rattle.gopher_log_writer.specs.Timing.{IsDueAfter, IsDueWith, is_due, micros_of};
 
 use gopher_log::Moment;
 use std::time::{Duration, Instant};
@@ -47,7 +47,17 @@ pub(crate) fn is_due(due: Option<Instant>, now: Instant) -> bool
 
 /// Returns until when a line of now is kept, or `None` if no clock reaches that time.
 pub(crate) fn kept_until(now: Instant) -> Option<Instant>
-    ensures { MatchOption result (IsPastClock now) (IsKeptUntil now) }
+    ensures { IsDueAfter now result }
 {
     now.checked_add(max_kept())
+}
+
+/// Returns when lines are due once a line of now is added. A due time that is set isn't put off.
+pub(crate) fn due_with(due: Option<Instant>, now: Instant) -> Option<Instant>
+    ensures { IsDueWith due now result }
+{
+    match due {
+        Some(due) => Some(due),
+        None => kept_until(now),
+    }
 }
