@@ -2,3 +2,4 @@ pub mod FirstLines
 pub mod Talking
 pub mod StepLemmas
 pub mod StopLemmas
+pub mod PauseLemmas

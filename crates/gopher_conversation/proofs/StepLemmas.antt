@@ -6,12 +6,42 @@ use Rattle.std.specs.Io.KnownBytes.{Appends, Consumes, IsAtEnd, Keeps}
 use Rattle.std.proofs.KnownBytes.{Appends-trans, Appends-kept, Consumes-trans, Consumes-kept}
 use Rattle.std.proofs.Math.Seq.{take-add}
 use Rattle.gopher_text.specs.Line.{has_feed}
-use Rattle.gopher_conversation.specs.Serve.{StreamData}
-use Rattle.gopher_conversation.specs.Talk.{Talk, Gathers, Asks, IsTooLong, LacksMemory, Responds, is_known, known_line, talk_of, said, stage_of, unsent_of}
+use Rattle.gopher_conversation.specs.Serve.{StreamData, stream_of}
+use Rattle.gopher_conversation.specs.Talk.{Talk, Gathers, Asks, IsTooLong, LacksMemory, Responds, is_known, known_line, talk_of, said, stage_of, steps_of, unsent_of}
 use Rattle.gopher_conversation.specs.declared.conversation.Stage.TheVariants as stage
-use Rattle.gopher_conversation.specs.Advance.{IsStill, HearsPiece, HearsEnd, Listens, IsReplied, RepliesToLine, SaysSome, IsSaid, IsSilent, Says, StepsOverStreams, IsGiven, StandsAnswered, Stands, Talks, Advances}
+use Rattle.gopher_conversation.specs.Advance.{IsStill, HearsPiece, HearsEnd, Listens, IsReplied, RepliesToLine, SaysSome, IsSaid, IsSilent, Says, ReadsIfGathering, RepliesIfAsked, WritesIfAnswered, FailsIfRefused, IsGiven, StandsAnswered, Stands, Talks, Advances}
 use Rattle.gopher_conversation.specs.declared.advancing.Progress.{Progress}
 use Rattle.gopher_conversation.specs.declared.advancing.Progress.TheVariants.{Done, Paused, Works, Waits, Failed}
+use Rattle.gopher_text.specs.Watched.{WatchedData}
+use Rattle.gopher_conversation.specs.declared.fault.ServeFault.TheVariants.{LineTooLong, NoMemory}
+
+-- ---- one step over streams
+
+-- one step, by the state of the conversation: the state before and after, the answers before and
+-- after, the streams of the reader and of the writer before and after, and the progress
+abbrev pub StepsOverStreams : {A : Type 0} → (A → A → List ℕ → List ℕ → Type 0) → Talk → Talk
+    → A → A → StreamData → StreamData → StreamData → StreamData → Progress → Type 0
+StepsOverStreams gives (Gathers bytes) new a b had left before after progress =
+    Listens (Gathers bytes) new had left progress × (b ≡ a) × (after ≡ before)
+StepsOverStreams gives (Asks line) new a b had left before after progress =
+    RepliesToLine gives a b line new progress × (left ≡ had) × (after ≡ before)
+StepsOverStreams gives IsTooLong new a b had left before after progress =
+    (progress ≡ Failed LineTooLong) × (new ≡ IsTooLong) × (b ≡ a) × (left ≡ had) × (after ≡ before)
+StepsOverStreams gives LacksMemory new a b had left before after progress =
+    (progress ≡ Failed NoMemory) × (new ≡ LacksMemory) × (b ≡ a) × (left ≡ had) × (after ≡ before)
+StepsOverStreams gives (Responds line reply steps sent) new a b had left before after progress =
+    Says (Responds line reply steps sent) new before after progress × (b ≡ a) × (left ≡ had)
+
+-- what each party sees of a step
+pub step_joins : {A : Type 0} (gives : A → A → List ℕ → List ℕ → Type 0) {R W : Type 0} (remaining : R → Option (List ℕ)) (contents : W → Option (List ℕ)) (talk next : Talk) (a b : A)
+    (had left : WatchedData R) (before after : WatchedData W) (turn : Progress)
+    → ReadsIfGathering remaining talk next had left turn → RepliesIfAsked gives talk next a b turn → WritesIfAnswered contents talk next before after turn → FailsIfRefused talk next turn
+    → StepsOverStreams gives talk next a b (stream_of remaining had) (stream_of remaining left) (stream_of contents before) (stream_of contents after) turn
+step_joins gives remaining contents (Gathers bytes) next a b had left before after turn reads asks writes fails = (reads, asks, writes)
+step_joins gives remaining contents (Asks line) next a b had left before after turn reads asks writes fails = (asks, reads, writes)
+step_joins gives remaining contents IsTooLong next a b had left before after turn reads asks writes fails = (fails.0, fails.1, asks, reads, writes)
+step_joins gives remaining contents LacksMemory next a b had left before after turn reads asks writes fails = (fails.0, fails.1, asks, reads, writes)
+step_joins gives remaining contents (Responds line reply steps sent) next a b had left before after turn reads asks writes fails = (writes, asks, reads)
 
 -- ---- what came in decides how it stands, before anything goes out
 
@@ -102,6 +132,19 @@ listened given first w0 w1 bytes next had left Works never so_far = absurd never
 listened given first w0 w1 bytes next had left Waits still so_far = heard_still given first w0 w1 (Gathers bytes) next had left still so_far
 listened given first w0 w1 bytes next had left (Failed fault) (why, still) so_far = heard_still given first w0 w1 (Gathers bytes) next had left still so_far
 
+-- the same bytes came in and went out, and the conversation stands so
+stands_else : (given more : List ℕ → List ℕ → Type 0) (first left w0 w1 : Option (List ℕ)) (talk next : Talk) (so_far : Talks given first left w0 w1 talk)
+    → Stands more so_far.ended so_far.taken so_far.sent next → Talks more first left w0 w1 next
+stands_else given more first left w0 w1 talk next so_far stands = record {
+  taken = so_far.taken;
+  sent = so_far.sent;
+  ended = so_far.ended;
+  consumed = so_far.consumed;
+  appended = so_far.appended;
+  all_taken = so_far.all_taken;
+  stands = stands;
+}
+
 -- ---- writes
 
 said_still : (given : List ℕ → List ℕ → Type 0) (first left w0 : Option (List ℕ)) (talk next : Talk) (before after : StreamData)
@@ -116,9 +159,9 @@ said_still given first left w0 talk next before after still so_far = record {
   stands = subst (Stands given so_far.ended so_far.taken so_far.sent) (sym still.talk) so_far.stands;
 }
 
-said_some : (given : List ℕ → List ℕ → Type 0) (first left w0 : Option (List ℕ)) (line reply : List ℕ) (count : ℕ) (next : Talk) (before after : StreamData)
-    → SaysSome (Responds line reply count) next before after → Talks given first left w0 before.bytes (Responds line reply count) → Talks given first left w0 after.bytes next
-said_some given first left w0 line reply count next before after said so_far = record {
+said_some : (given : List ℕ → List ℕ → Type 0) (first left w0 : Option (List ℕ)) (line reply : List ℕ) (steps count : ℕ) (next : Talk) (before after : StreamData)
+    → SaysSome (Responds line reply steps count) next before after → Talks given first left w0 before.bytes (Responds line reply steps count) → Talks given first left w0 after.bytes next
+said_some given first left w0 line reply steps count next before after said so_far = record {
   taken = so_far.taken;
   sent = so_far.sent ++ take said.count (drop count reply);
   ended = so_far.ended;
@@ -142,22 +185,23 @@ said_all given first left w0 talk next before after said so_far =
     subst (λ (t : Talk). Talks given first left w0 after.bytes t) (sym said.talk)
     (subst (λ (s : StreamData). Talks given first left w0 s.bytes talk) (sym said.same) so_far)
 
-said_none : (given : List ℕ → List ℕ → Type 0) (first left w0 : Option (List ℕ)) (talk next : Talk) (before after : StreamData)
-    → IsSilent talk next before after → Talks given first left w0 before.bytes talk → Talks given first left w0 after.bytes next
-said_none given first left w0 talk next before after silent so_far =
+said_none : (given : List ℕ → List ℕ → Type 0) (first left w0 : Option (List ℕ)) (line reply : List ℕ) (steps count : ℕ) (next : Talk) (before after : StreamData)
+    → IsSilent (Responds line reply steps count) next before after → Talks given first left w0 before.bytes (Responds line reply steps count) → Talks given first left w0 after.bytes next
+said_none given first left w0 line reply steps count next before after silent so_far =
     subst (λ (t : Talk). Talks given first left w0 after.bytes t) (sym silent.talk)
-    (subst (λ (s : StreamData). Talks given first left w0 s.bytes talk) (sym silent.same) so_far)
+    (subst (λ (s : StreamData). Talks given first left w0 s.bytes (Responds line reply (steps_of next) count)) (sym silent.same)
+    (stands_else given given first left w0 before.bytes (Responds line reply steps count) (Responds line reply (steps_of next) count) so_far so_far.stands))
 
-pub spoken : (given : List ℕ → List ℕ → Type 0) (first left w0 : Option (List ℕ)) (line reply : List ℕ) (count : ℕ) (next : Talk) (before after : StreamData) (turn : Progress)
-    → Says (Responds line reply count) next before after turn → Talks given first left w0 before.bytes (Responds line reply count) → Talks given first left w0 after.bytes next
-spoken given first left w0 line reply count next before after Done (inl all) so_far = said_all given first left w0 (Responds line reply count) next before after all so_far
-spoken given first left w0 line reply count next before after Done (inr (some, none)) so_far = said_some given first left w0 line reply count next before after some so_far
-spoken given first left w0 line reply count next before after Paused (inl some) so_far = said_some given first left w0 line reply count next before after some so_far
-spoken given first left w0 line reply count next before after Paused (inr still) so_far = said_still given first left w0 (Responds line reply count) next before after still so_far
-spoken given first left w0 line reply count next before after Works silent so_far = said_none given first left w0 (Responds line reply count) next before after silent so_far
-spoken given first left w0 line reply count next before after Waits still so_far = said_still given first left w0 (Responds line reply count) next before after still so_far
-spoken given first left w0 line reply count next before after (Failed fault) (inl (why, still)) so_far = said_still given first left w0 (Responds line reply count) next before after still so_far
-spoken given first left w0 line reply count next before after (Failed fault) (inr (why, silent)) so_far = said_none given first left w0 (Responds line reply count) next before after silent so_far
+pub spoken : (given : List ℕ → List ℕ → Type 0) (first left w0 : Option (List ℕ)) (line reply : List ℕ) (steps count : ℕ) (next : Talk) (before after : StreamData) (turn : Progress)
+    → Says (Responds line reply steps count) next before after turn → Talks given first left w0 before.bytes (Responds line reply steps count) → Talks given first left w0 after.bytes next
+spoken given first left w0 line reply steps count next before after Done (inl all) so_far = said_all given first left w0 (Responds line reply steps count) next before after all so_far
+spoken given first left w0 line reply steps count next before after Done (inr (some, none)) so_far = said_some given first left w0 line reply steps count next before after some so_far
+spoken given first left w0 line reply steps count next before after Paused (inl some) so_far = said_some given first left w0 line reply steps count next before after some so_far
+spoken given first left w0 line reply steps count next before after Paused (inr still) so_far = said_still given first left w0 (Responds line reply steps count) next before after still so_far
+spoken given first left w0 line reply steps count next before after Works (silent, fewer) so_far = said_none given first left w0 line reply steps count next before after silent so_far
+spoken given first left w0 line reply steps count next before after Waits still so_far = said_still given first left w0 (Responds line reply steps count) next before after still so_far
+spoken given first left w0 line reply steps count next before after (Failed fault) (inl (why, still)) so_far = said_still given first left w0 (Responds line reply steps count) next before after still so_far
+spoken given first left w0 line reply steps count next before after (Failed fault) (inr (why, silent)) so_far = said_none given first left w0 line reply steps count next before after silent so_far
 
 -- ---- answers
 
@@ -167,21 +211,8 @@ later given more ended taken sent (Gathers bytes) wider stands = stands
 later given more ended taken sent (Asks line) wider stands = stands
 later given more ended taken sent IsTooLong wider stands = stands
 later given more ended taken sent LacksMemory wider stands = stands
-later given more ended taken sent (Responds line reply count) wider stands =
+later given more ended taken sent (Responds line reply steps count) wider stands =
     record { asked_is = stands.asked_is; line_is = stands.line_is; given_is = wider _ _ stands.given_is; sent_is = stands.sent_is }
-
--- the same bytes came in and went out, and the conversation stands so
-stands_else : (given more : List ℕ → List ℕ → Type 0) (first left w0 w1 : Option (List ℕ)) (talk next : Talk) (so_far : Talks given first left w0 w1 talk)
-    → Stands more so_far.ended so_far.taken so_far.sent next → Talks more first left w0 w1 next
-stands_else given more first left w0 w1 talk next so_far stands = record {
-  taken = so_far.taken;
-  sent = so_far.sent;
-  ended = so_far.ended;
-  consumed = so_far.consumed;
-  appended = so_far.appended;
-  all_taken = so_far.all_taken;
-  stands = stands;
-}
 
 -- what was given stays given
 pub talks_later : (given more : List ℕ → List ℕ → Type 0) (first left w0 w1 : Option (List ℕ)) (talk : Talk) → ((line reply : List ℕ) → given line reply → more line reply)
@@ -212,8 +243,8 @@ pub answered : {A : Type 0} (leads_to : A → A → Type 0) (gives : A → A →
     → leads_to start a → leads_to b b → RepliesToLine gives a b line next turn → Talks (IsGiven leads_to gives start a) first left w0 w1 (Asks line)
     → Talks (IsGiven leads_to gives start b) first left w0 w1 next
 answered leads_to gives start a b first left w0 w1 line next Done leads stays never so_far = absurd never
-answered leads_to gives start a b first left w0 w1 line next Paused leads stays is so_far = replied leads_to gives start a b first left w0 w1 line next leads stays is so_far
-answered leads_to gives start a b first left w0 w1 line next Works leads stays is so_far = replied leads_to gives start a b first left w0 w1 line next leads stays is so_far
+answered leads_to gives start a b first left w0 w1 line next Paused leads stays (is, ready) so_far = replied leads_to gives start a b first left w0 w1 line next leads stays is so_far
+answered leads_to gives start a b first left w0 w1 line next Works leads stays (is, searches) so_far = replied leads_to gives start a b first left w0 w1 line next leads stays is so_far
 answered leads_to gives start a b first left w0 w1 line next Waits leads stays never so_far = absurd never
 answered leads_to gives start a b first left w0 w1 line next (Failed fault) leads stays (why, same) so_far =
     subst (λ (t : Talk). Talks (IsGiven leads_to gives start b) first left w0 w1 t) (sym same) (stands_else (IsGiven leads_to gives start a) (IsGiven leads_to gives start b) first left w0 w1 (Asks line) (Asks line) so_far so_far.stands)
@@ -255,10 +286,10 @@ steps_on {A = A} leads_to gives talk next a b had left before after turn stays j
         (answered leads_to gives start a b first had.bytes w0 before.bytes line next turn leads (stays b) replied so_far))
     by IsTooLong (fails, same, answers, reader, writer) start first w0 leads so_far = still start first w0 IsTooLong same answers reader writer so_far
     by LacksMemory (fails, same, answers, reader, writer) start first w0 leads so_far = still start first w0 LacksMemory same answers reader writer so_far
-    by (Responds line reply count) (said, answers, reader) start first w0 leads so_far =
+    by (Responds line reply steps count) (said, answers, reader) start first w0 leads so_far =
         same_answers start a b first left.bytes w0 after.bytes next answers
         (moved (λ (s : StreamData). Talks (IsGiven leads_to gives start a) first s.bytes w0 after.bytes next) had left reader
-        (spoken (IsGiven leads_to gives start a) first had.bytes w0 line reply count next before after turn said so_far))
+        (spoken (IsGiven leads_to gives start a) first had.bytes w0 line reply steps count next before after turn said so_far))
 
 -- ---- one step of each kind
 
@@ -270,7 +301,7 @@ module _ {A : Type 0} (leads_to : A → A → Type 0) (gives : A → A → List 
   listens_on (Asks line) next a had left writer turn is listens = absurd cc
   listens_on IsTooLong next a had left writer turn is listens = absurd cc
   listens_on LacksMemory next a had left writer turn is listens = absurd cc
-  listens_on (Responds line reply count) next a had left writer turn is listens = absurd cc
+  listens_on (Responds line reply steps count) next a had left writer turn is listens = absurd cc
 
   pub asks_on : (talk next : Talk) (a b : A) (reader writer : StreamData) (turn : Progress) → stage.Asks ≡ stage_of talk
       → ((line : List ℕ) → talk ≡ Asks line → RepliesToLine gives a b line next turn) → Advances leads_to gives talk next a b reader.bytes reader.bytes writer.bytes writer.bytes
@@ -278,7 +309,7 @@ module _ {A : Type 0} (leads_to : A → A → Type 0) (gives : A → A → List 
   asks_on (Asks line) next a b reader writer turn is replies = steps_on leads_to gives (Asks line) next a b reader reader writer writer turn stays joins (replies line refl, refl, refl)
   asks_on IsTooLong next a b reader writer turn is replies = absurd cc
   asks_on LacksMemory next a b reader writer turn is replies = absurd cc
-  asks_on (Responds line reply count) next a b reader writer turn is replies = absurd cc
+  asks_on (Responds line reply steps count) next a b reader writer turn is replies = absurd cc
 
   pub says_on : (talk next : Talk) (a : A) (reader before after : StreamData) (turn : Progress) → stage.Responds ≡ stage_of talk
       → Says talk next before after turn → Advances leads_to gives talk next a a reader.bytes reader.bytes before.bytes after.bytes
@@ -286,7 +317,7 @@ module _ {A : Type 0} (leads_to : A → A → Type 0) (gives : A → A → List 
   says_on (Asks line) next a reader before after turn is says = absurd cc
   says_on IsTooLong next a reader before after turn is says = absurd cc
   says_on LacksMemory next a reader before after turn is says = absurd cc
-  says_on (Responds line reply count) next a reader before after turn is says = steps_on leads_to gives (Responds line reply count) next a a reader reader before after turn stays joins (says, refl, refl)
+  says_on (Responds line reply steps count) next a reader before after turn is says = steps_on leads_to gives (Responds line reply steps count) next a a reader reader before after turn stays joins (says, refl, refl)
 
   -- no step
   pub advances_stays : (talk : Talk) (a : A) (r w : Option (List ℕ)) → Advances leads_to gives talk talk a a r r w w

@@ -1,13 +1,16 @@
 -- A conversation over streams, one step after another.
-use Rattle.std.specs.Prelude.{◌≡◌, ℕ, ◌<◌, ◌≤◌, ◌⊎◌, Bool, true, List, [], length, take, Option, IfSome}
+use Rattle.std.specs.Prelude.{◌≡◌, ℕ, ◌+◌, ◌-◌, ◌^◌, ◌<◌, ◌≤◌, ◌⊎◌, Bool, true, List, [], ◌∷◌, length, take, Option, None, Some, Result, Ok, Err, IfSome}
+use Rattle.std.specs.IoError.{error_kind}
+use Rattle.std.specs.declared.io.Error.{Error}
 use Rattle.std.specs.Io.BufRead.{first_line}
 use Rattle.std.specs.declared.io.ErrorKind.{ErrorKind}
 use Rattle.std.specs.declared.io.ErrorKind.TheVariants as kind
 use Rattle.std.specs.Io.KnownBytes.{Appends, Consumes, IsAtEnd, Keeps}
+use Rattle.gopher_item.specs.declared.limits.TheConstants.{MAX_LINE}
 use Rattle.gopher_text.specs.Watched.{WatchedData, CountsFailure, HasFailed}
 use Rattle.gopher_conversation.specs.Leads.{Leads}
 use Rattle.gopher_conversation.specs.Serve.{StreamData, stream_of}
-use Rattle.gopher_conversation.specs.Talk.{Talk, Gathers, Asks, IsTooLong, LacksMemory, Responds, Hears, heard, said, stage_of, talk_of, unsent_of}
+use Rattle.gopher_conversation.specs.Talk.{Talk, Gathers, Asks, IsTooLong, LacksMemory, Responds, Hears, OnlySearches, heard, said, sendable_of, sent_of, stage_of, steps_of, talk_of, unsent_of}
 use Rattle.gopher_conversation.specs.declared.conversation.Stage.TheVariants as stage
 use Rattle.gopher_conversation.specs.declared.fault.ServeFault.{ServeFault}
 use Rattle.gopher_conversation.specs.declared.fault.ServeFault.TheVariants.{LineTooLong, ReadFailed, TooManyTurns, WriteFailed, NoMemory}
@@ -47,7 +50,7 @@ Listens old new had left Waits = IsStill old new had left
 Listens old new had left (Failed fault) = (fault ≡ ReadFailed) × IsStill old new had left
 
 -- the effect of one read, by its progress: the conversation before and after, and the reader before
--- and after
+-- and after. `HearsOutcome` says which progress follows which outcome
 abbrev pub ReadsOnce : {R : Type 0} → (R → Option (List ℕ)) → Talk → Talk
     → WatchedData R → WatchedData R → Progress → Type 0
 ReadsOnce remaining old new had left progress =
@@ -57,15 +60,19 @@ ReadsOnce remaining old new had left progress =
 pub record IsReplied {A : Type 0} (gives : A → A → List ℕ → List ℕ → Type 0) (before after : A)
     (line : List ℕ) (new : Talk) : Type 0 where
   pub reply : List ℕ
+  pub steps : ℕ
   pub given : gives before after line reply
-  pub is : new ≡ Responds line reply 0
+  pub is : new ≡ Responds line reply steps 0
 
--- the effect of asking for the reply to this line, by its progress
+-- the effect of asking for the reply to this line, by its progress, which says whether the reply is
+-- there
 abbrev pub RepliesToLine : {A : Type 0} → (A → A → List ℕ → List ℕ → Type 0) → A → A → List ℕ
     → Talk → Progress → Type 0
 RepliesToLine gives before after line new Done = ⊥
-RepliesToLine gives before after line new Paused = IsReplied gives before after line new
-RepliesToLine gives before after line new Works = IsReplied gives before after line new
+RepliesToLine gives before after line new Paused =
+    IsReplied gives before after line new × (steps_of new ≡ 0)
+RepliesToLine gives before after line new Works =
+    IsReplied gives before after line new × (0 < steps_of new)
 RepliesToLine gives before after line new Waits = ⊥
 RepliesToLine gives before after line new (Failed fault) = (fault ≡ NoMemory) × (new ≡ Asks line)
 
@@ -79,6 +86,7 @@ Replies gives old new before after progress =
 -- the next `count` bytes of the reply were written, and nothing else
 pub record SaysSome (old new : Talk) (before after : StreamData) : Type 0 where
   pub count : ℕ
+  pub ready : steps_of old ≡ 0
   pub some : 0 < count
   pub fits : count ≤ length (unsent_of old)
   pub written : Appends before.bytes after.bytes (take count (unsent_of old))
@@ -88,13 +96,20 @@ pub record SaysSome (old new : Talk) (before after : StreamData) : Type 0 where
 -- the whole reply was already written
 pub record IsSaid (old new : Talk) (before after : StreamData) : Type 0 where
   pub talk : new ≡ old
+  pub ready : steps_of old ≡ 0
   pub none : unsent_of old ≡ []
   pub same : after ≡ before
 
--- a step of the search for the reply: nothing was written
+-- a step of the search for the reply, if it succeeded or not: nothing was written
 pub record IsSilent (old new : Talk) (before after : StreamData) : Type 0 where
-  pub talk : new ≡ old
+  pub searches : 0 < steps_of old
+  pub talk : OnlySearches old new
   pub same : after ≡ before
+
+-- a step of the search for the reply: fewer steps are left, and nothing was written
+abbrev pub GoesOnSearching : Talk → Talk → StreamData → StreamData → Type 0
+GoesOnSearching old new before after =
+    IsSilent old new before after × (steps_of new < steps_of old)
 
 -- the reply fails because a write failed, or because a step of the search ran out of memory
 abbrev pub FailsToSay : Talk → Talk → StreamData → StreamData → ServeFault → Type 0
@@ -107,39 +122,49 @@ abbrev pub Says : Talk → Talk → StreamData → StreamData → Progress → T
 Says old new before after Done =
     IsSaid old new before after ⊎ (SaysSome old new before after × (unsent_of new ≡ []))
 Says old new before after Paused = SaysSome old new before after ⊎ IsStill old new before after
-Says old new before after Works = IsSilent old new before after
+Says old new before after Works = GoesOnSearching old new before after
 Says old new before after Waits = IsStill old new before after
 Says old new before after (Failed fault) = FailsToSay old new before after fault
 
 -- the effect of one write, or of one step of the search for the reply, by its progress: the
--- conversation before and after, and the writer before and after
+-- conversation before and after, and the writer before and after. `Records` says which progress
+-- follows which outcome of a write
 abbrev pub WritesOnce : {W : Type 0} → (W → Option (List ℕ)) → Talk → Talk
     → WatchedData W → WatchedData W → Progress → Type 0
 WritesOnce contents old new before after progress =
     Says old new (stream_of contents before) (stream_of contents after) progress
 
--- one step, by the state of the conversation: the state before and after, the answers before and
--- after, the streams of the reader and of the writer before and after, and the progress
-abbrev pub StepsOverStreams : {A : Type 0} → (A → A → List ℕ → List ℕ → Type 0) → Talk → Talk
-    → A → A → StreamData → StreamData → StreamData → StreamData → Progress → Type 0
-StepsOverStreams gives (Gathers bytes) new a b had left before after progress =
-    Listens (Gathers bytes) new had left progress × (b ≡ a) × (after ≡ before)
-StepsOverStreams gives (Asks line) new a b had left before after progress =
-    RepliesToLine gives a b line new progress × (left ≡ had) × (after ≡ before)
-StepsOverStreams gives IsTooLong new a b had left before after progress =
-    (progress ≡ Failed LineTooLong) × (new ≡ IsTooLong) × (b ≡ a) × (left ≡ had) × (after ≡ before)
-StepsOverStreams gives LacksMemory new a b had left before after progress =
-    (progress ≡ Failed NoMemory) × (new ≡ LacksMemory) × (b ≡ a) × (left ≡ had) × (after ≡ before)
-StepsOverStreams gives (Responds line reply sent) new a b had left before after progress =
-    Says (Responds line reply sent) new before after progress × (b ≡ a) × (left ≡ had)
+-- one step of a conversation that gathers reads once, and any other leaves the reader: the
+-- conversation before and after, the reader before and after, and the progress
+abbrev pub ReadsIfGathering : {R : Type 0} → (R → Option (List ℕ)) → Talk → Talk
+    → WatchedData R → WatchedData R → Progress → Type 0
+ReadsIfGathering remaining (Gathers bytes) new had left progress =
+    ReadsOnce remaining (Gathers bytes) new had left progress
+ReadsIfGathering remaining old new had left progress =
+    stream_of remaining left ≡ stream_of remaining had
 
--- one step: the conversation, the answers, the reader and the writer, each before and after
-abbrev pub Steps : {A R W : Type 0} → (A → A → List ℕ → List ℕ → Type 0) → (R → Option (List ℕ))
-    → (W → Option (List ℕ)) → Talk → Talk → A → A → WatchedData R → WatchedData R
+-- one step of a conversation that asks gets the reply, and any other leaves the answers: the
+-- conversation before and after, the answers before and after, and the progress
+abbrev pub RepliesIfAsked : {A : Type 0} → (A → A → List ℕ → List ℕ → Type 0) → Talk → Talk
+    → A → A → Progress → Type 0
+RepliesIfAsked gives (Asks line) new before after progress =
+    RepliesToLine gives before after line new progress
+RepliesIfAsked gives old new before after progress = after ≡ before
+
+-- one step of a conversation that answers writes once or searches, and any other leaves the writer:
+-- the conversation before and after, the writer before and after, and the progress
+abbrev pub WritesIfAnswered : {W : Type 0} → (W → Option (List ℕ)) → Talk → Talk
     → WatchedData W → WatchedData W → Progress → Type 0
-Steps gives remaining contents old new a b had left before after progress =
-    StepsOverStreams gives old new a b (stream_of remaining had) (stream_of remaining left)
-    (stream_of contents before) (stream_of contents after) progress
+WritesIfAnswered contents (Responds line reply steps sent) new before after progress =
+    WritesOnce contents (Responds line reply steps sent) new before after progress
+WritesIfAnswered contents old new before after progress =
+    stream_of contents after ≡ stream_of contents before
+
+-- a conversation that can't go on fails, and stays as it is: before and after, and the progress
+abbrev pub FailsIfRefused : Talk → Talk → Progress → Type 0
+FailsIfRefused IsTooLong new progress = (progress ≡ Failed LineTooLong) × (new ≡ IsTooLong)
+FailsIfRefused LacksMemory new progress = (progress ≡ Failed NoMemory) × (new ≡ LacksMemory)
+FailsIfRefused old new progress = Unit {0}
 
 -- the progress of a call that failed
 abbrev pub IsProgressAfter : ServeFault → Progress → Type 0
@@ -154,12 +179,40 @@ progress_after kind.Interrupted fault = Paused
 progress_after kind.WouldBlock fault = Waits
 progress_after why fault = Failed fault
 
+-- the effect of the outcome of one read into a buffer, and the progress after it: the conversation
+-- before and after. That no byte was read means the end of the input
+abbrev pub HearsOutcome : Talk → Talk → List ℕ → Result ℕ Error → Progress → Type 0
+HearsOutcome old new buffer (Ok count) progress =
+    (count ≡ 0 → new ≡ heard true old [])
+    × (0 < count → Hears old (take count buffer) new)
+    × (progress ≡ Paused)
+HearsOutcome old new buffer (Err error) progress =
+    (new ≡ old) × (progress ≡ progress_after (error_kind error) ReadFailed)
+
+-- the progress after a write, by the rest of the reply
+abbrev pub progress_at : Option (List ℕ) → Progress
+progress_at None = Paused
+progress_at (Some []) = Done
+progress_at (Some (byte ∷ rest)) = Paused
+
+-- the effect of the outcome of one write, and the progress after it: the conversation before and
+-- after. A write that took no byte has failed
+abbrev pub Records : Talk → Talk → Result ℕ Error → Progress → Type 0
+Records old new (Ok count) progress =
+    (count ≡ 0 → (new ≡ old) × (progress ≡ Failed WriteFailed))
+    × (0 < count → (new ≡ said old count) × (progress ≡ progress_at (sendable_of new)))
+Records old new (Err error) progress =
+    (new ≡ old) × (progress ≡ progress_after (error_kind error) WriteFailed)
+
 -- the state of a conversation when it stops, by its progress: the conversation, the number of
--- failed calls of the reader before and after, and that of the writer before and after
+-- failed calls of the reader before and after, and that of the writer before and after. It stops
+-- at a pause only if the failed calls of both, the bytes that were sent, and MAX_LINE + 4 steps
+-- before the reply make at least 2^64 - 1
 abbrev pub StopsWithCounts : Talk → ℕ → ℕ → ℕ → ℕ → Progress → Type 0
 StopsWithCounts talk had left before after Done =
     (stage_of talk ≡ stage.Responds) × (unsent_of talk ≡ [])
-StopsWithCounts talk had left before after Paused = Unit {0}
+StopsWithCounts talk had left before after Paused =
+    2 ^ 64 - 1 ≤ left + after + sent_of talk + (MAX_LINE + 4)
 StopsWithCounts talk had left before after Works = stage_of talk ≡ stage.Responds
 StopsWithCounts talk had left before after Waits = HasFailed had left ⊎ HasFailed before after
 StopsWithCounts talk had left before after (Failed LineTooLong) = talk ≡ IsTooLong
@@ -174,6 +227,12 @@ abbrev pub Stops : {R W : Type 0} → Talk → WatchedData R → WatchedData R
     → WatchedData W → WatchedData W → Progress → Type 0
 Stops talk had left before after progress =
     StopsWithCounts talk had.failures left.failures before.failures after.failures progress
+
+-- a conversation that stops at a step of its search: the search had not begun before, or fewer of
+-- its steps are left
+abbrev pub NearsAtWorks : Talk → Talk → Progress → Type 0
+NearsAtWorks old new progress =
+    progress ≡ Works → stage_of old ≡ stage.Responds → steps_of new < steps_of old
 
 -- ---- any number of steps
 
@@ -204,7 +263,7 @@ Stands given ended taken sent (Asks line) =
     (talk_of ended taken ≡ Asks line) × (line ≡ first_line taken) × (sent ≡ [])
 Stands given ended taken sent IsTooLong = (talk_of ended taken ≡ IsTooLong) × (sent ≡ [])
 Stands given ended taken sent LacksMemory = sent ≡ []
-Stands given ended taken sent (Responds line reply count) =
+Stands given ended taken sent (Responds line reply steps count) =
     StandsAnswered given ended taken sent line reply count
 
 -- the state of a conversation agrees with the bytes that the reader had at first and has left, and

@@ -1,6 +1,6 @@
 -- A conversation with one client, over all bytes that came in: one line, and its reply (RFC 1436,
 -- section 2).
-use Rattle.std.specs.Prelude.{◌≡◌, ℕ, ◌+◌, Bool, true, false, ◌||◌, ◌⊎◌, List, [], ◌++◌, length, take, drop, nat_le, Option, None, Some, if◌then◌else◌}
+use Rattle.std.specs.Prelude.{◌≡◌, ℕ, zero, suc, ◌+◌, ◌<◌, Bool, true, false, ◌||◌, ◌⊎◌, List, [], ◌++◌, length, take, drop, nat_le, Option, None, Some, if◌then◌else◌}
 use Rattle.std.specs.Io.BufRead.{first_line}
 use Rattle.gopher_item.specs.declared.limits.TheConstants.{MAX_LINE}
 use Rattle.gopher_text.specs.Line.{has_feed}
@@ -8,14 +8,14 @@ use Rattle.gopher_conversation.specs.declared.conversation.Stage.{Stage}
 use Rattle.gopher_conversation.specs.declared.conversation.Stage.TheVariants as stage
 
 -- the state of a conversation: it has gathered these bytes; it asks for the reply to this line; the
--- line is too long; it is out of memory for the line; or it answers this line with this reply, of
--- which the first `sent` bytes were sent
+-- line is too long; it is out of memory for the line; or it answers this line with this reply. The
+-- reply is there after at most `steps` steps of a search, and its first `sent` bytes were sent
 pub data Talk : Type 0 where
   Gathers : (bytes : List ℕ) → Talk
   Asks : (line : List ℕ) → Talk
   IsTooLong : Talk
   LacksMemory : Talk
-  Responds : (line reply : List ℕ) (sent : ℕ) → Talk
+  Responds : (line reply : List ℕ) (steps sent : ℕ) → Talk
 
 -- whether the first line of the bytes that came in is known: it has its LF, the input has ended, or
 -- the line is too long
@@ -40,10 +40,6 @@ Hears old piece new =
     (new ≡ heard false old piece)
     ⊎ (((bytes : List ℕ) × (old ≡ Gathers bytes)) × (new ≡ LacksMemory))
 
--- the line that is asked, if there is one, gets this reply
-abbrev pub IsAnswered : Talk → Talk → List ℕ → Type 0
-IsAnswered old new reply = (line : List ℕ) → old ≡ Asks line → new ≡ Responds line reply 0
-
 -- the bytes are the line that is asked, if there is one
 abbrev pub IsAskedLine : Talk → List ℕ → Type 0
 IsAskedLine (Asks line) bytes = bytes ≡ line
@@ -52,25 +48,51 @@ IsAskedLine talk bytes = Unit {0}
 -- the line whose reply is asked for or sent, if there is one
 abbrev pub asked_of : Talk → Option (List ℕ)
 asked_of (Asks line) = Some line
-asked_of (Responds line reply sent) = Some line
+asked_of (Responds line reply steps sent) = Some line
 asked_of talk = None
 
 -- the number of bytes of the reply that were sent
 abbrev pub sent_of : Talk → ℕ
-sent_of (Responds line reply sent) = sent
+sent_of (Responds line reply steps sent) = sent
 sent_of talk = 0
 
+-- the rest of the reply, also while a search makes it
 abbrev pub unsent_of : Talk → List ℕ
-unsent_of (Responds line reply sent) = drop sent reply
+unsent_of (Responds line reply steps sent) = drop sent reply
 unsent_of talk = []
 
+-- the rest of the reply; `None` while a search makes it
+abbrev pub sendable_of : Talk → Option (List ℕ)
+sendable_of (Responds line reply zero sent) = Some (drop sent reply)
+sendable_of (Responds line reply (suc steps) sent) = None
+sendable_of talk = Some []
+
+-- the state after `count` more bytes of the reply were sent
 abbrev pub said : Talk → ℕ → Talk
-said (Responds line reply sent) count = Responds line reply (sent + count)
+said (Responds line reply steps sent) count = Responds line reply steps (sent + count)
 said talk count = talk
+
+-- a bound of the steps of the search that are left until the reply is there; 0 once it is there
+abbrev pub steps_of : Talk → ℕ
+steps_of (Responds line reply steps sent) = steps
+steps_of talk = 0
+
+-- the same state, with this bound of the steps that are left
+abbrev pub with_steps : Talk → ℕ → Talk
+with_steps (Responds line reply steps sent) left = Responds line reply left sent
+with_steps talk left = talk
+
+-- only the search for the reply went on: at most its steps changed
+abbrev pub OnlySearches : Talk → Talk → Type 0
+OnlySearches old new = new ≡ with_steps old (steps_of new)
+
+-- the reply is there, or fewer steps of the search for it are left
+abbrev pub NearsReply : Talk → Talk → Type 0
+NearsReply old new = (steps_of new ≡ 0) ⊎ (steps_of new < steps_of old)
 
 abbrev pub stage_of : Talk → Stage
 stage_of (Gathers bytes) = stage.Listens
 stage_of (Asks line) = stage.Asks
 stage_of IsTooLong = stage.IsTooLong
 stage_of LacksMemory = stage.LacksMemory
-stage_of (Responds line reply sent) = stage.Responds
+stage_of (Responds line reply steps sent) = stage.Responds

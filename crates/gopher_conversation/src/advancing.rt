@@ -1,17 +1,18 @@
 //! One step of a conversation (`advance`), with at most one call of a stream.
 
-ghost use Rattle.std.specs.Prelude.{◌≡◌, ◌<◌, ◌⊎◌, length};
-ghost use Rattle.gopher_conversation.specs.Advance.{GoesOn, IsProgressAfter, ReadsOnce, Replies, Steps, WritesOnce, progress_after};
+ghost use Rattle.std.specs.Prelude.{◌≡◌, ◌<◌, ◌≤◌, ◌+◌, ◌^◌, ◌⊎◌, length, IfOk, OnErr};
+ghost use Rattle.gopher_conversation.specs.Advance.{FailsIfRefused, GoesOn, HearsOutcome, IsProgressAfter, ReadsIfGathering, ReadsOnce, Records, Replies, RepliesIfAsked, WritesIfAnswered, WritesOnce, progress_after};
 ghost use Rattle.gopher_conversation.specs.Leads.{Leads};
+ghost use Rattle.gopher_conversation.specs.Talk.{NearsReply, OnlySearches, sent_of, unsent_of};
 ghost use Rattle.gopher_conversation.specs.declared.advancing.Progress.TheVariants.{Failed, Works};
-ghost use Rattle.gopher_conversation.specs.declared.fault.ServeFault.TheVariants.{NoMemory};
+ghost use Rattle.gopher_conversation.specs.declared.fault.ServeFault.TheVariants.{NoMemory, ReadFailed, WriteFailed};
 
 use crate::answers::Answers;
 use crate::conversation::{Conversation, Stage};
 use crate::fault::ServeFault;
 use gopher_text::Watched;
 use std::alloc::Global;
-use std::io::{ErrorKind, Read, Write};
+use std::io::{self, ErrorKind, Read, Write};
 
 /// The state of a conversation after a step.
 #[derive(Clone, Copy, Debug, PartialEq, Eq)]
@@ -32,7 +33,7 @@ pub enum Progress {
 ///
 /// - Until the line is at its end, it reads once from `reader` into `buffer`, which isn't empty.
 /// - Then it asks for the reply. If a search makes the reply, the progress is `Works`.
-/// - It takes one step of that search. The progress is `Works`.
+/// - It takes one step of that search, after which fewer steps are left. The progress is `Works`.
 /// - Once the reply is there, it writes once.
 ///
 /// If a call of a stream fails with `ErrorKind::WouldBlock`, the progress is `Waits`. If it is
@@ -49,25 +50,27 @@ pub enum Progress {
 #[tactic(auto, using(crate::specs::Leads::leads_one, crate::specs::Leads::leads_stays))]
 pub fn advance<'a, A: Answers<'a>, R: Read, W: Write>(
     alloc: Global,
-    conversation: &mut Conversation<'a>,
+    talk: &mut Conversation<'a>,
     answers: &mut A,
     reader: &mut Watched<R>,
     writer: &mut Watched<W>,
     buffer: &mut [u8],
 ) -> Progress
     requires { 0 < length buffer.old }
-    ensures step { Steps A.gives R.remaining W.contents conversation.old conversation.new
-        answers.old answers.new reader.old reader.new writer.old writer.new result }
+    ensures reads { ReadsIfGathering R.remaining talk.old talk.new reader.old reader.new result }
+    ensures asks { RepliesIfAsked A.gives talk.old talk.new answers.old answers.new result }
+    ensures writes { WritesIfAnswered W.contents talk.old talk.new writer.old writer.new result }
+    ensures fails { FailsIfRefused talk.old talk.new result }
     ensures leads { Leads A.leads_to answers.old answers.new }
-    ensures goes_on { GoesOn A.leads_to A.gives R.remaining W.contents conversation.old
-        conversation.new answers.old answers.new reader.old reader.new writer.old writer.new }
+    ensures goes_on { GoesOn A.leads_to A.gives R.remaining W.contents talk.old talk.new
+        answers.old answers.new reader.old reader.new writer.old writer.new }
 {
-    match conversation.stage() {
-        Stage::Listens => listen(conversation, reader, buffer),
-        Stage::Asks => ask(alloc, conversation, answers),
+    match talk.stage() {
+        Stage::Listens => listen(talk, reader, buffer),
+        Stage::Asks => ask(alloc, talk, answers),
         Stage::IsTooLong => Progress::Failed(ServeFault::LineTooLong),
         Stage::LacksMemory => Progress::Failed(ServeFault::NoMemory),
-        Stage::Responds => say(alloc, conversation, writer),
+        Stage::Responds => say(alloc, talk, writer),
     }
 }
 
@@ -80,7 +83,21 @@ fn listen<R: Read>(
     requires { 0 < length buffer.old }
     ensures { ReadsOnce R.remaining conversation.old conversation.new reader.old reader.new result }
 {
-    match reader.read(buffer) {
+    let outcome = reader.read(buffer);
+    take_in(conversation, buffer, outcome)
+}
+
+// Takes in the outcome of a read into `buffer`: its first bytes, the end of the input, or an error.
+fn take_in(
+    conversation: &mut Conversation<'_>,
+    buffer: &[u8],
+    outcome: io::Result<usize>,
+) -> Progress
+    requires { IfOk outcome (λ count. count ≤ length buffer.now) }
+    ensures heard { HearsOutcome conversation.old conversation.new buffer.now outcome result }
+    ensures allowed { OnErr outcome (IsProgressAfter ReadFailed result) }
+{
+    match outcome {
         Ok(0) => {
             conversation.hear_end();
             Progress::Paused
@@ -118,7 +135,8 @@ fn ask<'a, A: Answers<'a>>(
 
 // Takes one step of the search for the reply.
 fn search(alloc: Global, conversation: &mut Conversation<'_>) -> Progress
-    ensures same { conversation.new ≡ conversation.old }
+    ensures same { OnlySearches conversation.old conversation.new }
+    ensures nears { result ≡ Works → NearsReply conversation.old conversation.new }
     ensures ends { (result ≡ Works) ⊎ (result ≡ Failed NoMemory) }
 {
     match conversation.search(alloc) {
@@ -141,7 +159,18 @@ fn say<W: Write>(
     if unsent.is_empty() {
         return Progress::Done;
     }
-    match writer.write(unsent) {
+    let outcome = writer.write(unsent);
+    record(conversation, outcome)
+}
+
+// Records the outcome of a write of the rest of the reply.
+fn record(conversation: &mut Conversation<'_>, outcome: io::Result<usize>) -> Progress
+    requires fits { IfOk outcome (λ count. count ≤ length (unsent_of conversation.old)) }
+    requires few { IfOk outcome (λ count. sent_of conversation.old + count < 2 ^ 64) }
+    ensures recorded { Records conversation.old conversation.new outcome result }
+    ensures allowed { OnErr outcome (IsProgressAfter WriteFailed result) }
+{
+    match outcome {
         Ok(0) => Progress::Failed(ServeFault::WriteFailed),
         Ok(count) => {
             conversation.say(count);

@@ -1,13 +1,12 @@
 //! A conversation with one client, as a value without streams (`Conversation`).
 
-ghost use Rattle.std.specs.Prelude.{◌≡◌, ◌<◌, ◌≤◌, ◌+◌, ◌^◌, [], length, false, true, IfSome};
+ghost use Rattle.std.specs.Prelude.{◌≡◌, ◌<◌, ◌≤◌, ◌+◌, ◌^◌, [], length, false, true, IfSome, OnOk};
 ghost use Rattle.std.specs.Option.{option_map};
 ghost use Rattle.std.specs.Io.BufRead.{first_line, strip_last};
 ghost use Rattle.gopher_text.specs.Line.{has_feed};
-ghost use Rattle.gopher_replies.specs.Answer.{answer_bytes};
-ghost use Rattle.gopher_conversation.specs.Talk.{Hears, IsAnswered, IsAskedLine, asked_of, heard, is_known, said, sent_of, stage_of, unsent_of};
+ghost use Rattle.gopher_conversation.specs.Talk.{Hears, IsAskedLine, NearsReply, OnlySearches, asked_of, heard, is_known, said, sendable_of, sent_of, stage_of, unsent_of};
 ghost use Rattle.gopher_conversation.specs.Talk.{Gathers};
-ghost use Rattle.gopher_conversation.specs.TalkOf.{IsPhaseAt, reply_in};
+ghost use Rattle.gopher_conversation.specs.TalkOf.{IsAnswered, IsPhaseAt, reply_in};
 
 use gopher_item::{MAX_LINE, NoMemory};
 use gopher_replies::Answer;
@@ -195,25 +194,28 @@ impl<'a> Conversation<'a> {
 
     // Takes the answer to its line.
     pub(crate) fn respond(&mut self, answer: Answer<'a>)
-        ensures { IsAnswered self.old self.new (answer_bytes answer.entry) }
+        ensures { IsAnswered self.old self.new answer.entry }
     {
         self.phase = Phase::Answering(answer);
         self.sent = 0;
     }
 
-    // Takes the next step of the search that makes its reply, if there is one.
+    // Takes the next step of the search that makes its reply, if there is one. Then the reply is
+    // there, or fewer steps are left.
     pub(crate) fn search(&mut self, alloc: Global) -> Result<(), NoMemory>
-        ensures { self.new ≡ self.old }
+        ensures same { OnlySearches self.old self.new }
+        ensures nears { OnOk result (NearsReply self.old self.new) }
     {
-        if let Phase::Answering(answer) = &mut self.phase {
-            answer.step(alloc)?;
-        }
+        let Phase::Answering(answer) = &mut self.phase else {
+            return Ok(());
+        };
+        answer.step(alloc)?;
         Ok(())
     }
 
     // The rest of its reply; `None` until the search that makes it is at its end.
     pub(crate) fn unsent(&self) -> Option<&[u8]>
-        ensures bytes { IfSome result (λ bytes. bytes.now ≡ unsent_of self.now) }
+        ensures bytes { option_map (λ bytes. bytes.now) result ≡ sendable_of self.now }
         ensures few { IfSome result (λ bytes. sent_of self.now + length bytes.now < 2 ^ 64) }
     {
         match &self.phase {

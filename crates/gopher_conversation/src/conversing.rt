@@ -1,7 +1,7 @@
 //! The steps of a conversation while its streams are ready (`converse`).
 
 ghost use Rattle.std.specs.Prelude.{◌<◌, length};
-ghost use Rattle.gopher_conversation.specs.Advance.{GoesOn, Stops};
+ghost use Rattle.gopher_conversation.specs.Advance.{GoesOn, NearsAtWorks, Stops};
 ghost use Rattle.gopher_conversation.specs.Leads.{Leads};
 
 use crate::advancing::{Progress, advance};
@@ -13,7 +13,8 @@ use std::io::{Read, Write};
 
 /// Advances a conversation until its progress isn't `Paused`. `buffer` isn't empty.
 ///
-/// It returns `Progress::Paused` only after 2^64 steps.
+/// It returns `Progress::Paused` only after 2^64 - 1 steps. If it returns `Progress::Works` and the
+/// search had begun before, then fewer steps of the search are left.
 ///
 /// # Errors
 ///
@@ -30,6 +31,7 @@ pub fn converse<'a, A: Answers<'a>, R: Read, W: Write>(
     ensures leads { Leads A.leads_to answers.old answers.new }
     ensures goes_on { GoesOn A.leads_to A.gives R.remaining W.contents conversation.old
         conversation.new answers.old answers.new reader.old reader.new writer.old writer.new }
+    ensures nears { NearsAtWorks conversation.old conversation.new result }
     ensures stops { Stops conversation.new reader.old reader.new writer.old writer.new result }
 {
     for _step in 0..u64::MAX {

@@ -1,5 +1,5 @@
--- What a line is answered with, by its bytes.
-use Rattle.std.specs.Prelude.{ℕ, List}
+-- What a line is answered with, by its bytes and the steps that are left until they are there.
+use Rattle.std.specs.Prelude.{◌≡◌, ℕ, suc, ◌<◌, ◌⊎◌, List, Option, None, Some}
 use Rattle.gopher_replies.specs.Kept.{reply_bytes}
 use Rattle.gopher_replies.specs.declared.answer.Answer.{Answer}
 use Rattle.gopher_replies.specs.declared.answer.Answer.TheVariants as answer
@@ -8,3 +8,17 @@ use Rattle.gopher_replies.specs.declared.answer.Answer.TheVariants as answer
 abbrev pub answer_bytes : Answer → List ℕ
 answer_bytes (answer.Ready reply) = reply_bytes reply
 answer_bytes (answer.Searching search) = search.bytes
+
+-- the bytes of an answer; `None` if its search isn't at its end
+abbrev pub ready_bytes : Answer → Option (List ℕ)
+ready_bytes (answer.Ready reply) = Some (reply_bytes reply)
+ready_bytes (answer.Searching search) = None
+
+-- a bound of the steps that are left until the reply is there; 0 once it is there
+abbrev pub steps_to_reply : Answer → ℕ
+steps_to_reply (answer.Ready reply) = 0
+steps_to_reply (answer.Searching search) = suc search.left
+
+-- the reply is there, or fewer steps are left until it is there
+abbrev pub ComesNearer : Answer → Answer → Type 0
+ComesNearer old new = (steps_to_reply new ≡ 0) ⊎ (steps_to_reply new < steps_to_reply old)

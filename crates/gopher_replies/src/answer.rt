@@ -1,8 +1,9 @@
 //! What a line is answered with (`Answer`): a reply, or a search that makes one.
 
-ghost use Rattle.std.specs.Prelude.{◌≡◌, IfOk, IfSome};
+ghost use Rattle.std.specs.Prelude.{◌≡◌, IfOk, OnOk};
+ghost use Rattle.std.specs.Option.{option_map};
 ghost use Rattle.gopher_replies.specs.Kept.{reply_bytes};
-ghost use Rattle.gopher_replies.specs.Answer.{answer_bytes};
+ghost use Rattle.gopher_replies.specs.Answer.{ComesNearer, answer_bytes, ready_bytes};
 
 use crate::replies::Reply;
 use crate::search_reply::SearchReply;
@@ -21,7 +22,7 @@ pub enum Answer<'a> {
 impl<'a> Answer<'a> {
     /// Returns the bytes; `None` until the search is at its end.
     pub fn as_slice(&self) -> Option<&[u8]>
-        ensures { IfSome result (λ bytes. bytes.now ≡ answer_bytes self.now) }
+        ensures { option_map (λ bytes. bytes.now) result ≡ ready_bytes self.now }
     {
         match self {
             Answer::Ready(reply) => Some(reply.as_slice()),
@@ -29,9 +30,11 @@ impl<'a> Answer<'a> {
         }
     }
 
-    /// Takes the next step of the search, if there is one. Its bytes stay the same.
+    /// Takes the next step of the search, if there is one. Its bytes stay the same. Then the reply
+    /// is there, or fewer steps are left.
     pub fn step(&mut self, alloc: Global) -> Result<(), NoMemory>
-        ensures { answer_bytes self.new ≡ answer_bytes self.old }
+        ensures same { answer_bytes self.new ≡ answer_bytes self.old }
+        ensures nears { OnOk result (ComesNearer self.old self.new) }
     {
         let Answer::Searching(search) = self else {
             return Ok(());

@@ -1,8 +1,9 @@
-use Rattle.std.proofs.Common.{◌≤◌, arith}
+use Rattle.std.proofs.Common.{◌≡◌, refl, subst, arith, rules}
 use Rattle.gopher_conversation.specs.Leads.{Leads, leads_stays, leads_joins}
-use Rattle.gopher_conversation.specs.Serve.{stream_of}
-use Rattle.gopher_conversation.proofs.StepLemmas.{advances_stays, advances_joins}
+use Rattle.gopher_conversation.proofs.StepLemmas.{StepsOverStreams, step_joins, advances_stays, advances_joins}
 use Rattle.gopher_conversation.proofs.StopLemmas.{steps_count, steps_stop, stops_since}
+use Rattle.gopher_conversation.specs.declared.advancing.Progress.TheVariants.{Paused}
+use Rattle.gopher_conversation.proofs.PauseLemmas.{counts_on, keeps_joins, pause_counts, pause_keeps, works_near, works_since}
 use Rattle.gopher_conversation.proofs.conversing.converse.Goals as goal
 
 pub loop-step-init : goal.loop-step-init
@@ -11,6 +12,8 @@ loop-step-init g c =
       leads_stays leads_to c.args.answers.now,
       advances_stays (Leads leads_to) g.A.Answers.gives (leads_stays leads_to) (leads_joins leads_to) c.args.conversation.now c.args.answers.now _ _,
       omega arith,
+      omega arith,
+      λ responds. (responds, refl),
       omega arith,
     )
 
@@ -26,25 +29,35 @@ returns-then-ne-clause-goes_on g c =
 pub loop-step-preserved : goal.loop-step-preserved
 loop-step-preserved g c =
     let leads_to = g.A.Answers.leads_to in
-    let steps = steps_count g.A.Answers.gives c.loop-step.conversation c.advance-progress.new.conversation c.loop-step.answers c.advance-progress.new.answers
-    (stream_of g.R.Read.remaining c.loop-step.reader) (stream_of g.R.Read.remaining c.advance-progress.new.reader)
-    (stream_of g.W.Write.contents c.loop-step.writer) (stream_of g.W.Write.contents c.advance-progress.new.writer)
-    c.advance-progress.result c.advance-progress.ensures.step in (
+    let step = step_joins g.A.Answers.gives g.R.Read.remaining g.W.Write.contents c.loop-step.conversation c.advance-progress.new.talk c.loop-step.answers c.advance-progress.new.answers
+    c.loop-step.reader c.advance-progress.new.reader c.loop-step.writer c.advance-progress.new.writer c.advance-progress.result
+    c.advance-progress.ensures.reads c.advance-progress.ensures.asks c.advance-progress.ensures.writes c.advance-progress.ensures.fails in
+    let counts = steps_count g.A.Answers.gives _ _ _ _ _ _ _ _ _ step in
+    let is : c.advance-progress.result ≡ Paused = search rules in
+    let pauses = subst (StepsOverStreams g.A.Answers.gives _ _ _ _ _ _ _ _) is step in (
       leads_joins leads_to _ _ _ c.loop-step.invariant.0 c.advance-progress.ensures.leads,
       advances_joins (Leads leads_to) g.A.Answers.gives (leads_stays leads_to) (leads_joins leads_to) _ _ _ _ _ _ _ _ _ _ _ _
           c.loop-step.invariant.0 c.loop-step.invariant.1 c.advance-progress.ensures.goes_on,
-      omega (arith, c.loop-step.invariant.2, steps.0),
-      omega (arith, c.loop-step.invariant.3, steps.1),
+      omega (arith, c.loop-step.invariant.2, counts.0),
+      omega (arith, c.loop-step.invariant.3, counts.1),
+      keeps_joins _ _ _ c.loop-step.invariant.4 (pause_keeps g.A.Answers.gives _ _ _ _ _ _ _ _ pauses),
+      counts_on c.loop-step._step _ _ c.loop-step-test.true c.loop-step.invariant.5 (pause_counts g.A.Answers.gives _ _ _ _ _ _ _ _ pauses),
     )
+
+pub returns-then-ne-clause-nears : goal.returns-then-ne-clause-nears
+returns-then-ne-clause-nears g c = λ works.
+    let step = step_joins g.A.Answers.gives g.R.Read.remaining g.W.Write.contents c.loop-step.conversation c.advance-progress.new.talk c.loop-step.answers c.advance-progress.new.answers
+    c.loop-step.reader c.advance-progress.new.reader c.loop-step.writer c.advance-progress.new.writer c.advance-progress.result
+    c.advance-progress.ensures.reads c.advance-progress.ensures.asks c.advance-progress.ensures.writes c.advance-progress.ensures.fails in
+    works_since c.args.conversation.now c.loop-step.conversation c.advance-progress.new.talk c.loop-step.invariant.4
+    (works_near g.A.Answers.gives _ _ _ _ _ _ _ _ (subst (StepsOverStreams g.A.Answers.gives _ _ _ _ _ _ _ _) works step))
 
 pub returns-then-ne-clause-stops : goal.returns-then-ne-clause-stops
 returns-then-ne-clause-stops g c =
-    let steps = steps_count g.A.Answers.gives c.loop-step.conversation c.advance-progress.new.conversation c.loop-step.answers c.advance-progress.new.answers
-    (stream_of g.R.Read.remaining c.loop-step.reader) (stream_of g.R.Read.remaining c.advance-progress.new.reader)
-    (stream_of g.W.Write.contents c.loop-step.writer) (stream_of g.W.Write.contents c.advance-progress.new.writer)
-    c.advance-progress.result c.advance-progress.ensures.step in
-    let stops = steps_stop g.A.Answers.gives c.loop-step.conversation c.advance-progress.new.conversation c.loop-step.answers c.advance-progress.new.answers
-    (stream_of g.R.Read.remaining c.loop-step.reader) (stream_of g.R.Read.remaining c.advance-progress.new.reader)
-    (stream_of g.W.Write.contents c.loop-step.writer) (stream_of g.W.Write.contents c.advance-progress.new.writer)
-    c.advance-progress.result c.advance-progress.ensures.step in
-    stops_since c.advance-progress.new.conversation _ _ _ _ _ _ c.advance-progress.result c.loop-step.invariant.2 steps.0 c.loop-step.invariant.3 steps.1 stops
+    let step = step_joins g.A.Answers.gives g.R.Read.remaining g.W.Write.contents c.loop-step.conversation c.advance-progress.new.talk c.loop-step.answers c.advance-progress.new.answers
+    c.loop-step.reader c.advance-progress.new.reader c.loop-step.writer c.advance-progress.new.writer c.advance-progress.result
+    c.advance-progress.ensures.reads c.advance-progress.ensures.asks c.advance-progress.ensures.writes c.advance-progress.ensures.fails in
+    let counts = steps_count g.A.Answers.gives _ _ _ _ _ _ _ _ _ step in
+    let ends : c.advance-progress.result ≡ Paused → ⊥ = search rules in
+    stops_since c.advance-progress.new.talk _ _ _ _ _ _ c.advance-progress.result c.loop-step.invariant.2 counts.0 c.loop-step.invariant.3 counts.1
+    (steps_stop g.A.Answers.gives _ _ _ _ _ _ _ _ _ step ends)

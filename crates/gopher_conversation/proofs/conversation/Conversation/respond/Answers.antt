@@ -1,5 +1,5 @@
 use Rattle.std.proofs.Common.{ap, ◌∙◌}
-use Rattle.gopher_replies.specs.Answer.{answer_bytes}
+use Rattle.gopher_replies.specs.Answer.{answer_bytes, steps_to_reply}
 use Rattle.gopher_conversation.specs.Talk.{Responds}
 use Rattle.gopher_conversation.proofs.Talking.{asked_is}
 use Rattle.gopher_conversation.proofs.conversation.Conversation.respond.Goals as goal
@@ -7,4 +7,4 @@ use Rattle.gopher_conversation.proofs.conversation.Conversation.respond.Goals as
 pub returns : goal.returns
 returns c = λ line asks.
     let inside = c.self.inside in
-    ap (λ l. Responds l (answer_bytes c.args.answer) 0) (asked_is inside.gathered.items line inside.phase inside.sent (c.self.view_is ∙ asks))
+    ap (λ l. Responds l (answer_bytes c.args.answer) (steps_to_reply c.args.answer) 0) (asked_is inside.gathered.items line inside.phase inside.sent (c.self.view_is ∙ asks))
