@@ -7,12 +7,13 @@
 //! - How many passes search it, and how many shares, one for each worker.
 //! - A `Blank`, which names the crew. Contracts use the name to say which crew a record belongs to.
 //!   A new blank has no events, and names of its own, so a caller needs two things. The functions
-//!   that take the blank are generic in the crew `C` and repeat the four conditions of
+//!   that take the blank are generic in the crew `C` and repeat the two conditions of
 //!   `Desk::open`. `main` makes the blank and calls them with `C` as `Brand`, and `proofs/main`
 //!   picks the names of the blank as those of `Brand`.
 #![tactic(auto)]
 
 ghost use Rattle.std.specs.Prelude.{◌≡◌, [], ◌≤◌, length};
+ghost use Rattle.gopher_crew.specs.Desk.{IsBlankOf};
 
 mod burrow;
 mod failed;
@@ -20,7 +21,7 @@ mod failed;
 use burrow::Burrow;
 use failed::Failed;
 use gopher_catalogue::Catalogue;
-use gopher_crew::{Blank, Crew, Desk, Pass, Share, WorkEnd, crawl};
+use gopher_crew::{Blank, Crew, Desk, Pass, Share, crawl};
 use gopher_item::Place;
 use gopher_page::Query;
 use gopher_scope::{Rule, Scope};
@@ -38,9 +39,6 @@ const TRIES: u32 = 1;
 const PASSES: u32 = 1;
 
 const WORKERS: u32 = 2;
-
-/// A worker's end, whose fetcher is a burrow.
-type End<C> = WorkEnd<Burrow, C>;
 
 // The whole host may be visited.
 fn scope(alloc: Global) -> Result<Scope, Failed> {
@@ -92,15 +90,35 @@ fn print_hits<C: Crew, R: Print + AllocGlobal>(
     Ok(())
 }
 
-// A desk is closed with all its shares: they show that no event is missing.
-fn close<C: Crew, R: Wait + AllocGlobal>(
+// Crawls by all workers, side by side, and gives their shares back.
+fn crawled<C: Crew + Send + Sync, R: AllocGlobal + Threads + Wait + Sync>(
     rt: &R,
-    desk: Desk<C, &R>,
-    ends: Vec<End<C>>,
-) -> Result<Catalogue, Failed> {
+    desk: &Desk<C, &R>,
+    shares: Vec<Share<C>>,
+) -> Result<Vec<Share<C>>, Failed> {
+    let pairs = pairs(rt.alloc(), shares)?;
+    let Ok(ends) = crawl(rt, rt.alloc(), desk, pairs) else {
+        return Err(Failed::Memory);
+    };
     let mut shares = Vec::new(rt.alloc());
     for end in ends {
         shares.push(end.share)?;
+    }
+    Ok(shares)
+}
+
+// Crawls, searches and closes the desk. It is closed with all its shares: they show that no event
+// is missing. Gives the catalogue with its whole record.
+fn closed<C: Crew + Send + Sync, R: Print + AllocGlobal + Threads + Wait + Sync>(
+    rt: &R,
+    desk: Desk<C, &R>,
+    passes: Vec<Pass<C>>,
+    shares: Vec<Share<C>>,
+) -> Result<Catalogue, Failed> {
+    let shares = crawled(rt, &desk, shares)?;
+    let mut passes = passes;
+    if let Some(pass) = passes.last_mut() {
+        print_hits(rt, pass, b"moon")?;
     }
     match desk.close(shares) {
         Ok(catalogue) => Ok(catalogue),
@@ -108,34 +126,23 @@ fn close<C: Crew, R: Wait + AllocGlobal>(
     }
 }
 
-// Opens a desk, crawls, searches and closes. Gives the catalogue with its whole record.
-fn crawled<C: Crew + Send + Sync, R: Print + AllocGlobal + Threads + Wait + Sync>(
+// Opens a desk, and works at it.
+fn opened<C: Crew + Send + Sync, R: Print + AllocGlobal + Threads + Wait + Sync>(
     rt: &R,
     blank: Blank,
 ) -> Result<Catalogue, Failed>
-    requires name { blank.name ≡ C.name }
-    requires parts { blank.parts ≡ C.parts }
-    requires history { blank.history ≡ C.history }
+    requires blank { IsBlankOf C.name C.parts C.history blank }
     requires begun { blank.begun ≡ [] }
 {
-    let alloc = rt.alloc();
-    let catalogue = catalogue(alloc)?;
-    let opened = Desk::<C, &R>::open(rt, alloc, catalogue, PASSES, WORKERS, blank);
-    let Ok((desk, mut passes, shares)) = opened else {
-        return Err(Failed::Refused);
-    };
-    let pairs = pairs(alloc, shares)?;
-    let Ok(ends) = crawl(rt, alloc, &desk, pairs) else {
-        return Err(Failed::Memory);
-    };
-    if let Some(pass) = passes.last_mut() {
-        print_hits(rt, pass, b"moon")?;
+    let catalogue = catalogue(rt.alloc())?;
+    match Desk::<C, &R>::open(rt, rt.alloc(), catalogue, PASSES, WORKERS, blank) {
+        Ok((desk, passes, shares)) => closed(rt, desk, passes, shares),
+        Err(_refused) => Err(Failed::Refused),
     }
-    close(rt, desk, ends)
 }
 
 fn main(rt: HostRuntime) -> Result<(), Failed> {
-    let catalogue = crawled::<Brand, _>(&rt, Blank::new())?;
+    let catalogue = opened::<Brand, _>(&rt, Blank::new())?;
     let status = catalogue.status();
     println!(rt; "{} places known, {} done", status.known, status.done)?;
     Ok(())

@@ -21,6 +21,12 @@ abbrev pub blank_data : ℕ → ℕ → RecordPrefixData → BlankData
 blank_data name parts prefix =
     record { name = name; parts = parts; history = prefix.history; begun = prefix.events }
 
+-- a blank whose names are those of a crew: of its ledger, with the number of parts, and of its
+-- history
+abbrev pub IsBlankOf : ℕ → ℕ → Book → BlankData → Type 0
+IsBlankOf name parts history blank =
+    (blank.name ≡ name) × (blank.parts ≡ parts) × (blank.history ≡ history)
+
 -- whether a desk may have these numbers of passes and shares
 abbrev pub are_counts : ℕ → ℕ → Bool
 are_counts passes shares =

@@ -6,7 +6,7 @@ ghost use mathlib.Core.List.{IsPrefix};
 ghost use Rattle.gopher_catalogue.specs.Legal.{IsLegal};
 ghost use Rattle.gopher_catalogue.specs.Turn.{turn_data};
 ghost use Rattle.gopher_crew.specs.Crew.{all_published};
-ghost use Rattle.gopher_crew.specs.Desk.{are_counts, shares_at, events_of, AllHaveSeen, CountTheSame, ComesBack, IsDeskFault, HasAll};
+ghost use Rattle.gopher_crew.specs.Desk.{are_counts, shares_at, events_of, AllHaveSeen, CountTheSame, ComesBack, IsBlankOf, IsDeskFault, HasAll};
 ghost use Rattle.gopher_crew.specs.Kept.{RisesAt, NotesTurn, NotesFind, NotesFailure, AnswersTurn, AnswersFind, RefusesFind, IsOutOn, LetsClaim, BeginsWith, IsNotIdle, IsStatus};
 
 use crate::blank::Blank;
@@ -63,9 +63,7 @@ fn start<C: Crew, R: Wait + Drop>(
     shares: u32,
     list: &mut Vec<Share<C>>,
 ) -> Desk<C, R>
-    requires name { blank.name ≡ C.name }
-    requires parts { blank.parts ≡ C.parts }
-    requires history { blank.history ≡ C.history }
+    requires blank { IsBlankOf C.name C.parts C.history blank }
     requires begun { blank.begun ≡ catalogue }
     requires shown { publisher ≡ all_published catalogue }
     requires counts { (1 ≤ shares) × (shares ≤ 16) }
@@ -115,9 +113,7 @@ impl<C: Crew, R: Wait + Drop> Desk<C, R> {
         shares: u32,
         blank: Blank,
     ) -> Result<(Desk<C, R>, Vec<Pass<C>>, Vec<Share<C>>), DeskRefused>
-        requires name { blank.name ≡ C.name }
-        requires parts { blank.parts ≡ C.parts }
-        requires history { blank.history ≡ C.history }
+        requires blank { IsBlankOf C.name C.parts C.history blank }
         requires begun { IsPrefix blank.begun catalogue }
         ensures ok { OnOk result (are_counts passes shares ≡ true) }
         ensures passes { IfOk result (λ opened. AllHaveSeen catalogue passes opened.1.items) }

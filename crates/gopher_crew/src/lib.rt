@@ -62,9 +62,9 @@
 //!
 //! # Opening a desk
 //!
-//! `Desk::open` takes a new `Blank`. Its four conditions say that the crew type `C` has the blank's
+//! `Desk::open` takes a new `Blank`. Its two conditions say that the crew type `C` has the blank's
 //! names, and that nothing of another crawl was entered into its history. A caller chooses `Brand`
-//! as `C` and a fresh `Blank::new()`; then all four hold. The crate `example_crawl` shows it.
+//! as `C` and a fresh `Blank::new()`; then both hold. The crate `example_crawl` shows it.
 //!
 //! `Note`, `Pass::hear` and `Catalogue`'s `Book` are for callers of the library: no program here
 //! uses them.

@@ -3,6 +3,7 @@
 ghost use Rattle.std.specs.Prelude.{◌≡◌, [], None, Some, Ok, IfErr, IfOk, OnOk};
 ghost use Rattle.gopher_hole.specs.Ending.{HasServed, ServerEnds, fault_at_end, listening_line};
 ghost use Rattle.gopher_hole.specs.Sending.{HasSent};
+ghost use Rattle.gopher_crew.specs.Desk.{IsBlankOf};
 
 use crate::announcing::{tell_listening, tell_status};
 use crate::arguments::Serving;
@@ -291,9 +292,7 @@ pub fn serve<
         + 'static,
     W: Write,
 >(rt: &R, serving: &Serving<'_>, blank: Blank, output: &mut Watched<W>) -> Result<(), ProgramFault>
-    requires name { blank.name ≡ C.name }
-    requires parts { blank.parts ≡ C.parts }
-    requires history { blank.history ≡ C.history }
+    requires blank { IsBlankOf C.name C.parts C.history blank }
     requires begun { blank.begun ≡ [] }
     ensures { OnOk result (HasServed W.contents output.old output.new) }
 {

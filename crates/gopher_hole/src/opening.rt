@@ -1,6 +1,7 @@
 //! Opening a server: its settings, its folder and its desk.
 
 ghost use Rattle.std.specs.Prelude.{◌≡◌, []};
+ghost use Rattle.gopher_crew.specs.Desk.{IsBlankOf};
 
 use crate::fault::ProgramFault;
 use gopher_catalogue::Catalogue;
@@ -127,9 +128,7 @@ fn open_desk<'r, C: Crew, R: Wait>(
     crawl: CrawlSettings,
     blank: Blank,
 ) -> Result<DeskParts<C, &'r R>, ProgramFault>
-    requires name { blank.name ≡ C.name }
-    requires parts { blank.parts ≡ C.parts }
-    requires history { blank.history ≡ C.history }
+    requires blank { IsBlankOf C.name C.parts C.history blank }
     requires begun { blank.begun ≡ [] }
 {
     let CrawlSettings {
@@ -164,9 +163,7 @@ pub fn open<'r, C: Crew, R: Files + Wait>(
     settings: Settings,
     blank: Blank,
 ) -> Result<Opened<C, &'r R>, ProgramFault>
-    requires name { blank.name ≡ C.name }
-    requires parts { blank.parts ≡ C.parts }
-    requires history { blank.history ≡ C.history }
+    requires blank { IsBlankOf C.name C.parts C.history blank }
     requires begun { blank.begun ≡ [] }
 {
     let Settings {
