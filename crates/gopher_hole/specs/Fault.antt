@@ -1,5 +1,5 @@
 -- The numbers of the program's faults, and the line that the program writes for each.
-use Rattle.std.specs.Prelude.{ℕ, List, [], ◌∷◌, ◌++◌, codes}
+use Rattle.std.specs.Prelude.{ℕ, List, [], ◌++◌, codes}
 use Rattle.std.specs.Fmt.{decimal}
 use Rattle.gopher_scope.specs.Rows.{key_name}
 use Rattle.gopher_scope.specs.Settings.{settings_fault_code}

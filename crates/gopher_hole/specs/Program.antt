@@ -1,5 +1,5 @@
 -- The program: its arguments, its exit status and its error stream.
-use Rattle.std.specs.Prelude.{◌≡◌, ℕ, ◌⊎◌, Bool, true, false, List, [], ◌∷◌, codes, nat_eq, Option, Result, Ok, Err}
+use Rattle.std.specs.Prelude.{◌≡◌, ℕ, ◌⊎◌, Bool, false, List, [], ◌∷◌, codes, nat_eq, Option, Result, Ok, Err}
 use Rattle.std.specs.Cmp.Lexicographic.{pointwise}
 use Rattle.gopher_text.specs.Watched.{WatchedData, HasFailed}
 use Rattle.gopher_script.specs.Replay.{AppendsPart, Replays}

@@ -1,7 +1,6 @@
 //! `Rule`: the places of one server whose selectors begin with a prefix.
 
 ghost use Rattle.std.specs.Prelude.{◌≡◌};
-ghost use Rattle.gopher_item.specs.Place.{PlaceData};
 ghost use Rattle.gopher_scope.specs.Rule.{RuleData, MakesRule, covers};
 
 use gopher_item::{ByteString, ItemFault, Place, is_selector, lowered_host};

@@ -1,7 +1,7 @@
 //! The integers and texts in settings: `Scalar`, `TextKind`, `value_at`, and the faults of a value,
 //! `Problem`.
 
-ghost use Rattle.std.specs.Prelude.{◌≡◌, ◌≤◌, None};
+ghost use Rattle.std.specs.Prelude.{◌≡◌, None};
 ghost use Rattle.std.specs.Option.{option_copied};
 ghost use Rattle.toml.specs.Data.{as_integer, as_str, get_member};
 ghost use Rattle.toml.specs.View.{view, table_view};

@@ -1,4 +1,3 @@
-use Rattle.std.proofs.Common.{Err}
 use Rattle.gopher_script.proofs.Sends.{sent-then, sent-stopped}
 use Rattle.gopher_hole.proofs.announcing.write_rest.Goals as goal
 
