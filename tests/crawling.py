@@ -4,8 +4,8 @@
     tests/crawling.py [--pages N] [PROGRAM]
 
 The host has a menu of menus, of which each leads to 128 texts. N is 10,000 unless said. Another host counts what it is asked
-for: what the rules allow, once, and a place that can't be fetched as often as the settings say. The last line is
-'crawling: N passed, M failed'.
+for: what the rules allow, once, and a place that can't be fetched as often as the settings say. A crawl of a host where nobody
+listens ends. The last line is 'crawling: N passed, M failed'.
 """
 import argparse
 import collections
@@ -18,7 +18,7 @@ import tempfile
 import threading
 import time
 
-from running.server import HOST, PROGRAM, Server, Tally, ask
+from running.server import HOST, PROGRAM, Server, Tally, ask, free_port
 
 TEXTS_OF_A_MENU = 128
 MOST_SECONDS = 300.0
@@ -159,6 +159,19 @@ def check_limits(tally, program):
         host.shutdown()
 
 
+def check_absent(tally, program):
+    """Crawls a host where nobody listens: each try fails, and the crawl ends."""
+    with tempfile.TemporaryDirectory() as place:
+        folder, where = pathlib.Path(place), f'host = "{HOST}"\nport = {free_port()}\n'
+        (folder / "root").mkdir()
+        more = f"tries = {TRIES}\n[[seeds]]\n{where}[[allow]]\n{where}"
+        with Server(program, folder, folder / "root", more=more, words=("--requests", "1")) as server:
+            server.started()
+            time.sleep(SECONDS_AFTER)
+            ask(server.port, b"\r\n")
+            tally.expect("a crawl of nobody", server.end(), (b"known 1 waiting 0 out 0 done 1 dropped 0\n", b"", 0))
+
+
 def main():
     words = argparse.ArgumentParser()
     words.add_argument("--pages", type=int, default=10_000)
@@ -166,6 +179,7 @@ def main():
     given = words.parse_args()
     tally = Tally("crawling")
     check_limits(tally, given.program)
+    check_absent(tally, given.program)
     check_crawl(tally, given.program, given.pages)
     return tally.status()
 

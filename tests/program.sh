@@ -52,10 +52,11 @@ too_long() {
   [ "$code" = 1 ] && [ ! -s "$folder/written" ] && [ "$(cat "$folder/told")" = 'hole: 12' ]
 }
 
+# full_device SCRIPT ERROR: the script's output doesn't fit, and ERROR is on the error stream.
 full_device() {
   local code=0
-  printf 'start\t1\n' | "$program" replay > /dev/full 2> "$folder/told" || code=$?
-  [ "$code" = 1 ] && [ "$(cat "$folder/told")" = 'hole: 13' ]
+  printf "$1" | "$program" replay > /dev/full 2> "$folder/told" || code=$?
+  [ "$code" = 1 ] && [ "$(cat "$folder/told")" = "$2" ]
 }
 
 count as_wanted 'allow\ta b\t70\t\n' 0 'refused 3\n' '' replay
@@ -86,6 +87,6 @@ count as_wanted "$(cat examples/first_crawl.script)\n" \
   0 'ok\ntake\t0\t1\tlocalhost\t70\t\nadded 1 0\ntake\t1\t1\tlocalhost\t70\t/docs\nok\nfinished\nknown 2 waiting 0 out 0 done 2 dropped 0\n' '' replay
 count shown check examples/hole.toml
 count too_long
-count full_device
+count full_device 'start\t1\n' 'hole: 13'
 echo "program: $passed passed, $failed failed"
 [ "$failed" = 0 ]

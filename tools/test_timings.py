@@ -71,7 +71,7 @@ class Timings(unittest.TestCase):
         printed = {
             "crates/test_library/src/timed_formats.rt": ['"{what}: read at {read} MB/s, written at {written} MB/s"'],
             "crates/test_library/src/timed_searches.rt": [
-                '"{} pages: {made} ns a page to make, {added} to claim and add, ', '"{text}: {} us, {hits} hits, {scores} the sum of their scores"',
+                '"{pages} pages: {made} ns a page to make, {added} to claim and add, ', '"{text}: {} us, {hits} hits, {scores} the sum of their scores"',
             ],
             "bench/splits.c": ['"split in plain C: %.0f MB/s'],
             "bench/postings.c": ["making: %.1f us a page", "adding: %.1f us a page", "packing: %.1f us a page", "memory: %.0f bytes a page", '"%s: %.0f us, %zu hits'],

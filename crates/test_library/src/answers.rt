@@ -1,18 +1,21 @@
 // Lines answered by the tree and the desk of the worked rows, before and after its page was found,
 // and once the desk is closed.
 ghost use Rattle.std.specs.Prelude.{◌≡◌, []};
+ghost use Rattle.gopher_crew.specs.Desk.{IsBlankOf};
 
 use crate::connections::{Ending, Stream};
+use crate::desks::{DOCS, finds, page, takes};
 use crate::sites::{
-    BAD_REQUEST, FOUND, HELLO, NO_CATALOGUE, NO_WORDS, NOT_FOUND, NOTHING, ROOT, closes, desk,
-    finds_docs, replies,
+    BAD_REQUEST, FOUND, HELLO, NO_CATALOGUE, NO_WORDS, NOT_FOUND, NOTHING, ROOT, replies,
 };
+use crate::tables::{catalogue, opened};
 use gopher_crew::{Blank, Crew, Pass};
 use gopher_replies::Replies;
 use gopher_serve::{Answers, ServeFault, Site, answer, serve_one};
 use gopher_text::Watched;
 use std::alloc::Global;
 use std::marker::Brand;
+use std::process::Abort;
 use std::sync::Wait;
 
 /// Lines with their replies.
@@ -129,39 +132,56 @@ fn makes_all<C: Crew>(alloc: Global, replies: &Replies, pass: &mut Pass<C>, rows
     true
 }
 
-// Whether lines are answered by a desk with one pass and one share.
-fn answers_at_a_desk<C: Crew, R: Wait + AllocGlobal>(
+// The answers while the pass has seen no page.
+fn answers_early<C: Crew, R: Abort + AllocGlobal>(
+    rt: &R,
+    replies: &Replies,
+    pass: Pass<C>,
+) -> Pass<C> {
+    let mut site = Site::new(replies, pass);
+    assert!(rt; answers_all(rt.alloc(), &mut site, EARLY));
+    assert!(rt; bounds_a_line(rt.alloc(), &mut site));
+    let mut pass = site.into_pass();
+    assert!(rt; makes_all(rt.alloc(), replies, &mut pass, EARLY));
+    assert!(rt; serves(rt.alloc(), replies, &mut pass));
+    pass
+}
+
+// The answers once the pass has seen the page.
+fn answers_late<C: Crew, R: Abort + AllocGlobal>(
+    rt: &R,
+    replies: &Replies,
+    pass: Pass<C>,
+) -> Pass<C> {
+    let mut pass = pass;
+    assert!(rt; makes_all(rt.alloc(), replies, &mut pass, LATE));
+    let mut site = Site::new(replies, pass);
+    assert!(rt; answers_all(rt.alloc(), &mut site, LATE));
+    site.into_pass()
+}
+
+// Lines are answered by a desk with one pass and one share.
+fn answers_at_a_desk<C: Crew, R: Wait + Abort + AllocGlobal>(
     rt: &R,
     replies: &Replies,
     blank: Blank,
-) -> Option<[bool; 7]>
-    requires name { blank.name ≡ C.name }
-    requires parts { blank.parts ≡ C.parts }
-    requires history { blank.history ≡ C.history }
+)
+    requires blank { IsBlankOf C.name C.parts C.history blank }
     requires begun { blank.begun ≡ [] }
 {
-    let alloc = rt.alloc();
-    let (desk, mut share, pass) = desk::<C, R>(rt, alloc, blank)?;
+    let begun = catalogue(rt, b"localhost", 10, 1);
+    let (desk, mut passes, mut shares) = opened::<C, R>(rt, blank, begun, 1, 1);
+    let (Some(pass), Some(share)) = (passes.pop(), shares.first_mut()) else {
+        panic!(rt; "no pass or no share");
+    };
+    let mut pass = answers_early(rt, replies, pass);
+    takes(rt, &desk, share, 0, 2);
+    let page = page(rt, b'1', b"", b"localhost", DOCS);
+    pass.hear(finds(rt, &desk, share, 0, page, 3));
+    let pass = answers_late(rt, replies, pass);
+    assert!(rt; desk.close(shares).is_ok());
     let mut site = Site::new(replies, pass);
-    let early = answers_all(alloc, &mut site, EARLY);
-    let is_bounded = bounds_a_line(alloc, &mut site);
-    let mut pass = site.into_pass();
-    let is_made = makes_all(alloc, replies, &mut pass, EARLY);
-    let is_served = serves(alloc, replies, &mut pass);
-    let is_found = finds_docs(rt, alloc, &desk, &mut share, &mut pass);
-    let is_late = makes_all(alloc, replies, &mut pass, LATE);
-    let mut site = Site::new(replies, pass);
-    let late = answers_all(alloc, &mut site, LATE);
-    let is_closed = closes(alloc, desk, share);
-    Some([
-        early,
-        is_bounded,
-        is_made,
-        is_served,
-        is_found && is_late && late,
-        is_closed,
-        answers_all(alloc, &mut site, CLOSED),
-    ])
+    assert!(rt; answers_all(rt.alloc(), &mut site, CLOSED));
 }
 
 #[test]
@@ -169,6 +189,5 @@ fn lines_are_answered(rt: HostRuntime) {
     let Some(replies) = replies(rt.alloc()) else {
         panic!(rt; "no replies");
     };
-    let answered = answers_at_a_desk::<Brand, _>(&rt, &replies, Blank::new());
-    assert!(rt; answered == Some([true; 7]));
+    answers_at_a_desk::<Brand, _>(&rt, &replies, Blank::new());
 }

@@ -84,9 +84,8 @@ fn refused_page(alloc: Global, catalogue: &mut Catalogue) -> Option<FoundRefused
 }
 
 // Whether a refused page comes back, and the catalogue goes on.
-fn gives_the_page_back(alloc: Global) -> Option<bool> {
-    let mut catalogue = crawl(alloc, &[b""], 2, 1)?;
-    let refused = refused_page(alloc, &mut catalogue)?;
+fn gives_the_page_back(alloc: Global, catalogue: &mut Catalogue) -> Option<bool> {
+    let refused = refused_page(alloc, catalogue)?;
     Some(
         refused.fault.code() == 53
             && refused.page.place().selector() == b"/a".as_slice()
@@ -94,9 +93,14 @@ fn gives_the_page_back(alloc: Global) -> Option<bool> {
     )
 }
 
+fn gives_back(alloc: Global) -> Option<bool> {
+    let mut catalogue = crawl(alloc, &[b""], 2, 1)?;
+    gives_the_page_back(alloc, &mut catalogue)
+}
+
 #[test]
 fn a_refused_page_is_given_back(rt: HostRuntime) {
-    assert!(rt; gives_the_page_back(rt.alloc()) == Some(true));
+    assert!(rt; gives_back(rt.alloc()) == Some(true));
 }
 
 // A start that is refused because nothing is allowed.

@@ -1,6 +1,8 @@
 // Crawls by one worker and by more.
 ghost use Rattle.std.specs.Prelude.{◌≡◌, []};
+ghost use Rattle.gopher_crew.specs.Desk.{IsBlankOf};
 
+use crate::fetcher::Fetcher;
 use crate::sites::closed;
 use crate::tables::{
     FOUR_FILES, Fate, HOME_AND_FILE, Host, MOON, ONE_DIRECTORY, TWO_FILES, all_done, answered,
@@ -14,7 +16,6 @@ use std::sync::Wait;
 use std::sync::atomic::AtomicU64;
 use std::thread::Threads;
 use std::time::Clock;
-use test_tables::Fetcher;
 
 /// What is crawled, and by how many workers.
 #[derive(Clone, Copy, Drop)]
@@ -49,21 +50,13 @@ fn two_files(workers: u8, tries: u32, fate: Fate<'_>) -> Plan<'_> {
     }
 }
 
-/// Crawls a host by as many workers as are planned, each of which has to finish.
-pub fn crawled<C: Crew + Send + Sync, R: Threads + Wait + Clock + Abort + AllocGlobal + Sync>(
-    rt: &R,
-    blank: Blank,
-    plan: Plan<'_>,
-) -> EndedCrawl
-    requires name { blank.name ≡ C.name }
-    requires parts { blank.parts ≡ C.parts }
-    requires history { blank.history ≡ C.history }
-    requires begun { blank.begun ≡ [] }
-{
-    let alloc = rt.alloc();
-    let begun = catalogue(rt, b"h", plan.places, plan.tries);
-    let (desk, mut passes, shares) = opened::<C, R>(rt, blank, begun, 1, u32::from(plan.workers));
-    let mut pairs = Vec::new(alloc);
+// A fetcher for each share, numbered from 0.
+fn pairs<'a, C: Crew, R: Abort + AllocGlobal>(
+    rt: &'a R,
+    plan: Plan<'a>,
+    shares: Vec<Share<C>>,
+) -> Vec<(Fetcher<Host<'a, R>>, Share<C>)> {
+    let mut pairs = Vec::new(rt.alloc());
     for (number, share) in (0..plan.workers).zip(shares) {
         let host = Host {
             clock: rt,
@@ -76,7 +69,21 @@ pub fn crawled<C: Crew + Send + Sync, R: Threads + Wait + Clock + Abort + AllocG
             panic!(rt; "no memory");
         };
     }
-    let Ok(ends) = crawl(rt, alloc, &desk, pairs) else {
+    pairs
+}
+
+/// Crawls a host by as many workers as are planned, each of which has to finish.
+pub fn crawled<C: Crew + Send + Sync, R: Threads + Wait + Clock + Abort + AllocGlobal + Sync>(
+    rt: &R,
+    blank: Blank,
+    plan: Plan<'_>,
+) -> EndedCrawl
+    requires blank { IsBlankOf C.name C.parts C.history blank }
+    requires begun { blank.begun ≡ [] }
+{
+    let begun = catalogue(rt, b"h", plan.places, plan.tries);
+    let (desk, mut passes, shares) = opened::<C, R>(rt, blank, begun, 1, u32::from(plan.workers));
+    let Ok(ends) = crawl(rt, rt.alloc(), &desk, pairs(rt, plan, shares)) else {
         panic!(rt; "the crawl isn't started");
     };
     let least_calls = least_calls::<C, R>(rt, &ends);

@@ -1,6 +1,7 @@
 // A desk by hand: notes, passes, refusals, and a desk over a catalogue that has events.
 ghost use Rattle.std.specs.Prelude.{◌≡◌, ◌≤◌, [], length};
 ghost use mathlib.Core.List.{IsPrefix};
+ghost use Rattle.gopher_crew.specs.Desk.{IsBlankOf};
 
 use crate::tables::{MOON, TWO_FILES, answered, are_files, catalogue, opened, place, scope};
 use gopher_catalogue::{Catalogue, FoundFault, Turn, Why};
@@ -10,11 +11,11 @@ use std::marker::Brand;
 use std::process::Abort;
 use std::sync::Wait;
 
-// A menu with one directory.
-const DOCS: &[u8] = b"1Docs\t/docs\tlocalhost\t70\r\n.\r\n";
+/// A menu with one directory.
+pub const DOCS: &[u8] = b"1Docs\t/docs\tlocalhost\t70\r\n.\r\n";
 
-// The page of a place of a host that is allowed.
-fn page<R: Abort + AllocGlobal>(
+/// The page of a place of a host that is allowed.
+pub fn page<R: Abort + AllocGlobal>(
     rt: &R,
     kind: u8,
     selector: &[u8],
@@ -34,8 +35,8 @@ fn is_at<C: Crew>(note: &Option<Note<C>>, at: u32) -> bool {
     note.as_ref().map(|note| note.at()) == Some(at)
 }
 
-// A claim takes the place of this number; its note is of a record of this length.
-fn takes<C: Crew, R: Wait + Abort + AllocGlobal>(
+/// A claim takes the place of this number; its note is of a record of this length.
+pub fn takes<C: Crew, R: Wait + Abort + AllocGlobal>(
     rt: &R,
     desk: &Desk<C, &R>,
     share: &mut Share<C>,
@@ -52,8 +53,8 @@ fn takes<C: Crew, R: Wait + Abort + AllocGlobal>(
     assert!(rt; is_at(&note, at));
 }
 
-// The page of a place that is out is taken; its note is of a record of this length.
-fn finds<C: Crew, R: Wait + Abort + AllocGlobal>(
+/// The page of a place that is out is taken; its note is of a record of this length.
+pub fn finds<C: Crew, R: Wait + Abort + AllocGlobal>(
     rt: &R,
     desk: &Desk<C, &R>,
     share: &mut Share<C>,
@@ -79,9 +80,7 @@ fn finds_docs<C: Crew, R: Abort + AllocGlobal>(rt: &R, pass: &mut Pass<C>, at: u
 // The first pass hears that a page was found, and the second finds it too. Then the page's
 // directory fails.
 fn crawl_docs<C: Crew, R: Wait + Abort + AllocGlobal>(rt: &R, blank: Blank) -> Catalogue
-    requires name { blank.name ≡ C.name }
-    requires parts { blank.parts ≡ C.parts }
-    requires history { blank.history ≡ C.history }
+    requires blank { IsBlankOf C.name C.parts C.history blank }
     requires begun { blank.begun ≡ [] }
 {
     let begun = catalogue(rt, b"localhost", 10, 1);
@@ -110,30 +109,40 @@ fn crawl_docs<C: Crew, R: Wait + Abort + AllocGlobal>(rt: &R, blank: Blank) -> C
     catalogue
 }
 
-// A desk over a catalogue of five events shows them, and its share counts them.
-fn go_on<C: Crew, R: Wait + Abort + AllocGlobal>(rt: &R, blank: Blank, begun: Catalogue)
-    requires name { blank.name ≡ C.name }
-    requires parts { blank.parts ≡ C.parts }
-    requires history { blank.history ≡ C.history }
-    requires begun { blank.begun ≡ [] }
-{
-    let (desk, mut passes, mut shares) = opened::<C, R>(rt, blank, begun, 1, 1);
-    let Some(share) = shares.first_mut() else {
-        panic!(rt; "no share");
+// Nothing waits and nothing is out; the note is of a record of this length.
+fn has_finished<C: Crew, R: Wait + Abort>(
+    rt: &R,
+    desk: &Desk<C, &R>,
+    share: &mut Share<C>,
+    at: u32,
+) {
+    let Ok((Turn::Finished, note)) = desk.claim(rt, share) else {
+        panic!(rt; "the claim is refused, or the crawl isn't finished");
     };
-    assert!(rt; share.events() == 4);
-    for pass in passes.iter_mut() {
-        finds_docs(rt, pass, 5);
-    }
-    let Ok((turn, note)) = desk.claim(rt, share) else {
-        panic!(rt; "the claim is refused");
-    };
-    assert!(rt; matches!(turn, Turn::Finished));
-    assert!(rt; is_at(&note, 5));
+    assert!(rt; is_at(&note, at));
+}
+
+// A desk is closed with its shares; the note is of a record of this length.
+fn closes<C: Crew, R: Wait + Abort>(rt: &R, desk: Desk<C, &R>, shares: Vec<Share<C>>, at: u32) {
     let Ok((_catalogue, note)) = desk.close_with_note(shares) else {
         panic!(rt; "the desk isn't closed");
     };
-    assert!(rt; is_at(&note, 5));
+    assert!(rt; is_at(&note, at));
+}
+
+// A desk over a catalogue of five events shows them, and its share counts them.
+fn go_on<C: Crew, R: Wait + Abort + AllocGlobal>(rt: &R, blank: Blank, begun: Catalogue)
+    requires blank { IsBlankOf C.name C.parts C.history blank }
+    requires begun { blank.begun ≡ [] }
+{
+    let (desk, mut passes, mut shares) = opened::<C, R>(rt, blank, begun, 1, 1);
+    let (Some(share), Some(pass)) = (shares.first_mut(), passes.first_mut()) else {
+        panic!(rt; "no share or no pass");
+    };
+    assert!(rt; share.events() == 4);
+    finds_docs(rt, pass, 5);
+    has_finished(rt, &desk, share, 5);
+    closes(rt, desk, shares, 5);
 }
 
 #[test]
@@ -144,9 +153,7 @@ fn a_note_makes_a_pass_see_a_page(rt: HostRuntime) {
 
 // Desks without a pass and with 17 shares aren't opened; then one of two shares is.
 fn refused_desks<C: Crew, R: Wait + Abort + AllocGlobal>(rt: &R, blank: Blank)
-    requires name { blank.name ≡ C.name }
-    requires parts { blank.parts ≡ C.parts }
-    requires history { blank.history ≡ C.history }
+    requires blank { IsBlankOf C.name C.parts C.history blank }
     requires begun { blank.begun ≡ [] }
 {
     let begun = catalogue(rt, b"h", 10, 1);

@@ -22,6 +22,8 @@ mod desks;
 #[cfg(test)]
 mod devices;
 #[cfg(test)]
+mod fetcher;
+#[cfg(test)]
 mod fetches;
 #[cfg(test)]
 mod folders;

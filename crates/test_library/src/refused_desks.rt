@@ -1,10 +1,12 @@
-//! Calls of a desk and of its passes, of which one growth may be refused.
+//! Calls of a desk and of its passes, of which one growth may be refused. What a refused call leaves
+//! is proved.
 
 ghost use Rattle.std.specs.Prelude.{◌≡◌, []};
+ghost use Rattle.gopher_crew.specs.Desk.{IsBlankOf};
 
 use crate::refused_opening::{Checked, opened, scope_at_last, seeds_at_last};
 use crate::tables::is_root;
-use gopher_catalogue::{Added, FoundRefused, Status, Turn};
+use gopher_catalogue::{Added, FoundRefused, Turn};
 use gopher_crew::{Answer, Blank, Crew, Desk, Note, Pass, SearchFault, Share};
 use gopher_item::Place;
 use gopher_page::{Page, Query};
@@ -33,34 +35,14 @@ pub fn query(alloc: Global, word: &[u8; 4]) -> Checked<Query> {
     }
 }
 
-fn state<C: Crew, R: Wait>(rt: &R, desk: &Desk<C, &R>, share: &Share<C>) -> (Status, u64) {
-    (desk.status(rt), share.events())
-}
-
-fn claimed_again<C: Crew, R: Wait>(
-    rt: &R,
-    desk: &Desk<C, &R>,
-    share: &mut Share<C>,
-    before: (Status, u64),
-) -> Checked<(Turn, Option<Note<C>>)> {
-    if state(rt, desk, share) != before {
-        return Err("a refused claim changed something");
-    }
-    match desk.claim(rt, share) {
-        Ok(reply) => Ok(reply),
-        Err(_again) => Err("a claim is refused twice"),
-    }
-}
-
 fn claimed<C: Crew, R: Wait>(
     rt: &R,
     desk: &Desk<C, &R>,
     share: &mut Share<C>,
 ) -> Checked<(Turn, Option<Note<C>>)> {
-    let before = state(rt, desk, share);
     match desk.claim(rt, share) {
         Ok(reply) => Ok(reply),
-        Err(_refused) => claimed_again(rt, desk, share, before),
+        Err(_refused) => desk.claim(rt, share).ok().ok_or("a claim is refused twice"),
     }
 }
 
@@ -116,10 +98,9 @@ fn found_again<C: Crew, R: Wait>(
     desk: &Desk<C, &R>,
     share: &mut Share<C>,
     refused: FoundRefused,
-    before: (Status, u64),
 ) -> Checked<(Added, Option<Note<C>>)> {
-    if refused.fault.code() != 90 || state(rt, desk, share) != before {
-        return Err("a refused page changed something");
+    if refused.fault.code() != 90 {
+        return Err("a page is refused in another way");
     }
     match desk.found(rt, share, 0, refused.page) {
         Ok(reply) => Ok(reply),
@@ -133,10 +114,9 @@ fn found<C: Crew, R: Wait>(
     share: &mut Share<C>,
     page: Page,
 ) -> Checked<(Added, Option<Note<C>>)> {
-    let before = state(rt, desk, share);
     match desk.found(rt, share, 0, page) {
         Ok(reply) => Ok(reply),
-        Err(refused) => found_again(rt, desk, share, refused, before),
+        Err(refused) => found_again(rt, desk, share, refused),
     }
 }
 
@@ -255,9 +235,7 @@ fn work_by<C: Crew, R: Wait + AllocGlobal>(
 /// Claims the root, hands in its page, and searches by two passes, of which the first hears the
 /// note.
 pub fn check<C: Crew, R: Wait + AllocGlobal>(rt: &R, blank: Blank) -> Checked<()>
-    requires name { blank.name ≡ C.name }
-    requires parts { blank.parts ≡ C.parts }
-    requires history { blank.history ≡ C.history }
+    requires blank { IsBlankOf C.name C.parts C.history blank }
     requires begun { blank.begun ≡ [] }
 {
     let (desk, mut passes, mut shares) = opened::<C, R>(rt, HOST, blank)?;

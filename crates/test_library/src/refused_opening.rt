@@ -2,6 +2,7 @@
 
 ghost use Rattle.std.specs.Prelude.{◌≡◌, []};
 ghost use mathlib.Core.List.{IsPrefix};
+ghost use Rattle.gopher_crew.specs.Desk.{IsBlankOf};
 
 use gopher_catalogue::Catalogue;
 use gopher_crew::{Blank, Crew, Desk, DeskRefused, Pass, Share};
@@ -67,24 +68,14 @@ fn catalogue_at_last(alloc: Global, host: &[u8]) -> Checked<Catalogue> {
     }
 }
 
-// Whether a desk over one event is refused with one of the faults of a refused growth.
-fn is_expected(refused: &DeskRefused) -> bool {
-    matches!(refused.fault.code(), 61 | 90) && refused.catalogue.record().len() == 1
-}
-
 // Opens a desk with what a refusal gave back.
 fn opened_again<'a, C: Crew, R: Wait + AllocGlobal>(
     rt: &'a R,
     refused: DeskRefused,
 ) -> Checked<Opened<'a, C, R>>
-    requires name { refused.blank.name ≡ C.name }
-    requires parts { refused.blank.parts ≡ C.parts }
-    requires history { refused.blank.history ≡ C.history }
+    requires blank { IsBlankOf C.name C.parts C.history refused.blank }
     requires begun { IsPrefix refused.blank.begun refused.catalogue }
 {
-    if !is_expected(&refused) {
-        return Err("a desk is refused in another way");
-    }
     match Desk::<C, &R>::open(rt, rt.alloc(), refused.catalogue, 2, 1, refused.blank) {
         Ok(opened) => Ok(opened),
         Err(_again) => Err("a desk is refused twice"),
@@ -98,9 +89,7 @@ pub fn opened<'a, C: Crew, R: Wait + AllocGlobal>(
     host: &[u8],
     blank: Blank,
 ) -> Checked<Opened<'a, C, R>>
-    requires name { blank.name ≡ C.name }
-    requires parts { blank.parts ≡ C.parts }
-    requires history { blank.history ≡ C.history }
+    requires blank { IsBlankOf C.name C.parts C.history blank }
     requires begun { blank.begun ≡ [] }
 {
     let catalogue = catalogue_at_last(rt.alloc(), host)?;

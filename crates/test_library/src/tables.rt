@@ -1,7 +1,9 @@
 // Hosts in memory, catalogues of crawls over them, and desks.
 ghost use Rattle.std.specs.Prelude.{◌≡◌, ◌≤◌, length};
 ghost use mathlib.Core.List.{IsPrefix};
+ghost use Rattle.gopher_crew.specs.Desk.{IsBlankOf};
 
+use crate::fetcher::Table;
 use gopher_catalogue::{Catalogue, Hit, Status, Why};
 use gopher_crew::{Answer, Blank, Crew, Desk, Pass, Share};
 use gopher_item::Place;
@@ -13,7 +15,6 @@ use std::sync::Wait;
 use std::sync::atomic::{AtomicU64, Ordering};
 use std::thread;
 use std::time::{Clock, Duration};
-use test_tables::Table;
 
 /// A file.
 pub const MOON: &[u8] = b"moon\r\n.\r\n";
@@ -192,9 +193,7 @@ pub fn opened<'a, C: Crew, R: Wait + Abort + AllocGlobal>(
     passes: u32,
     shares: u32,
 ) -> Opened<'a, C, R>
-    requires name { blank.name ≡ C.name }
-    requires parts { blank.parts ≡ C.parts }
-    requires history { blank.history ≡ C.history }
+    requires blank { IsBlankOf C.name C.parts C.history blank }
     requires begun { IsPrefix blank.begun catalogue }
 {
     let Ok(opened) = Desk::<C, &R>::open(rt, rt.alloc(), catalogue, passes, shares, blank) else {

@@ -2,7 +2,9 @@
 //! for each page.
 
 ghost use Rattle.std.specs.Prelude.{◌≡◌, []};
+ghost use Rattle.gopher_crew.specs.Desk.{IsBlankOf};
 
+use crate::fetcher::Fetcher;
 use crate::timed_host::Host;
 use crate::timed_opening::{opened, place, texts};
 use crate::timing::{ROUNDS, now, per_second, resident, since};
@@ -13,7 +15,6 @@ use std::marker::Brand;
 use std::rt::Runtime;
 use std::sync::Wait;
 use std::thread::Threads;
-use test_tables::Fetcher;
 
 // A crawl that begins at the menu of menus.
 fn catalogue(alloc: Global) -> Option<Catalogue> {
@@ -35,29 +36,38 @@ fn pairs<C: Crew>(
     Some(pairs)
 }
 
-// Crawls the host with `workers` workers. Returns the nanoseconds, the bytes of memory that the
+// Crawls the host by the shares of a desk. Returns the nanoseconds, the bytes of memory that the
 // crawl holds, and the number of places that are done.
+fn timed<C: Crew + Send + Sync, R: Runtime + AllocGlobal + Threads + Wait + Sync>(
+    rt: &R,
+    desk: &Desk<C, &R>,
+    host: &Host,
+    shares: Vec<Share<C>>,
+) -> Option<(u64, u64, u32)> {
+    let pairs = pairs(rt.alloc(), host, shares)?;
+    let before = resident(rt)?;
+    let start = now(rt)?;
+    let _ends = crawl(rt, rt.alloc(), desk, pairs);
+    let span = since(rt, start)?;
+    let held = resident(rt)?.saturating_sub(before);
+    Some((span, held, desk.status(rt).done))
+}
+
+// Crawls the host by `workers` workers, as `timed` says.
 fn crawled<C: Crew + Send + Sync, R: Runtime + AllocGlobal + Threads + Wait + Sync>(
     rt: &R,
     blank: Blank,
     host: &Host,
     workers: u32,
 ) -> Option<(u64, u64, u32)>
-    requires name { blank.name ≡ C.name }
-    requires parts { blank.parts ≡ C.parts }
-    requires history { blank.history ≡ C.history }
+    requires blank { IsBlankOf C.name C.parts C.history blank }
     requires begun { blank.begun ≡ [] }
 {
     let catalogue = catalogue(rt.alloc())?;
-    let opened = Desk::<C, &R>::open(rt, rt.alloc(), catalogue, 1, workers, blank);
-    let (desk, _passes, shares) = opened.ok()?;
-    let pairs = pairs(rt.alloc(), host, shares)?;
-    let before = resident(rt)?;
-    let start = now(rt)?;
-    let _ends = crawl(rt, rt.alloc(), &desk, pairs);
-    let span = since(rt, start)?;
-    let held = resident(rt)?.saturating_sub(before);
-    Some((span, held, desk.status(rt).done))
+    match Desk::<C, &R>::open(rt, rt.alloc(), catalogue, 1, workers, blank) {
+        Ok((desk, _passes, shares)) => timed(rt, &desk, host, shares),
+        Err(_refused) => None,
+    }
 }
 
 // Prints the best of several crawls by `workers` workers, and the memory of the first one: later

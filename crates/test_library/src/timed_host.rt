@@ -1,8 +1,8 @@
 //! A host in memory: a menu of menus, of which each leads to 128 of the texts.
 
+use crate::fetcher::Table;
 use gopher_catalogue::Why;
 use std::alloc::{AllocError, Global};
-use test_tables::Table;
 
 const TEXTS_OF_A_MENU: usize = 128;
 

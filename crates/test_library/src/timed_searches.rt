@@ -90,18 +90,25 @@ fn each(whole: u64, pages: usize) -> u64 {
     whole.checked_div(pages as u64).unwrap_or(0)
 }
 
+// Prints what the pages took, and what the catalogue holds for each.
+fn tell(rt: &HostRuntime, pages: usize, spent: Spent, held: u64) -> Option<()> {
+    let made = each(spent.made, pages);
+    let added = each(spent.added, pages);
+    println!(rt;
+        "{pages} pages: {made} ns a page to make, {added} to claim and add, {held} bytes a page with its postings"
+    ).ok()
+}
+
+fn fill_and_tell(rt: &HostRuntime, catalogue: &mut Catalogue, texts: &[&[u8]]) -> Option<()> {
+    let before = resident(rt)?;
+    let spent = fill(rt, catalogue, texts)?;
+    let held = resident(rt)?.saturating_sub(before);
+    tell(rt, texts.len(), spent, each(held, texts.len()))
+}
+
 fn built(rt: &HostRuntime, texts: &[&[u8]]) -> Option<Catalogue> {
     let mut catalogue = opened(rt.alloc(), seeds(rt.alloc(), texts.len())?)?;
-    let before = resident(rt)?;
-    let spent = fill(rt, &mut catalogue, texts)?;
-    let held = each(resident(rt)?.saturating_sub(before), texts.len());
-    let made = each(spent.made, texts.len());
-    let added = each(spent.added, texts.len());
-    let end = println!(rt;
-        "{} pages: {made} ns a page to make, {added} to claim and add, {held} bytes a page with its postings",
-        texts.len()
-    );
-    end.ok()?;
+    fill_and_tell(rt, &mut catalogue, texts)?;
     Some(catalogue)
 }
 
@@ -141,13 +148,17 @@ fn ask(rt: &HostRuntime, catalogue: &Catalogue, text: &str) -> Option<()> {
     .ok()
 }
 
+fn ask_all(rt: &HostRuntime, catalogue: &Catalogue) -> Option<()> {
+    for text in QUERIES {
+        ask(rt, catalogue, text)?;
+    }
+    Some(())
+}
+
 /// Prints how long the pages take to make and to add to a catalogue, its memory for each page, and
 /// how long searches take.
 pub fn measure(rt: &HostRuntime, bytes: &[u8]) -> Option<()> {
     let texts = texts(rt.alloc(), bytes)?;
     let catalogue = built(rt, &texts)?;
-    for text in QUERIES {
-        ask(rt, &catalogue, text)?;
-    }
-    Some(())
+    ask_all(rt, &catalogue)
 }
