@@ -5,11 +5,11 @@
 
 A crowd of clients that say nothing, send a byte a second, read nothing of 8 MiB, or reset in mid-reply stays for N seconds
 (7 without N). Then come lines at and over the limit, lines that ask for what lies outside of the folder or is hidden, lines
-without an end, clients that send on, more silent clients than there are places, descriptors that are short, clients
-that ask for 8 MiB or a large menu and read nothing, and clients that ask the heaviest searches. Every ordinary client has to be
-answered whole within SOON seconds, the program's memory has to stay below KIB (24,576 without it; a build with an address
-sanitizer, as `rt try` makes, takes some 64,000), and the program has to end well. The last line is
-'attack: N passed, M failed'. It takes about N + 50 seconds, and at most some minutes if the program fails, because a server
+without an end, clients that send on, more silent clients than there are places, one that stays after its reply, descriptors
+that are short, clients that ask for 8 MiB or a large menu and read nothing, and clients that ask the heaviest searches. Every
+ordinary client has to be answered whole within SOON seconds, the program's memory has to stay below KIB (24,576 without it; a
+build with an address sanitizer, as `rt try` makes, takes some 64,000), and the program has to end well. The last line is
+'attack: N passed, M failed'. It takes about N + 70 seconds, and at most some minutes if the program fails, because a server
 that goes on for too long is killed.
 
 Beside heavy searches of 4,096 texts, ordinary replies take less than 50 ms in the median and 500 ms at the 99th percentile.
@@ -38,6 +38,7 @@ SOON = 5.0
 MOST_MEMORY = 24_576  # KiB, of a server whose files have 9 MiB
 PLACES, EXCESS, MOST_ABOVE, ATTEMPTS = 100, 10, 20, 5
 MAX_HELD = 300_000_000
+LINGERS = 16  # seconds
 DEAF_TO_MENUS = 20
 MAX_FOR_MENUS = 16_384  # KiB, less than one copy of the menu
 MIB = 1 << 20
@@ -401,6 +402,21 @@ def attack_by_use(tally, folder, root, _files, given):
         tally.expect("a client that sends on is answered", read_all(slow), b"hello\r\n.\r\n")
 
 
+def attack_by_staying(tally, folder, root, _files, given):
+    """A client that has the whole of a large reply and stays is closed after 16 seconds."""
+    with Server(given.program, folder, root, more="threads = 1\n") as server:
+        server.started()
+        polls = Polls(server, 1)
+        with connect(server.port) as client:
+            client.sendall(b"/large.png\r\n")
+            tally.expect("a large reply", read_all(client) == LARGE, True)
+            began, held = time.monotonic(), polls.held()
+            while polls.held() == held and time.monotonic() < began + LINGERS + SOON:
+                time.sleep(0.1)
+            seconds = time.monotonic() - began
+        tally.expect(f"closed after {LINGERS} seconds, not {seconds:.1f}", abs(seconds - LINGERS) < 2.0, True)
+
+
 def open_files(number):
     """How many files a process holds open, once that has stayed so for a moment: a server closes a connection after its end."""
     held = None
@@ -531,7 +547,7 @@ def attack_by_searches(tally, folder, root, files, given):
 
 ATTACKS = (
     attack_by_crowd, attack_by_lines, attack_by_senders, attack_by_waiting, attack_by_excess, attack_by_use,
-    attack_by_refused_accepts, attack_by_deaf, attack_by_large_menus, attack_by_searches,
+    attack_by_staying, attack_by_refused_accepts, attack_by_deaf, attack_by_large_menus, attack_by_searches,
 )
 
 

@@ -34,6 +34,9 @@ CANT = b"hole: the log can't be written: "
 SIZES = b"known 0 waiting 0 out 0 done 0 dropped 0\n"
 MOST_SECONDS_FOR_LATE = 5.0
 LINES_FOR_PIPE = 1_700  # of some 4,100 bytes each: more than the pipe and all batches hold
+KEPT_FOR_PIPE = 1_024  # 64 batches of 65,536 bytes, without what threads and the pipe hold
+LAST_LINES = 2  # one for each thread, so that none ends while nobody reads
+SECONDS_UNREAD = 2.5  # longer than the writer tries on once no lines come
 ROUNDS, REQUESTS = 7, 4_000
 STEADY = 15
 
@@ -175,6 +178,17 @@ def check_refused_watch(tally, room):
     tally.expect("its bytes", [0 < request.sent < len(LARGE) for request in found], [True])
 
 
+def check_empty_writes(tally, room):
+    """Writes that take no byte are made again."""
+    path, words = room.folder / "empty", ["--requests", str(STEADY)]
+    before = refusing(room.folder, EMPTY_WRITES=5)
+    with Server(room.program, room.folder, room.root, words=["--log", str(path), *words], before=before) as server:
+        server.started()
+        ask_all(server.port, [b"/a.txt\r\n"] * STEADY)
+        tally.expect("a server whose first writes take nothing ends well", server.end(), (SIZES, b"", 0))
+    tally.expect("its lines", [request[2] for request in logged(path)], [b"/a.txt"] * STEADY)
+
+
 def check_closed(tally, room):
     """A connection that is closed because all places are taken has its line."""
     path = room.folder / "closed"
@@ -282,22 +296,24 @@ def check_unread(tally, room):
     path = room.folder / "pipe"
     os.mkfifo(path)
     line = b"/" + b"\xff" * 1_000 + b"\r\n"
-    with room.serve("--log", path, "--requests", LINES_FOR_PIPE + 1) as server:
+    with room.serve("--log", path, "--requests", LINES_FOR_PIPE + LAST_LINES) as server:
         server.started()
         replies = ask_all(server.port, [line] * LINES_FOR_PIPE)
+        time.sleep(SECONDS_UNREAD)
         with open(path, "rb") as pipe, ThreadPoolExecutor(1) as reader:
             content = reader.submit(pipe.read)
             time.sleep(1.5)
-            replies.append(ask(server.port, line))
+            replies += ask_all(server.port, [line] * LAST_LINES)
             output, error, status = server.end()
             found = lines_of(content.result(WAIT))
     dropped = [int(line.removeprefix(b"# dropped ")) for line in found if line.startswith(b"# dropped ")]
     requests = [request_of(line) for line in found if not line.startswith(b"# dropped ")]
-    tally.expect("a pipe: replies", (len(replies), len(set(replies))), (LINES_FOR_PIPE + 1, 1))
+    tally.expect("a pipe: replies", (len(replies), len(set(replies))), (LINES_FOR_PIPE + LAST_LINES, 1))
     tally.expect("a pipe: output and status", (output, status), (SIZES, 0))
     tally.expect("a pipe: told once", (error.startswith(CANT), error.count(b"\n")), (True, 1))
     tally.expect("a pipe: whole lines", {request[2] for request in requests}, {escaped(line.strip())})
-    tally.expect("a pipe: lines and dropped ones", (len(requests) + sum(dropped), sum(dropped) > 0), (LINES_FOR_PIPE + 1, True))
+    tally.expect("a pipe: the lines of all batches are kept", len(requests) >= KEPT_FOR_PIPE, True)
+    tally.expect("a pipe: lines and dropped ones", (len(requests) + sum(dropped), sum(dropped) > 0), (LINES_FOR_PIPE + LAST_LINES, True))
 
 
 def check_never_read(tally, room):
@@ -362,8 +378,8 @@ def check_ratio(tally, room, least):
 
 
 CHECKS = (
-    check_fields, check_steady, check_escapes, check_idle, check_refused_watch, check_closed, check_silence, check_reset,
-    check_threads, check_unread, check_never_read, check_progress,
+    check_fields, check_steady, check_escapes, check_idle, check_refused_watch, check_empty_writes, check_closed, check_silence,
+    check_reset, check_threads, check_unread, check_never_read, check_progress,
 )
 
 
