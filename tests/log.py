@@ -300,7 +300,9 @@ def check_unread(tally, room):
         server.started()
         replies = ask_all(server.port, [line] * LINES_FOR_PIPE)
         time.sleep(SECONDS_UNREAD)
-        with open(path, "rb") as pipe, ThreadPoolExecutor(1) as reader:
+        with os.fdopen(os.open(path, os.O_RDONLY | os.O_NONBLOCK), "rb") as pipe, ThreadPoolExecutor(1) as reader:
+            # a writer that has given up isn't waited for
+            os.set_blocking(pipe.fileno(), True)
             content = reader.submit(pipe.read)
             time.sleep(1.5)
             replies += ask_all(server.port, [line] * LAST_LINES)
