@@ -1,4 +1,5 @@
 pub mod PlaceLemmas
+pub mod PackedPlaces
 pub mod MenuLines
 pub mod FieldLemmas
 pub mod MenuLemmas

@@ -1,6 +1,7 @@
 pub mod Special
 pub mod Fault
 pub mod Place
+pub mod Places
 pub mod MenuLine
 pub mod Laws
 pub mod Menu

@@ -1,5 +1,5 @@
 -- A place: one file or directory of one Gopher server.
-use Rattle.std.specs.Prelude.{ℕ, Bool, List, [], ◌∷◌, length, map, filter, nat_eq, Option, None, Some, Result, ◌==◌, ◌||◌, ◌&&◌, not, nat_lt, nat_le, if◌then◌else◌}
+use Rattle.std.specs.Prelude.{◌≡◌, ℕ, Bool, List, [], ◌∷◌, length, map, filter, nat_eq, Option, None, Some, Result, ◌==◌, ◌||◌, ◌&&◌, not, nat_lt, nat_le, if◌then◌else◌}
 use Rattle.std.specs.List.{list_any}
 use Rattle.std.specs.Ordering.{nat_cmp, on, then_cmp}
 use Rattle.std.specs.declared.cmp.Ordering.{Ordering}
@@ -66,6 +66,11 @@ place_of kind selector host port =
 abbrev pub MakesPlace : ℕ → List ℕ → List ℕ → ℕ → Result PlaceData ItemFault → Type 0
 MakesPlace kind selector host port result =
     Makes (place_fault kind selector host port) (place_of kind selector host port) result
+
+-- the place has these four parts
+abbrev pub IsPlaceOf : List ℕ → ℕ → List ℕ → ℕ → PlaceData → Type 0
+IsPlaceOf host port selector kind place =
+    place ≡ record { host = host; port = port; selector = selector; kind = kind }
 
 -- two places have the same parts
 abbrev pub same_place : PlaceData → PlaceData → Bool

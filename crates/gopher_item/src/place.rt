@@ -4,7 +4,7 @@ ghost use Rattle.std.specs.Prelude.{◌≡◌, refl, IfOk};
 ghost use Rattle.std.specs.Cmp;
 ghost use Rattle.std.specs.Ordering.{as_partial_cmp};
 ghost use Rattle.gopher_item.specs.Laws.{same_place_equiv, place_cmp_total, same_place_ties};
-ghost use Rattle.gopher_item.specs.Place.{MakesPlace, same_place, place_cmp};
+ghost use Rattle.gopher_item.specs.Place.{MakesPlace, IsPlaceOf, same_place, place_cmp};
 
 use crate::fault::ItemFault;
 use crate::fields::{is_selector, lowered_host};
@@ -99,6 +99,24 @@ impl Place {
         ensures { result ≡ self.now.kind }
     {
         self.kind
+    }
+
+    /// Copies the parts of a place, which are valid.
+    pub(crate) fn of_parts(
+        alloc: Global,
+        host: &[u8],
+        port: u16,
+        selector: &[u8],
+        kind: u8,
+    ) -> Result<Place, NoMemory>
+        ensures { IfOk result (IsPlaceOf host.now port selector.now kind) }
+    {
+        Ok(Place {
+            host: ByteString::from_slice(alloc, host)?,
+            port,
+            selector: ByteString::from_slice(alloc, selector)?,
+            kind,
+        })
     }
 
     /// Copies the place.

@@ -1,5 +1,5 @@
 // Places, homes and requests: their parts and their refusals. The lines of bytes.
-use gopher_item::{EachLine, Home, Place, lines, read_request};
+use gopher_item::{EachLine, Home, ItemFault, NoMemory, Place, Places, lines, read_request};
 use std::alloc::{AllocError, Global};
 
 const LONG: &[u8] = &[b's'; 256];
@@ -131,4 +131,45 @@ fn cuts_lines(rt: HostRuntime) {
     let bytes = b"a\r\n\nb\r\r\nc\r";
     assert!(rt; are_cut(&lines(rt.alloc(), bytes)));
     assert!(rt; are_cut(&each_line(rt.alloc(), bytes)));
+}
+
+// Places for a packed list: the first two share a host.
+const PACKED: &[(u8, &[u8], &[u8], u16)] = &[
+    (b'1', b"", b"a.example", 70),
+    (b'0', b"/x", b"a.example", 7070),
+    (b'0', b"/y", b"b.example", 70),
+];
+
+// The places of these parts, packed.
+fn packed(alloc: Global) -> Result<Places, ItemFault> {
+    let mut places = Places::new(alloc);
+    for (kind, selector, host, port) in PACKED {
+        places.push(&Place::new(alloc, *kind, selector, host, *port)?)?;
+    }
+    places.shrink_to_fit();
+    Ok(places)
+}
+
+// Whether the packed places have these parts.
+fn are_packed(alloc: Global, places: &Places) -> Result<bool, NoMemory> {
+    for index in 0..places.len().min(PACKED.len()) {
+        let place = places.get(alloc, index)?;
+        let (kind, selector, host, port) = PACKED[index];
+        let is_same = place.kind() == kind && place.port() == port;
+        if !is_same || place.selector() != selector || place.host() != host {
+            return Ok(false);
+        }
+    }
+    Ok(places.len() == PACKED.len())
+}
+
+#[test]
+fn packs_places(rt: HostRuntime) {
+    match packed(rt.alloc()) {
+        Ok(places) => {
+            assert!(rt; are_packed(rt.alloc(), &places) == Ok(true));
+            assert!(rt; places.names_len() == 4 + 27);
+        }
+        Err(_fault) => assert!(rt; false),
+    }
 }

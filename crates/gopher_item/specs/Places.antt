@@ -1,0 +1,33 @@
+-- A packed list of places: their hosts, their selectors, and a row for each with the rest.
+use Rattle.std.specs.Prelude.{◌≡◌, ℕ, ◌<◌, List, ◌++◌, length, map, slice_index_or, []}
+use Rattle.std.specs.List.{zip, AllByRecursion}
+use Rattle.gopher_item.specs.Place.{PlaceData}
+use Rattle.gopher_item.specs.declared.places.Row.{Row}
+
+-- the place of a row with its selector
+abbrev pub place_of_row : List (List ℕ) → List ℕ × Row → PlaceData
+place_of_row hosts entry =
+    record {
+      host = slice_index_or hosts entry.1.host [];
+      port = entry.1.port;
+      selector = entry.0;
+      kind = entry.1.kind;
+    }
+
+-- the places of these rows
+abbrev pub unpacked : List (List ℕ) → List (List ℕ) → List Row → List PlaceData
+unpacked hosts selectors rows = map (place_of_row hosts) (zip selectors rows)
+
+-- the index is that of a host
+abbrev pub HasHost : List (List ℕ) → Row → Type 0
+HasHost hosts row = row.host < length hosts
+
+-- each row has a selector and a host
+pub record AreRows (hosts selectors : List (List ℕ)) (rows : List Row) : Type 0 where
+  pub same : length rows ≡ length selectors
+  pub within : AllByRecursion (HasHost hosts) rows
+
+-- the list before, and possibly more strings
+pub record HasMore (old new : List (List ℕ)) : Type 0 where
+  pub more : List (List ℕ)
+  pub is : new ≡ old ++ more
