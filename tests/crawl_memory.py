@@ -44,7 +44,7 @@ def words_of(number):
 def size_of(words, title, links=()):
     """How many bytes a page counts for: the formula of docs/SPECIFICATION.md."""
     held = sum(map(len, words)) + 3 * len(words)
-    return 512 + len(title) + 2 * held + 11 * len(words) + sum(160 + len(HOST) + len(link) for link in links)
+    return 512 + len(title) + 2 * held + 11 * len(words) + sum(176 + 2 * (len(HOST) + len(link)) for link in links)
 
 
 def sizes():

@@ -4,6 +4,10 @@ use Rattle.std.specs.Prelude.{ℕ, ◌+◌, ◌-◌, Bool, true, false, ◌||◌
 use Rattle.std.specs.List.{flat_map, range_with_len}
 use Rattle.gopher_item.specs.Place.{PlaceData, distinct, is_among}
 use Rattle.gopher_scope.specs.Scope.{allows}
+use Rattle.std.specs.Arc.{arc_value}
+use Rattle.std.specs.declared.sync.Arc.{Arc}
+use Rattle.gopher_frontier.specs.Tables.{FrontierData, Learns, allowed}
+use Rattle.gopher_frontier.specs.declared.sizes.Added.{Added}
 use Rattle.gopher_catalogue.specs.Event.{OpeningData, EventData, Claimed, Found, Failed}
 
 -- ---- places
@@ -95,3 +99,9 @@ out opening events = filter (is_out events) (range_with_len 0 (length (known ope
 unfoldable pub done : OpeningData → List EventData → List ℕ
 done opening events =
     filter (is_done opening events) (range_with_len 0 (length (known opening events)))
+
+-- the frontier learned the links that the scope of a crawl allows, up to its limit of places
+abbrev pub LearnsLinks : {Z : Type 0} → Arc OpeningData Z → List PlaceData → FrontierData
+    → FrontierData → Added → Type 0
+LearnsLinks opening links before after =
+    Learns (arc_value opening).limit (allowed (arc_value opening).scope links) before after

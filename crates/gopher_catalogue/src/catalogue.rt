@@ -1,9 +1,11 @@
 //! `Catalogue`: the steps of a crawl, open, claim, found and fail, and its searches.
 
-ghost use Rattle.std.specs.Prelude.{◌≡◌, ℕ, true, false, None, Some, [], ◌∷◌, ◌++◌, map, slice_get, IfOk, IfErr, OnOk, OnErr};
+ghost use Rattle.std.specs.Prelude.{◌≡◌, ◌≤◌, ℕ, true, false, None, Some, [], ◌∷◌, ◌++◌, length, map, slice_get, IfOk, IfErr, OnOk, OnErr};
 ghost use Rattle.std.specs.Arc.{arc_value};
 ghost use Rattle.gopher_scope.specs.Scope.{first_outside};
 ghost use Rattle.gopher_index.specs.Index.{IsSliceOf};
+ghost use Rattle.gopher_frontier.specs.Tables.{KeepsFrontier};
+ghost use Rattle.gopher_catalogue.specs.Frontier.{LearnsLinks};
 ghost use Rattle.gopher_catalogue.specs.Event.{EventData, Opened, Claimed, Found, Failed};
 ghost use Rattle.gopher_catalogue.specs.EventOf.{event_data};
 ghost use Rattle.gopher_catalogue.specs.Fault.{HasOpenFault, HasFoundFault};
@@ -21,7 +23,7 @@ use crate::fault::{FailRefused, FoundFault, FoundRefused, OpenFault, OpenRefused
 use crate::opening::Opening;
 use gopher_frontier::{Added, Frontier, Status};
 use gopher_index::{Due, Hit, Index};
-use gopher_item::{NoMemory, Place};
+use gopher_item::{NoMemory, Place, Places};
 use gopher_page::{Page, Query};
 use gopher_scope::{MAX_PLACES, MAX_TRIES, Scope};
 use std::alloc::Global;
@@ -82,6 +84,27 @@ fn refused(fault: OpenFault, scope: Scope, seeds: Vec<Place>) -> OpenRefused
         scope,
         seeds,
     }
+}
+
+// Makes the links of a page known, as `Frontier::learn` does.
+fn learn(
+    alloc: Global,
+    frontier: &mut Frontier,
+    opening: &Arc<Opening>,
+    page: &Page,
+) -> Result<Added, NoMemory>
+    requires limit { (arc_value opening.now).limit ≤ MAX_PLACES }
+    requires places { length frontier.old.places ≤ (arc_value opening.now).limit }
+    requires out { frontier.old.out ≤ MAX_PLACES }
+    ensures ok { IfOk result (LearnsLinks opening.now page.now.links frontier.old frontier.new) }
+    ensures err { OnErr result (KeepsFrontier frontier.old frontier.new) }
+{
+    let none = Places::new(alloc);
+    let links = match page.links() {
+        Some(links) => links,
+        None => &none,
+    };
+    frontier.learn(alloc, opening.scope(), opening.places(), links)
 }
 
 impl Catalogue {
@@ -188,10 +211,7 @@ impl Catalogue {
         let fault = FoundFault::NoMemory;
         let before = self.frontier.len() as u32;
         let opening = self.archive.opening();
-        let Ok(added) = self
-            .frontier
-            .learn(opening.scope(), opening.places(), page.links())
-        else {
+        let Ok(added) = learn(self.alloc, &mut self.frontier, opening, &page) else {
             return Err(FoundRefused { fault, page });
         };
         match self.archive.add_found(self.alloc, number, page) {

@@ -1,6 +1,8 @@
 -- What a worker does.
 use Rattle.std.specs.Prelude.{ℕ, ◌≡◌, ◌+◌, ◌*◌, ◌≤◌, ◌⊎◌, false, min, List, Option, Some, None, Result, Ok, Err}
 use Rattle.std.specs.List.{sum_by}
+use Rattle.std.specs.Arc.{arc_value}
+use Rattle.std.specs.declared.sync.Arc.{Arc}
 use Rattle.gopher_item.specs.Place.{PlaceData}
 use Rattle.gopher_scope.specs.Scope.{ScopeData}
 use Rattle.gopher_page.specs.Page.{PageData, page_of}
@@ -103,8 +105,9 @@ HaveAsManyParts pairs ends =
     sum_by (λ end. end.share.parts) ends ≡ sum_by (λ pair. pair.1.parts) pairs
 
 -- the bytes that were fetched of a place become its page, unless memory runs out
-abbrev pub SettlesBytes : ScopeData → PlaceData → List ℕ → Result PageData Why → Type 0
-SettlesBytes scope place bytes (Ok page) = page ≡ page_of scope place bytes
+abbrev pub SettlesBytes : {Z : Type 0} → ScopeData → Arc PlaceData Z → List ℕ
+    → Result PageData Why → Type 0
+SettlesBytes scope place bytes (Ok page) = page ≡ page_of scope (arc_value place) bytes
 SettlesBytes scope place bytes (Err why) = why ≡ NoMemory
 
 -- why nothing was fetched stays

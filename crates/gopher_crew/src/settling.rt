@@ -9,13 +9,14 @@ use gopher_page::Page;
 use gopher_scope::Scope;
 use gopher_text::MAX_REPLY;
 use std::alloc::Global;
+use std::sync::Arc;
 
 /// Makes the page of a fetched reply, which has at most 1,048,576 bytes (`MAX_REPLY`). If
 /// there is none, returns the reason of the fetch, or `NoMemory`.
 pub fn settle(
     alloc: Global,
     scope: &Scope,
-    place: &Place,
+    place: &Arc<Place>,
     fetched: Result<Vec<u8>, Why>,
 ) -> Result<Page, Why>
     requires { IfOk fetched (λ bytes. vec_len bytes ≤ MAX_REPLY) }
@@ -23,7 +24,7 @@ pub fn settle(
     ensures unfetched { IfErr fetched (λ why. SettlesWhy why result) }
 {
     match fetched {
-        Ok(bytes) => match Page::of(alloc, scope, place, &bytes) {
+        Ok(bytes) => match Page::of_shared(alloc, scope, place, &bytes) {
             Ok(page) => Ok(page),
             Err(_refused) => Err(Why::NoMemory),
         },

@@ -119,21 +119,21 @@ module _ (scope : ScopeData) (limit : ℕ) where
         | false ↦ omega arith
       ]
 
-  module _ {K : Type 0} (show : K → PlaceData) (links : List K) (i : ℕ) (link : K) (within : i < length links) (is : link ≡ get_or links i link) where
-    shown-drop : map show (drop i links) ≡ show link ∷ map show (drop (i + 1) links)
-    shown-drop = rw (add-one, drop-cons links i link within, ← is) refl
+  module _ (links : List PlaceData) (i : ℕ) (link : PlaceData) (within : i < length links) (is : link ≡ get_or links i link) where
+    links-drop : drop i links ≡ link ∷ drop (i + 1) links
+    links-drop = rw (add-one, drop-cons links i link within, ← is) refl
 
-    pub after_mentions-link : (places next all : List PlaceData) → next ≡ after_link scope limit places (show link) → after_mentions limit places (filter (allows scope) (map show (drop i links))) ≡ all
-        → after_mentions limit next (filter (allows scope) (map show (drop (i + 1) links))) ≡ all
+    pub after_mentions-link : (places next all : List PlaceData) → next ≡ after_link scope limit places link → after_mentions limit places (filter (allows scope) (drop i links)) ≡ all
+        → after_mentions limit next (filter (allows scope) (drop (i + 1) links)) ≡ all
     after_mentions-link places next all e h =
-        ap (λ p. after_mentions limit p (filter (allows scope) (map show (drop (i + 1) links)))) e ∙ sym (after_link-cons places (show link) (map show (drop (i + 1) links))) ∙ ap (λ l. after_mentions limit places (filter (allows scope) l)) (sym shown-drop) ∙ h
+        ap (λ p. after_mentions limit p (filter (allows scope) (drop (i + 1) links))) e ∙ sym (after_link-cons places link (drop (i + 1) links)) ∙ ap (λ l. after_mentions limit places (filter (allows scope) l)) (sym links-drop) ∙ h
 
-    pub drops-link : (places next : List PlaceData) (before taken all : ℕ) (dropped : Bool) → next ≡ after_link scope limit places (show link) → taken ≡ from_bool dropped → dropped ≡ is_dropped_link scope limit places (show link)
-        → before + drops limit places (filter (allows scope) (map show (drop i links))) ≡ all → before + taken + drops limit next (filter (allows scope) (map show (drop (i + 1) links))) ≡ all
+    pub drops-link : (places next : List PlaceData) (before taken all : ℕ) (dropped : Bool) → next ≡ after_link scope limit places link → taken ≡ from_bool dropped → dropped ≡ is_dropped_link scope limit places link
+        → before + drops limit places (filter (allows scope) (drop i links)) ≡ all → before + taken + drops limit next (filter (allows scope) (drop (i + 1) links)) ≡ all
     drops-link places next before taken all dropped e t d h =
-        let here = ap (λ p. drops limit p (filter (allows scope) (map show (drop (i + 1) links)))) e in
-        let one = ap (λ l. drops limit places (filter (allows scope) l)) shown-drop ∙ drops-link_cons places (show link) (map show (drop (i + 1) links)) in
-        let counted : taken ≡ cond (is_dropped_link scope limit places (show link)) 1 0 = t ∙ from_bool_is dropped ∙ ap (λ b. cond b 1 0) d in
+        let here = ap (λ p. drops limit p (filter (allows scope) (drop (i + 1) links))) e in
+        let one = ap (λ l. drops limit places (filter (allows scope) l)) links-drop ∙ drops-link_cons places link (drop (i + 1) links) in
+        let counted : taken ≡ cond (is_dropped_link scope limit places link) 1 0 = t ∙ from_bool_is dropped ∙ ap (λ b. cond b 1 0) d in
         omega (arith, here, one, counted)
 
 -- ---- the seeds, one by one

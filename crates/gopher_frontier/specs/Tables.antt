@@ -1,5 +1,5 @@
 -- The tables of a crawl: the known places, the queue of waiting ones, and the frontier of both.
-use Rattle.std.specs.Prelude.{◌≡◌, ℕ, ◌+◌, ◌-◌, ◌≤◌, Bool, true, false, ◌&&◌, ◌||◌, not, List, [], ◌∷◌, ◌++◌, Some, length, map, filter, replicate, drop, slice_get, slice_set, nat_lt, nat_le, if◌then◌else◌}
+use Rattle.std.specs.Prelude.{◌≡◌, ℕ, ◌+◌, ◌-◌, ◌≤◌, Bool, true, false, ◌&&◌, ◌||◌, not, List, [], ◌∷◌, ◌++◌, Some, length, filter, replicate, drop, slice_get, slice_set, nat_lt, nat_le, if◌then◌else◌}
 use Rattle.std.specs.List.{range_with_len}
 use Rattle.std.specs.Option.{option_map_or}
 use Rattle.std.specs.Arc.{arc_value}
@@ -69,8 +69,8 @@ abbrev pub is_dropped_link : ScopeData → ℕ → List PlaceData → PlaceData 
 is_dropped_link scope limit places link = allows scope link && is_dropped limit places link
 
 -- the links that the scope allows
-abbrev pub allowed : {Z : Type 0} → ScopeData → List (Arc PlaceData Z) → List PlaceData
-allowed scope links = filter (allows scope) (map arc_value links)
+abbrev pub allowed : ScopeData → List PlaceData → List PlaceData
+allowed scope links = filter (allows scope) links
 
 -- the tables after a mention, and whether it was dropped
 abbrev pub Mentions : ℕ → KnownData → KnownData → PlaceData → Type 0
@@ -93,8 +93,7 @@ abbrev pub MentionsAll : ℕ → KnownData → KnownData → List PlaceData → 
 MentionsAll limit old new mentions = new.places ≡ after_mentions limit old.places mentions
 
 -- the tables after several links, and how many of several mentions were dropped
-abbrev pub LinksAll : {Z : Type 0} → ScopeData → ℕ → KnownData → KnownData → List (Arc PlaceData Z)
-    → Type 0
+abbrev pub LinksAll : ScopeData → ℕ → KnownData → KnownData → List PlaceData → Type 0
 LinksAll scope limit old new links = MentionsAll limit old new (allowed scope links)
 
 abbrev pub AreDropped : ℕ → KnownData → List PlaceData → ℕ → Type 0

@@ -7,7 +7,7 @@ ghost use Rattle.gopher_frontier.specs.Tables.{FrontierData, Begins, KeepsCounts
 use crate::known::{KnownPlaces, Standing};
 use crate::queue::Queue;
 use crate::sizes::{Added, Status};
-use gopher_item::{NoMemory, Place};
+use gopher_item::{NoMemory, Place, Places};
 use gopher_scope::{MAX_PLACES, MAX_TRIES, Scope};
 use std::alloc::Global;
 use std::marker::Model;
@@ -151,16 +151,17 @@ impl Frontier {
     /// is out. The new places don't wait before `found`.
     pub fn learn(
         &mut self,
+        alloc: Global,
         scope: &Scope,
         limit: u32,
-        links: &[Arc<Place>],
+        links: &Places,
     ) -> Result<Added, NoMemory>
         requires { MayLearn limit (length links.now) self.old }
         ensures ok { IfOk result (Learns limit (allowed scope.now links.now) self.old self.new) }
         ensures err { OnErr result (KeepsFrontier self.old self.new) }
     {
         let before = self.known.len();
-        let learned = self.try_learn(scope, limit, links);
+        let learned = self.try_learn(alloc, scope, limit, links);
         if learned.is_err() {
             self.known.truncate(before);
         }
@@ -170,9 +171,10 @@ impl Frontier {
     // Does what `learn` does, but when out of memory it can leave new places known.
     fn try_learn(
         &mut self,
+        alloc: Global,
         scope: &Scope,
         limit: u32,
-        links: &[Arc<Place>],
+        links: &Places,
     ) -> Result<Added, NoMemory>
         requires { MayLearn limit (length links.now) self.old }
         ensures ok { IfOk result (Learns limit (allowed scope.now links.now) self.old self.new) }
@@ -181,7 +183,9 @@ impl Frontier {
         ensures more_room { self.old.room ≤ self.new.room }
     {
         let before = self.known.len();
-        let dropped = self.known.mention_links(scope, limit as usize, links)?;
+        let dropped = self
+            .known
+            .mention_links(alloc, scope, limit as usize, links)?;
         let fresh = self.known.len() - before;
         self.queue.reserve(fresh + self.out as usize)?;
         Ok(Added {

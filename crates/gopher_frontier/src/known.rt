@@ -6,7 +6,7 @@ ghost use Rattle.std.specs.Arc.{arc_value};
 ghost use Rattle.gopher_item.specs.Place.{is_among};
 ghost use Rattle.gopher_frontier.specs.Tables.{KnownData, Extends, IsWithPlace, IsWithUnclaimed, Mentions, IsDropped, Links, IsDroppedLink, LinksAll, MentionsAll, AreDropped, allowed};
 
-use gopher_item::{NoMemory, Place};
+use gopher_item::{NoMemory, Place, Places};
 use gopher_scope::Scope;
 use gopher_text::MAX_REPLY;
 use indexmap::IndexMap;
@@ -169,9 +169,10 @@ impl KnownPlaces {
     /// of memory it can leave new places known.
     pub fn mention_links(
         &mut self,
+        alloc: Global,
         scope: &Scope,
         limit: usize,
-        links: &[Arc<Place>],
+        links: &Places,
     ) -> Result<u32, NoMemory>
         requires { length links.now ≤ MAX_REPLY }
         ensures places { OnOk result (LinksAll scope.now limit self.old self.new links.now) }
@@ -180,8 +181,9 @@ impl KnownPlaces {
         ensures grows { Extends self.old self.new }
     {
         let mut dropped = 0;
-        for link in links {
-            dropped += u32::from(self.mention_link(scope, limit, link)?);
+        for index in 0..links.len() {
+            let link = Arc::new(alloc, links.get(alloc, index)?)?;
+            dropped += u32::from(self.mention_link(scope, limit, &link)?);
         }
         Ok(dropped)
     }

@@ -2,6 +2,9 @@
 use Rattle.std.specs.Prelude.{◌≡◌, ℕ, Bool, List, [], ◌∷◌, length, take, reverse, map, filter, Option, None, ◌==◌, nat_lt, if◌then◌else◌}
 use Rattle.std.specs.List.{filter_map, find, flat_map}
 use Rattle.std.specs.Option.{option_map_or}
+use Rattle.std.specs.Arc.{arc_value}
+use Rattle.std.specs.declared.sync.Arc.{Arc}
+use Rattle.std.specs.Borrow.{Bor}
 use Rattle.gopher_item.specs.Special.{is_control}
 use Rattle.gopher_bytes.specs.Lines.{lines_of}
 use Rattle.gopher_item.specs.Place.{PlaceData, same_place, distinct}
@@ -27,6 +30,14 @@ pub record PageData : Type 0 where
 abbrev pub page_with : PlaceData → List ℕ → List PlaceData → List (List ℕ × ℕ) → PageData
 page_with place title links counts =
     record { place = place; title = title; links = links; counts = counts }
+
+-- the links of a page, which keeps a list only if it has any
+abbrev pub links_kept : {Z : Type 0} → Option (Arc (List PlaceData) Z) → List PlaceData
+links_kept links = option_map_or arc_value links []
+
+-- the links that are lent, if there are any
+abbrev pub links_lent : Option (Bor (List PlaceData)) → List PlaceData
+links_lent links = option_map_or (λ lent. lent.now) links []
 
 -- the place that an entry of a menu names, if it names one
 abbrev pub place_of_entry : Entry → Option PlaceData
@@ -105,8 +116,11 @@ abbrev pub page_of_lines : PlaceData → List (List ℕ) → List PlaceData → 
 page_of_lines place lines links =
     page_with place (title_of place lines) links (counts_of (flat_map words_of lines))
 
-abbrev pub IsPageOfLines : PlaceData → List (List ℕ) → List PlaceData → PageData → Type 0
-IsPageOfLines place lines links page = page ≡ page_of_lines place lines links
+-- the page of a place with these lines and the links that it keeps
+abbrev pub IsPageOfLines : {Y Z : Type 0} → Arc PlaceData Y → List (List ℕ)
+    → Option (Arc (List PlaceData) Z) → PageData → Type 0
+IsPageOfLines place lines links page =
+    page ≡ page_of_lines (arc_value place) lines (links_kept links)
 
 -- the page of a directory and the page of a file
 abbrev pub page_of_menu : ScopeData → PlaceData → List ℕ → PageData

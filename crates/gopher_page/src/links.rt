@@ -1,15 +1,13 @@
 //! The links of a menu: `links_of_entries`.
 
-ghost use Rattle.std.specs.Prelude.{◌≡◌, ◌++◌, map, IfOk, OnOk};
-ghost use Rattle.std.specs.Arc.{arc_value};
+ghost use Rattle.std.specs.Prelude.{◌≡◌, ◌++◌, IfOk, OnOk};
 ghost use Rattle.gopher_page.specs.Page.{place_of_entry, links_in, with_entries, with_entry};
 
-use gopher_item::{Entry, ItemFault, NoMemory, Place};
+use gopher_item::{Entry, ItemFault, NoMemory, Place, Places};
 use gopher_scope::Scope;
 use indexmap::IndexSet;
 use indexmap::set::IntoIter;
 use std::alloc::Global;
-use std::sync::Arc;
 
 // The place that an entry names, or `None` if it is an odd line or names no valid place.
 fn place_of_entry(alloc: Global, entry: &Entry) -> Result<Option<Place>, NoMemory>
@@ -59,38 +57,31 @@ fn add_links(
 }
 
 // Takes the places that are left, and appends each to the list `out`.
-fn push_links(
-    alloc: Global,
-    left: &mut IntoIter<Place>,
-    out: &mut Vec<Arc<Place>>,
-) -> Result<(), NoMemory>
-    ensures { OnOk result (map arc_value out.new.items ≡ map arc_value out.old.items ++ left.old) }
+fn push_links(left: &mut IntoIter<Place>, out: &mut Places) -> Result<(), NoMemory>
+    ensures { OnOk result (out.new ≡ out.old ++ left.old) }
 {
     while let Some(place) = left.next() {
-        out.push(Arc::new(alloc, place)?)?;
+        out.push(&place)?;
     }
     Ok(())
 }
 
-// Takes the places that are left, and returns them as a list of shared ones.
-fn shared(alloc: Global, places: &mut IntoIter<Place>) -> Result<Vec<Arc<Place>>, NoMemory>
-    ensures { IfOk result (λ links. map arc_value links.items ≡ places.old) }
+// Takes the places that are left, and returns them packed.
+fn packed(alloc: Global, places: &mut IntoIter<Place>) -> Result<Places, NoMemory>
+    ensures { IfOk result (λ links. links ≡ places.old) }
 {
-    let mut links = Vec::with_capacity(alloc, places.len())?;
-    push_links(alloc, places, &mut links)?;
+    let mut links = Places::new(alloc);
+    push_links(places, &mut links)?;
+    links.shrink_to_fit();
     Ok(links)
 }
 
 /// Returns the allowed places that the entries of a menu name, each once, in the order of first
 /// mention.
-pub fn links_of_entries(
-    alloc: Global,
-    scope: &Scope,
-    entries: &[Entry],
-) -> Result<Vec<Arc<Place>>, NoMemory>
-    ensures { IfOk result (λ links. map arc_value links.items ≡ links_in scope.now entries.now) }
+pub fn links_of_entries(alloc: Global, scope: &Scope, entries: &[Entry]) -> Result<Places, NoMemory>
+    ensures { IfOk result (λ links. links ≡ links_in scope.now entries.now) }
 {
     let mut places = IndexSet::new(alloc);
     add_links(alloc, scope, entries, &mut places)?;
-    shared(alloc, &mut places.into_iter())
+    packed(alloc, &mut places.into_iter())
 }

@@ -1,18 +1,18 @@
 //! `Page`: what a catalogue keeps of the reply of a place (`Page::of`).
 
-ghost use Rattle.std.specs.Prelude.{◌≡◌, ◌≤◌, false, length, map, IfOk};
+ghost use Rattle.std.specs.Prelude.{◌≡◌, ◌≤◌, false, length, IfOk};
 ghost use Rattle.std.specs.Arc.{arc_value};
 ghost use Rattle.std.specs.List.{sum_by};
 ghost use Rattle.gopher_page.specs.Words.{texts};
 ghost use Rattle.gopher_page.specs.Counts.{count_meant};
-ghost use Rattle.gopher_page.specs.Page.{IsPageOfLines, page_of, page_of_menu, page_of_text};
+ghost use Rattle.gopher_page.specs.Page.{IsPageOfLines, links_kept, links_lent, page_of, page_of_menu, page_of_text};
 
 use crate::counts::Counts;
 use crate::line::{entry_lines, text_lines};
 use crate::links::links_of_entries;
 use crate::tally::count_words;
 use crate::title::title_of;
-use gopher_item::{ByteString, NoMemory, Place, read_menu};
+use gopher_item::{ByteString, NoMemory, Place, Places, read_menu};
 use gopher_scope::Scope;
 use gopher_text::MAX_REPLY;
 use std::alloc::Global;
@@ -21,28 +21,30 @@ use std::sync::Arc;
 
 #[derive(Debug, Drop)]
 struct Parts {
-    place: Place,
+    place: Arc<Place>,
     title: ByteString,
-    links: Vec<Arc<Place>>,
+    // `None`: the page has no links. Most pages have none.
+    links: Option<Arc<Places>>,
     counts: Counts,
 }
 
 impl Model for Parts {
-    ghost use Rattle.std.specs.Prelude.{◌≤◌, length, map};
+    ghost use Rattle.std.specs.Prelude.{◌≤◌, length};
     ghost use Rattle.std.specs.Arc.{arc_value};
-    ghost use Rattle.gopher_page.specs.Page.{PageData, page_with};
+    ghost use Rattle.gopher_page.specs.Page.{PageData, page_with, links_kept};
     ghost use Rattle.gopher_text.specs.declared.reply_reader.TheConstants.{MAX_REPLY};
 
     ghost Value = { PageData };
 
-    ghost view = { λ p. page_with p.place p.title (map arc_value p.links.items) p.counts };
+    ghost view = { λ p. page_with (arc_value p.place) p.title (links_kept p.links) p.counts };
 
-    ghost invariant = { λ p. length p.links.items ≤ MAX_REPLY };
+    ghost invariant = { λ p. length (links_kept p.links) ≤ MAX_REPLY };
 }
 
 /// What a catalogue keeps of the reply of a place: title, links and word counts.
 ///
-/// Copies share the parts, and a frontier shares the links, so neither copies any bytes.
+/// Copies share the parts, so a copy takes no bytes of its own. The links are packed; a frontier
+/// copies those that become known places.
 #[derive(Debug, Drop)]
 pub struct Page {
     parts: Arc<Parts>,
@@ -61,23 +63,30 @@ impl Model for Page {
 // its events, and its part of the lists of a catalogue.
 const PAGE_SIZE: usize = 512;
 
-// The most bytes that a catalogue takes for a known place, beside its selector and its host.
-const LINK_SIZE: usize = 160;
+// The most bytes that a link takes beside its selector and its host: 16 in the page, which packs
+// it, and 160 as a known place.
+const LINK_SIZE: usize = 176;
 
 // The most bytes that a word of a page takes in a segment of an index, beside the word: its end,
 // the end of its posting list, and the posting.
 const POSTING_SIZE: usize = 11;
 
+// The most bytes that links take in a catalogue.
+fn size_of_links(links: &Places) -> usize {
+    let names = links.names_len().saturating_mul(2);
+    names.saturating_add(links.len().saturating_mul(LINK_SIZE))
+}
+
 // The page of a place with these lines and links.
 fn page_of_lines(
     alloc: Global,
-    place: &Place,
+    place: &Arc<Place>,
     lines: &[&[u8]],
-    links: Vec<Arc<Place>>,
+    links: Option<Arc<Places>>,
 ) -> Result<Page, NoMemory>
     requires short { sum_by length (texts lines.now) ≤ MAX_REPLY }
-    requires few { length links.items ≤ MAX_REPLY }
-    ensures { IfOk result (IsPageOfLines place.now (texts lines.now) (map arc_value links.items)) }
+    requires few { length (links_kept links) ≤ MAX_REPLY }
+    ensures { IfOk result (IsPageOfLines place.now (texts lines.now) links) }
 {
     let counts = count_words(alloc, lines)?;
     let parts = Parts {
@@ -91,22 +100,27 @@ fn page_of_lines(
     })
 }
 
-fn page_of_menu(alloc: Global, scope: &Scope, place: &Place, bytes: &[u8]) -> Result<Page, NoMemory>
+fn page_of_menu(
+    alloc: Global,
+    scope: &Scope,
+    place: &Arc<Place>,
+    bytes: &[u8],
+) -> Result<Page, NoMemory>
     requires small { length bytes.now ≤ MAX_REPLY }
-    ensures { IfOk result (λ page. page ≡ page_of_menu scope.now place.now bytes.now) }
+    ensures { IfOk result (λ page. page ≡ page_of_menu scope.now (arc_value place.now) bytes.now) }
 {
     let menu = read_menu(alloc, bytes)?;
     let links = links_of_entries(alloc, scope, &menu.entries)?;
     let lines = entry_lines(alloc, &menu.entries)?;
-    page_of_lines(alloc, place, &lines, links)
+    page_of_lines(alloc, place, &lines, Some(Arc::new(alloc, links)?))
 }
 
-fn page_of_text(alloc: Global, place: &Place, bytes: &[u8]) -> Result<Page, NoMemory>
+fn page_of_text(alloc: Global, place: &Arc<Place>, bytes: &[u8]) -> Result<Page, NoMemory>
     requires small { length bytes.now ≤ MAX_REPLY }
-    ensures { IfOk result (λ page. page ≡ page_of_text place.now bytes.now) }
+    ensures { IfOk result (λ page. page ≡ page_of_text (arc_value place.now) bytes.now) }
 {
     let lines = text_lines(alloc, bytes)?;
-    page_of_lines(alloc, place, &lines, Vec::new(alloc))
+    page_of_lines(alloc, place, &lines, None)
 }
 
 impl Page {
@@ -116,10 +130,24 @@ impl Page {
     /// string or an odd line's bytes. Its links are those links of the menu that `scope` allows.
     /// For a file the lines are the decoded lines of the text, and there are no links. The counts
     /// cover the words of all lines.
-    #[tactic(auto, using(crate::proofs::Pages::pages))]
     pub fn of(alloc: Global, scope: &Scope, place: &Place, bytes: &[u8]) -> Result<Page, NoMemory>
         requires { length bytes.now ≤ MAX_REPLY }
         ensures { IfOk result (λ page. page ≡ page_of scope.now place.now bytes.now) }
+    {
+        let place = Arc::new(alloc, place.clone()?)?;
+        Page::of_shared(alloc, scope, &place, bytes)
+    }
+
+    /// Makes the page of a place as `of` does. The page shares the place.
+    #[tactic(auto, using(crate::proofs::Pages::pages))]
+    pub fn of_shared(
+        alloc: Global,
+        scope: &Scope,
+        place: &Arc<Place>,
+        bytes: &[u8],
+    ) -> Result<Page, NoMemory>
+        requires { length bytes.now ≤ MAX_REPLY }
+        ensures { IfOk result (λ page. page ≡ page_of scope.now (arc_value place.now) bytes.now) }
     {
         if place.kind() == b'1' {
             page_of_menu(alloc, scope, place, bytes)
@@ -158,12 +186,15 @@ impl Page {
     }
 
     /// Returns the links, at most 1,048,576 (`MAX_REPLY`): the allowed places that the menu names,
-    /// each once, in the order of first mention.
-    pub fn links(&self) -> &[Arc<Place>]
-        ensures links { map arc_value result.now ≡ self.now.links }
-        ensures few { length result.now ≤ MAX_REPLY }
+    /// each once, in the order of first mention. `None` means that there are none.
+    pub fn links(&self) -> Option<&Places>
+        ensures links { links_lent result ≡ self.now.links }
+        ensures few { length self.now.links ≤ MAX_REPLY }
     {
-        &self.parts.links
+        match &self.parts.links {
+            Some(links) => Some(links),
+            None => None,
+        }
     }
 
     /// Returns the distinct words of the page in byte order, with their counts.
@@ -174,18 +205,17 @@ impl Page {
     }
 
     /// Returns how many bytes of memory a catalogue needs for the page, at most: its words twice
-    /// (in the page and in the index), its title, and its links as known places. Words and places
-    /// that other pages have too are counted again.
+    /// (in the page and in the index), its title, and its links twice (in the page and as known
+    /// places). Words and places that other pages have too are counted again.
     pub fn size(&self) -> usize {
         let words = self.parts.counts.size().saturating_mul(2);
         let postings = self.parts.counts.len().saturating_mul(POSTING_SIZE);
-        let mut size = PAGE_SIZE.saturating_add(self.parts.title.len());
-        size = size.saturating_add(words).saturating_add(postings);
-        for link in self.parts.links.iter() {
-            let names = link.selector().len().saturating_add(link.host().len());
-            size = size.saturating_add(names).saturating_add(LINK_SIZE);
+        let size = PAGE_SIZE.saturating_add(self.parts.title.len());
+        let size = size.saturating_add(words).saturating_add(postings);
+        match self.links() {
+            Some(links) => size.saturating_add(size_of_links(links)),
+            None => size,
         }
-        size
     }
 
     /// Returns how often `word` occurs in the page.

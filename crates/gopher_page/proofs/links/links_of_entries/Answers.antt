@@ -1,5 +1,4 @@
-use Rattle.std.proofs.Common.{◌≡◌, ◌∙◌, ap, map, subst}
-use Rattle.std.specs.Arc.{arc_value}
+use Rattle.std.proofs.Common.{◌≡◌, ◌∙◌, ap, subst}
 use Rattle.std.specs.Result.{IfOk}
 use Rattle.gopher_item.specs.Place.{same_place}
 use Rattle.gopher_page.specs.Page.{allowed_places}
@@ -10,6 +9,6 @@ use Rattle.gopher_page.proofs.links.links_of_entries.Goals as goal
 pub returns : goal.returns
 returns c =
     let places = allowed_places c.args.scope.now c.args.entries.now in
-    subst (λ keys. IfOk c.shared.result (λ links. map arc_value links.items ≡ keys))
+    subst (λ keys. IfOk c.packed.result (λ links. links ≡ keys))
     (c.into_iter.ensures.into_iter_gives.0 ∙ c.in_ok-add_links.ensures ∙ ap (λ held. insert_all same_place held places) c.new-places.ensures.empty ∙ insert_all-distinct places)
-    c.shared.ensures
+    c.packed.ensures

@@ -1,5 +1,4 @@
-use Rattle.std.proofs.Common.{◌≡◌, ◌∙◌, length, map, sum_by, ap, sym, arith}
-use Rattle.std.proofs.lemmas.List.{length-map}
+use Rattle.std.proofs.Common.{◌≡◌, ◌∙◌, length, map, sum_by, ap, arith}
 use Rattle.std.specs.Arc.{arc_value}
 use Rattle.std.specs.List.{filter, filter_map}
 use Rattle.gopher_item.specs.Place.{distinct}
@@ -19,9 +18,7 @@ page_of_lines-requires-clause-short c =
 
 pub page_of_lines-requires-clause-few : goal.page_of_lines-requires-clause-few
 page_of_lines-requires-clause-few c =
-    let found = c.in_ok-links.links.items in
-    let links : map arc_value found ≡ menu_links c.args.scope.now c.args.bytes.now =
-    c.in_ok-links.ensures ∙ ap (λ entries. distinct (filter (allows c.args.scope.now) (filter_map place_of_entry entries))) (c.deref.ensures.value ∙ c.in_ok-menu.ensures.all_entries)
+    let links : arc_value c.in_ok-new.field-0 ≡ menu_links c.args.scope.now c.args.bytes.now =
+    c.in_ok-new.ensures.ok ∙ c.in_ok-links.ensures ∙ ap (λ entries. distinct (filter (allows c.args.scope.now) (filter_map place_of_entry entries))) (c.deref.ensures.value ∙ c.in_ok-menu.ensures.all_entries)
     in
-    let same : length found ≡ length (menu_links c.args.scope.now c.args.bytes.now) = sym (length-map found arc_value) ∙ ap length links in
-    omega (arith, c.requires.small, few_menu_links c.args.scope.now c.args.bytes.now)
+    omega (arith, c.requires.small, ap length links, few_menu_links c.args.scope.now c.args.bytes.now)
