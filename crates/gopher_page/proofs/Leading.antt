@@ -1,8 +1,9 @@
 -- The numbers of words' first bytes are in the order of the words.
-use Rattle.std.proofs.Common.{◌≡◌, ◌⊎◌, ℕ, zero, suc, ◌+◌, ◌*◌, ◌^◌, ◌<◌, ◌≤◌, ◌==◌, Bool, List, [], ◌∷◌, length, drop, get_or, refl, sym, ap, ◌∙◌, inl, inr, arith}
+use Rattle.std.proofs.Common.{◌≡◌, ◌⊎◌, ℕ, zero, suc, ◌+◌, ◌-◌, ◌%◌, min, subst, ◌*◌, ◌^◌, ◌<◌, ◌≤◌, ◌==◌, Bool, List, [], ◌∷◌, length, drop, get_or, refl, sym, ap, ◌∙◌, inl, inr, arith}
+use Rattle.std.proofs.lemmas.List.{at_drop_all}
 use Rattle.std.proofs.lemmas.Bool.{lt-ltb, le-ltb, eq-eqb, ne_eqb, cases_order}
-use Rattle.std.proofs.lemmas.List.{at_drop_more, at_drop_all, get_or_past}
-use Rattle.std.proofs.Math.Nat.{pow-suc, one-le-pow, add-mul, mul_assoc, mul_comm, mul-le-mul_right}
+use Rattle.std.specs.Int.{from_be_bytes, w32}
+use Rattle.std.proofs.Math.Nat.{pow-suc, one-le-pow, add-mul, mul-le-mul_right}
 use Rattle.std.specs.Ordering.{nat_cmp, is_eq, ordering_then, ordering_reverse}
 use Rattle.std.specs.Cmp.Lexicographic.{nat_list_cmp_total, texts_ties}
 use Rattle.std.specs.declared.cmp.Ordering.{Ordering}
@@ -11,38 +12,24 @@ use Rattle.gopher_page.specs.Numbered.{leading, AreBytes}
 use Rattle.gopher_page.specs.Words.{same_word}
 use Rattle.gopher_page.proofs.AddedWords.{compare, not_same}
 
--- ---- the number, byte by byte
+-- ---- halves of the number
 
-none : (count : ℕ) → leading count [] ≡ 0
+-- the bytes of a half, of which the missing ones are 0
+pub half_is : (word : List ℕ) (a b c d : ℕ) → get_or word 0 0 ≡ a → get_or word 1 0 ≡ b → get_or word 2 0 ≡ c → get_or word 3 0 ≡ d → from_be_bytes w32 (a ∷ b ∷ c ∷ d ∷ []) ≡ leading 4 word
 unfolding leading
-none zero = refl
-none (suc count) = refl
+half_is [] a b c d p q r s = omega (arith, p, q, r, s)
+half_is (x ∷ []) a b c d p q r s = omega (arith, p, q, r, s)
+half_is (x ∷ y ∷ []) a b c d p q r s = omega (arith, p, q, r, s)
+half_is (x ∷ y ∷ z ∷ []) a b c d p q r s = omega (arith, p, q, r, s)
+half_is (x ∷ y ∷ z ∷ u ∷ word) a b c d p q r s = omega (arith, p, q, r, s)
 
--- the number of the bytes from an index on
-first : (count i : ℕ) (word : List ℕ) → (i < length word) ⊎ (length word ≤ i) → leading (suc count) (drop i word) ≡ get_or word i 0 * 256 ^ count + leading count (drop (i + 1) word)
+pub halves : (word : List ℕ) → leading 4 word * 4294967296 + leading 4 (drop 4 word) ≡ leading 8 word
 unfolding leading
-first count i word (inl within) = at_drop_more (leading (suc count)) word i 0 within
-first count i word (inr past) =
-    let here : get_or word i 0 ≡ 0 = get_or_past word i 0 past in
-    let left : leading (suc count) (drop i word) ≡ 0 = at_drop_all (leading (suc count)) word i past in
-    let right : leading count (drop (i + 1) word) ≡ 0 = at_drop_all (leading count) word (i + 1) (omega arith) ∙ none count in
-    left ∙ sym ((λ k. here k * 256 ^ count + right k) ∙ zero_times (256 ^ count))
-  where
-    zero_times : (n : ℕ) → 0 * n + 0 ≡ 0
-    zero_times n = omega arith
-
-shifted : (number byte place : ℕ) → (number * 256 + byte) * place ≡ number * (place * 256) + byte * place
-shifted number byte place = add-mul (number * 256) byte place ∙ ap (λ n. n + byte * place) (mul_assoc number 256 place ∙ ap (λ n. number * n) (mul_comm 256 place))
-
--- reading one more byte
-pub leading_more : (number byte i count : ℕ) (word : List ℕ) → (i < length word) ⊎ (length word ≤ i) → byte ≡ get_or word i 0
-    → (number * 256 + byte) * 256 ^ count + leading count (drop (i + 1) word) ≡ number * 256 ^ suc count + leading (suc count) (drop i word)
-leading_more number byte i count word where_it_is is =
-    let place : ℕ = 256 ^ count in
-    let rest : ℕ = leading count (drop (i + 1) word) in
-    let next : leading (suc count) (drop i word) ≡ byte * place + rest = first count i word where_it_is ∙ ap (λ b. b * place + rest) (sym is) in
-    let grown : number * 256 ^ suc count ≡ number * (place * 256) = ap (λ n. number * n) (pow-suc 256 count) in
-    omega (arith, shifted number byte place, next, grown)
+halves [] = omega arith
+halves (x ∷ []) = omega arith
+halves (x ∷ y ∷ []) = omega arith
+halves (x ∷ y ∷ z ∷ []) = omega arith
+halves (x ∷ y ∷ z ∷ u ∷ word) = omega arith
 
 -- ---- the order
 
@@ -144,3 +131,32 @@ equal_numbers m n e = by (cases_order m n)
     by (inr (inr above)) =
         let both : Greater ≡ Equal = sym (more_number m n above) ∙ e in
         absurd cc
+
+-- ---- overlapping halves
+
+-- the last four of the first eight bytes, moved to the front and cut to four bytes
+abbrev moved : ℕ → List ℕ → ℕ
+moved end word = leading 4 (drop (end - 4) word) * 2 ^ (64 - 8 * end) % 18446744073709551616 % 4294967296
+
+-- the bytes that are in both halves are dropped
+pub second_half : (word : List ℕ) (end : ℕ) → AreBytes word → 4 ≤ length word → end ≡ min (length word) 8 → moved end word ≡ leading 4 (drop 4 word)
+unfolding leading
+second_half (x ∷ y ∷ z ∷ u ∷ rest) end bytes long is = by rest bytes is
+  where
+    by : (more : List ℕ) → AreBytes (x ∷ y ∷ z ∷ u ∷ more) → end ≡ min (length (x ∷ y ∷ z ∷ u ∷ more)) 8 → moved end (x ∷ y ∷ z ∷ u ∷ more) ≡ leading 4 more
+    by [] b e = subst (λ n. moved n (x ∷ y ∷ z ∷ u ∷ []) ≡ 0) (sym e) (omega arith)
+    by (p ∷ []) b e = subst (λ n. moved n (x ∷ y ∷ z ∷ u ∷ p ∷ []) ≡ leading 4 (p ∷ [])) (sym e) (omega (arith, b 4))
+    by (p ∷ q ∷ []) b e = subst (λ n. moved n (x ∷ y ∷ z ∷ u ∷ p ∷ q ∷ []) ≡ leading 4 (p ∷ q ∷ [])) (sym e) (omega (arith, b 4, b 5))
+    by (p ∷ q ∷ r ∷ []) b e = subst (λ n. moved n (x ∷ y ∷ z ∷ u ∷ p ∷ q ∷ r ∷ []) ≡ leading 4 (p ∷ q ∷ r ∷ [])) (sym e) (omega (arith, b 4, b 5, b 6))
+    by (p ∷ q ∷ r ∷ s ∷ more) b e =
+        let eight : end ≡ 8 = omega (arith, e) in
+        subst (λ n. moved n (x ∷ y ∷ z ∷ u ∷ p ∷ q ∷ r ∷ s ∷ more) ≡ leading 4 (p ∷ q ∷ r ∷ s ∷ more)) (sym eight) (omega (arith, b 4, b 5, b 6, b 7))
+second_half [] end bytes long is = absurd (omega arith)
+second_half (x ∷ []) end bytes long is = absurd (omega arith)
+second_half (x ∷ y ∷ []) end bytes long is = absurd (omega arith)
+second_half (x ∷ y ∷ z ∷ []) end bytes long is = absurd (omega arith)
+
+-- a word of less than four bytes has no second half
+pub no_second_half : (word : List ℕ) → length word < 4 → leading 4 word * 4294967296 ≡ leading 8 word
+unfolding leading
+no_second_half word few = omega (arith, halves word, at_drop_all (leading 4) word 4 (omega arith))

@@ -1,7 +1,7 @@
 -- The lengths of the runs of words in byte order are their counts.
-use Rattle.std.proofs.Common.{◌≡◌, ℕ, zero, suc, ◌+◌, ◌-◌, ◌<◌, ◌≤◌, Bool, true, false, cond, ◌||◌, List, [], ◌∷◌, length, map, drop, get_or, count_by, sum_by, refl, sym, ap, subst, ◌∙◌, add-zero, arith}
+use Rattle.std.proofs.Common.{◌≡◌, ℕ, suc, ◌+◌, ◌-◌, ◌<◌, ◌≤◌, Bool, true, false, cond, ◌||◌, List, [], ◌∷◌, ◌++◌, length, map, drop, get_or, count_by, sum_by, refl, sym, ap, subst, ◌∙◌, add-zero, arith}
 use Rattle.std.proofs.lemmas.Bool.{both_ways}
-use Rattle.std.proofs.lemmas.List.{drop_more, drop_all, length-map, get_or-map}
+use Rattle.std.proofs.lemmas.List.{append-nil, get_or-map, length-map, drop_more, drop_all}
 use Rattle.std.proofs.lemmas.List.Sums.{sum_by-cons}
 use Rattle.std.specs.List.{list_any, AllByRecursion}
 use Rattle.std.specs.List.Sorted.{IsStrictlySortedBy, IsSorted, IsPermutation}
@@ -12,7 +12,7 @@ use Rattle.std.specs.declared.cmp.Ordering.{Ordering}
 use Rattle.std.specs.declared.cmp.Ordering.TheVariants.{Less, Equal, Greater}
 use Rattle.std.specs.Cmp.Lexicographic.{bytes_decides, nat_list_cmp_total}
 use Rattle.gopher_page.specs.Words.{same_word}
-use Rattle.gopher_page.specs.Counts.{counts_of, sorted_words, joined_run, run_lengths}
+use Rattle.gopher_page.specs.Counts.{counts_of, sorted_words, joined_run, run_lengths, run_values}
 use Rattle.gopher_page.specs.Packed.{AreCounts}
 use Rattle.gopher_page.proofs.SortedInserts.{flipped, all_after, sorted_inserts}
 use Rattle.gopher_page.proofs.AddedWords.{compare, equal_words, not_same, absent_along, with_values, positive_counts}
@@ -291,39 +291,54 @@ rises (word ∷ next ∷ words) sorted = (
       subst (λ n. is_lt (compare (get_or (word ∷ next ∷ words) n d) (get_or (word ∷ next ∷ words) (suc k) d)) ≡ false) more (sorted (suc k) d (omega arith) (omega arith))),
 )
 
--- references to words in order
-pub sorted_behind : (words : List (Bor (List ℕ))) → IsSorted compare (map (λ word. word.now) words) → IsSorted (λ a b. compare a.now b.now) words
-sorted_behind words sorted k d low within =
-    let size : length (map (λ word. word.now) words) ≡ length words = length-map words (λ word. word.now) in
-    let next = get_or-map (λ word. word.now) words (k + 1) d d.now within in
-    let here = get_or-map (λ word. word.now) words k d d.now (omega arith) in
-    (λ i. is_lt (compare (sym next i) (sym here i))) ∙ sorted k d.now low (omega arith)
-
-pub sorted_ahead : (words : List (Bor (List ℕ))) → IsSorted (λ a b. compare a.now b.now) words → IsSorted compare (map (λ word. word.now) words)
-sorted_ahead words sorted k d low within =
-    let size : length (map (λ word. word.now) words) ≡ length words = length-map words (λ word. word.now) in
-    let place : Bor (List ℕ) = record { ref_ptr = (0, 0); now = d } in
-    let inside : k + 1 < length words = omega arith in
-    let next = get_or-map (λ word. word.now) words (k + 1) place d inside in
-    let here = get_or-map (λ word. word.now) words k place d (omega arith) in
-    (λ i. is_lt (compare (next i) (here i))) ∙ sorted k place low inside
-
 pub counted_sorted : (words sorted : List (List ℕ)) → IsPermutation words sorted → Rise sorted → counts_of sorted ≡ counts_of words
 counted_sorted words sorted moved rise =
     sym (counted_in_order sorted sorted rise (λ sought. refl))
     ∙ counted_in_order sorted words rise (λ sought. sum_by-IsPermutation (λ word. cond (same_word sought word) 1 0) words sorted moved)
 
--- a suffix of words has at most as many bytes as a longer one
-pub left_size : (words : List (List ℕ)) (i j : ℕ) → i ≤ j → sum_by length (drop j words) ≤ sum_by length (drop i words)
-left_size words i j later = drop_size words i j later
-  where
-    all_size : (some : List (List ℕ)) (k : ℕ) → sum_by length (drop k some) ≤ sum_by length some
-    all_size some zero = omega arith
-    all_size [] (suc k) = omega arith
-    all_size (word ∷ some) (suc k) = omega (arith, all_size some k, sum_by-cons (length {A = ℕ}) word some)
+-- ---- the room of runs
 
-    drop_size : (some : List (List ℕ)) (n m : ℕ) → n ≤ m → sum_by length (drop m some) ≤ sum_by length (drop n some)
-    drop_size some zero m h = all_size some m
-    drop_size some (suc n) zero h = absurd (omega arith)
-    drop_size [] (suc n) (suc m) h = omega arith
-    drop_size (word ∷ some) (suc n) (suc m) h = drop_size some n m (omega arith)
+abbrev pub bytes_of : List (List ℕ × ℕ) → ℕ
+bytes_of runs = sum_by (λ run. length run.0) runs
+
+bytes-cons : (run : List ℕ × ℕ) (runs : List (List ℕ × ℕ)) → bytes_of (run ∷ runs) ≡ length run.0 + bytes_of runs
+bytes-cons run runs = sum_by-cons {X = List ℕ × ℕ} (λ r. length r.0) run runs
+
+bytes_joined : (word : List ℕ) (n : ℕ) (runs : List (List ℕ × ℕ)) → bytes_of (joined_run word n runs) ≤ length word + bytes_of runs
+bytes_joined word n [] = omega (arith, bytes-cons (word, n) [])
+bytes_joined word n (run ∷ runs) = by (same_word word run.0)
+  where
+    by : (t : Bool) → bytes_of (cond t ((word, n + run.1) ∷ runs) ((word, n) ∷ run ∷ runs)) ≤ length word + bytes_of (run ∷ runs)
+    by true = omega (arith, bytes-cons (word, n + run.1) runs, bytes-cons run runs)
+    by false = omega (arith, bytes-cons (word, n) (run ∷ runs))
+
+-- the runs' words have at most as many bytes as all words
+pub bytes_lengths : (words : List (List ℕ)) → bytes_of (run_lengths words) ≤ sum_by length words
+bytes_lengths [] = omega arith
+bytes_lengths (word ∷ words) = omega (arith, bytes_joined word 1 (run_lengths words), bytes_lengths words, sum_by-cons (length {A = ℕ}) word words)
+
+-- ---- runs that were found, and those from an index on
+
+module _ (found : List (Bor (List ℕ) × ℕ)) (i : ℕ) (within : i < length found) where
+  abbrev pub run : Bor (List ℕ) × ℕ
+  run = get_or found i (record { ref_ptr = (0, 0); now = [] }, 0)
+
+  abbrev pub rest : List (List ℕ × ℕ)
+  rest = drop (i + 1) (run_values found)
+
+  pub next_run : drop i (run_values found) ≡ (run.0.now, run.1) ∷ rest
+  next_run =
+      let value : Bor (List ℕ) × ℕ → List ℕ × ℕ = λ r. (r.0.now, r.1) in
+      let inside : i < length (run_values found) = omega (arith, within, length-map {B = List ℕ × ℕ} found (λ r. (r.0.now, r.1))) in
+      drop_more (run_values found) i ([], 0) inside ∙ ap (λ r. r ∷ rest) (get_or-map value found i (record { ref_ptr = (0, 0); now = [] }, 0) ([], 0) within)
+
+  pub next_bytes : bytes_of (drop i (run_values found)) ≡ length run.0.now + bytes_of rest
+  next_bytes = ap bytes_of next_run ∙ bytes-cons (run.0.now, run.1) rest
+
+  pub next_count : sum_by (λ r. r.1) (drop i (run_values found)) ≡ run.1 + sum_by (λ r. r.1) rest
+  next_count = ap (sum_by (λ r. r.1)) next_run ∙ sum_by-cons {X = List ℕ × ℕ} (λ r. r.1) (run.0.now, run.1) rest
+
+pub no_more_runs : (found : List (Bor (List ℕ) × ℕ)) (i : ℕ) → length found ≤ i → (start : List (List ℕ × ℕ)) → start ≡ start ++ drop i (run_values found)
+no_more_runs found i past start =
+    let none : drop i (run_values found) ≡ [] = drop_all i (run_values found) (omega (arith, past, length-map {B = List ℕ × ℕ} found (λ r. (r.0.now, r.1)))) in
+    sym (append-nil start) ∙ ap (λ l. start ++ l) (sym none)

@@ -18,3 +18,4 @@ mod Short
 mod Lowered
 mod Titles
 mod Pages
+mod WordBytes

@@ -5,12 +5,12 @@ ghost use Rattle.std.specs.List.{sum_by};
 ghost use Rattle.std.specs.List.Sorted.{IsSorted};
 ghost use Rattle.std.specs.Ordering.{nat_cmp};
 ghost use Rattle.std.specs.Cmp.Lexicographic.{slice_cmp};
-ghost use Rattle.gopher_page.specs.Words.{texts, same_word};
-ghost use Rattle.gopher_page.specs.Counts.{is_meant, count_meant, counts_of, is_before, word_at, AreWordsBefore, NoneBefore, IsWordRun};
+ghost use Rattle.gopher_page.specs.Counts.{is_meant, count_meant, counts_of, is_before, word_at, AreWordsBefore, NoneBefore, IsWordRun, run_lengths, run_values};
 ghost use Rattle.gopher_bytes.specs.Parts.{ArePacked, start_at};
 ghost use Rattle.gopher_page.specs.Packed.{AreCounts, part_at};
 
 use crate::ends::Ends;
+use crate::numbered::Numbered;
 use crate::repeats::Repeats;
 use gopher_item::NoMemory;
 use gopher_text::MAX_REPLY;
@@ -80,23 +80,17 @@ fn part_at<'a>(bytes: &'a [u8], ends: &Ends, counts: &Repeats, index: usize) -> 
     (word, counts.get(index))
 }
 
-fn is_same(a: &[u8], b: &[u8]) -> bool
-    ensures { result ≡ same_word a.now b.now }
-{
-    a == b
-}
-
 // The end of the run of words that equal the one at `start`.
-fn end_of_run(words: &[&[u8]], start: usize) -> usize
+fn end_of_run(words: &[Numbered<'_>], start: usize) -> usize
     requires { start < length words.now }
     ensures after { start < result }
     ensures within { result ≤ length words.now }
-    ensures run { IsWordRun (texts words.now) start result }
+    ensures run { IsWordRun words.now start result }
 {
-    let word = words[start];
+    let word = &words[start];
     let mut end = start + 1;
     while end < words.len() {
-        if is_same(words[end], word) {
+        if words[end] == *word {
             end += 1;
         } else {
             return end;
@@ -105,47 +99,46 @@ fn end_of_run(words: &[&[u8]], start: usize) -> usize
     end
 }
 
-// How many words, and bytes of words, are packed.
-#[derive(Clone, Copy)]
-struct Room {
-    words: usize,
-    bytes: usize,
-}
-
-// The room that distinct words need; equal words follow each other. Vectors of this size need no
-// growth: growing and then shrinking them would leave fragments too small to use again.
-fn room_of(words: &[&[u8]]) -> Room {
-    let mut room = Room { words: 0, bytes: 0 };
+// The runs of equal words, each as its word and its length, and the number of bytes of these words.
+fn runs_of<'a>(
+    alloc: Global,
+    words: &[Numbered<'a>],
+) -> Result<(Vec<(&'a [u8], u32)>, usize), NoMemory>
+    requires { length words.now ≤ MAX_REPLY }
+    ensures { IfOk result (λ found. run_values found.0.items ≡ run_lengths words.now) }
+{
+    let mut runs = Vec::with_capacity(alloc, words.len())?;
+    let mut size = 0_usize;
     let mut start = 0;
     while start < words.len() {
-        room.words = room.words.saturating_add(1);
-        room.bytes = room.bytes.saturating_add(words[start].len());
-        start = end_of_run(words, start);
+        let word = words[start].word();
+        let end = end_of_run(words, start);
+        runs.push((word, (end - start) as u32))?;
+        size = size.saturating_add(word.len());
+        start = end;
     }
-    room
+    Ok((runs, size))
 }
 
 impl Counts {
     /// Counts the occurrences of each word. The words are in byte order; there are at most
     /// 1,048,576 (`MAX_REPLY`), with at most as many bytes together.
-    pub fn packed(alloc: Global, words: &[&[u8]]) -> Result<Counts, NoMemory>
-        requires sorted { IsSorted (λ a b. slice_cmp nat_cmp a.now b.now) words.now }
-        requires short { sum_by length (texts words.now) ≤ MAX_REPLY }
+    pub fn packed(alloc: Global, words: &[Numbered<'_>]) -> Result<Counts, NoMemory>
+        requires sorted { IsSorted (slice_cmp nat_cmp) words.now }
+        requires short { sum_by length words.now ≤ MAX_REPLY }
         requires few { length words.now ≤ MAX_REPLY }
-        ensures { IfOk result (λ counts. counts ≡ counts_of (texts words.now)) }
+        ensures { IfOk result (λ counts. counts ≡ counts_of words.now) }
     {
-        let room = room_of(words);
-        let mut bytes = Vec::with_capacity(alloc, room.bytes)?;
-        let mut ends = Ends::with_capacity(alloc, room.words)?;
-        let mut counts = Repeats::with_capacity(alloc, room.words)?;
-        let mut start = 0;
-        while start < words.len() {
-            let word = words[start];
-            let end = end_of_run(words, start);
+        let (runs, size) = runs_of(alloc, words)?;
+        // Vectors of this size need no growth: growing and then shrinking them would leave
+        // fragments too small to use again.
+        let mut bytes = Vec::with_capacity(alloc, size)?;
+        let mut ends = Ends::with_capacity(alloc, runs.len())?;
+        let mut counts = Repeats::with_capacity(alloc, runs.len())?;
+        for (word, count) in &runs {
             bytes.extend_from_slice(word)?;
             ends.push(bytes.len() as u32)?;
-            counts.push((end - start) as u32)?;
-            start = end;
+            counts.push(*count)?;
         }
         bytes.shrink_to_fit();
         ends.shrink_to_fit();

@@ -1,26 +1,48 @@
 //! `Numbered`: a word with its first bytes as a number, which is enough for most comparisons.
 
-ghost use Rattle.std.specs.Prelude.{◌≡◌, Some, map, nat_eq, IfOk, refl};
+ghost use Rattle.std.specs.Prelude.{◌≡◌, ◌<◌, ◌≤◌, Some, length, nat_eq, refl};
 ghost use Rattle.std.specs.Ordering.{nat_cmp};
 ghost use Rattle.std.specs.Cmp;
 ghost use Rattle.std.specs.Cmp.Lexicographic.{pointwise, slice_cmp, nat_list_eq_equiv, nat_list_cmp_total, texts_ties, texts_po};
 ghost use Rattle.gopher_page.specs.Numbered.{leading, AreBytes, IsNumbered};
 
-use gopher_item::NoMemory;
-use std::alloc::Global;
 use std::cmp::Ordering;
 use std::marker::Model;
+
+// The first four bytes of a word as one big-endian number.
+fn first_four(word: &[u8]) -> u64
+    requires { 4 ≤ length word.now }
+    ensures { result ≡ leading 4 word.now }
+{
+    let bytes = [word[0], word[1], word[2], word[3]];
+    u64::from(u32::from_be_bytes(bytes))
+}
+
+// A word of less than four bytes as a big-endian number of four; a missing byte counts as 0.
+fn first_few(word: &[u8]) -> u64
+    requires { length word.now < 4 }
+    ensures { result ≡ leading 4 word.now }
+{
+    let bytes = match word {
+        [a, b, c, ..] => [*a, *b, *c, 0],
+        [a, b] => [*a, *b, 0, 0],
+        [a] => [*a, 0, 0, 0],
+        [] => [0; 4],
+    };
+    u64::from(u32::from_be_bytes(bytes))
+}
 
 // The first eight bytes of a word as one big-endian number; a missing byte counts as 0.
 fn leading_number(word: &[u8]) -> u64
     ensures { result ≡ leading 8 word.now }
 {
-    let mut number = 0;
-    for index in 0..8 {
-        let byte = if index < word.len() { word[index] } else { 0 };
-        number = number * 256 + u64::from(byte);
+    if word.len() < 4 {
+        return first_few(word) << 32;
     }
-    number
+    // The last four of these bytes can overlap the first four: the shift drops what is in both.
+    let end = word.len().min(8);
+    let last = first_four(&word[end - 4..]) << (64 - 8 * end);
+    (first_four(word) << 32) + last % 0x1_0000_0000
 }
 
 // Whether two words with equal numbers are equal. Short words of equal length are, because the
@@ -151,15 +173,4 @@ impl<'a> Ord for Numbered<'a> {
             order => order,
         }
     }
-}
-
-/// Returns the words without their numbers, in the same order.
-pub fn slices<'a>(alloc: Global, words: &[Numbered<'a>]) -> Result<Vec<&'a [u8]>, NoMemory>
-    ensures { IfOk result (λ slices. map (λ word. word.now) slices.items ≡ words.now) }
-{
-    let mut slices = Vec::with_capacity(alloc, words.len())?;
-    for word in words {
-        slices.push(word.word())?;
-    }
-    Ok(slices)
 }

@@ -6,7 +6,7 @@ ghost use Rattle.gopher_page.specs.Words.{texts, joined_lines, bare_words, words
 ghost use Rattle.gopher_page.specs.Counts.{counts_of};
 
 use crate::counts::Counts;
-use crate::numbered::{Numbered, slices};
+use crate::numbered::Numbered;
 use crate::word::next_token;
 use gopher_item::{ByteString, NoMemory};
 use gopher_text::MAX_REPLY;
@@ -46,6 +46,5 @@ pub fn count_words(alloc: Global, lines: &[&[u8]]) -> Result<Counts, NoMemory>
     let lowered = ByteString::lower_cased(alloc, &text)?;
     let mut words = words_in(alloc, lowered.as_slice())?;
     words.sort_unstable();
-    let sorted = slices(alloc, &words)?;
-    Counts::packed(alloc, &sorted)
+    Counts::packed(alloc, &words)
 }

@@ -1,4 +1,4 @@
-use Rattle.std.proofs.Common.{◌<◌, ◌≤◌, ◌-◌, length, map}
+use Rattle.std.proofs.Common.{◌<◌, ◌≤◌, ◌-◌, length}
 use Rattle.gopher_page.proofs.Lengths.{IsOneWord}
 use Rattle.gopher_page.proofs.counts.end_of_run.Given as goal
 
@@ -6,7 +6,7 @@ abbrev pub invariant-loop-end : goal.invariant-loop-end
 invariant-loop-end l = record {
   after : l.start < l.end;
   within : l.end ≤ length l.words;
-  run : IsOneWord (map (λ word. word.now) l.words) l.start l.end;
+  run : IsOneWord l.words l.start l.end;
 }
 
 abbrev pub decreases-loop-end : goal.decreases-loop-end

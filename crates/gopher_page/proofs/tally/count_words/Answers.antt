@@ -1,5 +1,4 @@
 use Rattle.std.proofs.Common.{◌≡◌, ◌∙◌, List, ℕ, length, map, ap, sym, subst, sum_by, arith}
-use Rattle.std.proofs.lemmas.List.{length-map}
 use Rattle.std.proofs.lemmas.List.Sorted.{length_permutation, sum_by-IsPermutation}
 use Rattle.std.proofs.lemmas.Result.{IfOk-weaker}
 use Rattle.std.specs.List.{flat_map}
@@ -7,7 +6,7 @@ use Rattle.std.specs.List.Sorted.{IsSorted}
 use Rattle.gopher_bytes.specs.Case.{lower_case}
 use Rattle.gopher_page.specs.Words.{bare_words, words_of}
 use Rattle.gopher_page.specs.Counts.{counts_of}
-use Rattle.gopher_page.proofs.Lengths.{rises, counted_sorted, sorted_behind}
+use Rattle.gopher_page.proofs.Lengths.{rises, counted_sorted}
 use Rattle.gopher_page.proofs.AddedWords.{compare}
 use Rattle.gopher_page.proofs.Lowered.{words_of_lines, lines_words_size, lines_words_count}
 use Rattle.gopher_page.proofs.tally.count_words.Goals as goal
@@ -18,15 +17,15 @@ packed-requires c =
     let words : List (List ℕ) = c.in_ok-words.words.items in
     let sorted : List (List ℕ) = c.sort_unstable.new.self.items in
     let found : words ≡ flat_map words_of lines = c.in_ok-words.ensures ∙ ap bare_words (c.as_slice.ensures ∙ c.in_ok-lowered.ensures ∙ ap (map lower_case) (c.deref.ensures.value ∙ c.in_ok-text.ensures)) ∙ words_of_lines lines in
-    let behind : map (λ word. word.now) c.deref-3.result.now ≡ sorted = ap (map (λ word. word.now)) c.deref-3.ensures.value ∙ c.in_ok-sorted.ensures ∙ c.deref-2.ensures.value in
-    let size : sum_by length (map (λ word. word.now) c.deref-3.result.now) ≡ sum_by length (flat_map words_of lines) =
+    let behind : c.deref-2.result.now ≡ sorted = c.deref-2.ensures.value in
+    let size : sum_by length c.deref-2.result.now ≡ sum_by length (flat_map words_of lines) =
     ap (sum_by length) behind ∙ sum_by-IsPermutation (length {A = ℕ}) words sorted c.sort_unstable.ensures.permutation ∙ ap (sum_by length) found
     in
-    let count : length c.deref-3.result.now ≡ length (flat_map words_of lines) =
-    sym (length-map c.deref-3.result.now (λ word. word.now)) ∙ ap length behind ∙ length_permutation words sorted c.sort_unstable.ensures.permutation ∙ ap length found
+    let count : length c.deref-2.result.now ≡ length (flat_map words_of lines) =
+    ap length behind ∙ length_permutation words sorted c.sort_unstable.ensures.permutation ∙ ap length found
     in
     record {
-      sorted = sorted_behind c.deref-3.result.now (subst (IsSorted compare) (sym behind) c.sort_unstable.ensures.sorted);
+      sorted = subst (IsSorted compare) (sym behind) c.sort_unstable.ensures.sorted;
       short = omega (arith, size, lines_words_size lines, c.requires);
       few = omega (arith, count, lines_words_count lines, c.requires);
     }
@@ -37,8 +36,7 @@ returns c =
     let words : List (List ℕ) = c.in_ok-words.words.items in
     let sorted : List (List ℕ) = c.sort_unstable.new.self.items in
     let found : words ≡ flat_map words_of lines = c.in_ok-words.ensures ∙ ap bare_words (c.as_slice.ensures ∙ c.in_ok-lowered.ensures ∙ ap (map lower_case) (c.deref.ensures.value ∙ c.in_ok-text.ensures)) ∙ words_of_lines lines in
-    let behind : map (λ word. word.now) c.deref-3.result.now ≡ sorted = ap (map (λ word. word.now)) c.deref-3.ensures.value ∙ c.in_ok-sorted.ensures ∙ c.deref-2.ensures.value in
-    let all : counts_of (map (λ word. word.now) c.deref-3.result.now) ≡ counts_of (flat_map words_of lines) =
-    ap counts_of behind ∙ counted_sorted words sorted c.sort_unstable.ensures.permutation (rises sorted c.sort_unstable.ensures.sorted) ∙ ap counts_of found
+    let all : counts_of c.deref-2.result.now ≡ counts_of (flat_map words_of lines) =
+    ap counts_of c.deref-2.ensures.value ∙ counted_sorted words sorted c.sort_unstable.ensures.permutation (rises sorted c.sort_unstable.ensures.sorted) ∙ ap counts_of found
     in
-    IfOk-weaker c.packed.result (λ counts. counts ≡ counts_of (map (λ word. word.now) c.deref-3.result.now)) (λ counts. counts ≡ counts_of (flat_map words_of lines)) (λ counts is. is ∙ all) c.packed.ensures
+    IfOk-weaker c.packed.result (λ counts. counts ≡ counts_of c.deref-2.result.now) (λ counts. counts ≡ counts_of (flat_map words_of lines)) (λ counts is. is ∙ all) c.packed.ensures
