@@ -46,6 +46,10 @@ AreRowsWithin first size rows = (word : List ℕ) → AreWithin first size (post
 abbrev pub is_before_at : List (List ℕ × List (ℕ × ℕ)) → List ℕ → ℕ → Bool
 is_before_at rows sought index = is_before (slice_index_or (words_of_rows rows) index []) sought
 
+-- all words up to an index, not including it, come before the sought one
+abbrev pub AllAreBefore : List (List ℕ × List (ℕ × ℕ)) → List ℕ → ℕ → Type 0
+AllAreBefore rows sought end = (k : ℕ) → k < end → is_before_at rows sought k ≡ true
+
 -- no word from an index on comes before the sought one
 abbrev pub NoneIsBefore : List (List ℕ × List (ℕ × ℕ)) → List ℕ → ℕ → Type 0
 NoneIsBefore rows sought start =

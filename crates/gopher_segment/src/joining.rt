@@ -80,7 +80,7 @@ fn table_of(alloc: Global, heads: &[Head<'_>], chains: &Chains) -> Result<Table,
         at = take_word(heads, chains, at, &mut runs)?;
         runs.end_run()?;
     }
-    Ok(Table::packed(words, runs))
+    Table::packed(alloc, words, runs)
 }
 
 /// Makes one table of rows: the rows of a word become one row, with their postings in order.

@@ -7,7 +7,8 @@
 //! these pages count (`specs/Segment.antt`).
 //!
 //! Pages have consecutive numbers. A table has a row for each word: the word and its run, which is
-//! its list of postings.
+//! its list of postings. A word is found by binary search, which the leading numbers of some words
+//! narrow: the first eight bytes of each 64th word.
 //!
 //! Error 90 (`NoMemory`) means out of memory. Unless its comment says otherwise, a public call that
 //! fails with it leaves its arguments unchanged. Calls that can't fail with it allocate nothing.

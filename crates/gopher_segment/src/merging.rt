@@ -237,5 +237,5 @@ pub(crate) fn merge(alloc: Global, cursors: &mut [Cursor<'_>]) -> Result<Table, 
         take_runs(&word, first, cursors, &mut runs)?;
         runs.end_run()?;
     }
-    Ok(Table::packed(words, runs))
+    Table::packed(alloc, words, runs)
 }

@@ -1,5 +1,6 @@
 use Rattle.std.proofs.Common.{◌≡◌, ℕ, List, ◌++◌, ◌∷◌, [], length, drop, sym, ap, ◌∙◌, append_assoc, arith}
 use Rattle.std.proofs.lemmas.List.{length-append}
+use Rattle.std.proofs.lemmas.Result.{IfOk-weaker}
 use Rattle.std.specs.List.{zip}
 use Rattle.gopher_segment.specs.Rows.{joined_rows}
 use Rattle.gopher_segment.specs.Groups.{rows_of_heads}
@@ -32,5 +33,6 @@ loop-at-preserved c =
 
 pub returns : goal.returns
 returns c =
-    c.packed.ensures
-    ∙ all_joined c.args.chains.now c.args.heads.now (zip c.loop-at.words c.loop-at.runs.whole) c.loop-at.at (omega (arith, c.loop-at-test.false)) c.loop-at.invariant.joined
+    let so_far : List (List ℕ × List (ℕ × ℕ)) = zip c.loop-at.words c.loop-at.runs.whole in
+    let all = all_joined c.args.chains.now c.args.heads.now so_far c.loop-at.at (omega (arith, c.loop-at-test.false)) c.loop-at.invariant.joined in
+    IfOk-weaker c.packed.result (λ table. table ≡ so_far) (λ table. table ≡ joined_rows (rows_of_heads c.args.chains.now c.args.heads.now)) (λ table is. is ∙ all) c.packed.ensures

@@ -1,10 +1,11 @@
 use Rattle.std.proofs.Common.{◌≡◌, ℕ, List, ◌+◌, ◌<◌, ◌++◌, ◌∷◌, [], length, sym, ap, subst, ◌∙◌, arith, refl}
 use Rattle.std.proofs.lemmas.List.{length-append, append-nil}
+use Rattle.std.proofs.lemmas.Result.{IfOk-weaker}
 use Rattle.std.specs.List.{flat_map, zip}
 use Rattle.std.specs.List.Sorted.{IsStrictlySortedBy}
 use Rattle.std.specs.Ordering.{nat_cmp}
 use Rattle.std.specs.Cmp.Lexicographic.{slice_cmp}
-use Rattle.gopher_segment.specs.Rows.{rows_count, postings_of, rows_left, taken, tables_count, ComeBefore}
+use Rattle.gopher_segment.specs.Rows.{rows_count, postings_of, rows_left, taken, tables_count, AreInOrder, ComeBefore, HaveCountsOf, HavePostingsOf}
 use Rattle.gopher_segment.proofs.RowLemmas.{words_of_zip}
 use Rattle.gopher_segment.proofs.WordOrder.{sorted_push}
 use Rattle.gopher_segment.proofs.MergeLemmas.{IsFirst, AreFrom, nothing_left, lowest_first, fewer_left, pass_orders, before_first, pass_befores, counts_step}
@@ -61,18 +62,26 @@ loop-first-preserved c =
 pub returns-clause-order : goal.returns-clause-order
 returns-clause-order c =
     let P : List (List ℕ) → Type 0 = IsStrictlySortedBy (slice_cmp nat_cmp) in
-    rw c.packed.ensures (subst P (sym (words_of_zip c.loop-first.words c.loop-first.runs.whole c.loop-first.invariant.same)) c.loop-first.invariant.order)
+    let made : List (List ℕ × List (ℕ × ℕ)) = zip c.loop-first.words c.loop-first.runs.whole in
+    let sorted : AreInOrder made = subst P (sym (words_of_zip c.loop-first.words c.loop-first.runs.whole c.loop-first.invariant.same)) c.loop-first.invariant.order in
+    IfOk-weaker c.packed.result (λ table. table ≡ made) AreInOrder (λ table is. subst AreInOrder (sym is) sorted) c.packed.ensures
 
 pub returns-clause-counts : goal.returns-clause-counts
-returns-clause-counts c = λ test page.
-    let none : tables_count test page c.loop-first.cursors ≡ 0 = nothing_left c.loop-first.cursors (sym c.in_default.ensures.word) test page in
-    let all : rows_count test page (zip c.loop-first.words c.loop-first.runs.whole) + tables_count test page c.loop-first.cursors ≡ tables_count test page c.args.cursors.now = c.loop-first.invariant.counts test page in
-    rw c.packed.ensures (omega arith)
+returns-clause-counts c =
+    let made : List (List ℕ × List (ℕ × ℕ)) = zip c.loop-first.words c.loop-first.runs.whole in
+    let P : List (List ℕ × List (ℕ × ℕ)) → Type 0 = HaveCountsOf c.args.cursors.now in
+    let counted : P made = λ test page.
+    omega (arith, nothing_left c.loop-first.cursors (sym c.in_default.ensures.word) test page, c.loop-first.invariant.counts test page)
+    in
+    IfOk-weaker c.packed.result (λ table. table ≡ made) P (λ table is. subst P (sym is) counted) c.packed.ensures
 
 pub returns-clause-runs : goal.returns-clause-runs
-returns-clause-runs c = λ word.
-    let table : List (ℕ × ℕ) = postings_of word (zip c.loop-first.words c.loop-first.runs.whole) in
-    ap (postings_of word) c.packed.ensures
-    ∙ sym (append-nil table)
-    ∙ ap (λ l. table ++ l) (sym (no_postings_left word c.loop-first.cursors (sym c.in_default.ensures.word)))
+returns-clause-runs c =
+    let made : List (List ℕ × List (ℕ × ℕ)) = zip c.loop-first.words c.loop-first.runs.whole in
+    let P : List (List ℕ × List (ℕ × ℕ)) → Type 0 = HavePostingsOf c.args.cursors.now in
+    let all : P made = λ word.
+    sym (append-nil (postings_of word made))
+    ∙ ap (λ l. postings_of word made ++ l) (sym (no_postings_left word c.loop-first.cursors (sym c.in_default.ensures.word)))
     ∙ c.loop-first.invariant.postings word
+    in
+    IfOk-weaker c.packed.result (λ table. table ≡ made) P (λ table is. subst P (sym is) all) c.packed.ensures
