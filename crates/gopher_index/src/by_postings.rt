@@ -1,10 +1,10 @@
 //! Searching segments for a single word, through its posting list in each.
 
-ghost use Rattle.std.specs.Prelude.{◌≡◌, ◌<◌, ◌≤◌, ◌∷◌, [], false, length, map, nat_le, IfOk, OnOk};
+ghost use Rattle.std.specs.Prelude.{◌≡◌, ◌<◌, ◌≤◌, ◌∷◌, [], false, length, map, min, nat_le, IfOk, OnOk};
 ghost use Rattle.std.specs.Arc.{arc_value};
 ghost use Rattle.std.specs.List.{list_any};
 ghost use Rattle.gopher_page.specs.declared.query.Operator.TheVariants.{And};
-ghost use Rattle.gopher_index.specs.Best.{IsBestOf, TakesIn};
+ghost use Rattle.gopher_index.specs.Best.{IsBestOf, TakesIn, lowest_score};
 ghost use Rattle.gopher_index.specs.ByPostings.{is_again, ArePostings, ArePostingsIn, ArePostingsOf, IsWholeCount, TakesPosting, WalksBetween};
 ghost use Rattle.gopher_index.specs.Ties.{AreTies};
 ghost use Rattle.gopher_index.specs.Index.{pages_in};
@@ -72,7 +72,15 @@ fn insert_posting<'a>(
     ties.insert(index, score, best)
 }
 
-// Inserts the pages whose first postings are between `start` and `end`.
+// Returns the lowest count of a first posting with which its page can get among the best.
+fn lowest_count(best: &Best<'_>) -> u8
+    ensures { result ≡ min (lowest_score best.now) 255 }
+{
+    best.lowest_score().min(255) as u8
+}
+
+// Inserts the pages whose first postings are between `start` and `end`. Skips postings whose count
+// isn't high enough.
 fn insert_postings<'a>(
     ties: &mut Ties<'a>,
     term: &Term,
@@ -91,10 +99,12 @@ fn insert_postings<'a>(
     ensures ties { OnOk result (AreTies ties.new best.new) }
     ensures walk { WalksBetween term.now ties.old postings.now start end best.old best.new result }
 {
+    let mut lowest = lowest_count(best);
     for index in start..end {
-        if !is_again(postings.numbers, index) {
+        if postings.counts[index] >= lowest && !is_again(postings.numbers, index) {
             let page = usize::from(postings.numbers[index]) - postings.first;
             insert_posting(ties, page, term, postings.counts[index], best)?;
+            lowest = lowest_count(best);
         }
     }
     Ok(())
@@ -117,8 +127,7 @@ fn rank_postings<'a>(
     let mut start = 0;
     while start < postings.numbers.len() {
         let end = postings.numbers.len().min(start + BLOCK);
-        let lowest = best.lowest_score().min(255) as u8;
-        if any_from(&postings.counts[start..end], lowest) {
+        if any_from(&postings.counts[start..end], lowest_count(best)) {
             insert_postings(&mut ties, term, postings, start, end, best)?;
         }
         start = end;

@@ -21,11 +21,11 @@
 //! For several terms it spreads the counts of each term over an array with one element for each
 //! page, joins them to the matches so far, and adds them to the scores (`cells`, `by_cells`). A
 //! word after `not` only removes pages. For a single word it goes through the posting list and
-//! skips blocks of 64 postings that can't reach the best 50 (`by_postings`). Pages that reach the
-//! lowest of the best scores are inserted among them (`best`). If a page of that score isn't among
-//! them, no page of the segment with that score and a later place is, and the ranks of places in
-//! the segment show which these are (`ties`). So most pages of one score are never read. Loose
-//! pages are searched by their own counts (`loose`).
+//! skips blocks of 64 postings that can't reach the best 50, and such postings in other blocks
+//! (`by_postings`). Pages that reach the lowest of the best scores are inserted among them
+//! (`best`). If a page of that score isn't among them, no page of the segment with that score and a
+//! later place is, and the ranks of places in the segment show which these are (`ties`). So most
+//! pages of one score are never read. Loose pages are searched by their own counts (`loose`).
 //!
 //! A query has at most as many terms as its line has bytes, 1,024 (`MAX_LINE`). So scores fit in a
 //! `u32`.

@@ -87,8 +87,19 @@ pub(crate) fn likely_hits(some: usize, all: usize) -> usize {
     share.clamp(1, MOST_HITS)
 }
 
+fn postings_len(found: &[Postings]) -> usize {
+    let mut len = 0_usize;
+    for postings in found {
+        len = len.saturating_add(postings.counts.len());
+    }
+    len
+}
+
 /// Guesses a score that 50 pages reach for a word, from its postings in each segment.
 pub(crate) fn likely_score(found: &[Postings]) -> u64 {
+    if postings_len(found) < MOST_HITS {
+        return 0;
+    }
     let mut highest = Highest::new();
     for postings in found {
         highest.note_counts(postings.counts);

@@ -15,8 +15,8 @@ loop-start-init c = record {
 pub loop-start-preserved : goal.loop-start-preserved
 loop-start-preserved c =
     let forward : c.loop-start.start + (c.min-end.result - c.loop-start.start) ≡ c.min-end.result = omega arith in
-    let low : c.min-lowest.result ≤ lowest_score c.loop-start.best = omega (arith, c.min-lowest.ensures, c.lowest_score.ensures) in
-    let small : c.min-lowest.result ≤ 255 = omega (arith, c.min-lowest.ensures) in
+    let low : c.lowest_count.result ≤ lowest_score c.loop-start.best = omega (arith, c.lowest_count.ensures) in
+    let small : c.lowest_count.result ≤ 255 = omega (arith, c.lowest_count.ensures) in
     record {
       within = omega arith;
       pages = c.loop-start.invariant.pages;
@@ -26,8 +26,8 @@ loop-start-preserved c =
           (walk_block c.args.term.now c.requires.and c.args.postings.now.first c.args.segment.now.pages c.args.postings.now.numbers.now c.args.postings.now.counts.now c.requires.beside c.args.best.now c.loop-start.best
           c.loop-start.start (c.min-end.result - c.loop-start.start) (omega arith)
           (λ k less.
-          let below : get_or c.args.postings.now.counts.now (c.loop-start.start + k) 0 < c.min-lowest.result =
-          counts_below c.min-lowest.result c.args.postings.now.counts.now c.loop-start.start (c.min-end.result - c.loop-start.start) (sym c.any_from.ensures ∙ c.if-any_from.false) k less (omega arith) in
+          let below : get_or c.args.postings.now.counts.now (c.loop-start.start + k) 0 < c.lowest_count.result =
+          counts_below c.lowest_count.result c.args.postings.now.counts.now c.loop-start.start (c.min-end.result - c.loop-start.start) (sym c.any_from.ensures ∙ c.if-any_from.false) k less (omega arith) in
           (omega arith, omega arith))
           c.loop-start.invariant.walk);
     }
