@@ -10,6 +10,9 @@ use std::alloc::AllocError;
 // The most bytes that a line needs besides its own: a period, and CR LF.
 const MOST_MORE: usize = 3;
 
+// Most lines of a file are at least this long.
+const BYTES_OF_A_LINE: usize = 32;
+
 /// Appends the text of these lines, which a single period ends (RFC 1436, appendix: TextFile
 /// Entity). No line may contain an LF.
 ///
@@ -35,11 +38,20 @@ pub fn write_text_of(bytes: &[u8], out: &mut Vec<u8>) -> Result<(), NoMemory>
     ensures refused { OnErr result (out.new.items ≡ out.old.items) }
 {
     let length = out.len();
-    if out.reserve(bytes.len()).is_err() || push_lines_of(bytes, out).is_err() {
+    if out.reserve(room_for_file(bytes)).is_err() || push_lines_of(bytes, out).is_err() {
         out.truncate(length);
         return Err(NoMemory);
     }
     Ok(())
+}
+
+// As many bytes as the text of a file needs, if its lines have the usual length: one more for each
+// line, and for the period that ends it.
+fn room_for_file(bytes: &[u8]) -> usize {
+    bytes
+        .len()
+        .saturating_add(bytes.len() / BYTES_OF_A_LINE)
+        .saturating_add(MOST_MORE)
 }
 
 // At least as many bytes as the text of the lines has.

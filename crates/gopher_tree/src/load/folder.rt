@@ -3,7 +3,7 @@
 //! A name can vanish between any two calls, because other programs change the folder while it is
 //! read. A name that has vanished counts as a link that leads nowhere.
 
-ghost use Rattle.std.specs.Prelude.{◌≡◌, ◌≢◌, IfErr, IfOk, None, Some, string_cmp};
+ghost use Rattle.std.specs.Prelude.{◌≡◌, ◌≢◌, [], IfErr, IfOk, None, Some, string_cmp};
 ghost use Rattle.std.specs.List.Sorted.{IsSorted};
 ghost use Rattle.std.specs.Fs.{metadata_len};
 ghost use Rattle.std.specs.IoError.{error_kind};
@@ -230,6 +230,18 @@ fn read_open<F: Read + OpenFile + Drop>(
     }
 }
 
+// An empty vector. It has room for the bytes, and for one more that shows that no others follow, if
+// there is memory for them.
+fn room_for(alloc: Global, bytes: u64) -> Vec<u8>
+    ensures { result.items ≡ [] }
+{
+    let room = bytes.saturating_add(1) as usize;
+    match Vec::with_capacity(alloc, room) {
+        Ok(vector) => vector,
+        Err(_refused) => Vec::new(alloc),
+    }
+}
+
 // The first `most` bytes of a reader, or all bytes if there are fewer.
 fn read_most<R: Read + Drop>(
     alloc: Global,
@@ -240,7 +252,7 @@ fn read_most<R: Read + Drop>(
     ensures read { ReadsMost most (R.remaining reader) result }
     ensures refused { IfErr result (IsUnreadable number) }
 {
-    let mut bytes = Vec::new(alloc);
+    let mut bytes = room_for(alloc, most);
     match reader.take(most).read_to_end(&mut bytes) {
         Ok(_) => {
             bytes.shrink_to_fit();
