@@ -1,10 +1,11 @@
 #!/usr/bin/env python3
-"""Writes the files that crates/test_library times: a menu and a text of 16 MiB, a menu as long as a reply may be,
-and a small site."""
+"""Writes the files that crates/test_library times: a menu and a text of 16 MiB, a menu and a text of 16 KiB, a menu as long as
+a reply may be, and a small site."""
 import os
 import sys
 
 SIZE = 16 * 1024 * 1024
+SMALL_SIZE = 16 * 1024
 FILE_SIZE = 1024 * 1024
 
 
@@ -32,8 +33,8 @@ def text_line(number):
     return f"Line {number} of a text that a small site could serve, neither short nor long."
 
 
-def text():
-    return lines_up_to(SIZE, lambda number: f"{text_line(number)}\r\n") + ".\r\n"
+def text(size):
+    return lines_up_to(size, lambda number: f"{text_line(number)}\r\n") + ".\r\n"
 
 
 def file_line(number):
@@ -62,7 +63,14 @@ def site(folder):
         out.write(bytes(range(256)) * (FILE_SIZE // 256))
 
 
-for name, content in (("menu", menu(SIZE)), ("reply", menu(FILE_SIZE - 100)), ("text", text())):
+WRITTEN = (
+    ("menu", menu(SIZE)),
+    ("reply", menu(FILE_SIZE - 100)),
+    ("text", text(SIZE)),
+    ("small_menu", menu(SMALL_SIZE)),
+    ("small_text", text(SMALL_SIZE)),
+)
+for name, content in WRITTEN:
     with open(f"{sys.argv[1]}/{name}", "w", newline="") as out:
         out.write(content)
 site(f"{sys.argv[1]}/site")

@@ -1,8 +1,9 @@
 #!/usr/bin/env bash
 # Every timing: scripts replayed, menus and texts read and written, beside a plain C program that splits
 # them, settings and a site of 4,006 files checked, requests and searches of the server, beside a plain C
-# server of the same replies, a catalogue of 65,536 pages built and searched, beside a plain C program that
-# makes the same pages, adds them to postings and searches these, and a host in memory of 16,384 texts crawled
+# server of the same replies, the start of a server beside `find` and `cat`, a catalogue of 65,536 pages built and
+# searched, beside a plain C program that makes the same pages, adds them to postings and searches these, the memory of
+# 30,000 real texts of the machine, and a host in memory of 16,384 texts crawled
 # by 4, 2 and 1 workers, beside threads of C that index the same texts. Then other Gopher servers, if they are
 # installed, and the tables of docs/TIMINGS.md. `bench/run.sh OUTPUT` keeps what it printed, for
 # `bench/table.py --write OUTPUT`.
@@ -22,8 +23,10 @@ measure() {
     bench/replay.sh crates/hole/out/hole
     bench/files.py "$folder"
     cc -O2 -o "$folder/splits" bench/splits.c
-    for file in menu reply text; do
+    for file in menu reply text small_menu small_text; do
         kind=${file/reply/menu}
+        kind=${kind/small_/}
+        echo "the file $file:"
         time_calls "${kind}s" "$folder/$file"
         "$folder/splits" "$kind" "$folder/$file"
     done
@@ -32,11 +35,14 @@ measure() {
     cc -O2 -pthread -o "$folder/plain_server" bench/plain_server.c
     cc -O2 -pthread -o "$folder/clients" bench/clients.c
     bench/speeds.py crates/hole/out/hole "$folder/plain_server" "$folder/clients"
+    bench/start.py crates/hole/out/hole
     bench/pages.py "$folder/pages"
     time_calls searches "$folder/pages"
     cc -O2 -o "$folder/postings" bench/postings.c
     echo "the plain C program:"
     "$folder/postings" "$folder/pages"
+    bench/texts.py "$folder/texts"
+    time_calls searches "$folder/texts" | sed -n '1s/^/real texts: /p'
     bench/pages.py "$folder/crawled" 16384
     time_calls crawls "$folder/crawled"
     cc -O2 -pthread -o "$folder/crew" bench/crew.c

@@ -26,6 +26,13 @@ SERVED = (
     ("300 texts", "300 texts in turn", "requests"),
     ("text of 1 MB", "texts of 1 MB", "MB"),
 )
+# what is read, and the files of bench/files.py with it
+READ = (
+    ("reading menus", "menu"),
+    ("reading menus of 16 KiB", "small_menu"),
+    ("reading texts", "text"),
+    ("reading texts of 16 KiB", "small_text"),
+)
 # how many idle clients Hole has beside those that ask; the C server has none
 IDLE = (100, 1_000)
 
@@ -75,13 +82,33 @@ def crawled(text):
     yield "a crawl by four workers", "pages a second", ours / plain, None
 
 
+def read(text):
+    """The rows of menus and texts that are read."""
+    for name, file in READ:
+        ours, plain = (number(text, rf"(?s)\nthe file {file}:\n.*?{words} (\d+) MB/s") for words in ("read at", "split in plain C:"))
+        yield name, "bytes a second", ours / plain, None
+
+
 def table(text):
     """The table of ratios to plain C."""
-    menus = number(text, r"(?m)^menu: read at (\d+) MB/s") / number(text, r"(?m)^split in plain C: (\d+) MB/s")
-    rows = [*served(text), *idled(text), *searched(text), *crawled(text), ("reading menus", "bytes a second", menus, None)]
+    rows = [*served(text), *idled(text), *searched(text), *crawled(text), *read(text)]
     head = ["| measured | unit | rate, Hole / C; memory, C / Hole | processor time, C / Hole |", "|---|---|---|---|"]
     shown = [f"| {name} | {unit} | {rate:.2f} | {'' if spent is None else f'{spent:.2f} '}|" for name, unit, rate, spent in rows]
     return "\n".join(head + shown) + "\n"
+
+
+def files(text):
+    """The table of what is compared with the files themselves."""
+    took = number(text, r"(?m)^start of .*, quotient ([\d.]+)$")
+    held = number(text, r"(?m)^memory at start: .*, quotient ([\d.]+)$")
+    count, size = (number(text, rf"(?m)^{words}") for words in (r"(\d+) real texts, ", r"\d+ real texts, (\d+) bytes"))
+    page = number(text, r"(?m)^real texts: .*, (\d+) bytes a page")
+    rows = (
+        ("start of a server, to reading its files by `find` and `cat`", took),
+        ("memory of that server, to the bytes of its files", held),
+        (f"memory of the pages of {count:,.0f} real texts, to their bytes", page * count / size),
+    )
+    return "\n".join(["| measured | ratio |", "|---|---|", *(f"| {name} | {ratio:.2f} |" for name, ratio in rows)]) + "\n"
 
 
 def peers(text, page):
@@ -103,6 +130,7 @@ def written(page, text):
     """The page with the tables of this output."""
     mark = lambda name: re.compile(rf"(?s)(<!-- {name}: tools/draw_ratios.py -->\n).*?(<!-- end -->)")
     page = mark("ratios").sub(lambda found: found[1] + table(text) + found[2], page)
+    page = mark("files").sub(lambda found: found[1] + files(text) + found[2], page)
     page = mark("peers").sub(lambda found: found[1] + peers(text, page) + found[2], page)
     return re.sub(r"(?m)(<!-- measured: bench/table.py -->).*$", lambda found: f"{found[1]} {told()}", page)
 
@@ -115,7 +143,7 @@ def main(words):
     if words[0] == "--write":
         PAGE.write_text(written(page, text))
         return subprocess.run([ROOT / "tools/draw_ratios.py"]).returncode
-    print(f"{told()}\n\n{table(text)}\n{peers(text, page)}", end="")
+    print(f"{told()}\n\n{table(text)}\n{files(text)}\n{peers(text, page)}", end="")
     return 0
 
 

@@ -12,12 +12,18 @@ import table
 SERVED = """{0}, {1} a second: 20,000 (C 10,000), quotient 2.00, goal at least 0.90
 {0}, processor microseconds a request: 10 (C 20), quotient 0.50, goal at most 1.25
 """
+READ = """the file {}:
+{}: read at 300 MB/s, written at 747 MB/s
+split in plain C: 600 MB/s
+"""
 OUTPUT = (
-    "menu: read at 300 MB/s, written at 747 MB/s\n"
-    "split in plain C: 600 MB/s\n"
+    "links-quarter: 1 bytes, 0.1 s\n"
+    + "".join(READ.format(file, file.removeprefix("small_")) for _, file in table.READ)
     + "".join(SERVED.format(name, unit) for name, _, unit in table.SERVED)
     + "".join(f"small menu beside {count} silent clients, requests a second: 9,000 (C 10,000), quotient 0.90\n" for count in table.IDLE)
-    + """65536 pages: 40000 ns a page to make, 50000 to claim and add, 2990 bytes a page with its postings
+    + """start of 4094 nodes: 160 ms (find and cat 80), quotient 2.00
+memory at start: 200 bytes, of 100 bytes of files, quotient 2.00
+65536 pages: 40000 ns a page to make, 50000 to claim and add, 2990 bytes a page with its postings
 moon: 50 us, 50 hits, 100 the sum of their scores
 moon and sun: 50 us, 50 hits, 100 the sum of their scores
 16384 pages: 1 ns a page to make, 2 to claim and add, 3 bytes a page with its postings
@@ -29,6 +35,8 @@ packing: 5.0 us a page, once
 memory: 1495 bytes a page
 moon: 25 us, 50 hits, scores 100
 moon and sun: 100 us, 50 hits, scores 100
+100 real texts, 200000 bytes
+real texts: 100 pages: 1 ns a page to make, 2 to claim and add, 800 bytes a page with its postings
 4 workers: 16513 places done, 3000 bytes a page, 60000 pages/s
 2 workers: 16513 places done, 3000 bytes a page, 1 pages/s
 4 threads of C: 16384 pages, 80000 pages/s
@@ -48,7 +56,13 @@ class Timings(unittest.TestCase):
         self.assertEqual((rows["making pages"], rows["adding pages to the index"]), ("1.00 | |", "0.50 | |"))
         self.assertEqual(rows["memory of a page"], "0.50 | |")
         self.assertEqual(rows["a crawl by four workers"], "0.75 | |")
-        self.assertEqual(rows["reading menus"], "0.50 | |")
+        for name, _ in table.READ:
+            self.assertEqual(rows[name], "0.50 | |")
+
+    def test_the_table_of_files_has_what_was_printed(self):
+        rows = re.findall(r"(?m)^\| (.+) \| ([\d.]+) \|$", table.files(OUTPUT))
+        self.assertEqual([ratio for _, ratio in rows], ["2.00", "2.00", "0.40"])
+        self.assertIn("the pages of 100 real texts", rows[2][0])
 
     def test_the_page_has_rows_of_the_same_names(self):
         page = table.PAGE.read_text()
@@ -81,6 +95,8 @@ class Timings(unittest.TestCase):
                 *(f'"{name}, requests a second"' for name, _, unit in table.SERVED if "one client" in name),
                 '"small menu beside {silent} silent clients, requests a second"',
             ],
+            "bench/start.py": ['nodes: {1000 * took:.0f} ms (find and cat {1000 * plain:.0f}), quotient {', "memory at start: {held} bytes, of {size} bytes of files, quotient {"],
+            "bench/texts.py": ['"{count} real texts, {size} bytes"'],
             "bench/peers.py": ['"small menus of {name}: {rate:,.0f} a second (C '],
         }
         for file, formats in printed.items():

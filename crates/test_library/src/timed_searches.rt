@@ -55,7 +55,8 @@ fn make(
         return None;
     }
     let start = now(rt)?;
-    let page = Page::of(rt.alloc(), catalogue.opening().scope(), &claim.place, text).ok()?;
+    let scope = catalogue.opening().scope();
+    let page = Page::of_shared(rt.alloc(), scope, &claim.place, text).ok()?;
     spent.made = spent.made.saturating_add(since(rt, start)?);
     Some(page)
 }
