@@ -1,5 +1,5 @@
 -- What one more term changes of what terms say of pages.
-use Rattle.std.proofs.Common.{◌≡◌, ℕ, zero, suc, ◌+◌, ◌≤◌, ◌<◌, Bool, true, false, cond, List, [], ◌∷◌, ◌++◌, length, map, take, get_or, set, sum_by, replicate, refl, sym, ap, ◌∙◌, arith}
+use Rattle.std.proofs.Common.{◌≡◌, ℕ, zero, suc, ◌+◌, ◌≤◌, Bool, true, false, cond, List, [], ◌∷◌, ◌++◌, length, map, sum_by, replicate, refl, sym, ap, ◌∙◌, arith}
 use Rattle.std.specs.Prelude.{nat_lt}
 use Rattle.std.specs.List.{All}
 use Rattle.std.proofs.lemmas.List.{length-map}
@@ -9,11 +9,10 @@ use Rattle.gopher_page.specs.Packed.{AreCounts}
 use Rattle.gopher_page.specs.Page.{PageData}
 use Rattle.gopher_page.specs.Query.{TermData, count_of_term, joined, is_not, matches, score}
 use Rattle.gopher_page.proofs.OneMoreTerm.{matches_one_more, score_one_more, score_of_none, all_match}
-use Rattle.gopher_page.specs.declared.query.Operator.{Operator}
-use Rattle.gopher_index.specs.Cells.{AreCells, joined_truths, term_counts, truths_of, scores_of, zipped}
+use Rattle.gopher_index.specs.Cells.{AreCells, term_counts, truths_of, scores_of, zipped}
 use Rattle.gopher_segment.specs.Segment.{meant_counts}
 use Rattle.gopher_index.proofs.Lists.{map-constant}
-use Rattle.gopher_index.proofs.Zipping.{zipped_none, zipped_next, zipped_map}
+use Rattle.gopher_index.proofs.Zipping.{zipped_map}
 
 -- the words that are meant are counted at most as often as all
 pub meant_few : (is_prefix : Bool) (sought : List ℕ) (counts : List (List ℕ × ℕ)) → AreCounts counts → count_meant is_prefix sought counts ≤ 1048576
@@ -41,16 +40,6 @@ no_term pages truths scores all_true all_zero =
       matching = all_true ∙ map-constant (λ (page : PageData). matches [] page.counts) true pages (λ page. all_match page.counts);
       scoring = all_zero ∙ map-constant (λ (page : PageData). score [] page.counts) 0 pages (λ page. score_of_none page.counts);
     }
-
--- ---- a loop that joins counts to truths
-
-module _ (operator : Operator) (initial : List Bool) where
-  pub joined_none : initial ≡ joined_truths operator initial []
-  joined_none = zipped_none (λ truth count. joined operator truth (nat_lt 0 count)) initial
-
-  pub joined_next : (now : List Bool) (counts : List ℕ) (i : ℕ) → length initial ≡ length counts → i < length counts → now ≡ joined_truths operator initial (take i counts)
-      → set now i (joined operator (get_or now i false) (nat_lt 0 (get_or counts i 0))) ≡ joined_truths operator initial (take (i + 1) counts)
-  joined_next now counts i = zipped_next (λ truth count. joined operator truth (nat_lt 0 count)) initial now counts i false
 
 -- ---- one more
 

@@ -1,7 +1,7 @@
 -- Pages that a term that isn't wanted leaves out.
-use Rattle.std.proofs.Common.{◌≡◌, ℕ, zero, suc, ◌+◌, ◌==◌, Bool, true, false, not, refl, sym, ap, ◌∙◌, arith}
+use Rattle.std.proofs.Common.{◌≡◌, ℕ, zero, suc, ◌+◌, Bool, true, false, refl, ap, ◌∙◌, arith}
 use Rattle.std.specs.Prelude.{nat_lt}
-use Rattle.std.proofs.lemmas.Bool.{ne_eqb, lt-ltb, le-ltb}
+use Rattle.std.proofs.lemmas.Bool.{lt-ltb, le-ltb}
 use Rattle.gopher_page.specs.Query.{joined, is_not}
 use Rattle.gopher_page.specs.declared.query.Operator.{Operator}
 use Rattle.gopher_page.specs.declared.query.Operator.TheVariants.{And, Or, Not}
@@ -21,10 +21,6 @@ not_twice true (suc a) b =
 pub not_none : (truth : Bool) → joined Not truth (nat_lt 0 0) ≡ truth
 not_none false = refl
 not_none true = let none : nat_lt 0 0 ≡ false = le-ltb 0 0 (omega arith) in ap (λ holds. joined Not true holds) none
-
-pub is_none : (n : ℕ) → (n == 0) ≡ not (nat_lt 0 n)
-is_none zero = ap not (sym (le-ltb 0 0 (omega arith)))
-is_none (suc n) = ne_eqb (suc n) 0 (λ e. omega arith) ∙ ap not (sym (lt-ltb 0 (suc n) (omega arith)))
 
 -- the operator of a term that isn't wanted
 pub is_not_is : (operator : Operator) → is_not operator ≡ true → operator ≡ Not

@@ -3,7 +3,7 @@
 ghost use Rattle.std.specs.Prelude.{◌≡◌, ◌+◌, ◌^◌, ◌≤◌, ◌<◌, ◌==◌, ◌∷◌, [], length, replicate, true, false, if◌then◌else◌, OnOk};
 ghost use Rattle.std.specs.List.{All};
 ghost use Rattle.gopher_page.specs.Query.{is_not};
-ghost use Rattle.gopher_page.specs.declared.query.Operator.TheVariants.{And, Not, Or};
+ghost use Rattle.gopher_page.specs.declared.query.Operator.TheVariants.{Not};
 ghost use Rattle.gopher_index.specs.Cells.{AreCells, term_counts, zipped, HasCells, JoinsTerm, JoinsTerms, LeavesOut, RisesAtMost, joined_truths, posted, posted_count, word_counts};
 ghost use Rattle.gopher_segment.specs.Postings.{AreWithin};
 
@@ -23,43 +23,12 @@ pub(crate) struct Cells {
     pub scores: Vec<u32>,
 }
 
-fn and_counts(truths: &mut [bool], counts: &[u32])
-    requires { length truths.old ≡ length counts.now }
-    ensures { truths.new ≡ joined_truths And truths.old counts.now }
-{
-    for (index, count) in counts.iter().enumerate() {
-        truths[index] &= *count > 0;
-    }
-}
-
-fn or_counts(truths: &mut [bool], counts: &[u32])
-    requires { length truths.old ≡ length counts.now }
-    ensures { truths.new ≡ joined_truths Or truths.old counts.now }
-{
-    for (index, count) in counts.iter().enumerate() {
-        truths[index] |= *count > 0;
-    }
-}
-
-fn not_counts(truths: &mut [bool], counts: &[u32])
-    requires { length truths.old ≡ length counts.now }
-    ensures { truths.new ≡ joined_truths Not truths.old counts.now }
-{
-    for (index, count) in counts.iter().enumerate() {
-        truths[index] &= *count == 0;
-    }
-}
-
-// Joins a term with these counts to the terms before it. Each operator has a loop of its own, so
-// that the compiler joins several pages at once.
 fn join_truths(operator: Operator, truths: &mut [bool], counts: &[u32])
     requires { length truths.old ≡ length counts.now }
     ensures { truths.new ≡ joined_truths operator truths.old counts.now }
 {
-    match operator {
-        Operator::And => and_counts(truths, counts),
-        Operator::Or => or_counts(truths, counts),
-        Operator::Not => not_counts(truths, counts),
+    for (index, count) in counts.iter().enumerate() {
+        truths[index] = operator.join(truths[index], *count > 0);
     }
 }
 
