@@ -3,7 +3,8 @@
 
 The program serves a folder of texts of one size and crawls itself with one worker. The size of each page follows from the
 formula in docs/SPECIFICATION.md, so it is known how many texts a limit leaves room for: a search finds exactly these. Each
-place is fetched and done all the same, and standard error says once that the crawl reached the limit.
+place is fetched and done all the same, and standard error says once that the crawl reached the limit. Two further folders
+have one long text each. The page of one is large, and the page of the other has the most words of a page that isn't.
 """
 import argparse
 import pathlib
@@ -31,7 +32,8 @@ host = "{HOST}"
 port = PORT
 """
 REACHED = b"hole: the crawl reached --crawl-memory: it leaves pages out\n"
-END = f"known {TEXTS + 1} waiting 0 out 0 done {TEXTS + 1} dropped 0\n".encode()
+# The words of a large page have more bytes than this, and words of 65,536 bytes have longer ends.
+LARGE, LONG = 131_072, 65_536
 UNITS = {"": 1, "K": 1 << 10, "M": 1 << 20, "G": 1 << 30}
 BAD = ("", "K", "12X", "1.5M", "64 M", "M64", "99999999999999999999", "18446744073709551615G")
 
@@ -41,22 +43,32 @@ def words_of(number):
     return ["common", *(f"word{number * WORDS + at:05}" for at in range(WORDS))]
 
 
+def long_words(size):
+    """Distinct words of a long text, one of them that all texts have, with so many bytes together."""
+    words = ["common", *(f"long{number:06}" for number in range((size - 16) // 10))]
+    return [*words, "x" * (size - sum(map(len, words)))]
+
+
 def size_of(words, title, links=()):
-    """How many bytes a page counts for: the formula of docs/SPECIFICATION.md."""
-    held = sum(map(len, words)) + 3 * len(words)
-    return 512 + len(title) + 2 * held + 11 * len(words) + sum(176 + 2 * (len(HOST) + len(link)) for link in links)
+    """How many bytes a page counts for: the formula of docs/SPECIFICATION.md. No word occurs 256 times."""
+    own, count = sum(map(len, words)), len(words)
+    of_words = own + 5 * count if own > LARGE else 2 * own + (21 if own >= LONG else 17) * count
+    return 512 + len(title) + of_words + sum(176 + 2 * (len(HOST) + len(link)) for link in links)
 
 
-def sizes():
-    """The sizes of the menu's page and of a text's."""
-    menu = size_of(["search", "txt", *(name.removesuffix(".txt") for name in NAMES)], "Search", ["/" + name for name in NAMES])
-    return menu, size_of(words_of(0), " ".join(words_of(0))[:69])
+def size_of_menu(names):
+    return size_of(["search", "txt", *(name.removesuffix(".txt") for name in names)], "Search", ["/" + name for name in names])
 
 
-def make_site(root):
+def size_of_text(words):
+    return size_of(words, " ".join(words)[:69])
+
+
+def make_site(root, texts):
+    """A folder of texts, each by its name and its words."""
     root.mkdir()
-    for number, name in enumerate(NAMES):
-        (root / name).write_text(" ".join(words_of(number)) + "\n")
+    for name, words in texts.items():
+        (root / name).write_text(" ".join(words) + "\n")
 
 
 def hits(port, found):
@@ -68,16 +80,27 @@ def hits(port, found):
     return last
 
 
-def check_limit(tally, program, folder, root, limit, found, told, words=()):
+def check_limit(tally, program, folder, root, limit, found, told, words=(), texts=TEXTS):
     """A crawl with a limit finds so many texts, and says so or doesn't."""
     given = () if limit is None else ("--crawl-memory", limit)
-    ends = ("--requests", str(TEXTS + 1 + SEARCHES))
+    ends = ("--requests", str(texts + 1 + SEARCHES))
+    end = f"known {texts + 1} waiting 0 out 0 done {texts + 1} dropped 0\n".encode()
     with Server(program, folder, root, more=MORE, words=(*given, *words, *ends)) as server:
         server.started()
         tally.expect(f"{limit}: texts found", hits(server.port, found), found)
         output, error, status = server.end()
-        tally.expect(f"{limit}: output and status", (output, status), (END, 0))
+        tally.expect(f"{limit}: output and status", (output, status), (end, 0))
         tally.expect(f"{limit}: told", error.count(REACHED), told)
+
+
+def check_long_text(tally, program, folder, size):
+    """A long text, whose words have so many bytes, and a short one count for their sizes."""
+    texts = {"long.txt": long_words(size), "short.txt": words_of(0)}
+    root = folder / f"site{size}"
+    make_site(root, texts)
+    most = size_of_menu(texts) + sum(map(size_of_text, texts.values()))
+    check_limit(tally, program, folder, root, str(most), 2, 0, texts=2)
+    check_limit(tally, program, folder, root, str(most - 1), 1, 1, texts=2)
 
 
 def check_arguments(tally, program, folder, root):
@@ -94,11 +117,11 @@ def main():
     parser.add_argument("program", nargs="?", type=pathlib.Path, default=PROGRAM)
     program = parser.parse_args().program.resolve()
     tally = Tally("crawl memory")
-    menu, text = sizes()
+    menu, text = size_of_menu(NAMES), size_of_text(words_of(0))
     with tempfile.TemporaryDirectory() as folder:
         folder = pathlib.Path(folder)
         root = folder / "site"
-        make_site(root)
+        make_site(root, {name: words_of(number) for number, name in enumerate(NAMES)})
         check_limit(tally, program, folder, root, None, TEXTS, 0)
         check_limit(tally, program, folder, root, str(menu + TEXTS * text), TEXTS, 0)
         check_limit(tally, program, folder, root, str(menu + TEXTS * text - 1), TEXTS - 1, 1)
@@ -109,6 +132,8 @@ def main():
             room = -(-(menu + 3 * text) // size)
             found = min((room * size - menu) // text, TEXTS)
             check_limit(tally, program, folder, root, f"{room}{unit}", found, int(found < TEXTS))
+        for size in (LARGE, LARGE + 1):
+            check_long_text(tally, program, folder, size)
         check_arguments(tally, program, folder, root)
     return tally.status()
 

@@ -84,7 +84,7 @@ word_before sought a h = by (same_word sought a) refl
     by true e = absurd (both_ways _ (never_before_itself a) (subst (λ w. is_before a w ≡ true) ((bytes_decides sought a).0 e) h))
     by false e = refl
 
-word_past : (sought a b : List ℕ) → is_before a sought ≡ false → is_before a b ≡ true → same_word sought b ≡ false
+pub word_past : (sought a b : List ℕ) → is_before a sought ≡ false → is_before a b ≡ true → same_word sought b ≡ false
 word_past sought a b h l = by (same_word sought b) refl
   where
     by : (t : Bool) → same_word sought b ≡ t → t ≡ false

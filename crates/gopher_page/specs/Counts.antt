@@ -65,3 +65,16 @@ AreWordsBefore counts end sought = (k : ℕ) → k < end → is_before (word_at 
 abbrev pub NoneBefore : List (List ℕ × ℕ) → ℕ → List ℕ → Type 0
 NoneBefore counts start sought =
     (k : ℕ) → start ≤ k → k < length counts → is_before (word_at counts k) sought ≡ false
+
+-- no word from this index on is meant
+abbrev pub NoneMeant : List (List ℕ × ℕ) → ℕ → Bool → List ℕ → Type 0
+NoneMeant counts start is_prefix sought =
+    (k : ℕ) → start ≤ k → k < length counts → is_meant is_prefix sought (word_at counts k) ≡ false
+
+-- of the words from `start` on, exactly those before `end` are meant
+pub record AreMeantWords (counts : List (List ℕ × ℕ)) (is_prefix : Bool) (sought : List ℕ)
+    (start end : ℕ) : Type 0 where
+  pub forward : start ≤ end
+  pub within : end ≤ length counts
+  pub meant : (k : ℕ) → start ≤ k → k < end → is_meant is_prefix sought (word_at counts k) ≡ true
+  pub others : NoneMeant counts end is_prefix sought

@@ -1,6 +1,6 @@
 -- A page: what a catalogue keeps of a reply.
 use Rattle.std.specs.Prelude.{◌≡◌, ℕ, Bool, List, [], ◌∷◌, length, take, reverse, map, filter, Option, None, ◌==◌, nat_lt, if◌then◌else◌}
-use Rattle.std.specs.List.{filter_map, find, flat_map}
+use Rattle.std.specs.List.{filter_map, find, flat_map, sum_by}
 use Rattle.std.specs.Option.{option_map_or}
 use Rattle.std.specs.Arc.{arc_value}
 use Rattle.std.specs.declared.sync.Arc.{Arc}
@@ -26,6 +26,14 @@ pub record PageData : Type 0 where
   pub title : List ℕ
   pub links : List PlaceData
   pub counts : List (List ℕ × ℕ)
+
+-- the number of bytes of the distinct words of a page
+abbrev pub words_bytes : List (List ℕ × ℕ) → ℕ
+words_bytes counts = sum_by (λ entry. length entry.0) counts
+
+-- the distinct words of a large page have over 131,072 bytes
+abbrev pub is_large : PageData → Bool
+is_large page = nat_lt 131072 (words_bytes page.counts)
 
 abbrev pub page_with : PlaceData → List ℕ → List PlaceData → List (List ℕ × ℕ) → PageData
 page_with place title links counts =

@@ -5,9 +5,10 @@ ghost use Rattle.std.specs.List.{sum_by};
 ghost use Rattle.std.specs.List.Sorted.{IsSorted};
 ghost use Rattle.std.specs.Ordering.{nat_cmp};
 ghost use Rattle.std.specs.Cmp.Lexicographic.{slice_cmp};
-ghost use Rattle.gopher_page.specs.Counts.{is_meant, count_meant, counts_of, is_before, word_at, AreWordsBefore, NoneBefore, IsWordRun, run_lengths, run_values};
+ghost use Rattle.gopher_page.specs.Counts.{is_meant, count_meant, counts_of, is_before, word_at, AreMeantWords, AreWordsBefore, NoneBefore, NoneMeant, IsWordRun, run_lengths, run_values};
 ghost use Rattle.gopher_bytes.specs.Parts.{ArePacked, start_at};
 ghost use Rattle.gopher_page.specs.Packed.{AreCounts, part_at};
+ghost use Rattle.gopher_page.specs.Page.{words_bytes};
 
 use crate::ends::Ends;
 use crate::numbered::Numbered;
@@ -158,6 +159,13 @@ impl Counts {
         self.ends.len()
     }
 
+    /// Returns the number of bytes of all distinct words.
+    pub fn bytes_len(&self) -> usize
+        ensures { result ≡ words_bytes self.now }
+    {
+        self.bytes.len()
+    }
+
     /// Returns the number of bytes that the words, their ends and their counts take.
     pub fn size(&self) -> usize {
         let tables = self.ends.size().saturating_add(self.counts.size());
@@ -199,19 +207,55 @@ impl Counts {
         low
     }
 
+    fn is_meant(&self, is_prefix: bool, sought: &[u8], index: usize) -> bool
+        requires { index < length self.now }
+        ensures { result ≡ is_meant is_prefix sought.now (word_at self.now index) }
+    {
+        let (word, _) = self.get(index);
+        is_meant(is_prefix, sought, word)
+    }
+
+    // An index from which on no word equals or begins with `sought`. At most one word equals it.
+    fn high_bound(&self, is_prefix: bool, sought: &[u8], start: usize) -> usize
+        requires start { start ≤ length self.now }
+        requires from { NoneBefore self.now start sought.now }
+        ensures sound { AreCounts self.now }
+        ensures forward { start ≤ result }
+        ensures within { result ≤ length self.now }
+        ensures others { NoneMeant self.now result is_prefix sought.now }
+    {
+        if is_prefix {
+            return self.len();
+        }
+        if start < self.len() { start + 1 } else { start }
+    }
+
+    // The end of the words that equal or begin with `sought`, which begin at `start`.
+    fn words_meant(&self, is_prefix: bool, sought: &[u8], start: usize) -> usize
+        requires start { start ≤ length self.now }
+        requires from { NoneBefore self.now start sought.now }
+        ensures { AreMeantWords self.now is_prefix sought.now start result }
+    {
+        let mut low = start;
+        let mut high = self.high_bound(is_prefix, sought, start);
+        while low < high {
+            let middle = low + (high - low) / 2;
+            if self.is_meant(is_prefix, sought, middle) {
+                low = middle + 1;
+            } else {
+                high = middle;
+            }
+        }
+        low
+    }
+
     /// Returns the number of occurrences of `sought` or, if `is_prefix`, of all words that begin
     /// with it.
     pub fn count_meant(&self, is_prefix: bool, sought: &[u8]) -> u32
         ensures { result ≡ count_meant is_prefix sought.now self.now }
     {
-        let mut total = 0;
-        for index in self.words_before(sought)..self.len() {
-            let (word, count) = self.get(index);
-            if !is_meant(is_prefix, sought, word) {
-                break;
-            }
-            total += count;
-        }
-        total
+        let start = self.words_before(sought);
+        let end = self.words_meant(is_prefix, sought, start);
+        self.counts.sum(start, end)
     }
 }

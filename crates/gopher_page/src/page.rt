@@ -5,7 +5,7 @@ ghost use Rattle.std.specs.Arc.{arc_value};
 ghost use Rattle.std.specs.List.{sum_by};
 ghost use Rattle.gopher_page.specs.Words.{texts};
 ghost use Rattle.gopher_page.specs.Counts.{count_meant};
-ghost use Rattle.gopher_page.specs.Page.{IsPageOfLines, links_kept, links_lent, page_of, page_of_menu, page_of_text};
+ghost use Rattle.gopher_page.specs.Page.{IsPageOfLines, is_large, links_kept, links_lent, page_of, page_of_menu, page_of_text};
 
 use crate::counts::Counts;
 use crate::line::{entry_lines, text_lines};
@@ -62,6 +62,9 @@ impl Model for Page {
 // The most bytes of memory that a page takes beside its words, its title and its links: its place,
 // its events, and its part of the lists of a catalogue.
 const PAGE_SIZE: usize = 512;
+
+// A page is large if its distinct words have more bytes than this. Ordinary texts have fewer.
+const LARGE: usize = 131_072;
 
 // The most bytes that a link takes beside its selector and its host: 16 in the page, which packs
 // it, and 160 as a known place.
@@ -204,18 +207,36 @@ impl Page {
         &self.parts.counts
     }
 
-    /// Returns how many bytes of memory a catalogue needs for the page, at most: its words twice
-    /// (in the page and in the index), its title, and its links twice (in the page and as known
-    /// places). Words and places that other pages have too are counted again.
+    /// Returns whether the page is large: its distinct words have over 131,072 bytes.
+    ///
+    /// An index doesn't copy the words of a large page; it searches them where they are.
+    pub fn is_large(&self) -> bool
+        ensures { result ≡ is_large self.now }
+    {
+        self.parts.counts.bytes_len() > LARGE
+    }
+
+    /// Returns how many bytes of memory a catalogue needs for the page, at most: its words, its
+    /// title, and its links twice (in the page and as known places). The words count twice (in the
+    /// page and in the index), unless the page is large. Words and places that other pages have
+    /// too are counted again.
     pub fn size(&self) -> usize {
-        let words = self.parts.counts.size().saturating_mul(2);
-        let postings = self.parts.counts.len().saturating_mul(POSTING_SIZE);
         let size = PAGE_SIZE.saturating_add(self.parts.title.len());
-        let size = size.saturating_add(words).saturating_add(postings);
+        let size = size.saturating_add(self.size_of_words());
         match self.links() {
             Some(links) => size.saturating_add(size_of_links(links)),
             None => size,
         }
+    }
+
+    // The most bytes that the words take in a catalogue.
+    fn size_of_words(&self) -> usize {
+        let words = self.parts.counts.size();
+        if self.is_large() {
+            return words;
+        }
+        let postings = self.parts.counts.len().saturating_mul(POSTING_SIZE);
+        words.saturating_mul(2).saturating_add(postings)
     }
 
     /// Returns how often `word` occurs in the page.

@@ -1,6 +1,7 @@
 //! `Repeats`: a list of counts, most of them below 256.
 
-ghost use Rattle.std.specs.Prelude.{◌≡◌, ◌<◌, ◌≤◌, Some, [], ◌∷◌, ◌++◌, length, slice_get, IfOk, OnOk};
+ghost use Rattle.std.specs.Prelude.{◌≡◌, ◌<◌, ◌≤◌, Some, [], ◌∷◌, ◌++◌, ◌-◌, length, take, drop, slice_get, IfOk, OnOk};
+ghost use Rattle.std.specs.List.{sum};
 
 use gopher_item::NoMemory;
 use gopher_text::MAX_REPLY;
@@ -26,6 +27,36 @@ impl Model for Repeats {
     ghost view = { λ r. joined_parts 256 r.low.items r.high.items };
 
     ghost invariant = { λ r. length r.high.items ≤ length r.low.items };
+}
+
+fn sum_of_bytes(counts: &[u8]) -> u32
+    requires { sum counts.now ≤ MAX_REPLY }
+    ensures { result ≡ sum counts.now }
+{
+    let mut total = 0;
+    for count in counts {
+        total += u32::from(*count);
+    }
+    total
+}
+
+fn sum_of_pairs(counts: &[u16]) -> u32
+    requires { sum counts.now ≤ MAX_REPLY }
+    ensures { result ≡ sum counts.now }
+{
+    let mut total = 0;
+    for count in counts {
+        total += u32::from(*count);
+    }
+    total
+}
+
+// The numbers from `start` up to, not including, `end`, as far as there are any.
+fn part_of(high: &[u16], start: usize, end: usize) -> &[u16]
+    requires { start ≤ end }
+    ensures { result.now ≡ take (end - start) (drop start high.now) }
+{
+    &high[start.min(high.len())..end.min(high.len())]
 }
 
 impl Repeats {
@@ -77,5 +108,16 @@ impl Repeats {
             Some(high) => low + 256 * u32::from(*high),
             None => low,
         }
+    }
+
+    /// Returns the sum of the counts from `start` up to, not including, `end`.
+    pub fn sum(&self, start: usize, end: usize) -> u32
+        requires forward { start ≤ end }
+        requires within { end ≤ length self.now }
+        requires few { sum self.now ≤ MAX_REPLY }
+        ensures { result ≡ sum (take (end - start) (drop start self.now)) }
+    {
+        let low = sum_of_bytes(&self.low[start..end]);
+        low + 256 * sum_of_pairs(part_of(&self.high, start, end))
     }
 }
