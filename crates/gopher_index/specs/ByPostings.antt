@@ -1,5 +1,5 @@
 -- The postings of one term.
-use Rattle.std.specs.Prelude.{◌≡◌, ◌⊎◌, ℕ, zero, suc, ◌+◌, ◌-◌, ◌<◌, Bool, false, ◌==◌, List, [], ◌∷◌, ◌++◌, Some, length, map, min, drop, slice_get, slice_index, Result, OnOk}
+use Rattle.std.specs.Prelude.{◌≡◌, ◌⊎◌, ℕ, zero, suc, ◌+◌, ◌-◌, ◌<◌, Bool, false, ◌==◌, List, [], ◌∷◌, ◌++◌, Option, Some, length, map, min, drop, slice_get, slice_index, Result, IfSome, OnOk}
 use Rattle.std.specs.Arc.{arc_value}
 use Rattle.std.specs.List.{AllByRecursion, zip}
 use Rattle.gopher_page.specs.Page.{PageData}
@@ -71,10 +71,14 @@ pub record ArePostingsIn (word : List ℕ) (segment : SegmentData) (postings : P
       ≡ run_of postings.first (meant_counts false word segment.pages)
   pub beside : length postings.counts.now ≡ length postings.numbers.now
 
--- the postings of a word in each of several segments
-abbrev pub ArePostings : List ℕ → List SegmentData → List Postings → Type 0
+-- a list, if there is one, has the postings of a word in a segment
+abbrev pub IsListIn : List ℕ → SegmentData → Option Postings → Type 0
+IsListIn word segment list = IfSome list (ArePostingsIn word segment)
+
+-- the posting lists of a word in those of several segments that have one
+abbrev pub ArePostings : List ℕ → List SegmentData → List (Option Postings) → Type 0
 ArePostings word [] [] = Unit {0}
-ArePostings word [] (postings ∷ found) = ⊥
+ArePostings word [] (list ∷ found) = ⊥
 ArePostings word (segment ∷ segments) [] = ⊥
-ArePostings word (segment ∷ segments) (postings ∷ found) =
-    ArePostingsIn word segment postings × ArePostings word segments found
+ArePostings word (segment ∷ segments) (list ∷ found) =
+    IsListIn word segment list × ArePostings word segments found

@@ -1,4 +1,5 @@
-//! Searching segments for several terms or a prefix: the pages of each segment are ranked by cells.
+//! Searching segments by cells: for several terms or a prefix, or for a word in a segment without
+//! posting lists.
 
 ghost use Rattle.std.specs.Prelude.{None, ◌≡◌, ◌≤◌, false, length, nat_le, IfOk, OnOk};
 ghost use Rattle.std.specs.List.{list_any};
@@ -86,7 +87,8 @@ pub(crate) fn rank_cells<'a>(
     Ok(())
 }
 
-fn rank_segment<'a>(
+/// Inserts the pages of a segment that match into the best. Overwrites the cells.
+pub(crate) fn rank_segment<'a>(
     segment: &'a Segment,
     terms: &[Term],
     cells: &mut Cells,

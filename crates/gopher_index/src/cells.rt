@@ -79,13 +79,20 @@ fn leave_all_out(postings: &Postings, truths: &mut [bool])
     }
 }
 
-// Removes the pages that contain a word from the matches, through its posting list.
-fn leave_word_out(segment: &Segment, word: &[u8], truths: &mut [bool])
-    requires { length truths.old ≡ length segment.now.pages }
+// Removes the pages that contain a word from the matches, through its posting list. If the segment
+// has no lists, this counts the word in each page and overwrites `counts`.
+fn leave_word_out(segment: &Segment, word: &[u8], counts: &mut [u32], truths: &mut [bool])
+    requires counts { length counts.old ≡ length segment.now.pages }
+    requires truths { length truths.old ≡ length segment.now.pages }
     ensures { truths.new ≡ joined_truths Not truths.old (word_counts word.now segment.now.pages) }
 {
-    let postings = segment.postings(word);
-    leave_all_out(&postings, truths);
+    if let Some(postings) = segment.postings(word) {
+        leave_all_out(&postings, truths);
+    } else {
+        counts.fill(0);
+        segment.spread(false, word, counts);
+        join_truths(Operator::Not, truths, counts);
+    }
 }
 
 // Joins a term to the terms before it. Overwrites `counts`.
@@ -110,7 +117,7 @@ fn join_counted(
     }
 }
 
-// Joins a term to the terms before it. Overwrites `counts`, unless the term is a word after `not`.
+// Joins a term to the terms before it. May overwrite `counts`.
 fn join_term(
     segment: &Segment,
     term: &Term,
@@ -126,7 +133,7 @@ fn join_term(
     ensures few { RisesAtMost 1048576 scores.old scores.new }
 {
     if term.operator().is_not() && !term.is_prefix() {
-        leave_word_out(segment, term.word(), truths);
+        leave_word_out(segment, term.word(), counts, truths);
     } else {
         join_counted(segment, term, counts, truths, scores);
     }

@@ -10,6 +10,7 @@ use crate::begun::Begun;
 use crate::due::Due;
 use crate::hit::Hit;
 use crate::installing::{put_for_loose, put_for_segments, ready};
+use crate::joined::LARGE_SEARCH;
 use crate::occurrences::occurrences;
 use crate::picking::{due_loose, due_span};
 use crate::search::search;
@@ -31,13 +32,29 @@ const MOST_RUNS: usize = 64;
 // The most terms of a search that runs to its end in `begin`.
 const FEW_TERMS: usize = 4;
 
-// The most postings that the prefixes of such a search may go through.
+// The most postings of such a search. Each prefix counts as all postings, and each search in a
+// large page as `LARGE_SEARCH`.
 const FEW_POSTINGS: usize = 16_777_216;
 
-// Returns whether a search runs to its end in `begin`. `words` is the number of postings.
-fn is_light(terms: &[Term], words: usize) -> bool {
+// Returns whether a search runs to its end in `begin`. `words` is the number of words of all pages,
+// which each prefix may go through. Each of the `large` large pages is searched for each term.
+fn is_light(terms: &[Term], words: usize, large: usize) -> bool {
     let prefixes = terms.iter().filter(|term| term.is_prefix()).count();
-    terms.len() <= FEW_TERMS && prefixes.saturating_mul(words) <= FEW_POSTINGS
+    let searches = terms
+        .len()
+        .saturating_mul(large)
+        .saturating_mul(LARGE_SEARCH);
+    let postings = prefixes.saturating_mul(words).saturating_add(searches);
+    terms.len() <= FEW_TERMS && postings <= FEW_POSTINGS
+}
+
+// Returns the number of large pages in segments.
+fn large_len(segments: &[Arc<Segment>]) -> usize {
+    let mut large = 0_usize;
+    for segment in segments {
+        large = large.saturating_add(segment.large_len());
+    }
+    large
 }
 
 /// A list of pages that can be searched.
@@ -50,7 +67,7 @@ pub struct Index {
     taken: Vec<usize>,
     // Merged runs that wait until the pages before them are in segments.
     early: Vec<Due>,
-    // The number of postings: the words of each page, counted for each page.
+    // The number of words of all pages, counted for each page.
     words: usize,
 }
 
@@ -295,7 +312,7 @@ impl Index {
         ensures { IfOk result (λ begun. begun_hits begun ≡ answer_of self.now query.now) }
     {
         let terms = query.terms();
-        if is_light(terms, self.words) {
+        if is_light(terms, self.words, large_len(&self.segments)) {
             let hits = search(alloc, &self.segments, &self.loose, terms)?;
             return Ok(Begun::Found(hits));
         }

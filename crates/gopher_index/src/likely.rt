@@ -87,21 +87,22 @@ pub(crate) fn likely_hits(some: usize, all: usize) -> usize {
     share.clamp(1, MOST_HITS)
 }
 
-fn postings_len(found: &[Postings]) -> usize {
+fn postings_len(found: &[Option<Postings>]) -> usize {
     let mut len = 0_usize;
-    for postings in found {
+    for postings in found.iter().flatten() {
         len = len.saturating_add(postings.counts.len());
     }
     len
 }
 
-/// Guesses a score that 50 pages reach for a word, from its postings in each segment.
-pub(crate) fn likely_score(found: &[Postings]) -> u64 {
+/// Guesses a score that 50 pages reach for a word, from its posting lists in those segments that
+/// have one.
+pub(crate) fn likely_score(found: &[Option<Postings>]) -> u64 {
     if postings_len(found) < MOST_HITS {
         return 0;
     }
     let mut highest = Highest::new();
-    for postings in found {
+    for postings in found.iter().flatten() {
         highest.note_counts(postings.counts);
     }
     highest.reached(MOST_HITS)

@@ -5,15 +5,15 @@ ghost use Rattle.std.specs.Arc.{arc_value};
 
 use gopher_item::NoMemory;
 use gopher_page::Page;
-use gopher_segment::{Segment, words_len};
+use gopher_segment::{Segment, rows_len};
 use std::alloc::Global;
 use std::slice::from_ref;
 use std::sync::Arc;
 
-// The most words that one list contains. A word of two pages counts twice.
-const MOST_WORDS: usize = 262_144;
+// The most rows that one list contains. A word of two pages counts twice.
+const MOST_ROWS: usize = 262_144;
 
-// Makes a segment of each page and merges these, which needs no list of all words. `first` is the
+// Makes a segment of each page and merges these, which needs no list of all rows. `first` is the
 // number of the first page.
 fn segment_of_each(alloc: Global, first: usize, loose: &[Arc<Page>]) -> Result<Segment, NoMemory>
     requires { first + length loose.now ≤ 65536 }
@@ -38,7 +38,7 @@ pub(crate) fn segment_of(
     ensures first { IfOk result (λ segment. segment.first ≡ first) }
     ensures pages { IfOk result (λ segment. segment.pages ≡ map arc_value loose.now) }
 {
-    if words_len(loose) <= MOST_WORDS {
+    if rows_len(loose) <= MOST_ROWS {
         return Segment::of_pages(alloc, first, loose);
     }
     segment_of_each(alloc, first, loose)

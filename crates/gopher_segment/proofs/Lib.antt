@@ -10,6 +10,7 @@ mod GroupLemmas
 mod GroupSteps
 mod JoinLemmas
 mod SegmentLemmas
+mod LargeLemmas
 pub mod Pieces
 mod WordPostings
 mod Between

@@ -4,7 +4,7 @@ use Rattle.std.proofs.lemmas.Bool.{eq-eqb, ne_eqb, cases_eq}
 use Rattle.std.proofs.lemmas.List.{map-append, length-map}
 use Rattle.std.proofs.lemmas.List.Sums.{sum_by-cons}
 use Rattle.std.specs.List.{sum_by, flat_map}
-use Rattle.gopher_page.specs.Counts.{count_where, count_meant}
+use Rattle.gopher_page.specs.Counts.{count_where, count_meant, is_meant}
 use Rattle.gopher_page.specs.Packed.{AreCounts}
 use Rattle.gopher_page.specs.Page.{PageData}
 use Rattle.gopher_segment.specs.Postings.{count_in, pieces, run_of}
@@ -63,6 +63,13 @@ count_at_few test number first (page ∷ pages) small = by (cases_eq first numbe
     by (inr apart) rest =
         let other : (first == number) ≡ false = ne_eqb first number apart in
         rw other (omega arith)
+
+-- each page has a word, or the words that begin with one, at most `MAX_REPLY` times
+pub meant_few : (is_prefix : Bool) (sought : List ℕ) (pages : List PageData) → AreSmall pages → (k d : ℕ) → k < length (meant_counts is_prefix sought pages) → get_or (meant_counts is_prefix sought pages) k d ≤ 1048576
+unfolding count_meant
+meant_few is_prefix sought [] small k d within = absurd (omega (arith, within))
+meant_few is_prefix sought (page ∷ pages) small zero d within = omega (arith, small.0, count_where_le (is_meant is_prefix sought) page.counts)
+meant_few is_prefix sought (page ∷ pages) small (suc k) d within = meant_few is_prefix sought pages small.1 k d (omega (arith, within))
 
 -- ---- one page
 

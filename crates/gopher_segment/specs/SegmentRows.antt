@@ -1,11 +1,12 @@
 -- The rows of a segment, which say the same as its pages.
-use Rattle.std.specs.Prelude.{ℕ, ◌+◌, ◌≤◌, ◌≡◌, Bool, false, List, [], ◌∷◌, length, ◌==◌, if◌then◌else◌}
+use Rattle.std.specs.Prelude.{ℕ, ◌+◌, ◌≤◌, ◌≡◌, Bool, false, List, [], ◌∷◌, ◌++◌, map, length, ◌==◌, if◌then◌else◌}
 use Rattle.std.specs.List.{sum_by, AllByRecursion}
 use Rattle.gopher_text.specs.declared.reply_reader.TheConstants.{MAX_REPLY}
 use Rattle.gopher_page.specs.Counts.{count_where}
 use Rattle.gopher_page.specs.Page.{PageData}
+use Rattle.gopher_segment.specs.Large.{in_table, large_from, pages_in_table, segment_in_table}
 use Rattle.gopher_segment.specs.Postings.{run_of}
-use Rattle.gopher_segment.specs.Rows.{AreInOrder, rows_count, postings_of}
+use Rattle.gopher_segment.specs.Rows.{AreInOrder, rows_count, page_rows, postings_of}
 use Rattle.gopher_segment.specs.Segment.{SegmentData, meant_counts}
 
 -- the number of occurrences, in the page `number`, of words that pass a test; the first of these
@@ -30,17 +31,28 @@ pub record Tell (first : ℕ) (pages : List PageData) (rows : List (List ℕ × 
   pub runs : (word : List ℕ)
       → postings_of word rows ≡ run_of first (meant_counts false word pages)
 
+-- the rows say what these pages count, without the words of large ones
+abbrev pub TellInTable : ℕ → List PageData → List (List ℕ × List (ℕ × ℕ)) → Type 0
+TellInTable first pages rows = Tell first (pages_in_table pages) rows
+
+-- the rows of a page, as a table has it, were appended
+abbrev pub AddsPageRows : ℕ → PageData → List (List ℕ × List (ℕ × ℕ))
+    → List (List ℕ × List (ℕ × ℕ)) → Type 0
+AddsPageRows number page old new = new ≡ old ++ page_rows number (in_table page).counts
+
 -- the rows of these pages, in order
 pub record AreRowsOf (first : ℕ) (pages : List PageData) (rows : List (List ℕ × List (ℕ × ℕ)))
     : Type 0 where
   pub order : AreInOrder rows
   pub tell : Tell first pages rows
 
--- the rows of a segment of these pages
+-- the rows of a segment of these pages, and the indices of its large pages, whose words the rows
+-- leave out
 pub record IsSegment (first : ℕ) (pages : List PageData) (rows : List (List ℕ × List (ℕ × ℕ)))
-    : Type 0 where
-  pub table : AreRowsOf first pages rows
+    (large : List ℕ) : Type 0 where
+  pub table : AreRowsOf first (pages_in_table pages) rows
   pub small : AreSmall pages
+  pub large_is : large ≡ large_from 0 pages
 
 -- each segment begins where the one before it ends, and the first at a number
 abbrev pub AreConsecutive : ℕ → List SegmentData → Type 0
@@ -55,3 +67,7 @@ AreTablesOf [] (rows ∷ tables) = ⊥
 AreTablesOf (segment ∷ segments) [] = ⊥
 AreTablesOf (segment ∷ segments) (rows ∷ tables) =
     AreRowsOf segment.first segment.pages rows × AreTablesOf segments tables
+
+-- tables of segments, which leave out large pages
+abbrev pub AreSegmentTables : List SegmentData → List (List (List ℕ × List (ℕ × ℕ))) → Type 0
+AreSegmentTables segments tables = AreTablesOf (map segment_in_table segments) tables

@@ -3,9 +3,10 @@
 ghost use Rattle.std.specs.Prelude.{◌≡◌, ◌+◌, ◌≤◌, ◌-◌, ◌^◌, ◌++◌, length, map, min, IfOk, OnOk};
 ghost use Rattle.std.specs.Arc.{arc_value};
 ghost use Rattle.gopher_page.specs.Packed.{AreCounts};
+ghost use Rattle.gopher_segment.specs.Large.{pages_in_table};
 ghost use Rattle.gopher_segment.specs.Rows.{page_rows};
 ghost use Rattle.gopher_segment.specs.Segment.{words_count};
-ghost use Rattle.gopher_segment.specs.SegmentRows.{AreSmall, Tell};
+ghost use Rattle.gopher_segment.specs.SegmentRows.{AddsPageRows, AreSmall, TellInTable};
 
 use crate::row::Row;
 use gopher_bytes::NoMemory;
@@ -26,6 +27,19 @@ fn add_counts<'a>(number: u16, counts: &'a Counts, rows: &mut Vec<Row<'a>>) -> R
     Ok(())
 }
 
+// Appends the rows of the page `number`, which has none if it is large.
+fn add_page<'a>(number: u16, page: &'a Page, rows: &mut Vec<Row<'a>>) -> Result<(), NoMemory>
+    ensures rows { OnOk result (AddsPageRows number page.now rows.old.items rows.new.items) }
+    ensures sound { AreCounts page.now.counts }
+{
+    let counts = page.counts();
+    // A page without words has no rows either.
+    if counts.len() == 0 || page.is_large() {
+        return Ok(());
+    }
+    add_counts(number, counts, rows)
+}
+
 /// Returns the sum of the numbers of distinct words of each page, at most `usize::MAX`.
 pub fn words_len(pages: &[Arc<Page>]) -> usize
     ensures { result ≡ min (words_count (map arc_value pages.now)) (2 ^ 64 - 1) }
@@ -37,19 +51,34 @@ pub fn words_len(pages: &[Arc<Page>]) -> usize
     words
 }
 
-/// Returns the rows of all pages, page by page. The first page has the number `first`.
+/// Returns the number of rows of all pages, at most `usize::MAX`: one for each distinct word of
+/// each page that isn't large.
+pub fn rows_len(pages: &[Arc<Page>]) -> usize
+    ensures { result ≡ min (words_count (pages_in_table (map arc_value pages.now))) (2 ^ 64 - 1) }
+{
+    let mut rows = 0_usize;
+    for page in pages {
+        if !page.is_large() {
+            rows = rows.saturating_add(page.counts().len());
+        }
+    }
+    rows
+}
+
+/// Returns the rows of all pages that aren't large, page by page. The first page has the number
+/// `first`.
 pub(crate) fn rows_of<'a>(
     alloc: Global,
     first: usize,
     pages: &'a [Arc<Page>],
 ) -> Result<Vec<Row<'a>>, NoMemory>
     requires { first + length pages.now ≤ 65536 }
-    ensures tell { IfOk result (λ rows. Tell first (map arc_value pages.now) rows.items) }
+    ensures tell { IfOk result (λ rows. TellInTable first (map arc_value pages.now) rows.items) }
     ensures small { IfOk result (λ rows. AreSmall (map arc_value pages.now)) }
 {
-    let mut rows = Vec::with_capacity(alloc, words_len(pages))?;
+    let mut rows = Vec::with_capacity(alloc, rows_len(pages))?;
     for (index, page) in pages.iter().enumerate() {
-        add_counts((first + index) as u16, page.counts(), &mut rows)?;
+        add_page((first + index) as u16, page, &mut rows)?;
     }
     Ok(rows)
 }

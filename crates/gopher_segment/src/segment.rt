@@ -1,16 +1,18 @@
 //! `Segment`: consecutive pages with a table of their words; made of pages, searched by word.
 
-ghost use Rattle.std.specs.Prelude.{◌≡◌, ◌+◌, ◌≤◌, ◌-◌, ◌^◌, length, map, min, replicate, IfOk};
+ghost use Rattle.std.specs.Prelude.{None, ◌≡◌, ◌<◌, ◌+◌, ◌≤◌, ◌-◌, ◌^◌, length, map, min, replicate, IfOk, IfSome};
 ghost use Rattle.std.specs.Arc.{arc_value};
 ghost use Rattle.std.specs.List.{All};
+ghost use Rattle.gopher_segment.specs.Large.{large_from, pages_in_table};
 ghost use Rattle.gopher_segment.specs.PostingList.{IsPostingListOf};
 ghost use Rattle.gopher_segment.specs.Ranks.{AreRanks};
 ghost use Rattle.gopher_segment.specs.Segment.{pages_of, meant_counts};
-ghost use Rattle.gopher_segment.specs.SegmentRows.{AreSmall, AreRowsOf, AreConsecutive, AreTablesOf};
+ghost use Rattle.gopher_segment.specs.SegmentRows.{AreSmall, AreRowsOf, AreConsecutive, AreSegmentTables};
 ghost use Rattle.gopher_segment.specs.Sharing.{SharesPages};
 
 use crate::gathering::rows_of;
 use crate::joining::join;
+use crate::large::{large_of, spread_large, words_at};
 use crate::merging::{Cursor, merge};
 use crate::postings::Postings;
 use crate::ranks::ranks_of;
@@ -25,11 +27,18 @@ use std::sync::Arc;
 
 /// Consecutive pages with one table of their words and posting lists. It never changes, so indexes
 /// share it.
+///
+/// The table leaves out large pages (`Page::is_large`), because a copy of their words would take
+/// much memory: their words are found in the pages.
 #[derive(Debug, Drop)]
 pub struct Segment {
     first: usize,
     pages: Vec<Arc<Page>>,
     ranks: Vec<u16>,
+    // The indices of the large pages, whose words aren't in the table, and the number of these
+    // words.
+    large: Vec<usize>,
+    large_words: usize,
     table: Table,
 }
 
@@ -45,15 +54,17 @@ impl Model for Segment {
 
     ghost view = { λ s. record { first = s.first; pages = map arc_value s.pages.items } };
 
-    ghost invariant = { λ s. IsSegment s.first (map arc_value s.pages.items) s.table
+    ghost invariant = { λ s.
+        IsSegment s.first (map arc_value s.pages.items) s.table s.large.items
         × AreRanks (map arc_value s.pages.items) s.ranks.items };
 }
 
 impl Segment {
     /// Makes the segment of `pages`. The first page has the number `first`.
     ///
-    /// While it runs it allocates up to 127 bytes for each distinct word of each page, and 65,536
-    /// bytes more. Then it sorts the places of the pages, with up to 34 bytes for each.
+    /// While it runs it allocates up to 127 bytes for each distinct word of each page that isn't
+    /// large, and 65,536 bytes more. Then it sorts the places of the pages, with up to 34 bytes for
+    /// each.
     pub fn of_pages(alloc: Global, first: usize, pages: &[Arc<Page>]) -> Result<Segment, NoMemory>
         requires { first + length pages.now ≤ 65536 }
         ensures first { IfOk result (λ segment. segment.first ≡ first) }
@@ -63,10 +74,14 @@ impl Segment {
         let table = join(alloc, &rows)?;
         let pages = shared(alloc, pages)?;
         let ranks = ranks_of(alloc, &pages)?;
+        let large = large_of(alloc, &pages)?;
+        let large_words = words_at(&pages, &large);
         Ok(Segment {
             first,
             pages,
             ranks,
+            large,
+            large_words,
             table,
         })
     }
@@ -85,10 +100,14 @@ impl Segment {
         let table = merge(alloc, &mut cursors)?;
         let pages = shared_pages(alloc, segments)?;
         let ranks = ranks_of(alloc, &pages)?;
+        let large = large_of(alloc, &pages)?;
+        let large_words = words_at(&pages, &large);
         Ok(Segment {
             first,
             pages,
             ranks,
+            large,
+            large_words,
             table,
         })
     }
@@ -110,9 +129,9 @@ impl Segment {
         &self.ranks
     }
 
-    /// Returns the table of the words.
+    /// Returns the table of the words, which leaves out large pages.
     pub(crate) fn table(&self) -> &Table
-        ensures { AreRowsOf self.now.first self.now.pages result.now }
+        ensures { AreRowsOf self.now.first (pages_in_table self.now.pages) result.now }
     {
         &self.table
     }
@@ -127,24 +146,42 @@ impl Segment {
         ensures few { All (λ count. count ≤ MAX_REPLY) cells.new }
     {
         self.table.spread(is_prefix, sought, self.first, cells);
+        spread_large(&self.pages, &self.large, is_prefix, sought, cells);
     }
 
-    /// Returns the posting list of a word, which is empty if no page contains it.
-    pub fn postings(&self, word: &[u8]) -> Postings<'_>
-        ensures run { IsPostingListOf word.now self.now.pages result }
-        ensures beside { length result.counts.now ≡ length result.numbers.now }
+    /// Returns the posting list of a word, which is empty if no page contains it. `None` if a page
+    /// of the segment is large: `spread` finds its words.
+    pub fn postings(&self, word: &[u8]) -> Option<Postings<'_>>
+        ensures run { IfSome result (IsPostingListOf word.now self.now.pages) }
+        ensures beside { IfSome result (λ p. length p.counts.now ≡ length p.numbers.now) }
+        ensures none { result ≡ None → 0 < length (large_from 0 self.now.pages) }
     {
+        if self.large_len() > 0 {
+            return None;
+        }
         let (numbers, counts) = self.table.find(word).parts();
-        Postings {
+        Some(Postings {
             first: self.first,
             numbers,
             counts,
-        }
+        })
+    }
+
+    /// Returns the number of large pages.
+    pub fn large_len(&self) -> usize
+        ensures { result ≡ length (large_from 0 self.now.pages) }
+    {
+        self.large.len()
+    }
+
+    /// Returns the number of words of the large pages, counted for each page.
+    pub(crate) fn large_words(&self) -> usize {
+        self.large_words
     }
 }
 
 fn cursors_of<'a>(alloc: Global, segments: &'a [Arc<Segment>]) -> Result<Vec<Cursor<'a>>, NoMemory>
-    ensures { IfOk result (λ cursors. AreTablesOf (map arc_value segments.now) cursors.items) }
+    ensures { IfOk result (λ made. AreSegmentTables (map arc_value segments.now) made.items) }
 {
     let mut cursors = Vec::with_capacity(alloc, segments.len())?;
     for segment in segments {

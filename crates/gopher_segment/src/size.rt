@@ -13,7 +13,8 @@ const MAX_PAGES: usize = 16_384;
 // postings of one segment at most.
 const MAX_POSTINGS: usize = 8_388_608;
 
-/// The size of a segment: its pages, the bytes of its words, and its postings.
+/// The size of a segment: its pages, the bytes of the words in its table, and its postings. The
+/// words of its large pages count as postings.
 #[derive(Clone, Copy)]
 pub struct Size {
     /// The number of pages.
@@ -30,7 +31,10 @@ impl Size {
         Size {
             pages: segment.pages().len(),
             bytes: segment.table().bytes_len(),
-            postings: segment.table().postings_len(),
+            postings: segment
+                .table()
+                .postings_len()
+                .saturating_add(segment.large_words()),
         }
     }
 

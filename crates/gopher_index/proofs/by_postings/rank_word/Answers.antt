@@ -16,8 +16,8 @@ pub bounds-found-index : goal.bounds-found-index
 bounds-found-index c =
     omega (arith, postings_length c.args.term.now.word (map arc_value c.args.segments.now) c.args.found.now c.requires.found, length-map c.args.segments.now (arc_value {X = SegmentData}))
 
-pub rank_word_in_segment-requires-clause-postings : goal.rank_word_in_segment-requires-clause-postings
-rank_word_in_segment-requires-clause-postings c =
+pub rank_word_in_segment-requires-clause-list : goal.rank_word_in_segment-requires-clause-list
+rank_word_in_segment-requires-clause-list c =
     postings_next c.args.term.now.word arc_value c.args.segments.now c.args.found.now c.loop-index.index c.index-segments-index.result c.deref.result.now _ c.requires.found (omega arith) c.index-segments-index.is (sym c.deref.ensures)
 
 pub loop-index-init : goal.loop-index-init

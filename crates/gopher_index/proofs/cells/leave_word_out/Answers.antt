@@ -14,16 +14,16 @@ use Rattle.gopher_index.proofs.cells.leave_word_out.Goals as goal
 pub leave_all_out-requires-clause-within : goal.leave_all_out-requires-clause-within
 leave_all_out-requires-clause-within c =
     let counts : List ℕ = meant_counts false c.args.word.now c.args.segment.now.pages in
-    let long : length counts ≡ length c.args.truths.now = length-map c.args.segment.now.pages (λ (page : PageData). count_meant false c.args.word.now page.counts) ∙ sym c.requires in
-    subst (AreWithin c.postings-postings.result.first (length c.args.truths.now)) (sym c.postings-postings.ensures.run)
-    (subst (λ n. AreWithin c.postings-postings.result.first n (run_of c.postings-postings.result.first counts)) long (run_within c.postings-postings.result.first counts))
+    let long : length counts ≡ length c.args.truths.now = length-map c.args.segment.now.pages (λ (page : PageData). count_meant false c.args.word.now page.counts) ∙ sym c.requires.truths in
+    subst (AreWithin c.in-Some.postings.first (length c.args.truths.now)) (sym c.in-Some.ensures.run)
+    (subst (λ n. AreWithin c.in-Some.postings.first n (run_of c.in-Some.postings.first counts)) long (run_within c.in-Some.postings.first counts))
 
-pub returns : goal.returns
-returns c =
+pub returns-in-Some : goal.returns-in-Some
+returns-in-Some c =
     let counts : List ℕ = meant_counts false c.args.word.now c.args.segment.now.pages in
-    let long : length counts ≡ length c.args.truths.now = length-map c.args.segment.now.pages (λ (page : PageData). count_meant false c.args.word.now page.counts) ∙ sym c.requires in
+    let long : length counts ≡ length c.args.truths.now = length-map c.args.segment.now.pages (λ (page : PageData). count_meant false c.args.word.now page.counts) ∙ sym c.requires.truths in
     zipped_each (λ truth count. joined Not truth (nat_lt 0 count)) c.args.truths.now c.leave_all_out.new.truths counts false long (omega arith)
     (λ k within.
     c.leave_all_out.ensures k within
-    ∙ ap (λ postings. joined Not (get_or c.args.truths.now k false) (nat_lt 0 (count_in (c.postings-postings.result.first + k) postings))) c.postings-postings.ensures.run
-    ∙ ap (λ count. joined Not (get_or c.args.truths.now k false) (nat_lt 0 count)) (count_in-run c.postings-postings.result.first counts k (omega (arith, long))))
+    ∙ ap (λ postings. joined Not (get_or c.args.truths.now k false) (nat_lt 0 (count_in (c.in-Some.postings.first + k) postings))) c.in-Some.ensures.run
+    ∙ ap (λ count. joined Not (get_or c.args.truths.now k false) (nat_lt 0 count)) (count_in-run c.in-Some.postings.first counts k (omega (arith, long))))

@@ -1,10 +1,11 @@
 use Rattle.std.proofs.Common.{◌≡◌, ◌+◌, ◌++◌, ◌∷◌, [], ◌<◌, List, length, map, take, sym, ap, subst, ◌∙◌, arith}
-use Rattle.std.proofs.lemmas.List.{map_more, length-map, length-take-le}
+use Rattle.std.proofs.lemmas.List.{map_more, map-append, length-map, length-take-le}
 use Rattle.std.specs.Arc.{arc_value}
 use Rattle.gopher_page.specs.Packed.{AreCounts}
 use Rattle.gopher_page.specs.Page.{PageData}
-use Rattle.gopher_segment.specs.Rows.{page_rows}
+use Rattle.gopher_segment.specs.Large.{in_table, pages_in_table}
 use Rattle.gopher_segment.specs.SegmentRows.{AreSmall, Tell}
+use Rattle.gopher_segment.proofs.LargeLemmas.{length_in_table, sound_in_table}
 use Rattle.gopher_segment.proofs.SegmentLemmas.{tell_nothing, page_behind, small_both}
 use Rattle.gopher_segment.proofs.gathering.rows_of.Goals as goal
 
@@ -23,12 +24,11 @@ loop-index-preserved c =
     map_more arc_value c.args.pages.now c.loop-index.index c.index-pages-index.result within
     ∙ ap (λ p. so_far ++ arc_value p ∷ []) (sym c.index-pages-index.is) ∙ ap (λ p. so_far ++ p ∷ []) (sym c.deref.ensures)
     in
-    let sound : AreCounts page.counts = subst AreCounts c.counts.ensures c.add_counts.ensures.sound in
-    let at : c.args.first + c.loop-index.index ≡ c.args.first + length so_far =
-    omega (arith, length-map (take c.loop-index.index c.args.pages.now) arc_value, length-take-le c.loop-index.index c.args.pages.now (omega arith)) in
-    let added = c.in_ok-add_counts.ensures.rows ∙ ap (λ l. c.loop-index.rows.items ++ page_rows (c.args.first + c.loop-index.index) l) c.counts.ensures in
+    let sound : AreCounts page.counts = c.add_page.ensures.sound in
+    let at : c.args.first + c.loop-index.index ≡ c.args.first + length (pages_in_table so_far) =
+    omega (arith, length_in_table so_far, length-map (take c.loop-index.index c.args.pages.now) arc_value, length-take-le c.loop-index.index c.args.pages.now (omega arith)) in
     record {
-      tell = subst (λ l. Tell c.args.first l c.add_counts.new.rows.items) (sym grown)
-          (page_behind c.args.first so_far page (c.args.first + c.loop-index.index) c.loop-index.rows.items c.add_counts.new.rows.items c.loop-index.invariant.tell sound at added);
+      tell = subst (λ l. Tell c.args.first l c.add_page.new.rows.items) (sym (ap pages_in_table grown ∙ map-append in_table so_far (page ∷ [])))
+          (page_behind c.args.first (pages_in_table so_far) (in_table page) (c.args.first + c.loop-index.index) c.loop-index.rows.items c.add_page.new.rows.items c.loop-index.invariant.tell (sound_in_table page sound) at c.in_ok-add_page.ensures.rows);
       small = subst AreSmall (sym grown) (small_both so_far (page ∷ []) c.loop-index.invariant.small (sound.few, tt));
     }

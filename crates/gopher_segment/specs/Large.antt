@@ -1,0 +1,33 @@
+-- Large pages: a segment's table leaves out their words.
+use Rattle.std.specs.Prelude.{◌≡◌, ℕ, ◌+◌, Bool, List, [], ◌∷◌, map, slice_index_or, slice_set, if◌then◌else◌}
+use Rattle.gopher_page.specs.Page.{PageData, is_large, page_with}
+use Rattle.gopher_segment.specs.Segment.{SegmentData, meant_counts}
+
+-- a page as the table of its segment has it: without its words if it is large
+abbrev pub in_table : PageData → PageData
+in_table page = if is_large page then page_with page.place page.title page.links [] else page
+
+abbrev pub pages_in_table : List PageData → List PageData
+pages_in_table pages = map in_table pages
+
+-- a segment with its pages as its table has them
+abbrev pub segment_in_table : SegmentData → SegmentData
+segment_in_table segment =
+    record { first = segment.first; pages = pages_in_table segment.pages }
+
+-- the indices of the large pages, if the first page has the index `index`
+abbrev pub large_from : ℕ → List PageData → List ℕ
+large_from index [] = []
+large_from index (page ∷ pages) =
+    if is_large page then index ∷ large_from (index + 1) pages else large_from (index + 1) pages
+
+-- each cell has how often the sought word, or the words that begin with it, occur in a page, or 0
+-- if the page is large
+abbrev pub AreCountsInTable : Bool → List ℕ → List PageData → List ℕ → Type 0
+AreCountsInTable is_prefix sought pages cells =
+    cells ≡ meant_counts is_prefix sought (pages_in_table pages)
+
+-- the count of the page at an index was written in its cell
+abbrev pub WritesCount : Bool → List ℕ → List PageData → ℕ → List ℕ → List ℕ → Type 0
+WritesCount is_prefix sought pages at old new =
+    new ≡ slice_set old at (slice_index_or (meant_counts is_prefix sought pages) at 0)

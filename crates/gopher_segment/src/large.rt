@@ -1,0 +1,61 @@
+//! Large pages: a table leaves out their words, which are counted in the pages themselves.
+
+ghost use Rattle.std.specs.Prelude.{◌≡◌, ◌<◌, length, map, IfOk};
+ghost use Rattle.std.specs.Arc.{arc_value};
+ghost use Rattle.gopher_segment.specs.Large.{AreCountsInTable, WritesCount, large_from};
+ghost use Rattle.gopher_segment.specs.Segment.{meant_counts};
+
+use gopher_bytes::NoMemory;
+use gopher_page::Page;
+use std::alloc::Global;
+use std::sync::Arc;
+
+/// Returns the indices of the large pages.
+pub(crate) fn large_of(alloc: Global, pages: &[Arc<Page>]) -> Result<Vec<usize>, NoMemory>
+    ensures { IfOk result (λ large. large.items ≡ large_from 0 (map arc_value pages.now)) }
+{
+    let mut large = Vec::new(alloc);
+    for (index, page) in pages.iter().enumerate() {
+        if page.is_large() {
+            large.push(index)?;
+        }
+    }
+    Ok(large)
+}
+
+// Writes the count of one page.
+fn write_count(pages: &[Arc<Page>], at: usize, is_prefix: bool, sought: &[u8], cells: &mut [u32])
+    requires within { at < length pages.now }
+    requires each { length cells.old ≡ length pages.now }
+    ensures { WritesCount is_prefix sought.now (map arc_value pages.now) at cells.old cells.new }
+{
+    cells[at] = pages[at].counts().count_meant(is_prefix, sought);
+}
+
+/// Writes the counts of the large pages, whose cells are 0.
+pub(crate) fn spread_large(
+    pages: &[Arc<Page>],
+    large: &[usize],
+    is_prefix: bool,
+    sought: &[u8],
+    cells: &mut [u32],
+)
+    requires large { large.now ≡ large_from 0 (map arc_value pages.now) }
+    requires cells { AreCountsInTable is_prefix sought.now (map arc_value pages.now) cells.old }
+    ensures { cells.new ≡ meant_counts is_prefix sought.now (map arc_value pages.now) }
+{
+    for at in large {
+        write_count(pages, *at, is_prefix, sought, cells);
+    }
+}
+
+/// Returns the sum of the numbers of distinct words of the pages at these indices.
+pub(crate) fn words_at(pages: &[Arc<Page>], large: &[usize]) -> usize {
+    let mut words = 0_usize;
+    for at in large {
+        if let Some(page) = pages.get(*at) {
+            words = words.saturating_add(page.counts().len());
+        }
+    }
+    words
+}
