@@ -1,8 +1,8 @@
 """Scripts of catalogues whose pages end around each size at which the segments of the index change: the first segment,
 those that are merged from four, at once or once a fifth follows, and the largest; with words that every other page
 has, that one page has, and that stand in a page about as often as a byte counts, and far more often; with long words
-that differ late; and of pages with so many words that their segment is made otherwise. Then scripts of what is as large as it
-may be: a page, the places of a crawl, its pages, and the terms of a search.
+that differ late; of pages with so many words that their segment is made otherwise; and of large pages among small ones.
+Then scripts of what is as large as it may be: a page, the places of a crawl, its pages, and the terms of a search.
 """
 import itertools
 import random
@@ -24,6 +24,18 @@ QUESTIONS = (
     b"willowherbwillows or willowherbwillowt", b"willowherbwillow*", b"m not willowherbwillo*",
 )
 SOUGHT = (b"m", b"p0", b"p7", b"p63", b"p64", b"p1023", b"p5119", b"p16384", b"lark", b"k", b"absent", b"willowherbwillowt")
+
+
+# A page is large if its different words have more bytes than this.
+LARGE = 131_072
+# Words of large pages, and what is sought among large and small ones; the last questions are done in steps.
+LONG_WORDS = (b"a00000" + b"x" * 34, b"b63027" + b"x" * 34)
+LARGE_QUESTIONS = (
+    b"m", b"a*", b"a* not lark", b"m not a*", b"m not " + LONG_WORDS[0], b"lark", b"lark not a*", b"l* or a*", b"p63", b"p64 or p63",
+    b"p255 or p256 or " + LONG_WORDS[1], LONG_WORDS[0], LONG_WORDS[1], b"a0*", b"b63*", b"q*", b"absent", b"absent or c*",
+    b"m a* b* c* d*", b"m or a* or lark or l* or p1* or z*", b"m not a* not b* not p1* or lark or p63",
+    b"m not " + LONG_WORDS[0] + b" not " + LONG_WORDS[1] + b" or p0 or p63 or p255",
+)
 
 
 def kays(number):
@@ -78,10 +90,40 @@ def crawl_of_many_words():
     yield b"status"
 
 
+def words_of(number, size):
+    """Different words that have so many bytes together: those of 40 bytes, and one for the rest. The first pages share words."""
+    count, rest = divmod(size, 40)
+    words = [b"%c%05d%s" % (97 + at % 26, (at + 1_000 * number) % 100_000, b"x" * 34) for at in range(count)]
+    return words + [b"q" * rest] * (rest > 0)
+
+
+def crawl_of_large_pages():
+    """A crawl of 262 pages, of which some are large: their different words have over 131,072 bytes. Page 100 has just as many.
+    The large ones are the first and the last of the first segment, one in the third, one in the fourth, and one behind them.
+    So there are segments with large pages and without any, before and after they are merged."""
+    sizes = {0: LARGE + 1, 63: 140_000, 100: LARGE, 130: LARGE + 2, 255: 150_000, 256: LARGE + 41}
+    yield b"allow\th\t7\t"
+    yield from (b"seed\t0\th\t7\t%d" % number for number in range(262))
+    yield b"start\t262"
+    for number in range(262):
+        words = [b"p%d" % number, b"m", *[b"lark"] * (number % 7 * 45)]
+        if number in sizes:
+            words += words_of(number, sizes[number] - len(b"".join(set(words))))
+            assert len(b"".join(set(words))) == sizes[number]
+        yield b"claim"
+        yield b"found\t%d\t0\th\t7\t%d" % (number, number)
+        yield b"|" + b" ".join(words)
+        if number + 1 in (64, 65, 128, 192, 256, 257, 262):
+            yield from (b"search\t" + question for question in LARGE_QUESTIONS)
+            yield from (b"occurs\t" + word for word in (b"lark", b"p63", b"p255", *LONG_WORDS, b"absent"))
+    yield b"status"
+
+
 def scripts_of_sizes(pages):
     yield b"\n".join(crawl_of(pages, SIZES, LARKS))
     if pages >= 1025:
         yield b"\n".join(crawl_of_many_words())
+        yield b"\n".join(crawl_of_large_pages())
     # Words that stand more often in a page than sixteen bits count.
     yield b"\n".join(crawl_of(20, (9, 20), {3: 65535, 7: 65536, 8: 70_000}))
 

@@ -96,8 +96,15 @@ class Server:
 
     def most_memory(self):
         """The most memory that it has held so far, in KiB; none if it has ended."""
+        return self._memory("VmHWM:")
+
+    def memory(self):
+        """The memory that it holds, in KiB; none if it has ended."""
+        return self._memory("VmRSS:")
+
+    def _memory(self, name):
         status = pathlib.Path(f"/proc/{self.process.pid}/status").read_text()
-        return next((int(line.split()[1]) for line in status.splitlines() if line.startswith("VmHWM:")), None)
+        return next((int(line.split()[1]) for line in status.splitlines() if line.startswith(name)), None)
 
     def end(self):
         """The rest of its output, its errors and its status."""
