@@ -1,5 +1,5 @@
 -- Cutting bytes at the first occurrence of a byte, and the lines of bytes.
-use Rattle.std.proofs.Common.{◌≡◌, ℕ, zero, suc, ◌+◌, ◌-◌, ◌<◌, ◌≤◌, Bool, true, false, ◌||◌, eqb, cond, List, [], ◌∷◌, ◌++◌, add-one, append_assoc, length, get_or, take, drop, Option, None, Some, is_some, refl, sym, ap, ◌∙◌, arith}
+use Rattle.std.proofs.Common.{◌≡◌, ℕ, zero, suc, ◌+◌, ◌-◌, ◌<◌, ◌≤◌, Bool, true, false, ◌||◌, eqb, cond, List, [], ◌∷◌, ◌++◌, add-one, one-add, append_assoc, length, get_or, take, drop, Option, None, Some, is_some, refl, sym, ap, ◌∙◌, arith}
 use Rattle.std.specs.List.{list_any, slice_split}
 use Rattle.std.proofs.lemmas.Bool.{eqb-true}
 use Rattle.std.proofs.lemmas.List.{append-nil, length-drop, take_all}
@@ -10,7 +10,7 @@ use Rattle.std.specs.Str.Lines.{lines_of_parts, strip_carriage_return}
 use Rattle.std.proofs.lemmas.List.Splits.{slice_split-cons_yes, slice_split-cons_no}
 use Rattle.std.proofs.lemmas.Bool.Decides.{nat_tests}
 use Rattle.memchr.specs.Find.{Nowhere, Passes, IsFirstByte, is_byte}
-use Rattle.gopher_bytes.specs.Lines.{IsAround, lines_of}
+use Rattle.gopher_bytes.specs.Lines.{IsAround, any_last_line, is_last_line, lines_before_last, lines_of}
 
 -- the test of a byte by which `memchr` searches
 abbrev is_cut : ℕ → ℕ → Bool
@@ -124,3 +124,10 @@ around_feed bytes line front rest whole stripped = (
       ∙ append_assoc front stripped.0 (10 ∷ rest)
       ∙ ap (λ l. front ++ l) (sym (append_assoc stripped.0 (10 ∷ []) rest)),
 )
+
+-- a line that isn't the last line stays
+pub lines_before_last-line : (line : List ℕ) (lines : List (List ℕ)) → is_last_line line ≡ false → lines_before_last (line ∷ lines) ≡ line ∷ lines_before_last lines
+lines_before_last-line line lines other = rw other (ap (λ n. take n (line ∷ lines)) (one-add _))
+
+pub any_last_line-line : (line : List ℕ) (lines : List (List ℕ)) → is_last_line line ≡ false → any_last_line (line ∷ lines) ≡ any_last_line lines
+any_last_line-line line lines other = rw other refl

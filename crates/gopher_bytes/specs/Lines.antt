@@ -1,8 +1,9 @@
 -- The lines of bytes.
-use Rattle.std.specs.Prelude.{◌≡◌, ◌==◌, ℕ, Bool, false, List, [], ◌∷◌, ◌++◌, Option, MatchOption}
+use Rattle.std.specs.Prelude.{◌≡◌, ◌==◌, ℕ, Bool, false, List, [], ◌∷◌, ◌++◌, codes, Option, MatchOption, nat_eq}
 use Rattle.std.specs.Borrow.{Bor}
 use Rattle.std.specs.Io.BufRead.{drop_through}
-use Rattle.std.specs.List.{list_any, slice_split}
+use Rattle.std.specs.Cmp.Lexicographic.{pointwise}
+use Rattle.std.specs.List.{before_first, list_any, slice_split}
 use Rattle.std.specs.Str.Lines.{lines}
 
 -- each LF ends a line, and one CR directly before an LF is part of the end; bytes after the last LF
@@ -10,6 +11,18 @@ use Rattle.std.specs.Str.Lines.{lines}
 -- LF is this profile's
 abbrev pub lines_of : List ℕ → List (List ℕ)
 lines_of bytes = lines bytes
+
+-- a single period, which ends a menu and a text (RFC 1436, appendix: Lastline)
+abbrev pub is_last_line : List ℕ → Bool
+is_last_line line = pointwise nat_eq line (codes ".")
+
+-- the lines before the first last line
+abbrev pub lines_before_last : List (List ℕ) → List (List ℕ)
+lines_before_last lines = before_first is_last_line lines
+
+-- one of the lines is a last line
+abbrev pub any_last_line : List (List ℕ) → Bool
+any_last_line lines = list_any is_last_line lines
 
 -- the pieces of the bytes between occurrences of this byte
 abbrev pub cut_at : ℕ → List ℕ → List (List ℕ)

@@ -24,7 +24,7 @@ mod trim;
 pub use byte_string::ByteString;
 pub use byte_strings::ByteStrings;
 pub use fault::NoMemory;
-pub use line::{EachLine, first_line, lines};
+pub use line::{EachLine, MAX_LINE, first_line, is_last_line, lines};
 pub use number::read_number;
 pub use parts::{MAX_PACKED, range_at, span_at};
 pub use split::split_once;

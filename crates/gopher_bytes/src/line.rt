@@ -1,15 +1,18 @@
-//! The lines of bytes: `lines`, `first_line`.
+//! The lines of bytes: `lines`, `first_line`, `is_last_line`.
 
 ghost use Rattle.std.specs.Prelude.{◌≡◌, ◌<◌, false, [], length, map, IfOk, IfSome, MatchOption};
 ghost use Rattle.std.specs.Io.BufRead.{drop_through};
 ghost use Rattle.std.specs.Iterator.{YieldsFirstRef, item_count};
 ghost use Rattle.std.specs.Str.Lines.{strip_carriage_return};
-ghost use Rattle.gopher_bytes.specs.Lines.{IsAround, IsFirstOf, has_feed, lines_of};
+ghost use Rattle.gopher_bytes.specs.Lines.{IsAround, IsFirstOf, has_feed, is_last_line, lines_of};
 
 use crate::fault::NoMemory;
 use crate::split::split_once;
 use std::alloc::Global;
 use std::marker::Model;
+
+/// The most bytes of a request line without its end.
+pub const MAX_LINE: usize = 1_024;
 
 /// Returns the first line of the bytes without its end, and the bytes after its end; `None` if
 /// there are no bytes.
@@ -41,6 +44,14 @@ fn without_carriage_return(line: &[u8]) -> &[u8]
         [front @ .., b'\r'] => front,
         _ => line,
     }
+}
+
+/// Returns whether the line is a single period, which ends a menu and a text (RFC 1436, appendix:
+/// Lastline).
+pub fn is_last_line(line: &[u8]) -> bool
+    ensures { result ≡ is_last_line line.now }
+{
+    matches!(line, [b'.'])
 }
 
 /// An iterator over the lines of bytes, cut as `first_line` cuts them.

@@ -6,7 +6,7 @@ use Rattle.std.specs.Io.BufRead.{first_line}
 use Rattle.std.specs.declared.io.ErrorKind.{ErrorKind}
 use Rattle.std.specs.declared.io.ErrorKind.TheVariants as kind
 use Rattle.std.specs.Io.KnownBytes.{Appends, Consumes, IsAtEnd, Keeps}
-use Rattle.gopher_item.specs.declared.limits.TheConstants.{MAX_LINE}
+use Rattle.gopher_bytes.specs.declared.line.TheConstants.{MAX_LINE}
 use Rattle.gopher_text.specs.Watched.{WatchedData, CountsFailure, HasFailed}
 use Rattle.gopher_conversation.specs.Leads.{Leads}
 use Rattle.gopher_conversation.specs.Serve.{StreamData, stream_of}

@@ -2,7 +2,7 @@
 -- section 2).
 use Rattle.std.specs.Prelude.{◌≡◌, ℕ, zero, suc, ◌+◌, ◌<◌, Bool, true, false, ◌||◌, ◌⊎◌, List, [], ◌++◌, length, take, drop, nat_le, Option, None, Some, if◌then◌else◌}
 use Rattle.std.specs.Io.BufRead.{first_line}
-use Rattle.gopher_item.specs.declared.limits.TheConstants.{MAX_LINE}
+use Rattle.gopher_bytes.specs.declared.line.TheConstants.{MAX_LINE}
 use Rattle.gopher_text.specs.Line.{has_feed}
 use Rattle.gopher_conversation.specs.declared.conversation.Stage.{Stage}
 use Rattle.gopher_conversation.specs.declared.conversation.Stage.TheVariants as stage

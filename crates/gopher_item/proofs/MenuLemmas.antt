@@ -1,24 +1,19 @@
 -- The effect of one more line on the entries of a menu.
-use Rattle.std.proofs.Common.{◌≡◌, ℕ, ◌-◌, true, false, not, eqb, List, ◌∷◌, ◌++◌, length, take, drop, one-add, map, filter, refl, sym, ap, ◌∙◌, append_assoc, arith, length-append}
+use Rattle.std.proofs.Common.{◌≡◌, ℕ, ◌-◌, true, false, not, eqb, List, ◌∷◌, ◌++◌, length, drop, map, filter, refl, sym, ap, ◌∙◌, append_assoc, arith, length-append}
 use Rattle.std.proofs.lemmas.List.{drop_at}
-use Rattle.gopher_bytes.specs.Lines.{IsAround}
+use Rattle.gopher_bytes.specs.Lines.{IsAround, is_last_line}
+use Rattle.gopher_bytes.proofs.Splits.{lines_before_last-line}
 use Rattle.gopher_item.specs.MenuLine.{StandsAt}
-use Rattle.gopher_item.specs.Menu.{entry_of, entries_of, is_last_line, any_last_line, lines_before_last}
+use Rattle.gopher_item.specs.Menu.{entry_of, entries_of}
 
 -- a line that isn't the last line stays
-before_last-line : (line : List ℕ) (lines : List (List ℕ)) → is_last_line line ≡ false → lines_before_last (line ∷ lines) ≡ line ∷ lines_before_last lines
-before_last-line line lines other = rw other (ap (λ n. take n (line ∷ lines)) (one-add _))
-
-pub any_last_line-line : (line : List ℕ) (lines : List (List ℕ)) → is_last_line line ≡ false → any_last_line (line ∷ lines) ≡ any_last_line lines
-any_last_line-line line lines other = rw other refl
-
 pub entries_of-line : (line : List ℕ) (lines : List (List ℕ)) → is_last_line line ≡ false → eqb (length line) 0 ≡ false → entries_of (line ∷ lines) ≡ entry_of line ∷ entries_of lines
 entries_of-line line lines other some =
-    ap (λ l. map entry_of (filter (λ x. not (eqb (length x) 0)) l)) (before_last-line line lines other) ∙ rw some refl
+    ap (λ l. map entry_of (filter (λ x. not (eqb (length x) 0)) l)) (lines_before_last-line line lines other) ∙ rw some refl
 
 pub entries_of-empty : (line : List ℕ) (lines : List (List ℕ)) → is_last_line line ≡ false → eqb (length line) 0 ≡ true → entries_of (line ∷ lines) ≡ entries_of lines
 entries_of-empty line lines other none =
-    ap (λ l. map entry_of (filter (λ x. not (eqb (length x) 0)) l)) (before_last-line line lines other) ∙ rw none refl
+    ap (λ l. map entry_of (filter (λ x. not (eqb (length x) 0)) l)) (lines_before_last-line line lines other) ∙ rw none refl
 
 -- the bytes after one more line are a suffix of all bytes
 pub still_left : (bytes seen rest line after : List ℕ) → bytes ≡ seen ++ rest → IsAround rest line after → (more : List ℕ) × (bytes ≡ more ++ after)

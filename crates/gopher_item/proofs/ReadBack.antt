@@ -16,15 +16,15 @@ use Rattle.std.proofs.lemmas.List.Folds.{list_any-append}
 use Rattle.std.proofs.lemmas.List.Splits.{slice_split-cons_yes, slice_split-cons_no}
 use Rattle.std.proofs.Math.Seq.{get_or-append_seam}
 use Rattle.gopher_item.specs.Special.{is_special, has_special}
-use Rattle.gopher_bytes.specs.Lines.{lines_of}
+use Rattle.gopher_bytes.specs.Lines.{any_last_line, is_last_line, lines_of}
 use Rattle.gopher_bytes.specs.Number.{number_of}
 use Rattle.gopher_bytes.specs.Trim.{trim_front, trim_spaces}
 use Rattle.gopher_item.specs.MenuLine.{MenuLineData, IsMenuLine, menu_line_bytes, menu_bytes}
 use Rattle.gopher_item.specs.declared.menu.Entry.TheVariants.{Item}
-use Rattle.gopher_item.specs.Menu.{ReadsMenu, fields_of, item_of, entry_of, entries_of, is_last_line, any_last_line}
-use Rattle.gopher_bytes.proofs.Splits.{lines_of_cut}
+use Rattle.gopher_item.specs.Menu.{ReadsMenu, fields_of, item_of, entry_of, entries_of}
+use Rattle.gopher_bytes.proofs.Splits.{any_last_line-line, lines_of_cut}
 use Rattle.gopher_bytes.proofs.Trims.{none_in_reverse}
-use Rattle.gopher_item.proofs.MenuLemmas.{any_last_line-line, entries_of-line}
+use Rattle.gopher_item.proofs.MenuLemmas.{entries_of-line}
 
 -- ---- tests that no byte passes
 

@@ -1,28 +1,15 @@
 -- A menu, read from bytes (RFC 1436, section 2, and appendix: Menu; odd lines are this profile's).
-use Rattle.std.specs.Prelude.{◌≡◌, ℕ, Bool, true, false, ◌||◌, not, List, [], ◌∷◌, ◌++◌, codes, length, map, filter, Option, None, MatchOption, ◌==◌, nat_eq, if◌then◌else◌}
+use Rattle.std.specs.Prelude.{◌≡◌, ℕ, Bool, true, false, ◌||◌, not, List, [], ◌∷◌, ◌++◌, length, map, filter, Option, None, MatchOption, ◌==◌, if◌then◌else◌}
 use Rattle.std.specs.Borrow.{Bor}
-use Rattle.std.specs.List.{before_first, list_any, slice_split}
+use Rattle.std.specs.List.{list_any, slice_split}
 use Rattle.std.specs.Option.{option_map, option_map_or}
-use Rattle.std.specs.Cmp.Lexicographic.{pointwise}
-use Rattle.gopher_bytes.specs.Lines.{lines_of}
+use Rattle.gopher_bytes.specs.Lines.{any_last_line, lines_before_last, lines_of}
 use Rattle.gopher_bytes.specs.Number.{number_of}
 use Rattle.gopher_bytes.specs.Trim.{trim_spaces}
 use Rattle.gopher_item.specs.MenuLine.{MenuLineData, StandsAt, tabbed, menu_line_of}
 use Rattle.gopher_item.specs.declared.limits.TheConstants.{MAX_PORT}
 use Rattle.gopher_item.specs.declared.menu.Entry.{Entry}
 use Rattle.gopher_item.specs.declared.menu.Entry.TheVariants.{Item, Odd}
-
--- a single period, which ends a menu and a text (RFC 1436, appendix: Lastline)
-abbrev pub is_last_line : List ℕ → Bool
-is_last_line line = pointwise nat_eq line (codes ".")
-
--- the lines before the first last line
-abbrev pub lines_before_last : List (List ℕ) → List (List ℕ)
-lines_before_last lines = before_first is_last_line lines
-
--- one of the lines is a last line
-abbrev pub any_last_line : List (List ℕ) → Bool
-any_last_line lines = list_any is_last_line lines
 
 -- the fields of a line: the pieces between TABs
 abbrev pub fields_of : List ℕ → List (List ℕ)

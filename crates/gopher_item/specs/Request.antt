@@ -6,7 +6,7 @@ use Rattle.gopher_item.specs.Menu.{fields_of, first_field}
 use Rattle.gopher_item.specs.declared.fault.RequestFault.{RequestFault}
 use Rattle.gopher_item.specs.declared.fault.RequestFault.TheVariants.{BadSelector, LineTooLong, NoMemory}
 use Rattle.gopher_item.specs.declared.request.Request.{Request}
-use Rattle.gopher_item.specs.declared.limits.TheConstants.{MAX_LINE}
+use Rattle.gopher_bytes.specs.declared.line.TheConstants.{MAX_LINE}
 
 -- the first fault of a line, if it has one
 abbrev pub request_fault : List ℕ → Option RequestFault

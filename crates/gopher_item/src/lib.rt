@@ -30,12 +30,12 @@ mod writing;
 pub use fault::{ItemFault, RequestFault};
 pub use fields::{address_fault, is_host, is_selector, lowered_host};
 pub use gopher_bytes::{
-    ByteString, ByteStrings, EachLine, NoMemory, first_line, lines, read_number, split_once,
-    trim_spaces,
+    ByteString, ByteStrings, EachLine, MAX_LINE, NoMemory, first_line, lines, read_number,
+    split_once, trim_spaces,
 };
 pub use home::Home;
-pub use limits::{MAX_HOST, MAX_LINE, MAX_PORT, MAX_SELECTOR};
-pub use menu::{Entry, Menu, is_last_line, read_menu};
+pub use limits::{MAX_HOST, MAX_PORT, MAX_SELECTOR};
+pub use menu::{Entry, Menu, read_menu};
 pub use menu_line::{MenuLine, is_bad_type};
 pub use place::Place;
 pub use places::Places;

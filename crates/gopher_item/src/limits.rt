@@ -1,4 +1,4 @@
-//! Limits of selectors, hosts, ports and request lines.
+//! Limits of selectors, hosts and ports.
 
 /// The most bytes of a selector (RFC 1436, appendix: Selector).
 pub const MAX_SELECTOR: usize = 255;
@@ -8,6 +8,3 @@ pub const MAX_HOST: usize = 255;
 
 /// The largest port.
 pub const MAX_PORT: u32 = 65_535;
-
-/// The most bytes of a request line without its end.
-pub const MAX_LINE: usize = 1_024;

@@ -1,11 +1,11 @@
 //! `Menu`, `Entry`: reading a whole menu (`read_menu`).
 
-ghost use Rattle.std.specs.Prelude.{◌≡◌, ◌==◌, IfOk};
-ghost use Rattle.gopher_item.specs.Menu.{ReadsMenu, is_last_line};
+ghost use Rattle.std.specs.Prelude.{◌≡◌, IfOk};
+ghost use Rattle.gopher_item.specs.Menu.{ReadsMenu};
 
 use crate::item::entry_of;
 use crate::menu_line::MenuLine;
-use gopher_bytes::{ByteString, NoMemory, first_line};
+use gopher_bytes::{ByteString, NoMemory, first_line, is_last_line};
 use std::alloc::{AllocError, Global};
 use std::sync::Arc;
 
@@ -51,14 +51,6 @@ impl Clone for Menu {
             ended: self.ended,
         })
     }
-}
-
-/// Returns whether the line is a single period, which ends a menu and a text (RFC 1436, appendix:
-/// Lastline).
-pub fn is_last_line(line: &[u8]) -> bool
-    ensures { result ≡ is_last_line line.now }
-{
-    matches!(line, [b'.'])
 }
 
 /// Reads a menu from any bytes (RFC 1436, section 2, and appendix: Menu).

@@ -6,8 +6,7 @@ ghost use Rattle.gopher_item.specs.Request.{ReadsRequest};
 use crate::fault::RequestFault;
 use crate::fields::is_selector;
 use crate::item::field;
-use crate::limits::MAX_LINE;
-use gopher_bytes::ByteString;
+use gopher_bytes::{ByteString, MAX_LINE};
 use std::alloc::{AllocError, Global};
 
 /// A request of a client (RFC 1436, sections 2 and 3.7).

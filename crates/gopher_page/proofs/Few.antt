@@ -4,8 +4,8 @@ use Rattle.std.proofs.lemmas.List.{length-map, length-take}
 use Rattle.std.specs.List.{filter_map, cons_option, prefix_len, take_while, slice_split, onto_first}
 use Rattle.std.specs.Str.Lines.{lines_of_parts}
 use Rattle.gopher_item.specs.Place.{PlaceData, same_place, distinct}
-use Rattle.gopher_bytes.specs.Lines.{lines_of}
-use Rattle.gopher_item.specs.Menu.{entries_of, entry_of, lines_before_last, is_last_line}
+use Rattle.gopher_bytes.specs.Lines.{is_last_line, lines_before_last, lines_of}
+use Rattle.gopher_item.specs.Menu.{entries_of, entry_of}
 use Rattle.gopher_scope.specs.Scope.{ScopeData, allows}
 use Rattle.gopher_page.specs.Page.{menu_links, place_of_entry}
 

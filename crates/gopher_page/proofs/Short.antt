@@ -5,8 +5,8 @@ use Rattle.std.proofs.lemmas.List.Sums.{sum_by-cons, sum_by-take-le}
 use Rattle.std.specs.List.{slice_split, onto_first, prefix_len, list_any}
 use Rattle.std.specs.Option.{option_map, option_map_or}
 use Rattle.std.specs.Str.Lines.{lines_of_parts, strip_carriage_return}
-use Rattle.gopher_bytes.specs.Lines.{lines_of}
-use Rattle.gopher_item.specs.Menu.{entry_of, item_of_list, fields_of, first_field, lines_before_last, is_last_line}
+use Rattle.gopher_bytes.specs.Lines.{is_last_line, lines_before_last, lines_of}
+use Rattle.gopher_item.specs.Menu.{entry_of, item_of_list, fields_of, first_field}
 use Rattle.gopher_item.specs.declared.menu.Entry.TheVariants.{Item, Odd}
 use Rattle.gopher_bytes.specs.Trim.{trim_spaces}
 use Rattle.gopher_bytes.specs.Number.{number_of}

@@ -2,7 +2,7 @@
 use Rattle.std.specs.Prelude.{◌≡◌, ◌+◌, ◌≤◌, ℕ, Bool, IsTrue, true, false, ◌&&◌, ◌||◌, not, List, [], ◌∷◌, codes, length, filter, slice_get, nat_lt, Option, None, Some, Result, Ok, Err, if◌then◌else◌}
 use Rattle.std.specs.List.{fold, sum_by, list_any}
 use Rattle.std.specs.Option.{option_map, option_map_or}
-use Rattle.gopher_item.specs.declared.limits.TheConstants.{MAX_LINE}
+use Rattle.gopher_bytes.specs.declared.line.TheConstants.{MAX_LINE}
 use Rattle.gopher_page.specs.Words.{Token, same_word, token_of, tokens_of}
 use Rattle.gopher_page.specs.Counts.{count_meant}
 use Rattle.gopher_page.specs.declared.fault.QueryFault.{QueryFault}

@@ -97,7 +97,7 @@ pub struct QueryText<'a> {
 
 impl<'a> Model for QueryText<'a> {
     ghost use Rattle.std.specs.Prelude.{ℕ, ◌≤◌, List, length};
-    ghost use Rattle.gopher_item.specs.declared.limits.TheConstants.{MAX_LINE};
+    ghost use Rattle.gopher_bytes.specs.declared.line.TheConstants.{MAX_LINE};
 
     ghost Value = { List ℕ };
 

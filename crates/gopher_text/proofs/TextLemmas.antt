@@ -1,20 +1,17 @@
 -- The effect of one more line on a text; written lines are read back.
-use Rattle.std.proofs.Common.{◌≡◌, ℕ, ◌+◌, ◌-◌, ◌<◌, Bool, true, false, ◌||◌, eqb, cond, List, [], ◌∷◌, ◌++◌, length, get_or, slice_get, Some, take, map, one-add, refl, sym, ap, ◌∙◌, append_assoc, arith, length-append}
+use Rattle.std.proofs.Common.{◌≡◌, ℕ, ◌-◌, Bool, true, false, ◌||◌, eqb, cond, List, [], ◌∷◌, ◌++◌, length, get_or, take, map, refl, sym, ap, ◌∙◌, append_assoc, arith, length-append}
 use Rattle.std.specs.Io.{StartsWith}
 use Rattle.std.specs.List.{slice_split, flat_map, AllByRecursion}
 use Rattle.std.specs.Str.Lines.{strip_carriage_return}
 use Rattle.std.proofs.KnownBytes.{starts_with_rest}
 use Rattle.std.proofs.lemmas.Bool.Decides.{nat_tests}
-use Rattle.std.proofs.lemmas.Option.{get_or_from_slice_get}
-use Rattle.std.proofs.lemmas.List.{append-nil, take_at, take_more}
-use Rattle.std.proofs.lemmas.List.Concat.{flat_map-append, flat_map-cons}
+use Rattle.std.proofs.lemmas.List.{take_at}
+use Rattle.std.proofs.lemmas.List.Concat.{flat_map-cons}
 use Rattle.std.proofs.lemmas.List.Folds.{list_any-append}
 use Rattle.std.proofs.lemmas.List.Splits.{slice_split-cons_yes, slice_split-cons_no}
 use Rattle.std.proofs.Math.Seq.{get_or-append_seam}
-use Rattle.gopher_bytes.specs.Lines.{lines_of}
-use Rattle.gopher_item.specs.Menu.{lines_before_last, any_last_line, is_last_line}
-use Rattle.gopher_bytes.proofs.Splits.{lines_of_cut}
-use Rattle.gopher_item.proofs.MenuLemmas.{any_last_line-line}
+use Rattle.gopher_bytes.specs.Lines.{any_last_line, is_last_line, lines_before_last, lines_of}
+use Rattle.gopher_bytes.proofs.Splits.{any_last_line-line, lines_before_last-line, lines_of_cut}
 use Rattle.gopher_text.specs.Line.{has_feed}
 use Rattle.gopher_text.specs.Text.{begins_with_period, line_sent, line_read, text_line_bytes, text_bytes, text_lines, ReadsText}
 
@@ -28,16 +25,6 @@ pub text_bytes-line : (line : List ℕ) (lines : List (List ℕ)) → text_bytes
 text_bytes-line line lines =
     ap (λ l. l ++ 46 ∷ 13 ∷ 10 ∷ []) (flat_map-cons text_line_bytes line lines)
     ∙ append_assoc (text_line_bytes line) (flat_map text_line_bytes lines) (46 ∷ 13 ∷ 10 ∷ [])
-
--- the lines up to an index, and the line at it
-pub sent_one_more : (lines : List (List ℕ)) (index : ℕ) (line : List ℕ) → index < length lines → slice_get lines index ≡ Some line
-    → flat_map text_line_bytes (take (index + 1) lines) ≡ flat_map text_line_bytes (take index lines) ++ text_line_bytes line
-sent_one_more lines index line within here =
-    let is : get_or lines index [] ≡ line = get_or_from_slice_get lines index line [] here in
-    ap (flat_map text_line_bytes) (take_more lines index [] within)
-    ∙ flat_map-append text_line_bytes (take index lines) (get_or lines index [] ∷ [])
-    ∙ ap (λ l. flat_map text_line_bytes (take index lines) ++ l)
-    (flat_map-cons text_line_bytes (get_or lines index []) [] ∙ append-nil (text_line_bytes (get_or lines index [])) ∙ ap text_line_bytes is)
 
 -- ---- one line, read back
 
@@ -95,9 +82,6 @@ sent_read (byte ∷ line) = by (eqb byte 46) refl
 
 -- ---- whole texts
 
-before_last-line : (line : List ℕ) (lines : List (List ℕ)) → is_last_line line ≡ false → lines_before_last (line ∷ lines) ≡ line ∷ lines_before_last lines
-before_last-line line lines other = rw other (ap (λ n. take n (line ∷ lines)) (one-add _))
-
 read_lines : (lines : List (List ℕ)) → AllByRecursion (λ line. has_feed line ≡ false) lines
     → (text_lines (text_bytes lines) ≡ lines) × (any_last_line (lines_of (text_bytes lines)) ≡ true)
 read_lines [] unfed = (refl, refl)
@@ -106,7 +90,7 @@ read_lines (line ∷ lines) unfed =
     let split : lines_of (text_bytes (line ∷ lines)) ≡ line_sent line ∷ lines_of (text_bytes lines) =
     ap lines_of (text_bytes-line line lines) ∙ ended_line (line_sent line) (text_bytes lines) (sent_unfed line unfed.0) in (
       ap (λ l. map line_read (lines_before_last l)) split
-          ∙ ap (map line_read) (before_last-line (line_sent line) (lines_of (text_bytes lines)) (sent_not_last line))
+          ∙ ap (map line_read) (lines_before_last-line (line_sent line) (lines_of (text_bytes lines)) (sent_not_last line))
           ∙ rw (sent_read line, rest.0) refl,
       ap any_last_line split ∙ any_last_line-line (line_sent line) (lines_of (text_bytes lines)) (sent_not_last line) ∙ rest.1,
     )

@@ -3,7 +3,7 @@ use Rattle.std.specs.Prelude.{◌≡◌, ℕ, ◌+◌, ◌<◌, ◌≤◌, ◌�
 use Rattle.std.specs.Io.BufRead.{take_through, first_line, ends_with_byte, strip_last, DropsThrough}
 use Rattle.std.specs.Io.KnownBytes.{Consumes, IsAtEnd}
 pub use Rattle.gopher_bytes.specs.Lines.{has_feed}
-use Rattle.gopher_item.specs.declared.limits.TheConstants.{MAX_LINE}
+use Rattle.gopher_bytes.specs.declared.line.TheConstants.{MAX_LINE}
 use Rattle.gopher_text.specs.Watched.{WatchedData, CountsFailure, HasFailed, HasRead}
 use Rattle.gopher_text.specs.Reply.{SpendsTurns}
 use Rattle.gopher_text.specs.declared.fault.LineFault.{LineFault}

@@ -1,8 +1,9 @@
 -- Texts (RFC 1436, appendix: TextFile Entity).
-use Rattle.std.specs.Prelude.{◌≡◌, ℕ, Bool, false, not, ◌==◌, ◌&&◌, List, [], ◌∷◌, ◌++◌, codes, map, length, All, Option, MatchOption, if◌then◌else◌}
+use Rattle.std.specs.Prelude.{◌≡◌, ℕ, Bool, true, false, not, ◌==◌, ◌&&◌, List, [], ◌∷◌, ◌++◌, codes, map, length, All, Option, MatchOption, if◌then◌else◌}
 use Rattle.std.specs.List.{flat_map}
-use Rattle.gopher_bytes.specs.Lines.{lines_of}
-use Rattle.gopher_item.specs.Menu.{lines_before_last, any_last_line}
+use Rattle.std.specs.Global.{Vec}
+use Rattle.std.specs.Vec.{vec_items}
+use Rattle.gopher_bytes.specs.Lines.{any_last_line, lines_before_last, lines_of}
 use Rattle.gopher_text.specs.Line.{has_feed}
 use denote.Ref.{Bor}
 
@@ -27,6 +28,10 @@ text_line_bytes line = line_sent line ++ codes "\r\n"
 abbrev pub text_bytes : List (List ℕ) → List ℕ
 text_bytes lines = flat_map text_line_bytes lines ++ codes ".\r\n"
 
+-- the lines that these vectors hold
+abbrev pub lines_in : List (Vec ℕ) → List (List ℕ)
+lines_in vectors = map vec_items vectors
+
 -- the bytes of a file's text as it is sent
 abbrev pub file_text_bytes : List ℕ → List ℕ
 file_text_bytes bytes = text_bytes (lines_of bytes)
@@ -39,6 +44,10 @@ text_lines bytes = map line_read (lines_before_last (lines_of bytes))
 pub record ReadsText (bytes : List ℕ) (lines : List (List ℕ)) (ended : Bool) : Type 0 where
   pub all_lines : lines ≡ text_lines bytes
   pub is_ended : ended ≡ any_last_line (lines_of bytes)
+
+-- the text of these lines is read as the same lines, ended
+abbrev pub IsReadBack : List (List ℕ) → Type 0
+IsReadBack lines = ReadsText (text_bytes lines) lines true
 
 -- a text is its first line, as it is read, and the text of the bytes after the line's end; if
 -- nothing is given, it has no line

@@ -7,7 +7,7 @@ ghost use Rattle.gopher_text.specs.Watched.{HasRead};
 use crate::fault::LineFault;
 use crate::reading::{ByteRead, read_byte};
 use crate::watched::Watched;
-use gopher_item::MAX_LINE;
+use gopher_bytes::MAX_LINE;
 use std::alloc::Global;
 use std::io::Read;
 

@@ -5,7 +5,7 @@ ghost use Rattle.std.specs.Io.BufRead.{drop_through};
 ghost use Rattle.gopher_text.specs.Line.{has_feed};
 ghost use Rattle.gopher_text.specs.Text.{CutsTextLine, EndsLikeRest, HoldNoFeed, ReadsText, line_read};
 
-use gopher_item::{ByteStrings, NoMemory, first_line, is_last_line};
+use gopher_bytes::{ByteStrings, NoMemory, first_line, is_last_line};
 use std::alloc::Global;
 
 // Most lines of a text are at least this long: room for the ends of all lines is reserved at once.

@@ -1,10 +1,10 @@
 //! Writing texts, with doubled periods: `write_text`.
 
-ghost use Rattle.std.specs.Prelude.{◌≡◌, ◌++◌, true, OnOk, OnErr};
+ghost use Rattle.std.specs.Prelude.{◌≡◌, ◌++◌, OnOk, OnErr};
 ghost use Rattle.std.specs.Io.{StartsWith};
-ghost use Rattle.gopher_text.specs.Text.{HoldNoFeed, ReadsText, begins_with_period, file_text_bytes, text_bytes, text_line_bytes};
+ghost use Rattle.gopher_text.specs.Text.{HoldNoFeed, IsReadBack, begins_with_period, file_text_bytes, lines_in, text_bytes, text_line_bytes};
 
-use gopher_item::{ByteStrings, NoMemory, first_line};
+use gopher_bytes::{NoMemory, first_line};
 use std::alloc::AllocError;
 
 // The most bytes that a line needs besides its own: a period, and CR LF.
@@ -17,10 +17,10 @@ const BYTES_OF_A_LINE: usize = 32;
 /// Entity). No line may contain an LF.
 ///
 /// `read_text` reads the bytes back as these lines, ended.
-pub fn write_text(lines: &ByteStrings, out: &mut Vec<u8>) -> Result<(), NoMemory>
-    requires { HoldNoFeed lines.now }
-    ensures written { OnOk result (out.new.items ≡ out.old.items ++ text_bytes lines.now) }
-    ensures read_back { OnOk result (ReadsText (text_bytes lines.now) lines.now true) }
+pub fn write_text(lines: &[Vec<u8>], out: &mut Vec<u8>) -> Result<(), NoMemory>
+    requires { HoldNoFeed (lines_in lines.now) }
+    ensures text { OnOk result (out.new.items ≡ out.old.items ++ text_bytes (lines_in lines.now)) }
+    ensures read_back { OnOk result (IsReadBack (lines_in lines.now)) }
     ensures refused { OnErr result (out.new.items ≡ out.old.items) }
 {
     let length = out.len();
@@ -55,21 +55,21 @@ fn room_for_file(bytes: &[u8]) -> usize {
 }
 
 // At least as many bytes as the text of the lines has.
-fn room_for(lines: &ByteStrings) -> usize {
-    lines
-        .len()
-        .saturating_mul(MOST_MORE)
-        .saturating_add(lines.bytes_len())
-        .saturating_add(MOST_MORE)
+fn room_for(lines: &[Vec<u8>]) -> usize {
+    let mut room = MOST_MORE;
+    for line in lines {
+        room = room.saturating_add(line.len()).saturating_add(MOST_MORE);
+    }
+    room
 }
 
 // Appends the lines and the last line.
-fn push_lines(lines: &ByteStrings, out: &mut Vec<u8>) -> Result<(), AllocError>
-    ensures written { OnOk result (out.new.items ≡ out.old.items ++ text_bytes lines.now) }
+fn push_lines(lines: &[Vec<u8>], out: &mut Vec<u8>) -> Result<(), AllocError>
+    ensures text { OnOk result (out.new.items ≡ out.old.items ++ text_bytes (lines_in lines.now)) }
     ensures kept { StartsWith out.new.items out.old.items }
 {
-    for index in 0..lines.len() {
-        push_line(lines.get(index), out)?;
+    for line in lines {
+        push_line(line, out)?;
     }
     out.extend_from_slice(b".\r\n")
 }

@@ -1,5 +1,9 @@
 // Texts read and written.
-use gopher_text::{Text, read_text, write_text};
+
+ghost use Rattle.std.specs.Prelude.{IfSome};
+ghost use Rattle.gopher_text.specs.Text.{HoldNoFeed, lines_in};
+
+use gopher_text::{Text, first_text_line, read_text, write_text};
 use std::alloc::Global;
 
 // Whether a text has these lines.
@@ -38,13 +42,26 @@ fn reads_texts(rt: HostRuntime) {
     }
 }
 
+/// Returns the lines of a text, each in a vector of its own.
+pub fn text_lines(alloc: Global, bytes: &[u8]) -> Option<Vec<Vec<u8>>>
+    ensures { IfSome result (λ lines. HoldNoFeed (lines_in lines.items)) }
+{
+    let mut lines = Vec::new(alloc);
+    let mut rest = bytes;
+    while let Some((line, after)) = first_text_line(rest) {
+        lines.push(Vec::from_slice(alloc, line).ok()?).ok()?;
+        rest = after;
+    }
+    Some(lines)
+}
+
 // Whether a text that is read is written as it was.
 fn is_written_again(alloc: Global, bytes: &[u8]) -> bool {
-    let Ok(text) = read_text(alloc, bytes) else {
+    let Some(lines) = text_lines(alloc, bytes) else {
         return false;
     };
     let mut out = Vec::new(alloc);
-    write_text(&text.lines, &mut out).is_ok() && out.as_slice() == bytes
+    write_text(&lines, &mut out).is_ok() && out.as_slice() == bytes
 }
 
 #[test]

@@ -1,11 +1,12 @@
 //! Reading and writing menus and texts.
 
 ghost use Rattle.std.specs.Prelude.{◌≡◌};
-ghost use Rattle.gopher_text.specs.Text.{HoldNoFeed};
+ghost use Rattle.gopher_text.specs.Text.{HoldNoFeed, lines_in};
 
+use crate::texts::text_lines;
 use crate::timing::{ROUNDS, now, per_second, since};
 use gopher_item::{Entry, Menu, MenuLine, read_menu, write_menu};
-use gopher_text::{Text, read_text, write_text};
+use gopher_text::{read_text, write_text};
 use std::alloc::Global;
 
 fn items(alloc: Global, menu: Menu) -> Option<Vec<MenuLine>> {
@@ -51,14 +52,14 @@ fn text_read(rt: &HostRuntime, bytes: &[u8]) -> Option<u64> {
     Some(best)
 }
 
-fn text_written(rt: &HostRuntime, text: &Text) -> Option<u64>
-    requires { HoldNoFeed text.now.lines }
+fn text_written(rt: &HostRuntime, lines: &[Vec<u8>]) -> Option<u64>
+    requires { HoldNoFeed (lines_in lines.now) }
 {
     let mut best = u64::MAX;
     for _round in 0..ROUNDS {
         let mut out = Vec::new(rt.alloc());
         let start = now(rt)?;
-        write_text(&text.lines, &mut out).ok()?;
+        write_text(lines, &mut out).ok()?;
         best = best.min(since(rt, start)?);
     }
     Some(best)
@@ -85,7 +86,7 @@ pub fn measure_menus(rt: &HostRuntime, bytes: &[u8]) -> Option<()> {
 /// Prints how fast the bytes are read as a text, and written again.
 pub fn measure_texts(rt: &HostRuntime, bytes: &[u8]) -> Option<()> {
     let read = text_read(rt, bytes)?;
-    let text = read_text(rt.alloc(), bytes).ok()?;
-    let written = text_written(rt, &text)?;
+    let lines = text_lines(rt.alloc(), bytes)?;
+    let written = text_written(rt, &lines)?;
     print(rt, "text", bytes.len(), read, written)
 }

@@ -1,7 +1,8 @@
 use Rattle.std.proofs.Common.{◌++◌, [], ap, sym, refl, ◌∙◌, append_assoc, length-append, arith, length}
-use Rattle.gopher_bytes.specs.Lines.{lines_of}
-use Rattle.gopher_item.specs.Menu.{entries_of, any_last_line}
-use Rattle.gopher_item.proofs.MenuLemmas.{any_last_line-line, entries_of-line, entries_of-empty, stands_in_rest, still_left}
+use Rattle.gopher_bytes.specs.Lines.{any_last_line, lines_of}
+use Rattle.gopher_bytes.proofs.Splits.{any_last_line-line}
+use Rattle.gopher_item.specs.Menu.{entries_of}
+use Rattle.gopher_item.proofs.MenuLemmas.{entries_of-line, entries_of-empty, stands_in_rest, still_left}
 use Rattle.gopher_item.proofs.menu.read_menu.Goals as goal
 
 pub loop-line-preserved-in_ok-push : goal.loop-line-preserved-in_ok-push

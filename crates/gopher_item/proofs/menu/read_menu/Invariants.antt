@@ -1,6 +1,6 @@
 use Rattle.std.proofs.Common.{◌≡◌, ℕ, List, ◌++◌, length}
-use Rattle.gopher_bytes.specs.Lines.{lines_of}
-use Rattle.gopher_item.specs.Menu.{entries_of, any_last_line}
+use Rattle.gopher_bytes.specs.Lines.{any_last_line, lines_of}
+use Rattle.gopher_item.specs.Menu.{entries_of}
 use Rattle.gopher_item.proofs.menu.read_menu.Given as goal
 
 abbrev pub invariant-loop-line : goal.invariant-loop-line

@@ -1,6 +1,5 @@
 use Rattle.std.proofs.Common.{◌≡◌, ◌++◌, length}
-use Rattle.gopher_bytes.specs.Lines.{lines_of}
-use Rattle.gopher_item.specs.Menu.{any_last_line}
+use Rattle.gopher_bytes.specs.Lines.{any_last_line, lines_of}
 use Rattle.gopher_text.specs.Text.{text_lines, HoldNoFeed}
 use Rattle.gopher_text.proofs.text.read_text.Given as goal
 
