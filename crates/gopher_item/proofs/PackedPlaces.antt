@@ -1,9 +1,9 @@
 -- Packed places: the place at an index, more hosts, and one more row.
-use Rattle.std.proofs.Common.{◌≡◌, ℕ, zero, suc, ◌<◌, List, [], ◌∷◌, ◌++◌, length, map, get_or, slice_get, Some, Result, Ok, Err, OnErr, refl, ap, sym, ◌∙◌, arith}
+use Rattle.std.proofs.Common.{◌≡◌, ℕ, zero, suc, ◌<◌, List, [], ◌∷◌, ◌++◌, ◌+◌, length, map, drop, get_or, slice_get, Some, Result, Ok, Err, OnErr, refl, ap, sym, ◌∙◌, arith}
 use Rattle.std.specs.List.{zip, AllByRecursion}
 use Rattle.std.specs.Option.{option_map}
-use Rattle.std.proofs.lemmas.List.{length-append, length-map, map-append, get_or_append_left}
-use Rattle.std.proofs.lemmas.Option.{slice_get-map, get_or_from_slice_get}
+use Rattle.std.proofs.lemmas.List.{length-append, length-map, map-append, get_or_append_left, drop_more}
+use Rattle.std.proofs.lemmas.Option.{slice_get-map, slice_get_within, get_or_from_slice_get}
 use Rattle.gopher_bytes.proofs.Zips.{length-zip, slice_get-zip, zip-append}
 use Rattle.gopher_item.specs.Place.{PlaceData}
 use Rattle.gopher_item.specs.Places.{place_of_row, unpacked, HasHost, AreRows, HasMore}
@@ -29,6 +29,9 @@ pub place_at : (hosts selectors : List (List ℕ)) (rows : List Row) (i : ℕ) (
 place_at hosts selectors rows i host selector row h s r =
     slice_get-map (place_of_row hosts) (zip selectors rows) i ∙ ap (option_map (place_of_row hosts)) (slice_get-zip selectors rows i selector row s r)
     ∙ ap (λ name. Some (with_host row selector name)) (get_or_from_slice_get hosts row.host host [] h)
+
+pub drop_at : {X : Type 0} (xs : List X) (i : ℕ) (x : X) → slice_get xs i ≡ Some x → drop i xs ≡ x ∷ drop (i + 1) xs
+drop_at xs i x at = drop_more xs i x (slice_get_within xs i x at) ∙ ap (λ y. y ∷ drop (i + 1) xs) (get_or_from_slice_get xs i x x at)
 
 -- ---- more hosts
 

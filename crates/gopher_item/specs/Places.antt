@@ -1,6 +1,8 @@
 -- A packed list of places: their hosts, their selectors, and a row for each with the rest.
-use Rattle.std.specs.Prelude.{◌≡◌, ℕ, ◌<◌, List, ◌++◌, length, map, slice_index_or, []}
+use Rattle.std.specs.Prelude.{◌≡◌, ℕ, ◌<◌, List, ◌++◌, Option, length, map, slice_index_or, []}
+use Rattle.std.specs.Borrow.{Bor}
 use Rattle.std.specs.List.{zip, AllByRecursion}
+use Rattle.std.specs.Option.{option_map_or}
 use Rattle.gopher_item.specs.Place.{PlaceData}
 use Rattle.gopher_item.specs.declared.places.Row.{Row}
 
@@ -17,6 +19,10 @@ place_of_row hosts entry =
 -- the places of these rows
 abbrev pub unpacked : List (List ℕ) → List (List ℕ) → List Row → List PlaceData
 unpacked hosts selectors rows = map (place_of_row hosts) (zip selectors rows)
+
+-- the places of a list that is lent, if there is one
+abbrev pub places_lent : Option (Bor (List PlaceData)) → List PlaceData
+places_lent places = option_map_or (λ lent. lent.now) places []
 
 -- the index is that of a host
 abbrev pub HasHost : List (List ℕ) → Row → Type 0

@@ -14,6 +14,7 @@
 //! Library API that only tests and benchmarks here call: `write_menu`.
 #![tactic(auto)]
 
+mod each_place;
 mod fault;
 mod fields;
 mod home;
@@ -22,11 +23,13 @@ mod limits;
 mod menu;
 mod menu_line;
 mod place;
+mod place_parts;
 mod places;
 mod request;
 mod special;
 mod writing;
 
+pub use each_place::EachPlace;
 pub use fault::{ItemFault, RequestFault};
 pub use fields::{address_fault, is_host, is_selector, lowered_host};
 pub use gopher_bytes::{
@@ -38,6 +41,7 @@ pub use limits::{MAX_HOST, MAX_PORT, MAX_SELECTOR};
 pub use menu::{Entry, Menu, read_menu};
 pub use menu_line::{MenuLine, is_bad_type};
 pub use place::Place;
+pub use place_parts::PlaceParts;
 pub use places::Places;
 pub use request::{Request, read_request};
 pub use special::{has_special, is_control};

@@ -3,7 +3,9 @@
 ghost use Rattle.std.specs.Prelude.{◌≡◌, ◌<◌, ◌++◌, [], ◌∷◌, Some, length, slice_get, IfOk, OnOk, OnErr};
 ghost use Rattle.gopher_item.specs.Places.{HasMore};
 
+use crate::each_place::EachPlace;
 use crate::place::Place;
+use crate::place_parts::PlaceParts;
 use gopher_bytes::{ByteStrings, MAX_PACKED, NoMemory};
 use std::alloc::Global;
 use std::marker::Model;
@@ -92,15 +94,27 @@ impl Places {
         names
     }
 
-    /// Copies the place at `index`.
-    pub fn get(&self, alloc: Global, index: usize) -> Result<Place, NoMemory>
+    /// Returns the place at `index`, which is below `len`.
+    pub fn get(&self, index: usize) -> PlaceParts<'_>
         requires { index < length self.now }
-        ensures { IfOk result (λ place. slice_get self.now index ≡ Some place) }
+        ensures { slice_get self.now index ≡ Some result }
     {
         let row = self.rows[index];
         let host = self.hosts.get(row.host as usize);
         let selector = self.selectors.get(index);
-        Place::of_parts(alloc, host, row.port, selector, row.kind)
+        PlaceParts {
+            host,
+            port: row.port,
+            selector,
+            kind: row.kind,
+        }
+    }
+
+    /// Returns an iterator over the places, in order.
+    pub fn iter(&self) -> EachPlace<'_>
+        ensures { result ≡ self.now }
+    {
+        EachPlace::of(Some(self))
     }
 
     /// Appends a place.

@@ -1,6 +1,5 @@
-use Rattle.std.proofs.Common.{◌<◌, length, slice_get, Some, refl, sym, ap, ◌∙◌, arith, subst}
+use Rattle.std.proofs.Common.{◌<◌, length, slice_get, refl, sym, ap, ◌∙◌, arith, subst}
 use Rattle.std.proofs.lemmas.Option.{slice_get_read}
-use Rattle.std.proofs.lemmas.Result.{IfOk-weaker}
 use Rattle.gopher_item.specs.Places.{HasHost}
 use Rattle.gopher_item.proofs.PackedPlaces.{length-unpacked, host_at, place_at}
 use Rattle.gopher_item.proofs.places.Places.get.Goals as goal
@@ -25,4 +24,4 @@ returns c =
     let within : c.args.index < length rows = omega (arith, c.requires, ap length c.self.view_is, length-unpacked c.self.inside.hosts c.self.inside.selectors rows c.self.invariant) in
     let row = slice_get_read rows (length rows) c.args.index c.index-row.result.now refl within c.index-row.ensures in
     let there = place_at c.self.inside.hosts c.self.inside.selectors rows c.args.index c.get-host.result.now c.get-selector.result.now c.index-row.result.now c.get-host.ensures c.get-selector.ensures row in
-    IfOk-weaker c.of_parts.result _ _ (λ place is. ap (λ places. slice_get places c.args.index) (sym c.self.view_is) ∙ there ∙ ap Some (sym is)) c.of_parts.ensures
+    ap (λ places. slice_get places c.args.index) (sym c.self.view_is) ∙ there
