@@ -218,6 +218,8 @@ def check_serves(tally, machine):
             text = (SITE / "notes/tomatoes.txt").read_bytes().replace(b"\n", b"\r\n") + b".\r\n"
             tally.expect("a text", ask(PORT, b"/notes/tomatoes.txt\r\n", "localhost"), text)
             tally.expect("a search", found(b"/search\tevening\r\n", b"\t/notes/tomatoes.txt\t", server), True)
+            tally.expect("a search that finds a folder", found(b"/search\tnotes\r\n", b"1Notes\t/notes\t", server), True)
+            tally.expect("no search finds the page on searching", ask(PORT, b"/search\tlily\r\n", "localhost"), b".\r\n")
         finally:
             server.terminate()
             tally.expect("it says nothing on standard error", said(server.communicate(timeout=WAIT)[1].decode()), "")
@@ -245,7 +247,8 @@ def check_owner(tally, machine, package):
         settings.write("# my own\n")
     tally.expect("it installs again", machine.dpkg("--install", package).returncode, 0)
     tally.expect("the settings stay", machine.text("etc/hole/hole.toml").endswith("# my own\n"), True)
-    tally.expect("the site stays", files_below(machine.root / "srv/gopher"), [".menu", "notes/tomatoes.txt", "own.txt"])
+    stayed = sorted([*(file for file in files_below(SITE) if file != "first-steps.txt"), "own.txt"])
+    tally.expect("the site stays", files_below(machine.root / "srv/gopher"), stayed)
     machine.dpkg("--purge", "hole")
     tally.expect("a purge leaves the owner's files", files_below(machine.root / "srv/gopher"), [".menu", "own.txt"])
 

@@ -232,7 +232,7 @@ allow = [{{ host = "{HOST}", port = PORT }}]
             time.sleep(0.3)
             reply = ask(port, b"/search\tfrog\r\n")
         where = f"\t{HOST}\t{port}\r\n".encode()
-        expect("a hit of the example", b"0The common frog\t/frogs/common-frog.txt" + where in reply, True)
+        expect("the first hit of the example", reply.startswith(b"0The common frog\t/frogs/common-frog.txt" + where), True)
         text = (ROOT / "examples/site/frogs/common-frog.txt").read_bytes().replace(b"\n", b"\r\n") + b".\r\n"
         expect("a text of the example", ask(port, b"/frogs/common-frog.txt\r\n"), text)
 

@@ -47,16 +47,19 @@ def with_whole_root(text, root):
     return re.sub(r"(?m)^\s*root\s*=.*$", lambda _: line, text, count=1)
 
 
-def hints(host, port, settings):
+def hints(settings, is_example):
     """How to ask the server."""
+    host, port = settings["host"], settings.get("port", 70)
     place = f"{f'[{host}]' if ':' in host else host}:{port}"
-    text = "" if settings else f"    curl gopher://{place}/0/frogs/common-frog.txt\n"
-    return (
-        f"It serves at {host}, port {port}. Ask it from another terminal:\n\n"
-        f"    curl gopher://{place}/\n{text}"
-        f"    curl 'gopher://{place}/7/search%09frog'\n\n"
-        "Ctrl-C ends it."
-    )
+    requests = [f"    curl gopher://{place}/"]
+    if is_example:
+        requests.append(f"    curl gopher://{place}/0/frogs/common-frog.txt")
+    if settings.get("seeds") and settings.get("allow"):
+        requests.append(f"    curl 'gopher://{place}/7/search%09{'frog' if is_example else 'WORD'}'")
+    else:
+        requests.append("\nSearches find nothing, because these settings lack [[seeds]] or [[allow]].")
+    head = f"It serves at {host}, port {port}. Ask it from another terminal:\n"
+    return "\n".join([head, *requests, "\nCtrl-C ends it."])
 
 
 def serve(words, place, host, port, hint):
@@ -102,7 +105,7 @@ def main():
         place.write_text(with_whole_root(text, root if given else ROOT / root))
         start, where = command(program, str(place))
         print("Starting:", " ".join(start[:2]), ".. (without a proved program of these sources this takes 2 minutes)", flush=True)
-        return serve(start, where, host, port, hints(host, port, given))
+        return serve(start, where, host, port, hints(settings, not given))
 
 
 if __name__ == "__main__":

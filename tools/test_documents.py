@@ -53,6 +53,11 @@ class Documents(unittest.TestCase):
             self.assertEqual((ROOT / name).read_text(), draw(), f"run tools/draw_crates.py for {name}")
         self.assertEqual(draw_ratios.PICTURE.read_text(), draw_ratios.picture(draw_ratios.ratios(), draw_ratios.measured()), "run tools/draw_ratios.py")
 
+    def test_each_folder_of_the_first_sites_has_a_menu_with_a_heading(self):
+        for site in (ROOT / "examples/site", ROOT / "packaging/site"):
+            for folder in [site, *(path for path in site.rglob("*") if path.is_dir())]:
+                self.assertRegex((folder / ".menu").read_text(), r"\A[^\t\n]+\n\n", str(folder))
+
     def test_the_list_of_files_is_current(self):
         page = list_files.PAGE.read_text()
         self.assertTrue(page == list_files.written(page), "run tools/list_files.py --write")
