@@ -1,24 +1,40 @@
-# The commands of the README, the wrong bodies of one crate, and the timings of bench/.
+# The first comment of a target is what `make` alone prints of it.
+
+NEEDS_TOOLCHAIN = @python3 tools/unproved.py
+
+# Lists these commands.
+.PHONY: help
+help:
+	@awk '/^# / { text = text "\n    " substr($$0, 3) } /^\.PHONY: / { print "make " $$2 text "\n" } !/^#/ { text = "" }' $(MAKEFILE_LIST)
 
 # Serves the example's site on localhost, built without its proofs, and prints how to ask it. Ctrl-C ends it.
 # make run SETTINGS=my.toml serves your own folder.
 .PHONY: run
 run:
-	tools/run_example.py $(SETTINGS)
+	@tools/run_example.py $(SETTINGS)
+
+# Replays a script of a crawl and its searches by a program like that of `make run`, and prints the answers.
+# make replay SCRIPT=examples/first_crawl.script
+.PHONY: replay
+replay:
+	@tools/run_replay.py $(or $(SCRIPT),examples/first_crawl.script)
 
 # Proves the program and everything that it uses, and leaves it in crates/hole/out/hole.
 .PHONY: build
 build:
+	$(NEEDS_TOOLCHAIN)
 	cd crates/hole && rt run -- --version
 
 # Every proof and test from nothing, the wrong bodies, and the program as a user runs it; a table of all of it at the end.
 .PHONY: test
 test:
+	$(NEEDS_TOOLCHAIN)
 	tools/gate.py
 
 # What needs no proof, in minutes: layout, scripts, links, and the tests of the program, built without its proofs if need be.
 .PHONY: quick
 quick:
+	$(NEEDS_TOOLCHAIN)
 	tools/gate.py --quick
 
 # Compares the program with the plain models of tests/, on scripts, folders and request lines that are drawn anew each time.
@@ -31,6 +47,7 @@ fuzz: crates/hole/out/hole
 # The wrong bodies of one crate, for work on it: make wrong-bodies CRATE=gopher_item
 .PHONY: wrong-bodies
 wrong-bodies:
+	$(NEEDS_TOOLCHAIN)
 	tools/wrong_bodies.py --reasons $(CRATE)
 
 # Prints what to read to believe a promise: its clauses and the definitions that they reach. make audit PROMISE=search
@@ -55,14 +72,11 @@ clients: crates/hole/out/hole
 
 # Seconds and megabytes a second, on scripts and files that bench/ makes, and the tables of docs/TIMINGS.md that follow.
 # make bench OUTPUT=FILE keeps what it printed; bench/table.py --write FILE then puts the tables into the document.
-OUTPUT =
-
 .PHONY: bench
 bench:
+	$(NEEDS_TOOLCHAIN)
 	bench/run.sh $(OUTPUT)
 
-# Installs the program that `make build` left, its pages of the manual, its documents and examples, and its unit for systemd,
-# under PREFIX, below DESTDIR if that is given. Nothing is built.
 PREFIX = /usr/local
 DESTDIR =
 PROGRAM = crates/hole/out/hole
@@ -75,6 +89,8 @@ WITH_PREFIX = sed 's|/usr/local/bin/|$(PREFIX)/bin/|g'
 MANUAL = man1/hole.1 man1/gophermap_to_menu.1 man5/hole.toml.5
 WITH_VERSION = sed "/^\.TH /s/\"hole\"/\"$$($(PROGRAM) --version)\"/"
 
+# Installs the program that `make build` left, its pages of the manual, its documents and examples, its unit for systemd and its
+# completion for bash, under PREFIX, below DESTDIR if that is given. Nothing is built.
 .PHONY: install
 install:
 	@test -x $(PROGRAM) || { echo "There is no $(PROGRAM): 'make build' proves and builds it." >&2; exit 1; }
@@ -103,6 +119,7 @@ uninstall:
 	rm -f $(DESTDIR)$(PREFIX)/lib/systemd/system/hole.service
 
 crates/hole/out/hole:
+	$(NEEDS_TOOLCHAIN)
 	cd crates/hole && rt run -- replay < stdin > /dev/null
 
 include packaging/dist.mk

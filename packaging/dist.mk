@@ -1,6 +1,7 @@
 # The packages of a version: dist/ has a tarball, a package for Debian and their sums.
 
-# Packs the proved program; refuses any other, and a tree with changes that aren't committed.
+# Packs the proved program at the commit of a release. It refuses any other program, changes that aren't committed, and changes
+# that CHANGELOG.md lists as unreleased: packaging/dist.py --unreleased packs those and marks the version.
 .PHONY: dist
 dist: build
 	packaging/dist.py

@@ -154,7 +154,7 @@ class Release:
         released, later = changes_of(number)
         if later and not unreleased:
             raise Refused(
-                "CHANGELOG.md has unreleased changes: give them a version, and the program the same."
+                "CHANGELOG.md has unreleased changes. A package is made of a release: give them a version, and the program the same."
                 " (--unreleased packs it all the same, and marks the version.)"
             )
         self.changes = "\n".join(filter(None, [later, released]))

@@ -6,7 +6,8 @@
 Each of curl, lynx, gopher, sacc, vf1 and bombadillo that is on the path has to show the root's menu, a text, the hits of a
 search, and give an image's bytes. Those that aren't there are named, with how to install them on Debian; they count for
 nothing. Clients that want a terminal get one of 40 lines, and keys each time that they have been quiet for QUIET seconds;
-all run in a folder of their own, which is their home too. The last line is 'clients: N passed, M failed'; it takes about
+all run in a folder of their own, which is their home too. What `gopher HOST` shows, which asks by Gopher+, is printed and counts
+for nothing; the forms that docs/OPERATING.md names in its place have to show the menu. The last line is 'clients: N passed, M failed'; it takes about
 half a minute.
 """
 import argparse
@@ -172,6 +173,15 @@ def check_client(tally, name, asker):
             tally.expect(f"{name} and the {what}", got[-200:], "what was asked for")
 
 
+def check_gopher(tally, asker):
+    """The forms of the command `gopher` without a selector of its own."""
+    shown = asker.shown("gopher", HOST, str(asker.port))
+    what = "the menu" if is_right("menu", shown) else "'Nothing available'" if b"Nothing available" in shown else repr(shown[-200:])
+    print(f"clients: gopher HOST shows {what}")
+    for words in ((f"{asker.url}/1/",), ("-p", "/", HOST, str(asker.port))):
+        tally.expect(f"gopher {words[0]} shows the menu", is_right("menu", asker.shown("gopher", *words)), True)
+
+
 def main():
     words = argparse.ArgumentParser()
     words.add_argument("program", nargs="?", default=PROGRAM)
@@ -187,7 +197,10 @@ def main():
             for name in there:
                 home = folder / name
                 home.mkdir()
-                check_client(tally, name, Asker(server.port, home))
+                asker = Asker(server.port, home)
+                check_client(tally, name, asker)
+                if name == "gopher":
+                    check_gopher(tally, asker)
     print(f"clients: tried {', '.join(there) or 'none'}")
     if missing:
         print(f"clients: not installed: {', '.join(missing)} (on Debian: apt-get install {' '.join(missing)})")

@@ -1,5 +1,6 @@
 #!/usr/bin/env python3
-"""Has tools/run_example.py serve by settings of its own, and ends it in every way in which a terminal may.
+"""Has tools/run_example.py serve by settings of its own, and ends it in every way in which a terminal may. Then runs what needs the
+toolchain without it.
 
     tests/run_example.py [PROGRAM]
 
@@ -8,6 +9,7 @@ The last line is 'run_example: N passed, M failed'. It takes some seconds.
 import argparse
 import os
 import pathlib
+import shutil
 import signal
 import subprocess
 import sys
@@ -52,6 +54,24 @@ def check_end(tally, program, folder, number):
         script.kill()
 
 
+def check_without_toolchain(tally, folder):
+    """Without `rt` on the path, one line says what is missing."""
+    tools = folder / "tools"
+    tools.mkdir()
+    for name in ("env", "make", "python3", "sh"):
+        (tools / name).symlink_to(shutil.which(name))
+    gone = ("--program", folder / "no program")
+    for words in (
+        ("make", "wrong-bodies"),
+        (ROOT / "tools/run_example.py", *gone),
+        (ROOT / "tools/run_replay.py", *gone, ROOT / "examples/first_crawl.script"),
+    ):
+        ran = subprocess.run(words, cwd=ROOT, env={"PATH": str(tools)}, capture_output=True, text=True, timeout=WAIT)
+        lines = [line for line in ran.stderr.splitlines() if not line.startswith("make: ")]
+        told = (ran.returncode != 0, len(lines), "rt, which isn't on the path" in ran.stderr)
+        tally.expect(f"{pathlib.Path(words[0]).name} without the toolchain", told, (True, 1, True))
+
+
 def main():
     # what starts a job in the background may have it ignore SIGINT, and its processes inherit that
     signal.signal(signal.SIGINT, signal.default_int_handler)
@@ -62,6 +82,7 @@ def main():
     with tempfile.TemporaryDirectory() as place:
         for number in ENDS:
             check_end(tally, program, pathlib.Path(place), number)
+        check_without_toolchain(tally, pathlib.Path(place))
     return tally.status()
 
 

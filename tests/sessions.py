@@ -1,5 +1,5 @@
 #!/usr/bin/env python3
-"""Does what README.md's session and the first site of docs/OPERATING.md tell a reader to do, and compares the replies.
+"""Does what README.md's session and the first site and the replay of docs/OPERATING.md tell a reader to do, and compares the replies.
 
     tests/sessions.py [PROGRAM]
 
@@ -101,13 +101,24 @@ def check_first_site(tally, program, folder):
         tally.expect("first site: the menu", [line.split("\tlocalhost")[0] for line in shown[:-1]], wanted)
 
 
+def check_replay(tally, program, _folder):
+    """The script of OPERATING is the example's, and its answers are those that are shown."""
+    script, answers = (block.replace("<TAB>", "\t") for block in blocks(section("docs/OPERATING.md", "12. Replay a crawl")))
+    file = ROOT / "examples/first_crawl.script"
+    tally.expect("replay: the script is the example's", script, file.read_text())
+    (command, shown), = commands(answers)
+    tally.expect("replay: its command", command, "hole replay < examples/first_crawl.script")
+    ran = subprocess.run([ROOT / "tools/run_replay.py", "--program", program, file], capture_output=True, text=True, timeout=WAIT)
+    tally.expect("replay: its answers", (ran.returncode, ran.stdout, ran.stderr), (0, shown, ""))
+
+
 def main():
     words = argparse.ArgumentParser()
     words.add_argument("program", nargs="?", default=PROGRAM)
     program = pathlib.Path(words.parse_args().program).resolve()
     tally = Tally("sessions")
     with tempfile.TemporaryDirectory() as place:
-        for check in (check_readme, check_first_site):
+        for check in (check_readme, check_first_site, check_replay):
             check(tally, program, pathlib.Path(place))
     return tally.status()
 

@@ -19,7 +19,7 @@ import tempfile
 import time
 import tomllib
 
-from unproved import PROVED, ROOT, is_up, is_up_to_date
+from unproved import PROVED, ROOT, is_up, is_up_to_date, lacks_toolchain
 from unproved import command as unproved_command
 
 ENDING = (signal.SIGTERM, signal.SIGHUP)
@@ -34,11 +34,21 @@ if not sys.stdin.read():
 """
 
 
-def command(program, settings):
-    """What starts the server, and where."""
-    if os.access(program, os.X_OK) and (program != PROVED or is_up_to_date()):
-        return [str(program), "serve", settings], ROOT
-    return unproved_command("serve", settings), ROOT / "crates/hole"
+def is_usable(program):
+    """Whether a program is there, and no source is younger if it is the one that `make build` left."""
+    return os.access(program, os.X_OK) and (program != PROVED or is_up_to_date())
+
+
+def lacks_program(program):
+    """Whether there is no program and none can be built; standard error then says what is missing."""
+    return not is_usable(program) and lacks_toolchain()
+
+
+def command(program, *words):
+    """What starts the program with these words, and where."""
+    if is_usable(program):
+        return [str(program), *words], ROOT
+    return unproved_command(*words), ROOT / "crates/hole"
 
 
 def with_whole_root(text, root):
@@ -97,13 +107,15 @@ def main():
     except (OSError, KeyError, tomllib.TOMLDecodeError) as fault:
         print(f"{given}: {fault}", file=sys.stderr)
         return 1
+    if lacks_program(program):
+        return 1
     if is_up(host, port):
         print(f"Something listens at port {port} already.", file=sys.stderr)
         return 1
     with tempfile.TemporaryDirectory() as folder:
         place = pathlib.Path(folder) / "hole.toml"
         place.write_text(with_whole_root(text, root if given else ROOT / root))
-        start, where = command(program, str(place))
+        start, where = command(program, "serve", str(place))
         print("Starting:", " ".join(start[:2]), ".. (without a proved program of these sources this takes 2 minutes)", flush=True)
         return serve(start, where, host, port, hints(settings, not given))
 

@@ -6,6 +6,7 @@ tools/check_links.py looks after links, pictures and paths.
 """
 import pathlib
 import re
+import subprocess
 import sys
 import unittest
 
@@ -29,6 +30,12 @@ class Documents(unittest.TestCase):
         for page in PAGES:
             for name in re.findall(r"`make ([a-z-]+)", page.read_text()):
                 self.assertIn(name, targets, page.name)
+
+    def test_make_alone_lists_each_command_with_its_comment(self):
+        shown = subprocess.run(["make", "-s"], cwd=ROOT, capture_output=True, text=True, check=True).stdout
+        recipes = [ROOT / "Makefile", *ROOT.glob("*/*.mk")]
+        targets = [name for path in recipes for name in re.findall(r"(?m)^\.PHONY: (\S+)", path.read_text())]
+        self.assertEqual(re.findall(r"(?m)^make (\S+)\n {4}[A-Z]", shown), targets)
 
     def test_named_crates_exist(self):
         for page in PAGES:

@@ -1,0 +1,36 @@
+#!/usr/bin/env python3
+"""Replays a script by `hole replay`, and prints its answers.
+
+    tools/run_replay.py [--program FILE] SCRIPT
+
+Without --program it runs the one that `make build` has left, if no source is younger, or else builds one without its proofs, by
+`rt try`, which adds lines of its own on standard error. The status is that of the replay.
+"""
+import argparse
+import pathlib
+import subprocess
+import sys
+
+from run_example import command, lacks_program
+from unproved import PROVED
+
+
+def main():
+    words = argparse.ArgumentParser(description="Replays a script by `hole replay`, and prints its answers.")
+    words.add_argument("script", metavar="SCRIPT", help="such as examples/first_crawl.script")
+    words.add_argument("--program", type=pathlib.Path, default=PROVED, help="what `make build` left without it")
+    given = words.parse_args()
+    program = given.program.resolve()
+    if lacks_program(program):
+        return 1
+    start, where = command(program, "replay")
+    try:
+        with open(given.script, "rb") as script:
+            return subprocess.run(start, cwd=where, stdin=script).returncode
+    except OSError as fault:
+        print(f"{given.script}: {fault.strerror}", file=sys.stderr)
+        return 1
+
+
+if __name__ == "__main__":
+    sys.exit(main())
