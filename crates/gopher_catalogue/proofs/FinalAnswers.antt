@@ -7,7 +7,7 @@ use Rattle.std.proofs.lemmas.Map.Keys.{IsDistinct-from_apart}
 use Rattle.std.proofs.lemmas.Option.{slice_get-get_or, same_Some}
 use Rattle.gopher_item.specs.Place.{PlaceData}
 use Rattle.gopher_item.proofs.PlaceLemmas.{same_place-true}
-use Rattle.gopher_scope.specs.Scope.{ScopeData}
+use Rattle.gopher_item.specs.Scope.{ScopeData}
 use Rattle.gopher_page.specs.Page.{PageData}
 use Rattle.gopher_page.specs.Query.{TermData}
 use Rattle.gopher_index.specs.declared.hit.Hit.{Hit}

@@ -6,7 +6,7 @@ use Rattle.std.specs.Option.{option_map_or}
 use Rattle.std.proofs.lemmas.Bool.{cases_lt, lt-ltb, le-ltb, leb-true, and_parts}
 use Rattle.std.proofs.lemmas.Option.{slice_get_within}
 use Rattle.gopher_item.specs.Place.{PlaceData, same_place}
-use Rattle.gopher_scope.specs.Scope.{ScopeData, allows}
+use Rattle.gopher_item.specs.Scope.{ScopeData, allows}
 use Rattle.gopher_page.specs.Page.{PageData}
 use Rattle.gopher_frontier.specs.declared.known.Standing.{Standing}
 use Rattle.gopher_catalogue.specs.declared.event.Why.{Why}

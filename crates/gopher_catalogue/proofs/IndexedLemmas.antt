@@ -5,7 +5,7 @@ use Rattle.std.proofs.lemmas.Bool.{cases_Bool, cases_lt, lt-leb, le-leb, lt-ltb,
 use Rattle.std.proofs.lemmas.Option.{slice_get_within}
 use Rattle.std.proofs.lemmas.List.{append-nil, append_assoc, length-append}
 use Rattle.gopher_item.specs.Place.{PlaceData, is_among}
-use Rattle.gopher_scope.specs.Scope.{allows}
+use Rattle.gopher_item.specs.Scope.{allows}
 use Rattle.gopher_page.specs.Page.{PageData}
 use Rattle.gopher_frontier.specs.declared.known.Standing.{Standing}
 use Rattle.gopher_catalogue.specs.declared.event.Why.{Why}

@@ -7,7 +7,7 @@ use Rattle.std.proofs.lemmas.List.Sums.{AllPass-from_list_all}
 use Rattle.std.proofs.lemmas.Option.{slice_get_within}
 use Rattle.std.proofs.lemmas.List.{length-take}
 use Rattle.gopher_item.specs.Place.{PlaceData, same_place, is_among, distinct}
-use Rattle.gopher_scope.specs.Scope.{allows, IsAllowed}
+use Rattle.gopher_item.specs.Scope.{allows, IsAllowed}
 use Rattle.gopher_catalogue.specs.Event.{OpeningData, EventData, Opened, Claimed, Found, Failed}
 use Rattle.gopher_catalogue.specs.Frontier.{mentioned, mentions, known}
 use Rattle.gopher_catalogue.specs.Legal.{IsLegal}

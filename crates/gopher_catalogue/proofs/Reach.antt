@@ -8,7 +8,7 @@ use Rattle.std.proofs.lemmas.List.Elements.{All-nil, All-append, All-filter, All
 use Rattle.std.proofs.lemmas.List.Folds.{list_any-append}
 use Rattle.std.proofs.lemmas.Option.{slice_get_within, slice_get-get_or, get_or_from_slice_get}
 use Rattle.gopher_item.specs.Place.{PlaceData, same_place, is_among, distinct}
-use Rattle.gopher_scope.specs.Scope.{ScopeData, allows, IsAllowed}
+use Rattle.gopher_item.specs.Scope.{ScopeData, allows, IsAllowed}
 use Rattle.gopher_page.specs.Page.{PageData, page_of, links_of, menu_links}
 use Rattle.gopher_catalogue.specs.Event.{OpeningData, EventData, Opened, Claimed, Found, Failed}
 use Rattle.gopher_catalogue.specs.Frontier.{mentioned, mentions, known, dropped, waiting, is_out, is_done, out}

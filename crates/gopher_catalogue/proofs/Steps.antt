@@ -6,7 +6,7 @@ use Rattle.std.proofs.lemmas.List.{append-nil, append_assoc, length-append, drop
 use Rattle.std.proofs.lemmas.List.Concat.{flat_map-append}
 use Rattle.std.proofs.lemmas.List.Sums.{sum_by_push}
 use Rattle.gopher_item.specs.Place.{PlaceData, is_among, distinct}
-use Rattle.gopher_scope.specs.Scope.{allows}
+use Rattle.gopher_item.specs.Scope.{allows}
 use Rattle.gopher_page.specs.Page.{PageData}
 use Rattle.gopher_catalogue.specs.declared.event.Why.{Why}
 use Rattle.gopher_catalogue.specs.Event.{OpeningData, EventData, Claimed, Found, Failed}

@@ -3,7 +3,7 @@
 use Rattle.std.specs.Prelude.{◌≡◌, ℕ, Bool, ◌||◌, ◌↔◌, List, [], ◌∷◌, Option, None, Some, slice_get, IsTrue, if◌then◌else◌}
 use Rattle.std.specs.List.{fold, Contains}
 use Rattle.gopher_item.specs.Place.{PlaceData, is_among}
-use Rattle.gopher_scope.specs.Scope.{ScopeData, IsAllowed}
+use Rattle.gopher_item.specs.Scope.{ScopeData, IsAllowed}
 use Rattle.gopher_page.specs.Page.{PageData, page_of}
 use Rattle.gopher_catalogue.specs.declared.event.Why.{Why}
 use Rattle.gopher_catalogue.specs.Event.{OpeningData, EventData, Opened, Found, Failed}

@@ -2,7 +2,7 @@
 use Rattle.std.specs.Prelude.{◌≡◌, ℕ, ◌+◌, ◌≤◌, ◌&&◌, List, ◌∷◌, length, take, filter, count_by, Some, slice_get, ◌==◌, nat_lt, if◌then◌else◌}
 use Rattle.std.specs.List.{All, range_with_len}
 use Rattle.gopher_item.specs.Place.{PlaceData}
-use Rattle.gopher_scope.specs.Scope.{IsAllowed}
+use Rattle.gopher_item.specs.Scope.{IsAllowed}
 use Rattle.gopher_catalogue.specs.Event.{OpeningData, EventData, Opened, Claimed}
 use Rattle.gopher_catalogue.specs.Frontier.{known, claims, finds, failures, waiting, out, done}
 use Rattle.gopher_catalogue.specs.Legal.{IsLegal}

@@ -1,8 +1,8 @@
 -- The records that a sequential catalogue can have.
 use Rattle.std.specs.Prelude.{◌≡◌, ℕ, ◌≤◌, ◌<◌, true, List, ◌∷◌, length, take, Some, slice_get, IsTrue}
 use Rattle.std.specs.List.{list_all}
-use Rattle.gopher_scope.specs.Scope.{allows}
-use Rattle.gopher_scope.specs.declared.limits.TheConstants.{MAX_PLACES, MAX_TRIES}
+use Rattle.gopher_item.specs.Scope.{allows}
+use Rattle.gopher_item.specs.declared.limits.TheConstants.{MAX_PLACES, MAX_TRIES}
 use Rattle.gopher_catalogue.specs.Event.{OpeningData, EventData, Opened, Claimed, Found, Failed}
 use Rattle.gopher_catalogue.specs.Frontier.{known, waiting, is_out}
 

@@ -1,7 +1,7 @@
 -- The arguments with which a crawl begins, as data.
 use Rattle.std.specs.Prelude.{ℕ, List}
 use Rattle.gopher_item.specs.Place.{PlaceData}
-use Rattle.gopher_scope.specs.Scope.{ScopeData}
+use Rattle.gopher_item.specs.Scope.{ScopeData}
 
 -- the scope, the seeds, the most places that become known, and the most claims of a place
 pub record OpeningData : Type 0 where

@@ -3,7 +3,7 @@ use Rattle.std.specs.Prelude.{◌≡◌, ℕ, List, [], ◌∷◌, ◌++◌, tak
 use Rattle.std.specs.List.{flat_map}
 use Rattle.std.specs.Global.{Vec}
 use Rattle.gopher_item.specs.Place.{PlaceData}
-use Rattle.gopher_scope.specs.declared.limits.TheConstants.{MAX_PLACES}
+use Rattle.gopher_item.specs.declared.limits.TheConstants.{MAX_PLACES}
 use Rattle.gopher_page.specs.Page.{PageData}
 use Rattle.gopher_page.specs.Query.{TermData}
 use Rattle.gopher_segment.specs.Segment.{SegmentData}

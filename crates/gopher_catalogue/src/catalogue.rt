@@ -2,7 +2,7 @@
 
 ghost use Rattle.std.specs.Prelude.{◌≡◌, ◌≤◌, ℕ, true, false, None, Some, [], ◌∷◌, ◌++◌, length, map, slice_get, IfOk, IfErr, OnOk, OnErr};
 ghost use Rattle.std.specs.Arc.{arc_value};
-ghost use Rattle.gopher_scope.specs.Scope.{first_outside};
+ghost use Rattle.gopher_item.specs.Scope.{first_outside};
 ghost use Rattle.gopher_index.specs.Index.{IsSliceOf};
 ghost use Rattle.gopher_frontier.specs.Tables.{KeepsFrontier};
 ghost use Rattle.gopher_catalogue.specs.Frontier.{LearnsLinks};
@@ -23,9 +23,8 @@ use crate::fault::{FailRefused, FoundFault, FoundRefused, OpenFault, OpenRefused
 use crate::opening::Opening;
 use gopher_frontier::{Added, Frontier, Status};
 use gopher_index::{Due, Hit, Index};
-use gopher_item::{NoMemory, Place, Places};
+use gopher_item::{MAX_PLACES, MAX_TRIES, NoMemory, Place, Places, Scope};
 use gopher_page::{Page, Query};
-use gopher_scope::{MAX_PLACES, MAX_TRIES, Scope};
 use std::alloc::Global;
 use std::marker::Model;
 use std::sync::Arc;

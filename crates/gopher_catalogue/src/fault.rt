@@ -3,9 +3,8 @@
 ghost use Rattle.std.specs.Prelude.{◌≡◌};
 ghost use Rattle.gopher_catalogue.specs.Fault.{open_fault_code, found_fault_code};
 
-use gopher_item::Place;
+use gopher_item::{Place, Scope};
 use gopher_page::Page;
-use gopher_scope::Scope;
 use thiserror::Error;
 
 /// Why a catalogue could not be opened.

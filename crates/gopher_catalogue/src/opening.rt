@@ -3,8 +3,7 @@
 ghost use Rattle.std.specs.Prelude.{◌≡◌};
 ghost use Rattle.gopher_catalogue.specs.Opening.{opening_of};
 
-use gopher_item::Place;
-use gopher_scope::Scope;
+use gopher_item::{Place, Scope};
 use std::marker::Model;
 
 /// The arguments with which a crawl begins: its scope, its seeds and its limits.

@@ -4,8 +4,8 @@ use Rattle.std.specs.List.{flat_map}
 use Rattle.toml.specs.Parse.{parse_document}
 use Rattle.toml.specs.declared.de.error.Error.{Error}
 use Rattle.gopher_item.specs.Place.{PlaceData, HomeData}
-use Rattle.gopher_scope.specs.Rule.{RuleData}
-use Rattle.gopher_scope.specs.Scope.{first_outside}
+use Rattle.gopher_item.specs.Rule.{RuleData}
+use Rattle.gopher_item.specs.Scope.{first_outside}
 use Rattle.gopher_scope.specs.Rows.{key_name}
 use Rattle.gopher_scope.specs.Settings.{SettingsData, settings_of, IsFaultOf}
 use Rattle.gopher_scope.specs.declared.fault.SettingsFault.{SettingsFault}

@@ -3,7 +3,7 @@
 
 ghost use Rattle.std.specs.Prelude.{◌≡◌, ◌≤◌, length, None, Some, Err, IfOk, IfSome};
 ghost use Rattle.toml.specs.Parse.{parse_document};
-ghost use Rattle.gopher_scope.specs.Scope.{first_outside};
+ghost use Rattle.gopher_item.specs.Scope.{first_outside};
 ghost use Rattle.gopher_scope.specs.Settings.{settings_data, settings_of, IsFaultOf};
 ghost use Rattle.gopher_scope.specs.declared.fault.SettingsFault.TheVariants as settings_fault;
 ghost use Rattle.gopher_tree.specs.Fault.{files_fault};

@@ -4,9 +4,8 @@ ghost use Rattle.std.specs.Prelude.{◌≤◌, vec_len, IfOk, IfErr};
 ghost use Rattle.gopher_crew.specs.Work.{SettlesBytes, SettlesWhy};
 
 use gopher_catalogue::Why;
-use gopher_item::Place;
+use gopher_item::{Place, Scope};
 use gopher_page::Page;
-use gopher_scope::Scope;
 use gopher_text::MAX_REPLY;
 use std::alloc::Global;
 use std::sync::Arc;

@@ -11,7 +11,7 @@ use gopher_page::Page;
 use std::alloc::Global;
 use std::sync::Arc;
 
-// The most pages of an index: as many as a crawl has places (`MAX_PLACES` of gopher_scope).
+// The most pages of an index: as many as a crawl has places (`MAX_PLACES` of gopher_item).
 const MAX_PAGES: usize = 65_536;
 
 /// What changes of a version's pages.

@@ -9,7 +9,7 @@ use Rattle.std.proofs.lemmas.Map.Made.{is_some-lookup}
 use Rattle.std.proofs.lemmas.Bool.{cases_Bool, cases_lt, lt-leb, le-leb}
 use Rattle.std.proofs.Math.Seq.{drop-cons, take-append_seam}
 use Rattle.gopher_item.specs.Place.{PlaceData, is_among}
-use Rattle.gopher_scope.specs.Scope.{ScopeData, allows}
+use Rattle.gopher_item.specs.Scope.{ScopeData, allows}
 use Rattle.gopher_frontier.specs.Tables.{KnownData, Extends, unclaimed, after_mention, after_mentions, drops, is_dropped, after_link, is_dropped_link}
 use Rattle.indexmap.specs.IndexMap.{IndexMap, get, insert_entry, set_value_at}
 use Rattle.indexmap.proofs.CallerLemmas.{insert_entry-new}

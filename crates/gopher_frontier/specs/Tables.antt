@@ -7,8 +7,8 @@ use Rattle.std.specs.declared.sync.Arc.{Arc}
 use Rattle.std.specs.Vec.{vec_capacity, vec_len}
 use Rattle.std.specs.declared.vec.Vec.{Vec}
 use Rattle.gopher_item.specs.Place.{PlaceData, same_place, is_among}
-use Rattle.gopher_scope.specs.Scope.{ScopeData, allows}
-use Rattle.gopher_scope.specs.declared.limits.TheConstants.{MAX_PLACES}
+use Rattle.gopher_item.specs.Scope.{ScopeData, allows}
+use Rattle.gopher_item.specs.declared.limits.TheConstants.{MAX_PLACES}
 use Rattle.gopher_text.specs.declared.reply_reader.TheConstants.{MAX_REPLY}
 use Rattle.gopher_frontier.specs.declared.known.Standing.{Standing}
 use Rattle.gopher_frontier.specs.declared.sizes.Added.{Added}

@@ -7,8 +7,7 @@ ghost use Rattle.gopher_frontier.specs.Tables.{FrontierData, Begins, KeepsCounts
 use crate::known::{KnownPlaces, Standing};
 use crate::queue::Queue;
 use crate::sizes::{Added, Status};
-use gopher_item::{NoMemory, Place, Places};
-use gopher_scope::{MAX_PLACES, MAX_TRIES, Scope};
+use gopher_item::{MAX_PLACES, MAX_TRIES, NoMemory, Place, Places, Scope};
 use std::alloc::Global;
 use std::marker::Model;
 use std::sync::Arc;

@@ -6,8 +6,7 @@ ghost use Rattle.std.specs.Arc.{arc_value};
 ghost use Rattle.gopher_item.specs.Place.{is_among};
 ghost use Rattle.gopher_frontier.specs.Tables.{KnownData, Extends, IsWithPlace, IsWithUnclaimed, Mentions, IsDropped, Links, IsDroppedLink, LinksAll, MentionsAll, AreDropped, allowed};
 
-use gopher_item::{NoMemory, Place, Places};
-use gopher_scope::Scope;
+use gopher_item::{NoMemory, Place, Places, Scope};
 use gopher_text::MAX_REPLY;
 use indexmap::IndexMap;
 use std::alloc::Global;

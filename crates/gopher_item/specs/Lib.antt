@@ -6,3 +6,5 @@ pub mod MenuLine
 pub mod Laws
 pub mod Menu
 pub mod Request
+pub mod Rule
+pub mod Scope

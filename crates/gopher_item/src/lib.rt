@@ -1,15 +1,18 @@
 //! The items of Gopher (RFC 1436): places, menus and requests, read from bytes and written to
-//! bytes.
+//! bytes; and the scope of a crawl, which says which places it may visit.
 //!
 //! The crates above use these contracts: `read_menu` and `read_request` return what `ReadsMenu` and
 //! `ReadsRequest` define (`specs/Menu.antt`, `specs/Request.antt`), `read_menu` reads a written
-//! menu back as the same lines, and a `Place` or a `MenuLine` has only valid parts.
+//! menu back as the same lines, and a `Place` or a `MenuLine` has only valid parts. `Scope::allows`
+//! returns what `allows` defines (`specs/Scope.antt`).
 //!
 //! Error 90 (`NoMemory`, or `AllocError` in calls that have no other error) means out of memory.
 //! Unless its comment says otherwise, a public call that fails with it leaves its arguments
 //! unchanged. Calls that can't fail with it allocate nothing.
 //!
 //! Byte strings, lines, numbers and `NoMemory` are those of gopher_bytes.
+//!
+//! RFC 1436 doesn't define crawls: their rules are this profile's.
 //!
 //! Library API that only tests and benchmarks here call: `write_menu`.
 #![tactic(auto)]
@@ -26,6 +29,8 @@ mod place;
 mod place_parts;
 mod places;
 mod request;
+mod rule;
+mod scope;
 mod special;
 mod writing;
 
@@ -37,12 +42,14 @@ pub use gopher_bytes::{
     split_once, trim_spaces,
 };
 pub use home::Home;
-pub use limits::{MAX_HOST, MAX_PORT, MAX_SELECTOR};
+pub use limits::{MAX_HOST, MAX_PLACES, MAX_PORT, MAX_SELECTOR, MAX_TRIES};
 pub use menu::{Entry, Menu, read_menu};
 pub use menu_line::{MenuLine, is_bad_type};
 pub use place::Place;
 pub use place_parts::PlaceParts;
 pub use places::Places;
 pub use request::{Request, read_request};
+pub use rule::Rule;
+pub use scope::Scope;
 pub use special::{has_special, is_control};
 pub use writing::{push_front, push_last_line, push_menu_line, push_server, write_menu};

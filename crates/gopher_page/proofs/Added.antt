@@ -4,7 +4,7 @@ use Rattle.std.specs.List.{filter_map}
 use Rattle.indexmap.specs.IndexSet.{insert_key, insert_all}
 use Rattle.gopher_item.specs.Place.{PlaceData, same_place}
 use Rattle.gopher_item.specs.declared.menu.Entry.{Entry}
-use Rattle.gopher_scope.specs.Scope.{ScopeData, allows}
+use Rattle.gopher_item.specs.Scope.{ScopeData, allows}
 use Rattle.gopher_page.specs.Page.{place_of_entry}
 
 -- an entry that names an allowed place adds it

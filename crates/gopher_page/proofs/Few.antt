@@ -6,7 +6,7 @@ use Rattle.std.specs.Str.Lines.{lines_of_parts}
 use Rattle.gopher_item.specs.Place.{PlaceData, same_place, distinct}
 use Rattle.gopher_bytes.specs.Lines.{is_last_line, lines_before_last, lines_of}
 use Rattle.gopher_item.specs.Menu.{entries_of, entry_of}
-use Rattle.gopher_scope.specs.Scope.{ScopeData, allows}
+use Rattle.gopher_item.specs.Scope.{ScopeData, allows}
 use Rattle.gopher_page.specs.Page.{menu_links, place_of_entry}
 
 pub length-filter-le : {X : Type 0} (test : X → Bool) (xs : List X) → length (filter test xs) ≤ length xs

@@ -1,7 +1,7 @@
 -- The page of a directory, and the page of a file.
 use Rattle.std.proofs.Common.{◌≡◌, ℕ, true, false, cond, eqb, List, [], ap}
 use Rattle.gopher_item.specs.Place.{PlaceData}
-use Rattle.gopher_scope.specs.Scope.{ScopeData}
+use Rattle.gopher_item.specs.Scope.{ScopeData}
 use Rattle.gopher_text.specs.Text.{text_lines}
 use Rattle.gopher_page.specs.Page.{page_of, page_of_lines, menu_page_lines, menu_links}
 

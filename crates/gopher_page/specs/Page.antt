@@ -13,7 +13,7 @@ use Rattle.gopher_item.specs.MenuLine.{place_named}
 use Rattle.gopher_item.specs.Menu.{entries_of}
 use Rattle.gopher_item.specs.declared.menu.Entry.{Entry}
 use Rattle.gopher_item.specs.declared.menu.Entry.TheVariants.{Item, Odd}
-use Rattle.gopher_scope.specs.Scope.{ScopeData, allows}
+use Rattle.gopher_item.specs.Scope.{ScopeData, allows}
 use Rattle.gopher_page.specs.declared.title.TheConstants.{MAX_TITLE}
 use Rattle.gopher_page.specs.Words.{words_of}
 use Rattle.gopher_page.specs.Counts.{counts_of}

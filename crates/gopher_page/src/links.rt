@@ -3,8 +3,7 @@
 ghost use Rattle.std.specs.Prelude.{◌≡◌, ◌++◌, IfOk, OnOk};
 ghost use Rattle.gopher_page.specs.Page.{place_of_entry, links_in, with_entries, with_entry};
 
-use gopher_item::{Entry, ItemFault, NoMemory, Place, Places};
-use gopher_scope::Scope;
+use gopher_item::{Entry, ItemFault, NoMemory, Place, Places, Scope};
 use indexmap::IndexSet;
 use indexmap::set::IntoIter;
 use std::alloc::Global;

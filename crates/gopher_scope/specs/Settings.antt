@@ -6,8 +6,8 @@ use Rattle.std.specs.Cmp.Lexicographic.{pointwise}
 use Rattle.toml.specs.Data.{Data, Members, get_member, as_integer, as_str, as_table}
 use Rattle.toml.specs.Parse.{parse_document}
 use Rattle.gopher_item.specs.Place.{PlaceData, HomeData, place_of}
-use Rattle.gopher_scope.specs.Rule.{RuleData, rule_of}
-use Rattle.gopher_scope.specs.Scope.{ScopeData}
+use Rattle.gopher_item.specs.Rule.{RuleData, rule_of}
+use Rattle.gopher_item.specs.Scope.{ScopeData}
 use Rattle.gopher_scope.specs.Rows.{all_keys, key_name, key_form, field_scalar}
 use Rattle.gopher_scope.specs.Reading.{first_of, form_problem, field_value, has_unknown, form_has_unknown, integer_read, text_read, values_read}
 use Rattle.gopher_scope.specs.declared.fault.SettingsFault.{SettingsFault}

@@ -11,10 +11,9 @@ mod tables;
 mod value;
 
 use crate::fault::SettingsFault;
-use crate::scope::Scope;
 use check::settings_fault;
 pub use check::{is_key_name, key_has_unknown};
-use gopher_item::{Home, ItemFault, NoMemory, Place};
+use gopher_item::{Home, ItemFault, NoMemory, Place, Scope};
 use items::{rules, seeds, values_at};
 use key::Form;
 pub use key::Key;

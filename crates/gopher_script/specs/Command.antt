@@ -6,7 +6,7 @@ use Rattle.gopher_item.specs.Menu.{fields_of}
 use Rattle.gopher_bytes.specs.Number.{number_of}
 use Rattle.gopher_item.specs.Place.{PlaceData}
 use Rattle.gopher_bytes.specs.declared.line.TheConstants.{MAX_LINE}
-use Rattle.gopher_scope.specs.Rule.{RuleData}
+use Rattle.gopher_item.specs.Rule.{RuleData}
 use Rattle.gopher_catalogue.specs.declared.event.Why.{Why}
 use Rattle.gopher_catalogue.specs.declared.event.Why.TheVariants.{Connect, Read, Write, TooLong, NoMemory}
 use Rattle.gopher_script.specs.declared.command.Command.{Command}

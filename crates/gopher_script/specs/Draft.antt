@@ -1,7 +1,7 @@
 -- The rules and seeds of a script before its crawl starts.
 use Rattle.std.specs.Prelude.{List}
 use Rattle.gopher_item.specs.Place.{PlaceData}
-use Rattle.gopher_scope.specs.Rule.{RuleData}
+use Rattle.gopher_item.specs.Rule.{RuleData}
 
 -- the rules and seeds so far
 pub record DraftData : Type 0 where

@@ -2,7 +2,7 @@
 use Rattle.std.specs.Prelude.{ℕ, List, Option}
 use Rattle.gopher_item.specs.Place.{PlaceData, place_fault, place_of}
 use Rattle.gopher_item.specs.declared.fault.ItemFault.{ItemFault}
-use Rattle.gopher_scope.specs.Rule.{RuleData, rule_fault, rule_of}
+use Rattle.gopher_item.specs.Rule.{RuleData, rule_fault, rule_of}
 
 abbrev pub fault_of_rule : RuleData → Option ItemFault
 fault_of_rule rule = rule_fault rule.host rule.port rule.prefix

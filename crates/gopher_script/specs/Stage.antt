@@ -5,8 +5,8 @@ use Rattle.std.specs.Option.{option_map_or}
 use Rattle.gopher_item.specs.Fault.{item_fault_code}
 use Rattle.gopher_item.specs.Place.{PlaceData}
 use Rattle.gopher_item.specs.declared.fault.ItemFault.{ItemFault}
-use Rattle.gopher_scope.specs.Rule.{RuleData}
-use Rattle.gopher_scope.specs.Scope.{ScopeData}
+use Rattle.gopher_item.specs.Rule.{RuleData}
+use Rattle.gopher_item.specs.Scope.{ScopeData}
 use Rattle.gopher_page.specs.Page.{PageData, page_of}
 use Rattle.gopher_page.specs.Query.{TermData, query_of}
 use Rattle.gopher_index.specs.Answer.{answer_of as hits_found, occurrences_of}

@@ -5,8 +5,7 @@ ghost use Rattle.gopher_item.specs.Fault.{Makes};
 ghost use Rattle.gopher_script.specs.Parts.{fault_of_rule, made_rule, fault_of_place, made_place};
 
 use gopher_catalogue::Why;
-use gopher_item::{ItemFault, MAX_LINE, Place};
-use gopher_scope::Rule;
+use gopher_item::{ItemFault, MAX_LINE, Place, Rule};
 use std::alloc::Global;
 use std::marker::Model;
 
@@ -46,7 +45,7 @@ pub struct RuleParts<'a> {
 }
 
 impl<'a> Model for RuleParts<'a> {
-    ghost use Rattle.gopher_scope.specs.Rule.{RuleData};
+    ghost use Rattle.gopher_item.specs.Rule.{RuleData};
 
     ghost Value = { RuleData };
 

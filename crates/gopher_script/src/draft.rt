@@ -6,8 +6,7 @@ ghost use Rattle.gopher_script.specs.Stage.{TakesRule, TakesSeed};
 
 use crate::command::{PlaceParts, RuleParts};
 use crate::lines::refusal;
-use gopher_item::{NoMemory, Place};
-use gopher_scope::{Rule, Scope};
+use gopher_item::{NoMemory, Place, Rule, Scope};
 use std::alloc::Global;
 use std::marker::Model;
 

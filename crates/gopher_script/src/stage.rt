@@ -10,8 +10,7 @@ use crate::crawl::{claim, fail, found, occurs, search};
 use crate::draft::{Draft, add_rule, add_seed};
 use crate::lines::{ok_line, refused_line, status_line};
 use gopher_catalogue::{Catalogue, OpenFault, OpenRefused};
-use gopher_item::NoMemory;
-use gopher_scope::Scope;
+use gopher_item::{NoMemory, Scope};
 use gopher_text::MAX_REPLY;
 use std::alloc::Global;
 

@@ -2,9 +2,8 @@
 ghost use Rattle.std.specs.Prelude.{◌≤◌, length};
 
 use gopher_catalogue::{Catalogue, FoundRefused, OpenFault, OpenRefused, Status, Turn};
-use gopher_item::Place;
+use gopher_item::{Place, Rule, Scope};
 use gopher_page::Page;
-use gopher_scope::{Rule, Scope};
 use std::alloc::Global;
 
 const HOST: &[u8] = b"localhost";

@@ -1,8 +1,7 @@
 // How often the pages of an index are merged depends on their number alone.
 use gopher_index::Index;
-use gopher_item::Place;
+use gopher_item::{Place, Scope};
 use gopher_page::Page;
-use gopher_scope::Scope;
 use std::alloc::Global;
 use std::sync::Arc;
 

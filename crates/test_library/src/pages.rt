@@ -1,7 +1,6 @@
 // Words, and the titles and counts of pages.
-use gopher_item::Place;
+use gopher_item::{Place, Scope};
 use gopher_page::{Page, words};
-use gopher_scope::Scope;
 use std::alloc::Global;
 
 const LONG: &[u8] = &[b'a'; 41];

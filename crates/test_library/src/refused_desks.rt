@@ -8,9 +8,8 @@ use crate::refused_opening::{Checked, opened, scope_at_last, seeds_at_last};
 use crate::tables::is_root;
 use gopher_catalogue::{Added, FoundRefused, Turn};
 use gopher_crew::{Answer, Blank, Crew, Desk, Note, Pass, SearchFault, Share};
-use gopher_item::Place;
+use gopher_item::{Place, Scope};
 use gopher_page::{Page, Query};
-use gopher_scope::Scope;
 use std::alloc::Global;
 use std::sync::Wait;
 

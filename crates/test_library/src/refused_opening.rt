@@ -6,8 +6,7 @@ ghost use Rattle.gopher_crew.specs.Desk.{IsBlankOf};
 
 use gopher_catalogue::Catalogue;
 use gopher_crew::{Blank, Crew, Desk, DeskRefused, Pass, Share};
-use gopher_item::Place;
-use gopher_scope::{Rule, Scope};
+use gopher_item::{Place, Rule, Scope};
 use std::alloc::Global;
 use std::sync::Wait;
 

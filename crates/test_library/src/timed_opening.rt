@@ -1,8 +1,7 @@
 //! The crawls that are timed, of one host, and the texts of their pages.
 
 use gopher_catalogue::Catalogue;
-use gopher_item::Place;
-use gopher_scope::{Rule, Scope};
+use gopher_item::{Place, Rule, Scope};
 use std::alloc::Global;
 
 /// A place of the host.

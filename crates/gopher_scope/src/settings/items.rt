@@ -8,8 +8,7 @@ ghost use Rattle.gopher_scope.specs.Settings.{field_integer, field_text, kind_re
 
 use super::tables::{Element, Field};
 use super::value::value_at;
-use crate::rule::Rule;
-use gopher_item::{ItemFault, NoMemory, Place};
+use gopher_item::{ItemFault, NoMemory, Place, Rule};
 use std::alloc::Global;
 use toml::{Table, Value};
 

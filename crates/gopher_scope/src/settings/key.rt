@@ -8,8 +8,7 @@ ghost use Rattle.gopher_scope.specs.Rows.{key_name, key_form};
 
 use super::tables::Element;
 use super::value::{Problem, Scalar, TextKind, value_at};
-use crate::limits::{MAX_PLACES, MAX_TRIES};
-use gopher_item::MAX_PORT;
+use gopher_item::{MAX_PLACES, MAX_PORT, MAX_TRIES};
 use std::fmt;
 use toml::Table;
 

@@ -2,7 +2,7 @@ use Rattle.std.proofs.Common.{◌≡◌, ◌∙◌, ◌++◌, ◌+◌, ap, sym, 
 use Rattle.std.proofs.lemmas.List.{take_more, take_all}
 use Rattle.std.specs.List.{filter_map}
 use Rattle.gopher_item.specs.Place.{same_place}
-use Rattle.gopher_scope.specs.Scope.{allows}
+use Rattle.gopher_item.specs.Scope.{allows}
 use Rattle.gopher_page.specs.Page.{place_of_entry}
 use Rattle.gopher_page.proofs.Distinct.{insert_all-more}
 use Rattle.indexmap.specs.IndexSet.{insert_all}

@@ -1,7 +1,7 @@
 use Rattle.std.proofs.Common.{◌≡◌, filter, take}
 use Rattle.std.specs.List.{filter_map}
 use Rattle.gopher_item.specs.Place.{same_place}
-use Rattle.gopher_scope.specs.Scope.{allows}
+use Rattle.gopher_item.specs.Scope.{allows}
 use Rattle.gopher_page.specs.Page.{place_of_entry}
 use Rattle.indexmap.specs.IndexSet.{insert_all}
 use Rattle.gopher_page.proofs.links.add_links.Given as goal

@@ -2,7 +2,7 @@ use Rattle.std.proofs.Common.{◌≡◌, ◌∙◌, length, map, sum_by, ap, ari
 use Rattle.std.specs.Arc.{arc_value}
 use Rattle.std.specs.List.{filter, filter_map}
 use Rattle.gopher_item.specs.Place.{distinct}
-use Rattle.gopher_scope.specs.Scope.{allows}
+use Rattle.gopher_item.specs.Scope.{allows}
 use Rattle.gopher_page.specs.Page.{line_of_entry, place_of_entry, menu_links, menu_page_lines}
 use Rattle.gopher_page.proofs.Few.{few_menu_links}
 use Rattle.gopher_page.proofs.Short.{short_menu}

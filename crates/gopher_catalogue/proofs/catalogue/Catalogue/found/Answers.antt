@@ -1,7 +1,7 @@
 use Rattle.std.proofs.Common.{false, slice_get, filter, length, arith, refl, ap, sym, subst, ◌∙◌}
 use Rattle.std.specs.Option.{option_map_or}
 use Rattle.gopher_item.specs.Place.{same_place}
-use Rattle.gopher_scope.specs.Scope.{allows}
+use Rattle.gopher_item.specs.Scope.{allows}
 use Rattle.gopher_catalogue.specs.Fault.{IsFoundFault}
 use Rattle.gopher_catalogue.specs.declared.fault.FoundFault.TheVariants.{NotOut, WrongPlace, NoMemory}
 use Rattle.gopher_catalogue.specs.Step.{found_fault, added_by}

@@ -1,5 +1,5 @@
 use Rattle.std.proofs.Common.{◌≤◌, filter, length, arith, ap}
-use Rattle.gopher_scope.specs.Scope.{allows}
+use Rattle.gopher_item.specs.Scope.{allows}
 use Rattle.gopher_frontier.proofs.KnownLemmas.{length-after_mentions}
 use Rattle.gopher_frontier.proofs.frontier.Frontier.try_learn.Goals as goal
 

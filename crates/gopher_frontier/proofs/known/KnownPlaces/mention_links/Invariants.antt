@@ -1,5 +1,5 @@
 use Rattle.std.proofs.Common.{◌≡◌, ◌+◌, ◌≤◌, filter, drop}
-use Rattle.gopher_scope.specs.Scope.{allows}
+use Rattle.gopher_item.specs.Scope.{allows}
 use Rattle.gopher_frontier.specs.Tables.{Extends, after_mentions, drops}
 use Rattle.gopher_frontier.proofs.known.KnownPlaces.mention_links.Given as goal
 

@@ -1,11 +1,11 @@
 //! `Scope`: the allow rules and deny rules of a crawl, and whether they allow a place.
 
 ghost use Rattle.std.specs.Prelude.{◌≡◌};
-ghost use Rattle.gopher_scope.specs.Rule.{RuleData};
-ghost use Rattle.gopher_scope.specs.Scope.{ScopeData, any_covers, allows};
+ghost use Rattle.gopher_item.specs.Rule.{RuleData};
+ghost use Rattle.gopher_item.specs.Scope.{ScopeData, any_covers, allows};
 
+use crate::place::Place;
 use crate::rule::Rule;
-use gopher_item::Place;
 use std::marker::Model;
 
 /// The places that a crawl may visit: those that an allow rule covers and no deny rule covers.
@@ -16,7 +16,7 @@ pub struct Scope {
 }
 
 impl Model for Scope {
-    ghost use Rattle.gopher_scope.specs.Scope.{ScopeData};
+    ghost use Rattle.gopher_item.specs.Scope.{ScopeData};
 
     ghost Value = { ScopeData };
 

@@ -2,7 +2,7 @@
 use Rattle.std.specs.Prelude.{ℕ, Bool, ◌&&◌, not, List, Option, position, IsTrue}
 use Rattle.std.specs.List.{list_any}
 use Rattle.gopher_item.specs.Place.{PlaceData}
-use Rattle.gopher_scope.specs.Rule.{RuleData, covers}
+use Rattle.gopher_item.specs.Rule.{RuleData, covers}
 
 -- a scope as data
 pub record ScopeData : Type 0 where

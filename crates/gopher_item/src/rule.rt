@@ -1,9 +1,12 @@
 //! `Rule`: the places of one server whose selectors begin with a prefix.
 
 ghost use Rattle.std.specs.Prelude.{◌≡◌};
-ghost use Rattle.gopher_scope.specs.Rule.{RuleData, MakesRule, covers};
+ghost use Rattle.gopher_item.specs.Rule.{RuleData, MakesRule, covers};
 
-use gopher_item::{ByteString, ItemFault, Place, is_selector, lowered_host};
+use crate::fault::ItemFault;
+use crate::fields::{is_selector, lowered_host};
+use crate::place::Place;
+use gopher_bytes::ByteString;
 use std::alloc::Global;
 use std::marker::Model;
 
@@ -16,7 +19,7 @@ pub struct Rule {
 }
 
 impl Model for Rule {
-    ghost use Rattle.gopher_scope.specs.Rule.{RuleData};
+    ghost use Rattle.gopher_item.specs.Rule.{RuleData};
 
     ghost Value = { RuleData };
 
