@@ -101,6 +101,7 @@ install:
 	    $(WITH_VERSION) man/$${page#*/} > $(SHARED)/man/$$page && chmod 644 $(SHARED)/man/$$page || exit 1; \
 	done
 	install -D -m 644 -t $(SHARED)/doc/hole $(INSTALLED_DOCUMENTS)
+	install -D -m 644 packaging/completion.bash $(SHARED)/bash-completion/completions/hole
 	for file in $(INSTALLED_EXAMPLES); do install -D -m 644 $$file $(SHARED)/doc/hole/$$file || exit 1; done
 	install -d $(UNITS)
 	for file in $(UNIT_EXAMPLES); do \
@@ -115,6 +116,7 @@ install:
 uninstall:
 	rm -f $(DESTDIR)$(PREFIX)/bin/hole $(DESTDIR)$(PREFIX)/bin/gophermap_to_menu
 	rm -f $(addprefix $(SHARED)/man/,$(MANUAL))
+	rm -f $(SHARED)/bash-completion/completions/hole
 	rm -rf $(SHARED)/doc/hole
 	rm -f $(DESTDIR)$(PREFIX)/lib/systemd/system/hole.service
 

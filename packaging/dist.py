@@ -192,6 +192,7 @@ class Release:
             if compressed:
                 page, name = zipped(page), name + ".gz"
             tree.add(f"{prefix}share/man/{section}/{name}", page)
+        tree.add(f"{prefix}share/bash-completion/completions/hole", (PACKAGING / "completion.bash").read_bytes())
         for file in DOCUMENTS:
             tree.add(f"{documents}/{pathlib.Path(file).name}", (ROOT / file).read_bytes())
         tree.add(f"{documents}/BUILD", self.build_text())

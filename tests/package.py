@@ -177,6 +177,32 @@ def check_documents(tally, machine):
             tally.expect(f"{file.name} names what is installed", gone, [])
 
 
+def completed(file, folder, *words):
+    """What bash offers for the last of these words, in a folder."""
+    code = 'source "$0"; COMP_WORDS=("$@"); COMP_CWORD=$(($# - 1)); _hole; printf "%s\\n" "${COMPREPLY[@]}"'
+    return sorted(run("bash", "-c", code, file, *words, cwd=folder).stdout.split())
+
+
+def check_completion(tally, machine, folder):
+    """bash completes the commands and options that the help has, and files."""
+    if not is_here("bash"):
+        return
+    place, file = folder / "completed", machine.root / "usr/share/bash-completion/completions/hole"
+    (place / "site").mkdir(parents=True)
+    for name in ("hole.toml", "log.txt"):
+        (place / name).touch()
+    shown = run(*machine.hole("--help")).stdout
+    commands = re.findall(r"(?m)^  (\w+)  ", shown)
+    tally.expect("the commands", completed(file, place, "hole", "")[-len(commands):], sorted(commands))
+    tally.expect("the options", completed(file, place, "hole", "--"), sorted(re.findall(r"--\w+", shown)))
+    for command in set(commands) - {"help"}:
+        options = re.findall(r"(?m)^ +(?:-\w, )?(--[\w-]+)", run(*machine.hole(command, "--help")).stdout)
+        tally.expect(f"the options of {command}", completed(file, place, "hole", command, "--"), sorted(options))
+    tally.expect("settings", completed(file, place, "hole", "check", ""), ["hole.toml", "site"])
+    tally.expect("any file for the log", completed(file, place, "hole", "serve", "hole.toml", "--log", "l"), ["log.txt"])
+    tally.expect("no file for a number", completed(file, place, "hole", "serve", "hole.toml", "--requests", ""), [])
+
+
 def check_unit(tally, machine, folder):
     """The unit and the examples of units are sound, with the program where it is installed here."""
     if not is_here("systemd-analyze"):
@@ -267,6 +293,7 @@ def check_package(tally, program, folder, package):
     check_installed(tally, machine, package)
     check_documents(tally, machine)
     check_serves(tally, machine)
+    check_completion(tally, machine, folder)
     check_unit(tally, machine, folder)
     check_removed(tally, machine, package)
     check_owner(tally, machine, package)
