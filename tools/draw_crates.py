@@ -166,7 +166,7 @@ def crates_picture():
     others, height = len(uses) - len(drawn), MARGIN * 2 + ROW * len(rows)
     parts.append(
         f'<text class="note left" x="{MARGIN}" y="{height - 14}">Each crate is above those that it uses.'
-        f" {others} more crates hold tests, timings and examples.</text>"
+        f" A use that other lines imply has no line of its own. {others} more crates hold tests, timings and examples.</text>"
     )
     return picture(WIDTH, height, "The crates of Hole, each above those that it uses", parts)
 

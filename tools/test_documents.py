@@ -60,6 +60,16 @@ class Documents(unittest.TestCase):
             self.assertEqual((ROOT / name).read_text(), draw(), f"run tools/draw_crates.py for {name}")
         self.assertEqual(draw_ratios.PICTURE.read_text(), draw_ratios.picture(draw_ratios.ratios(), draw_ratios.measured()), "run tools/draw_ratios.py")
 
+    def test_no_line_crosses_a_crate(self):
+        drawn = draw_crates.crates_picture()
+        boxes = [tuple(map(float, box)) for box in re.findall(r'<rect x="([\d.]+)" y="([\d.]+)" width="([\d.]+)" height="([\d.]+)"', drawn)]
+        for path in re.findall(r'<path d="M([\d.C -]+)" marker', drawn):
+            points = [tuple(map(float, curve.split()[-2:])) for curve in path.split("C")]
+            for (x, y), (to_x, to_y) in zip(points, points[1:]):
+                beside = [box for box in boxes if y < box[1] + box[3] and box[1] < to_y]
+                crossed = [box for box in beside if box[0] <= max(x, to_x) and min(x, to_x) <= box[0] + box[2]]
+                self.assertEqual(crossed, [], path)
+
     def test_each_folder_of_the_first_sites_has_a_menu_with_a_heading(self):
         for site in (ROOT / "examples/site", ROOT / "packaging/site"):
             for folder in [site, *(path for path in site.rglob("*") if path.is_dir())]:
