@@ -2,9 +2,10 @@
 """Makes the `.menu` file of a folder (SPECIFICATION.md, section 9) of its gophermap, as gophernicus 3.1 has it, or of its
 link file, as pygopherd has it.
 
-    gophermap_to_menu [--root FOLDER] FILE > .menu.new && mv .menu.new .menu
+    gophermap_to_menu [--root FOLDER] [--port PORT] FILE > .menu.new && mv .menu.new .menu
 
-FOLDER is the folder that is served (without --root, the file's own), from which selectors count. The `.menu` goes to
+FOLDER is the folder that is served (without --root, the file's own), from which selectors count. PORT is the site's own port
+(without --port, 70), which gophernicus takes if a gophermap gives a host and no port. The `.menu` goes to
 standard output. What is left out or changed, and what a client won't find, is told on standard error, a line each:
 `FILE:LINE: what`. The status is 0, or 1 if the file can't be read, is a script, or isn't below FOLDER.
 
@@ -16,8 +17,9 @@ In a gophermap:
 - `#..` is a comment, and goes without a word.
 - `!title` becomes a line of type i with the selector TITLE, as gophernicus sends it.
 - A line with a TAB is type and name, selector, host, port. Where the selector is empty and nothing follows it, the name is
-  the selector. Where a host is given and no port, the port is 70. Fields behind the port are left out. A line whose type,
-  selector, host or port this server would refuse (24) is left out.
+  the selector; a search of this server without a selector gets /search, which is told. Where a host is given and no port, the
+  port is PORT. Fields behind the port are left out. A line whose type, selector, host or port this server would refuse (24) is
+  left out.
 - On this server (no host, or an empty one, which is told) a selector that doesn't begin with `/` counts from the gophermap's
   folder, and `.`, `..` and slashes at the end or twice are resolved, since this server knows each selector in one spelling.
   Lines of type i and 3, and selectors that begin with `URL:`, stay as they are. Where the selector names nothing in FOLDER, or what
@@ -25,7 +27,8 @@ In a gophermap:
 - `=file` is replaced by the lines of that file, which counts from the gophermap's folder; its selectors do too. One that is
   absent or a script is left out, and so is one that is included eight files deep.
 - `*` becomes the listing that the folder has now, by names, without those that `-name` lines before it hide; that is told,
-  since it changes no more with the folder. It ends the gophermap. In an included file it ends that file and lists nothing.
+  since it changes no more with the folder. The first line of a file `gophertag` in a folder is that folder's name there, and the
+  file itself isn't listed. It ends the gophermap. In an included file it ends that file and lists nothing.
 - A line that begins with `.` ends the file that it stands in.
 - `:ext=type`, `~` and `%` have no counterpart, and are left out.
 
@@ -48,7 +51,8 @@ import sys
 
 MOST_DEEP = 8
 LONGEST = 255
-MENU, MAP, INLINE = b".menu", b"gophermap", b".gophermap"
+MENU, MAP, INLINE, TAG = b".menu", b"gophermap", b".gophermap", b"gophertag"
+SEARCH, PORT = b"/search", b"70"
 LINK_KEYS = (b"Path", b"Name", b"Type", b"Host", b"Port", b"Numb")
 RAW = ((b".gif", b"g"), (b".png", b"I"), (b".jpg", b"I"), (b".jpeg", b"I"))
 NO_COUNTERPART = {b":": "a file's type can't be set", b"~": "there are no users' folders", b"%": "there is one host"}
@@ -119,11 +123,21 @@ def kind_of(path):
     return kind_of_file(path) if os.path.isfile(path) else None
 
 
-class Menu:
-    """The lines of a folder's menu, and what is told of them."""
+def tag_of(folder):
+    """The name that a folder's `gophertag` gives it; nothing if it gives none."""
+    try:
+        with open(os.path.join(folder, TAG), "rb") as file:
+            lines = lines_of(file.read())
+    except OSError:
+        return b""
+    return lines[0].translate(bytes.maketrans(b"\t\r\0", b"   ")).strip(b" ") if lines else b""
 
-    def __init__(self, path, root):
-        self.root = os.path.realpath(root)
+
+class Menu:
+    """The lines of a folder's menu, and what is told of them. `port` is the site's own."""
+
+    def __init__(self, path, root, port):
+        self.root, self.port = os.path.realpath(root), port
         self.folder = os.path.realpath(os.path.dirname(path))
         if os.path.commonpath((self.root, self.folder)) != self.root:
             raise Refused("it doesn't lie in the folder of --root")
@@ -143,13 +157,16 @@ class Menu:
         kind, name = first[:1], first[1:]
         if not kind or has_control(kind) or kind in b" .":
             return tell("left out: it has no type")
-        if not server:
-            selector = selector or name
         host, port = [part.strip(b" ") for part in (server + [b"", b""])[:2]]
+        if kind == b"7" and not selector and not host:
+            selector = SEARCH
+            tell("changed: it leads to this server's search")
+        elif not server:
+            selector = selector or name
         if len(server) > 2:
             tell("changed: fields behind the port are left out")
         if host:
-            return self.add_foreign(first, selector, host, port or b"70", tell)
+            return self.add_foreign(first, selector, host, port or self.port, tell)
         if server:
             tell("changed: it has no host, and leads to this server")
         if kind not in b"i3" and not selector.startswith(b"URL:"):
@@ -172,9 +189,9 @@ class Menu:
         start = b"" if selector.startswith(b"/") else self.selector + b"/"
         own = one_spelling(start + selector)
         shown = own.decode(errors="backslashreplace")
-        if kind == b"7" and own != b"/search":
+        if kind == b"7" and own != SEARCH:
             tell(f"{shown} is no search: this server's is /search")
-        elif own != b"/search" and not self.is_served(own):
+        elif own != SEARCH and not self.is_served(own):
             tell(f"{shown} names nothing that is served")
         return own
 
@@ -254,7 +271,11 @@ class MapMenu(Menu):
 
     def add_listing(self, tell):
         for kind, name, selector in self.listing(tell):
-            self.lines.append(b"%s%s\t%s" % (kind, name, selector))
+            path = os.path.join(self.folder, name)
+            if name == TAG and kind != b"1":
+                continue
+            shown = kind == b"1" and tag_of(path) or name
+            self.lines.append(b"%s%s\t%s" % (kind, shown, selector))
 
 
 class Entry:
@@ -342,20 +363,28 @@ class LinkMenu(Menu):
         self.add_item([kind + fields.get("Name", path), path, *server], tell)
 
 
-def menu_of(path, root):
-    """The menu of a gophermap or of a link file."""
+def menu_of(path, root, port=PORT):
+    """The menu of a gophermap or of a link file, on a site at this port."""
     kind = LinkMenu if os.path.basename(path).startswith(b".") else MapMenu
-    return kind(path, root)
+    return kind(path, root, port)
+
+
+def port_of(word):
+    """The bytes of a port in the arguments."""
+    if not 1 <= int(word) <= 65535:
+        raise ValueError(word)
+    return b"%d" % int(word)
 
 
 def main():
     words = argparse.ArgumentParser(description="Makes the .menu file of a folder of its gophermap or link file.")
     words.add_argument("--root", metavar="FOLDER", help="the folder that is served; without it, the file's own")
+    words.add_argument("--port", metavar="PORT", type=port_of, default=PORT, help="the site's own port, 70 without it")
     words.add_argument("file", metavar="FILE", help="a gophermap, or a link file, whose name begins with a period")
     given = words.parse_args()
     root = given.root if given.root is not None else os.path.dirname(given.file) or "."
     try:
-        menu = menu_of(os.fsencode(given.file), os.fsencode(root))
+        menu = menu_of(os.fsencode(given.file), os.fsencode(root), given.port)
     except (OSError, Refused) as fault:
         sys.stderr.write(f"{given.file}: {fault.strerror if isinstance(fault, OSError) else fault}\n")
         return 1

@@ -50,11 +50,11 @@ class GophermapToMenu(unittest.TestCase):
             (self.root / path).write_bytes(content)
         (self.root / "empty").mkdir()
 
-    def made(self, content, folder=".", name="gophermap"):
+    def made(self, content, folder=".", name="gophermap", port=b"70"):
         """The lines that are made of a gophermap in a folder, and what is told, without the path before it."""
         path = self.root / folder / name
         path.write_bytes(content)
-        menu = gophermap_to_menu.menu_of(os.fsencode(path), os.fsencode(self.root))
+        menu = gophermap_to_menu.menu_of(os.fsencode(path), os.fsencode(self.root), port)
         told = (line.decode().replace(f"{path}:", "").replace(f"{self.root}/", "") for line in menu.told)
         return menu.lines, list(told)
 
@@ -78,6 +78,33 @@ class GophermapToMenu(unittest.TestCase):
                 b"1Its root\t\th.example\t70",
             ],
         )
+
+    def test_the_sites_own_port(self):
+        for port in (b"70", b"7070"):
+            self.assertEqual(self.made(b"1Far\t/x\th.example\n", port=port), ([b"1Far\t/x\th.example\t" + port], []))
+        links = self.made(b"Name=Far\nPath=/x\nHost=h.example\n", "docs", ".Links", b"7070")[0]
+        self.assertIn(b"0Far\t/x\th.example\t7070", links)
+
+    def test_a_search_without_a_selector(self):
+        told = "changed: it leads to this server's search"
+        self.expect(
+            b"7Find\t\n7Find\t\t\t70\n7Far\t\th.example\t70\n",
+            [b"7Find\t/search", b"7Find\t/search", b"7Far\t\th.example\t70"],
+            [f"1: {told}", f"2: {told}", "2: changed: it has no host, and leads to this server"],
+        )
+
+    def test_names_of_folders_by_their_tags(self):
+        for folder, tag in (("docs", b"All the\tdocuments\r\nmore\n"), ("blank", b"\n"), ("gophertag", b"A folder of that name")):
+            (self.root / folder).mkdir(exist_ok=True)
+            (self.root / folder / "gophertag").write_bytes(tag)
+        (self.root / "docs/gophertag.txt").write_bytes(b"x")
+        self.expect(
+            b"-a.txt\n-data\n-picture.PNG\n*\n",
+            [b"1blank\t/blank", b"1All the documents\t/docs", b"1A folder of that name\t/gophertag"],
+            [f"4: {LISTED}"],
+        )
+        listed = [b"0b.txt\t/docs/b.txt", b"0gophertag.txt\t/docs/gophertag.txt", b"0part\t/docs/part"]
+        self.expect(b"*\n", listed, [f"1: {LISTED}"], folder="docs")
 
     def test_selectors_from_a_folder(self):
         self.expect(
@@ -179,9 +206,11 @@ class GophermapToMenu(unittest.TestCase):
     def test_the_program(self):
         path = self.root / "gophermap"
         path.write_bytes(b"Hello\n~\n0A\ta.txt\n")
+        (self.root / "far").write_bytes(b"1Far\t/x\th.example\n")
         for words, wanted in (
             ([str(path)], (b"Hello\n0A\t/a.txt\n", f"{path}:2: left out: there are no users' folders\n".encode(), 0)),
             ([f"{path}x"], (b"", f"{path}x: No such file or directory\n".encode(), 1)),
+            (["--port", "7070", str(self.root / "far")], (b"1Far\t/x\th.example\t7070\n", b"", 0)),
         ):
             ran = subprocess.run([sys.executable, TOOL, *words], capture_output=True)
             self.assertEqual((ran.stdout, ran.stderr, ran.returncode), wanted)
