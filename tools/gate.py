@@ -7,19 +7,28 @@ Without --quick every part runs, as `make test` does: each proof from nothing, e
 test. With --quick only the parts that need no proof run, as `make quick` does, on the program that `make build` left if no
 source is younger, and else on one that is built without its proofs. PART names single parts; --list prints them.
 
-A part that fails doesn't hide those behind it. Its counts are those that it prints last; a part that prints none counts as
-one. The minutes of processors are those of a part's processes; of `rt ci` they are also told apart into rows, by looking at
-its processes every second, so that the rows' sum may differ a little from the whole. The status is 1 if anything failed.
+Parts run beside each other. Scripts, documents and wrong bodies begin with `rt ci`: the wrong bodies of a crate are tried once
+`rt ci` has proved it, on what its proofs leave idle. Tests of the program begin when `rt ci` has proved and built it; those
+that measure time or memory, or whose waits are short, run one by one after all others. Wrong bodies that failed beside `rt ci`
+are tried once more after it.
+
+A part that fails doesn't hide others. Its counts are those that it prints last; a part that prints none counts as one. The
+clock of a row is the sum of its parts', that of the last line is the gate's. The minutes of processors are those of a part's
+processes; of `rt ci` they are also told apart into rows, by looking at its processes every second, so that the rows' sum may
+differ a little from the whole. The status is 1 if anything failed.
 """
 import argparse
+import contextlib
 import os
 import pathlib
 import re
+import shutil
 import subprocess
 import sys
 import tempfile
 import threading
 import time
+import traceback
 from concurrent.futures import ThreadPoolExecutor
 from dataclasses import dataclass, field, replace
 
@@ -27,7 +36,7 @@ import shares
 import unproved
 
 ROOT = pathlib.Path(__file__).resolve().parent.parent
-PROGRAM = "PROGRAM"
+PROGRAM, LIBRARIES = "PROGRAM", "LIBRARIES"
 SCRIPTS = "scripts and documents"
 ROWS = ("proofs", "must-fail edits", "wrong bodies", "tests of crates", "tests of the program", SCRIPTS)
 # On few processors `rt ci` gives each one crate at a time: two jobs for one crate each load its libraries and check its lemmas.
@@ -35,6 +44,13 @@ FEW_PROCESSORS = 4
 MEMORY_OF_A_CHECK = 5 << 30
 # tests that want what a machine may lack
 BY_HAND = {"tests/clients.py"}
+# tests that measure time or memory, or that wait for a second or two only: nothing else runs beside them
+ALONE = {"attack", "crawling", "large_texts", "log", "refused_crawls"}
+# tests that want the built tests of a crate
+AFTER_CI = {"refusals"}
+# how many parts run at once, beside these, which take most of the gate
+LONG, AT_ONCE = ("ci", "wrong_bodies"), 2
+PROVED = re.compile(r"rt: (\w+) proved$")
 COUNTS = re.compile(r"(?m)^(?:.*: )?(\d+) passed, (\d+) failed$")
 OF_UNITTEST = re.compile(r"(?m)^Ran (\d+) tests? in [\d.]+s$")
 FAILED_OF_UNITTEST = re.compile(r"(?m)^FAILED \((.*)\)$")
@@ -56,6 +72,7 @@ class Part:
     is_quick: bool = False
     # more words if the program was built without its proofs
     unproved: tuple = ()
+    is_alone: bool = False
 
 
 @dataclass
@@ -79,7 +96,7 @@ class Result:
 def program_part(script, *words, quick=True, unproved=()):
     """A test of the built program in tests/."""
     name = script.partition(".")[0]
-    return Part(name, "tests of the program", (f"tests/{script}", *words, PROGRAM), quick, unproved)
+    return Part(name, "tests of the program", (f"tests/{script}", *words, PROGRAM), quick, unproved, name in ALONE)
 
 
 def parts():
@@ -87,7 +104,7 @@ def parts():
     scripts = sorted((ROOT / "tools").glob("test_*.py"))
     named = [
         Part("ci", "proofs", ("rt", "ci")),
-        Part("wrong_bodies", "wrong bodies", ("tools/wrong_bodies.py", "--after-ci")),
+        Part("wrong_bodies", "wrong bodies", ("tools/wrong_bodies.py", "--beside", LIBRARIES)),
         Part("layout", SCRIPTS, ("tools/check_layout.py",), is_quick=True),
         Part("links", SCRIPTS, ("tools/check_links.py",), is_quick=True),
         *(Part(it.stem, SCRIPTS, (f"tools/{it.name}",), is_quick=True) for it in scripts),
@@ -106,11 +123,12 @@ def parts():
 
 
 def chosen_of(names, is_quick):
-    """The parts of these names, or all, or the quick ones. Libraries count as left by `rt ci` only if it runs before."""
+    """The parts of these names, or all, or the quick ones, of which none runs alone. Libraries are those of `rt ci` only if it
+    runs."""
     chosen = [it for it in parts() if it.name in names or not names and (it.is_quick or not is_quick)]
     if any(it.name == "ci" for it in chosen):
         return chosen
-    return [replace(it, words=tuple(word for word in it.words if word != "--after-ci")) for it in chosen]
+    return [replace(it, words=it.words[:1] if LIBRARIES in it.words else it.words, is_alone=it.is_alone and not is_quick) for it in chosen]
 
 
 def counted(said, status):
@@ -145,16 +163,89 @@ def environment(processors, memory):
     return {**few, **os.environ, "PYTHONUNBUFFERED": "1"}
 
 
-def run(part, words, is_shown):
+def link(source, target):
+    """Puts a file at another place too, as a copy if it can't be the same file."""
+    try:
+        os.link(source, target)
+    except OSError:
+        shutil.copy2(source, target)
+
+
+class Proved:
+    """What `rt ci` has proved so far: crates, whose libraries are set aside in a folder, and the program. `rt ci` puts what was
+    there before in the place of its libraries when it ends."""
+
+    def __init__(self, folder, runs):
+        self.folder, self.said, self.names, self.changed = folder, [], [], threading.Condition()
+        self.stands, self.ended = threading.Event(), threading.Event()
+        if not runs:
+            self.end()
+
+    def note(self, line):
+        """Takes a line of what `rt ci` prints."""
+        if found := PROVED.match(line):
+            self.said.append(found[1])
+            self.set_aside(found[1])
+            if found[1] == "hole" and os.access(unproved.PROVED, os.X_OK):
+                self.stands.set()
+
+    def set_aside(self, name):
+        crate, aside = ROOT / "crates" / name, self.folder / name
+        try:
+            shutil.rmtree(aside, ignore_errors=True)
+            if not (crate / "src" / "main.rt").exists():
+                shutil.copytree(crate / "out" / "rlib", aside, copy_function=link)
+        except Exception as error:
+            return print(f"gate: the library {name} isn't set aside: {error}", flush=True)
+        with self.changed:
+            self.names.append(name)
+            self.changed.notify_all()
+
+    def end(self):
+        """`rt ci` has ended: what couldn't be set aside before is, unless an older library with its stamp has its place."""
+        for name in self.said:
+            if name not in self.names and not (ROOT / "crates" / name / "out" / "rlib" / "stamp").exists():
+                self.set_aside(name)
+        self.stands.set()
+        self.ended.set()
+        with self.changed:
+            self.changed.notify_all()
+
+    def tell(self, stream):
+        """Writes the name of each crate that is set aside, as it comes, until `rt ci` has ended."""
+        told = 0
+        with contextlib.suppress(OSError), stream:
+            while True:
+                with self.changed:
+                    self.changed.wait_for(lambda: told < len(self.names) or self.ended.is_set())
+                    new = self.names[told:]
+                if not new:
+                    return
+                stream.write("".join(f"{name}\n" for name in new))
+                stream.flush()
+                told += len(new)
+
+
+def start(words, proved):
+    """Starts a part; one that works beside `rt ci` is told what is proved."""
+    memory = os.sysconf("SC_PHYS_PAGES") * os.sysconf("SC_PAGE_SIZE")
+    how = {"stdout": subprocess.PIPE, "stderr": subprocess.STDOUT, "text": True, "errors": "replace"}
+    how["env"] = environment(len(os.sched_getaffinity(0)), memory)
+    is_told = LIBRARIES in words
+    words = [str(proved.folder) if word == LIBRARIES else word for word in words]
+    process = subprocess.Popen(words, cwd=ROOT, stdin=subprocess.PIPE if is_told else subprocess.DEVNULL, **how)
+    if is_told:
+        threading.Thread(target=proved.tell, args=(process.stdin,), daemon=True).start()
+    return process
+
+
+def run(part, words, is_shown, proved):
     """Runs a part, and gives the rows that it fills. Its output is shown as it comes, or else at its end."""
     began, said = time.monotonic(), []
-    how = {"stdin": subprocess.DEVNULL, "stdout": subprocess.PIPE, "stderr": subprocess.STDOUT, "errors": "replace"}
-    memory = os.sysconf("SC_PHYS_PAGES") * os.sysconf("SC_PAGE_SIZE")
-    how["env"] = environment(len(os.sched_getaffinity(0)), memory)
     head = f"== {part.name}: {' '.join(map(str, words))}"
     print(f"{head}\n" if is_shown else "", end="", flush=True)
     try:
-        process = subprocess.Popen(words, cwd=ROOT, **how)
+        process = start(words, proved)
     except OSError as error:
         print(f"{head}\n{error}", flush=True)
         return {part.row: Result(0, 1, 0, 0, [part.name])}
@@ -162,6 +253,8 @@ def run(part, words, is_shown):
         for line in process.stdout:
             said.append(line)
             print(line if is_shown else "", end="", flush=True)
+            if part.name == "ci":
+                proved.note(line)
         _, status, used = os.wait4(process.pid, 0)
     process.returncode = status = os.waitstatus_to_exitcode(status)
     said = "".join(said)
@@ -178,35 +271,57 @@ def run(part, words, is_shown):
     return rows
 
 
-def run_all(chosen, program, jobs):
-    """Runs parts, `jobs` at a time, and gives the rows of the table. `program()` gives the program and whether it is proved."""
-    rows, lock = {row: Result() for row in ROWS}, threading.Lock()
+def attempt(part, program, proved, is_shown):
+    """Runs a part once what it needs is there. What failed beside `rt ci` is tried once more when that has ended."""
+    if part.name in AFTER_CI:
+        proved.ended.wait()
+    words = part.words
+    if PROGRAM in words:
+        proved.stands.wait()
+        path, is_proved = program()
+        words = tuple(str(path) if word == PROGRAM else word for word in words)
+        words += () if is_proved else part.unproved
+    try:
+        filled = run(part, words, is_shown, proved)
+    except Exception:
+        traceback.print_exc()
+        filled = {part.row: Result(0, 1, 0, 0, [part.name])}
+    finally:
+        if part.name == "ci":
+            proved.end()
+    if LIBRARIES not in words or not filled[part.row].failed:
+        return filled
+    proved.ended.wait()
+    first, again = filled[part.row], run(part, words, is_shown, proved)
+    again[part.row].clock += first.clock
+    again[part.row].processors += first.processors
+    return again
 
-    def attempt(part):
-        words = part.words
-        if PROGRAM in words:
-            path, is_proved = program()
-            words = tuple(str(path) if word == PROGRAM else word for word in words)
-            words += () if is_proved else part.unproved
-        filled = run(part, words, jobs == 1)
-        with lock:
+
+def run_all(chosen, program, jobs):
+    """Runs parts beside each other, and gives the rows of the table. `rt ci` and the wrong bodies run beside `jobs` of the others;
+    these begin in the order in which they may. `program()` gives the program and whether it is proved."""
+    rows = {row: Result() for row in ROWS}
+    long = [it for it in chosen if it.name in LONG]
+    others = sorted((it for it in chosen if not it.is_alone), key=lambda it: it.name in AFTER_CI)
+    with tempfile.TemporaryDirectory(prefix="gate-libraries-") as folder, ThreadPoolExecutor(jobs + len(long)) as pool:
+        proved = Proved(pathlib.Path(folder), any(it.name == "ci" for it in chosen))
+        run_part = lambda it: attempt(it, program, proved, it in long or jobs == 1)
+        for filled in [*pool.map(run_part, others), *map(run_part, (it for it in chosen if it.is_alone))]:
             for row, result in filled.items():
                 rows[row].add(result)
-
-    with ThreadPoolExecutor(jobs) as pool:
-        list(pool.map(attempt, chosen))
     return rows
 
 
-def table(rows):
-    """The rows as lines, and the closing one over all of them."""
+def table(rows, clock):
+    """The rows as lines, and the closing one over all of them, which took so many minutes of the clock."""
     minutes = lambda it: "" if it is None else f"{it:.1f}"
     shown = [("", "passed", "failed", "clock", "processors")]
     whole = Result()
     for name, row in rows.items():
         whole.add(row)
         shown.append((name, row.passed, row.failed, minutes(row.clock), minutes(row.processors)))
-    shown.append(("all, in minutes", whole.passed, whole.failed, minutes(whole.clock), minutes(whole.processors)))
+    shown.append(("all, in minutes", whole.passed, whole.failed, minutes(clock), minutes(whole.processors)))
     lines = ["{:<22}{:>8}{:>8}{:>8}{:>12}".format(*map(str, line)).rstrip() for line in shown]
     failed = [f"FAILED: {', '.join(whole.names)}"] if whole.names else []
     return [*lines, *failed, f"{whole.passed} passed, {whole.failed} failed"]
@@ -226,14 +341,14 @@ def main(words):
     unknown = set(given.parts) - {part.name for part in parts()}
     if unknown:
         options.error(f"no part is named {', '.join(sorted(unknown))}: --list prints them")
-    chosen = chosen_of(given.parts, given.quick)
+    chosen, began = chosen_of(given.parts, given.quick), time.monotonic()
     if given.list:
         print(*(part.name for part in chosen), sep="\n")
         return 0
     with tempfile.TemporaryDirectory(prefix="gate-") as room:
         program = unproved.Program(pathlib.Path(room)) if given.quick else lambda: (unproved.PROVED, True)
-        rows = run_all(chosen, program, 2 if given.quick else 1)
-    print(f"== with {kit()}", *table(rows), sep="\n")
+        rows = run_all(chosen, program, 1 if given.parts else AT_ONCE)
+    print(f"== with {kit()}", *table(rows, (time.monotonic() - began) / 60), sep="\n")
     return 1 if any(row.failed for row in rows.values()) else 0
 
 

@@ -82,7 +82,7 @@ class Run(unittest.TestCase):
             part("third", "tests of the program", "echo third; echo 5 passed, 0 failed"),
         )
         self.assertIn("third\n5 passed", said)
-        lines = gate.table(rows)
+        lines = gate.table(rows, 1)
         self.assertEqual(lines[-1], "7 passed, 2 failed")
         self.assertEqual(lines[-2], "FAILED: first, second")
 
@@ -117,11 +117,61 @@ class Run(unittest.TestCase):
         rows = {row: gate.Result() for row in gate.ROWS}
         rows["proofs"] = gate.Result(20, 0, 60.04, 100.25)
         rows["must-fail edits"] = gate.Result(33, 1, None, 9.0, ["ci"])
-        lines = gate.table(rows)
+        lines = gate.table(rows, 61)
         self.assertEqual(lines[1].split(), ["proofs", "20", "0", "60.0", "100.2"])
         self.assertEqual(lines[2].split(), ["must-fail", "edits", "33", "1", "9.0"])
-        self.assertEqual(lines[-3].split(), ["all,", "in", "minutes", "53", "1", "60.0", "109.2"])
+        self.assertEqual(lines[-3].split(), ["all,", "in", "minutes", "53", "1", "61.0", "109.2"])
         self.assertEqual(lines[-2:], ["FAILED: ci", "53 passed, 1 failed"])
+
+
+class Beside(unittest.TestCase):
+    """Parts that run beside `rt ci`, for which a shell stands: it goes on when the part that is tried has seen what it may see."""
+
+    WAIT = "for i in $(seq 200); do [ -e seen ] && break; sleep 0.05; done; [ -e seen ] || exit 1\n"
+
+    def setUp(self):
+        room = tempfile.TemporaryDirectory()
+        self.addCleanup(room.cleanup)
+        self.root = root = pathlib.Path(room.name)
+        for file in ("crates/low/out/rlib/low.rlib/format", "crates/hole/out/hole", "crates/hole/src/main.rt"):
+            (root / file).parent.mkdir(parents=True)
+            (root / file).write_text("statements\n")
+        (root / "crates/hole/out/hole").chmod(0o755)
+        for module, name, value in ((gate, "ROOT", root), (unproved, "PROVED", root / "crates/hole/out/hole")):
+            patch = mock.patch.object(module, name, value)
+            patch.start()
+            self.addCleanup(patch.stop)
+
+    def ci(self, proves):
+        script = f"echo rt: {proves} proved\n{self.WAIT}rm -r crates/low/out/rlib; echo rt: last proved; echo 2 passed, 0 failed"
+        return part("ci", "proofs", script)
+
+    def wrong_bodies(self, script):
+        return gate.Part("wrong_bodies", "wrong bodies", ("sh", "-c", script, gate.LIBRARIES))
+
+    def test_wrong_bodies_are_told_of_a_library_that_is_set_aside(self):
+        rows, said = run_all(self.ci("low"), self.wrong_bodies("read it; touch seen; sleep 0.5; cat $0/$it/low.rlib/format; cat; echo 3 passed, 0 failed"))
+        self.assertEqual([(rows[row].passed, rows[row].failed) for row in ("proofs", "wrong bodies")], [(2, 0), (3, 0)])
+        self.assertIn("statements\n3 passed", said)
+        self.assertIn("the library last isn't set aside", said)
+
+    def test_what_fails_beside_is_tried_once_more(self):
+        fails_once = "[ -e seen ] && { cat; echo 3 passed, 0 failed; exit 0; }; touch seen; exit 1"
+        rows, said = run_all(self.ci("low"), self.wrong_bodies(fails_once))
+        self.assertEqual((rows["wrong bodies"].passed, rows["wrong bodies"].failed), (3, 0))
+        self.assertIn("low\n3 passed", said)
+
+    def test_tests_of_the_program_begin_when_it_stands_and_those_alone_when_all_is_over(self):
+        beside = gate.Part("beside", "tests of the program", ("sh", "-c", "touch seen; echo 1 passed, 0 failed", gate.PROGRAM))
+        alone = part("alone", "tests of the program", "[ -e over ] && echo 1 passed, 0 failed", is_alone=True)
+        slow = part("slow", "proofs", "sleep 0.5; touch over")
+        rows, _ = run_all(alone, self.ci("hole"), beside, slow, program=lambda: ("hole", True), jobs=2)
+        self.assertEqual([(rows[row].passed, rows[row].failed) for row in ("proofs", "tests of the program")], [(3, 0), (2, 0)])
+
+    def test_what_waits_for_a_program_that_is_never_proved_runs_in_the_end(self):
+        late = gate.Part("refusals", "tests of the program", ("sh", "-c", "echo 1 passed, 0 failed", gate.PROGRAM))
+        rows, _ = run_all(late, part("ci", "proofs", "echo rt: hole NOT PROVED; exit 1"), program=lambda: ("hole", True))
+        self.assertEqual((rows["tests of the program"].passed, rows["proofs"].failed), (1, 1))
 
 
 class Parts(unittest.TestCase):
@@ -149,7 +199,7 @@ class Parts(unittest.TestCase):
 
     def test_libraries_are_those_of_rt_ci_only_if_it_ran(self):
         words = lambda names: [it.words for it in gate.chosen_of(names, False) if it.name == "wrong_bodies"][0]
-        self.assertEqual(words([]), ("tools/wrong_bodies.py", "--after-ci"))
+        self.assertEqual(words([]), ("tools/wrong_bodies.py", "--beside", gate.LIBRARIES))
         self.assertEqual(words(["wrong_bodies"]), ("tools/wrong_bodies.py",))
 
     def test_no_proof_is_quick(self):

@@ -7,9 +7,12 @@ import subprocess
 import sys
 import tempfile
 import unittest
+from unittest import mock
 
 TOOLS = pathlib.Path(__file__).resolve().parent
 sys.path.insert(0, str(TOOLS))
+import kept
+import lanes
 import wrong_bodies
 
 SOURCE = """//! Two functions.
@@ -78,16 +81,22 @@ def write_crate(folder, source, edits):
 
 
 class WrongBodies(unittest.TestCase):
-    def tried(self, above=None, **edits):
-        """What the script prints for these edits, and those of the crate above, and its status."""
+    def tried(self, above=None, proved=None, **edits):
+        """What the script prints for these edits, and those of the crate above, and its status; or, beside `rt ci`, when that has
+        proved these crates."""
         with tempfile.TemporaryDirectory() as room:
             root = pathlib.Path(room)
             write_crate(root / "crates" / "small", SOURCE, edits)
             write_crate(root / "crates" / "above", ABOVE, above or {})
             (root / "crates.txt").write_text("small:\nabove: small\n")
             (root / "HANDLES").write_text("Handles allowed: none.\n")
-            environment = {**os.environ, "ROOT": room}
-            ran = subprocess.run([TOOLS / "wrong_bodies.py"], env=environment, capture_output=True, text=True)
+            environment, words = {**os.environ, "ROOT": room, "HOLE_GATE_CACHE": f"{room}/kept"}, []
+            for crate in proved or ():
+                subprocess.run(["rt", "lib"], cwd=root / "crates" / crate, check=True, capture_output=True)
+                (root / "crates" / crate / "out" / "rlib").rename(root / crate)
+                words = ["--beside", room]
+            how = {"input": "".join(f"{crate}\n" for crate in proved or ()), "capture_output": True, "text": True}
+            ran = subprocess.run([TOOLS / "wrong_bodies.py", *words], env=environment, **how)
             said = ran.stdout.splitlines(keepends=True)
             self.tables = [line.split() for line in said if TABLE.match(line)]
             return "".join(line for line in said if not TABLE.match(line)), ran.returncode
@@ -110,6 +119,10 @@ class WrongBodies(unittest.TestCase):
     def test_edits_of_a_crate_and_of_one_above_it(self):
         self.assertEqual(self.tried(a=ONE_TOO_MANY, above={"b": ONE_TOO_FEW}), ("2 passed, 0 failed\n", 0))
         self.assertEqual([row[:3] for row in self.tables[1:]], [["above", "1", "1"], ["small", "1", "1"], ["all", "2", "2"]])
+
+    def test_beside_rt_ci_edits_of_a_crate_that_is_not_proved_are_not_tried(self):
+        said = "above/b: NOT TRIED: above is not proved\n1 passed, 1 failed\n"
+        self.assertEqual(self.tried(a=ONE_TOO_MANY, above={"b": ONE_TOO_FEW}, proved=["small"]), (said, 1))
 
     def test_edits_that_show_nothing_fail(self):
         said, status = self.tried(a=TEXT_IS_GONE, b=OF_A_CONTRACT, c=OF_ANOTHER_FUNCTION, d="new: text\n")
@@ -198,6 +211,100 @@ class WrongBodies(unittest.TestCase):
         self.assertFalse(may("impl Of for Small {\n", method))
         self.assertFalse(may("pub trait Of {\n", method))
         self.assertFalse(may("impl Small {\n", method.replace("        1", "        self.of(1)").replace("self.", "")))
+
+
+class Kept(unittest.TestCase):
+    """Refusals that are kept, by a check that a function stands for."""
+
+    def setUp(self):
+        room = tempfile.TemporaryDirectory()
+        self.addCleanup(room.cleanup)
+        self.root, self.said, self.kit = pathlib.Path(room.name), "fn above::third: no proof: `search` did not prove `returns`\n", "13"
+        self.during = lambda: None
+        write_crate(self.root / "crates" / "small", SOURCE, {})
+        write_crate(self.root / "crates" / "above", ABOVE, {"one": ONE_TOO_FEW})
+        (self.root / "crates.txt").write_text("small:\nabove: small\n")
+        (self.root / "HANDLES").write_text("Handles allowed: none.\n")
+        os.environ["HOLE_GATE_CACHE"] = str(self.root / "kept")
+        self.addCleanup(os.environ.pop, "HOLE_GATE_CACHE")
+        for name, value in (("ROOT", self.root), ("SECONDS", {}), ("check", self.check), ("tell", lambda *_: None)):
+            patch = mock.patch.object(wrong_bodies, name, value)
+            patch.start()
+            self.addCleanup(patch.stop)
+
+    def check(self, folder, functions):
+        self.checks += 1
+        self.during()
+        wrong_bodies.SECONDS.setdefault(folder.name, []).append(1)
+        return self.said, True
+
+    def tried(self, is_read=True):
+        """How many checks a run takes, and whether the edit is refused."""
+        self.checks, (edits, _) = 0, wrong_bodies.read_edits([])
+        refusals = kept.Refusals(self.root, wrong_bodies.libraries_below(), self.kit, is_read)
+        results = wrong_bodies.try_crate(edits, {}, refusals, lambda result: None)
+        return self.checks, [is_refused for is_refused, _ in results.values()] == [True]
+
+    def test_a_refusal_that_stands_is_kept_while_nothing_changes(self):
+        self.assertEqual([self.tried(), self.tried(), self.tried(is_read=False), self.tried()], [(1, True), (0, True), (1, True), (0, True)])
+
+    def test_whatever_a_check_reads_has_the_edit_tried_again(self):
+        crates = self.root / "crates"
+        files = [crates / "small/src/lib.rt", crates / "above/src/lib.rt", self.root / "crates.txt", self.root / "HANDLES"]
+        files += [crates / "small/specs/S.antt", crates / "above/proofs/third/Proof.antt", crates / "above/wrong-bodies/one.edit"]
+        for file in files:
+            self.tried()
+            self.assertEqual(self.tried(), (0, True), file)
+            file.parent.mkdir(parents=True, exist_ok=True)
+            with open(file, "a") as text:
+                text.write("new: next(number)\n" if file.suffix == ".edit" else "\n")
+            if file.suffix == ".edit":
+                file.write_text(ONE_TOO_FEW.replace("new: next(next(number))", "new: next(number)"))
+            self.assertEqual(self.tried(), (1, True), file)
+        self.kit = "14"
+        self.assertEqual([self.tried(), self.tried()], [(1, True), (0, True)])
+        with mock.patch.object(kept, "TOOL", [b"another"]):
+            self.assertEqual(self.tried(), (1, True))
+
+    def test_what_is_not_refused_is_not_kept(self):
+        self.said = "fn above::third: proved\n"
+        self.assertEqual([self.tried(), self.tried()], [(2, False), (2, False)])
+
+    def test_a_source_that_changes_during_the_check_has_nothing_kept(self):
+        source = self.root / "crates" / "small" / "src" / "lib.rt"
+        self.during = lambda: source.write_text(source.read_text() + "\n")
+        self.assertEqual([self.tried(), self.tried()], [(1, True), (1, True)])
+
+    def test_a_broken_store_counts_as_empty(self):
+        self.tried()
+        file = self.root / "kept" / "above" / "one"
+        for broken in (b"", file.read_bytes()[:64], b"\xff\n"):
+            file.write_bytes(broken)
+            self.assertEqual(self.tried(), (1, True), broken)
+        os.environ["HOLE_GATE_CACHE"] = str(self.root / "HANDLES")
+        self.assertEqual([self.tried(), self.tried()], [(1, True), (1, True)])
+
+
+class Lanes(unittest.TestCase):
+    def test_a_check_that_is_killed_beside_rt_ci_is_run_again_after_it(self):
+        lane = lanes.Lanes()
+        lane.is_quiet.clear()
+        with tempfile.TemporaryDirectory() as room, mock.patch.object(lanes, "available", lambda: 1 << 40):
+            timer = wrong_bodies.threading.Timer(0.5, lane.is_quiet.set)
+            timer.start()
+            said, _ = lane.run(["sh", "-c", "[ -e killed ] && echo judged; touch killed; kill -9 $$"], room)
+        self.assertEqual(said, "judged\n")
+
+    def test_beside_rt_ci_there_is_less_room(self):
+        lane = lanes.Lanes()
+        with mock.patch.object(lanes, "available", lambda: lanes.MEMORY_OF_A_CHECK + lanes.SPARE - 1):
+            self.assertTrue(lane.has_room())
+            lane.is_quiet.clear()
+            self.assertFalse(lane.has_room())
+        with mock.patch.object(lanes, "available", lambda: 1 << 40):
+            self.assertTrue(lane.has_room())
+            lane.running = {*range(-len(os.sched_getaffinity(0)) + 1, 0)} or {-1}
+            self.assertFalse(lane.has_room())
 
 
 if __name__ == "__main__":

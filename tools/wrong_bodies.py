@@ -1,10 +1,13 @@
 #!/usr/bin/env python3
 """Tries the wrong bodies: edits that turn the meaning of a function, each of which the prover has to refuse.
 
-    tools/wrong_bodies.py [--reasons] [--after-ci] [CRATE|CRATE/NAME ..]
+    tools/wrong_bodies.py [--reasons] [--from-nothing] [--beside FOLDER] [CRATE|CRATE/NAME ..]
 
-tries those of these crates, or these, or all; with --reasons it prints for each what its function lacks. The libraries
-that checks stand on are built, but with --after-ci: then they are those that `rt ci` has left, of the same sources.
+tries those of these crates, or these, or all; with --reasons it prints for each what its function lacks. A refusal that stands
+is kept on this machine (tools/kept.py) and not tried again while nothing changes that its check reads; --from-nothing tries it
+all the same. The libraries that checks stand on are built, but with --beside, which is for work beside `rt ci`: then FOLDER/NAME
+holds the library of the crate NAME once the standard input has a line NAME, which says that the crate is proved. Until that
+input ends, checks leave processors and memory to `rt ci` (tools/lanes.py).
 
 An edit is a file crates/CRATE/wrong-bodies/NAME.edit: a line 'function: PATH', the function whose meaning it turns, as a
 check names it below its crate; a line 'file: src/NAME.rt'; then pairs of lines 'old: TEXT' and 'new: TEXT'. An old text
@@ -23,6 +26,7 @@ nothing either way. Each of these lines is printed as its check ends, and a line
 table tells for each crate its edits, the checks that they took and the seconds of the processors. The last line is
 'N passed, M failed'; the status is 1 if any failed.
 """
+import argparse
 import os
 import pathlib
 import re
@@ -31,12 +35,14 @@ import subprocess
 import sys
 import tempfile
 import threading
-from concurrent.futures import ThreadPoolExecutor
+from concurrent.futures import Future, ThreadPoolExecutor
 
 from functions import blank, is_in_cycle, names_in, pieces, twin_of, without_tactic
+from kept import Refusals
+from lanes import Lanes
 
 ROOT = pathlib.Path(os.environ.get("ROOT") or pathlib.Path(__file__).resolve().parent.parent)
-MEMORY_OF_A_CHECK = 3 << 20  # KiB
+LANES = Lanes()
 SECONDS = {}  # of the processors, that each check of a crate took
 PRINTING = threading.Lock()
 CLAUSE = re.compile(r"(?m)^ *(?:ensures|requires|ghost)\b.*$")
@@ -68,7 +74,8 @@ class Edit:
     def __init__(self, path):
         self.crate, self.name = path.parent.parent.name, path.stem
         self.function = self.file = old = pristine = edited = None
-        for line in path.read_text().splitlines():
+        self.text = path.read_text()
+        for line in self.text.splitlines():
             word, _, text = line.partition(": ")
             if word == "function" and not self.function:
                 self.function = text
@@ -177,25 +184,30 @@ def words_of_check(folder, functions):
 
 def check(folder, functions):
     """What a check of these functions says, and whether it judged them. Its seconds of the processors are noted."""
-    words = words_of_check(folder, functions)
-    (folder / "out").mkdir(exist_ok=True)
-    with tempfile.TemporaryFile("w+", errors="replace") as told:
-        process = subprocess.Popen(words, cwd=folder, stdin=subprocess.DEVNULL, stdout=told, stderr=subprocess.STDOUT)
-        _, process.returncode, used = os.wait4(process.pid, 0)
-        told.seek(0)
-        said = told.read()
-    SECONDS.setdefault(folder.name, []).append(used.ru_utime + used.ru_stime)
+    said, seconds = LANES.run(words_of_check(folder, functions), folder)
+    SECONDS.setdefault(folder.name, []).append(seconds)
     return said, re.search(r"(?m)^only=", said) is not None
 
 
+def kit():
+    """What tells the toolchain from others."""
+    rtlib = toolchain()
+    return run(["rt", "version"], ROOT).stdout, *(pathlib.Path(it).read_bytes() for it in (f"{rtlib.KIT}/WHAT", rtlib.__file__))
+
+
 def copy_of(crate, built, room):
-    """Copies what checks of the crate read, with the proofs that were kept."""
+    """Copies what checks of the crate read, with the proofs that were kept, and links the libraries from their folders."""
     for name in ("crates.txt", "HANDLES"):
         shutil.copy(ROOT / name, room / name)
+    left_out = shutil.ignore_patterns("out", "wrong-bodies", "must-fail")
     for other in (ROOT / "crates").iterdir():
-        skipped = ["proofs"] if other.name == crate else ["incremental"] if other.name in built else ["out"]
-        skipped += ["wrong-bodies", "must-fail"]
-        shutil.copytree(other, room / "crates" / other.name, ignore=shutil.ignore_patterns(*skipped))
+        shutil.copytree(other, room / "crates" / other.name, ignore=left_out)
+        (room / "crates" / other.name / "out").mkdir()
+    for name, folder in built.items():
+        (room / "crates" / name / "out" / "rlib").symlink_to(folder)
+    kept = pathlib.Path("crates", crate, "out", "incremental")
+    if (ROOT / kept).is_dir():
+        shutil.copytree(ROOT / kept, room / kept)
     return room / "crates" / crate
 
 
@@ -302,11 +314,7 @@ def try_group(edits, folder, is_alone):
 def results_of(edits, built):
     """What became of some edits of a crate, check by check. They are tried in groups, and alone those that weren't refused in
     company. The checks follow one another in one copy, so that each begins with the lemmas that those before it proved."""
-    lacking_library = [why for why in (library.exception() for library in built) if why]
-    if lacking_library:
-        yield {edit: (False, f"NOT TRIED: {lacking_library[0]}") for edit in edits}
-        return
-    built, again = [library.result() for library in built], []
+    again = []
     with tempfile.TemporaryDirectory(prefix="wrong-bodies-") as room:
         folder = copy_of(edits[0].crate, built, pathlib.Path(room))
         for group in groups_of(edits):
@@ -317,32 +325,45 @@ def results_of(edits, built):
             yield try_group([edit], folder, is_alone=True)
 
 
-def try_crate(edits, built, are_reasons_told):
-    """Tries the edits of a crate, and prints what each check showed."""
-    tried, crate = {}, edits[0].crate
-    for result in results_of(edits, built):
-        tried |= result
-        told = [f"{edit}: {why}" for edit, (is_refused, why) in result.items() if are_reasons_told or not is_refused]
-        tell(told, sys.stdout)
-        if took := SECONDS.get(crate):
+def try_crate(edits, libraries, kept, show):
+    """Tries the edits of a crate once its libraries are there, but for those whose refusal is kept; shows what each check showed."""
+    crate, tried = edits[0].crate, {}
+    try:
+        built = {name: library.result() for name, library in libraries.items()}
+        tried |= {edit: (True, why) for edit, why in kept.known(edits).items()}
+        show(tried)
+        left = [edit for edit in edits if edit not in tried]
+        tell([f"{crate}: {len(tried)} of {len(edits)} kept"] if tried else [], sys.stderr)
+        for result in results_of(left, built) if left else ():
+            tried |= result
+            show(result)
+            kept.keep({edit: why for edit, (is_refused, why) in result.items() if is_refused})
+            took = SECONDS[crate]
             tell([f"{crate}: {len(tried)} of {len(edits)} tried, check {len(took)} took {took[-1]:.0f} s"], sys.stderr)
+    except Exception as why:
+        result = {edit: (False, f"NOT TRIED: {why}") for edit in edits if edit not in tried}
+        tried |= result
+        show(result)
     return tried
 
 
-def mark_left():
-    """Marks the libraries that `rt ci` has left as built of these sources. It leaves them without a mark, since they hold
-    statements alone, and a check would build each anew."""
-    for library in toolchain().crates_below(str(ROOT)):
-        if os.path.isdir(library.rlib):
-            pathlib.Path(library.rlib).with_name("stamp").write_text(library.stamp())
-
-
 def build(crate):
-    """Builds a library that checks of other crates stand on, unless it is there."""
+    """Builds a library that checks of other crates stand on, unless it is there, and gives its folder."""
     ran = run(["rt", "lib"], ROOT / "crates" / crate)
     if ran.returncode:
         raise RuntimeError(f"{crate} is not proved:\n{ran.stdout[-2000:]}")
-    return crate
+    return ROOT / "crates" / crate / "out" / "rlib"
+
+
+def hear(libraries, folder):
+    """Reads from the standard input which crates are proved, until it ends."""
+    try:
+        for line in sys.stdin:
+            libraries[line.strip()].set_result(folder / line.strip())
+    finally:
+        for crate in [crate for crate, library in libraries.items() if not library.done()]:
+            libraries[crate].set_exception(RuntimeError(f"{crate} is not proved"))
+        LANES.is_quiet.set()
 
 
 def read_edits(wanted):
@@ -358,27 +379,20 @@ def read_edits(wanted):
     return edits, bad
 
 
-def lanes():
-    """How many checks fit side by side."""
-    free = re.search(r"MemAvailable:\s+(\d+)", pathlib.Path("/proc/meminfo").read_text())
-    return max(1, min(len(os.sched_getaffinity(0)), int(free[1]) // MEMORY_OF_A_CHECK))
-
-
-def try_all(edits, below, is_built, are_reasons_told):
-    """Tries the edits of several crates at once, the most edits first if the libraries are built.
-
-    Else these are built meanwhile, one after another. A crate waits for those that it stands on, and for its own if that is
-    one of them: a folder that is being written can't be copied."""
-    order = list(dict.fromkeys(low for edit in edits for low in below[edit.crate]))
-    awaited = {crate: [low for low in order if low == crate or low in below[crate]] for crate in below}
-    last = lambda crate: 0 if is_built else max(map(order.index, awaited[crate]), default=-1)
-    count = lambda crate: sum(edit.crate == crate for edit in edits)
-    crates, tried = sorted({edit.crate for edit in edits}, key=lambda crate: (last(crate), -count(crate))), {}
-    with ThreadPoolExecutor(1) as builder, ThreadPoolExecutor(lanes()) as pool:
-        libraries = {crate: builder.submit(build, crate) for crate in order}
-        of_crate = lambda crate: [edit for edit in edits if edit.crate == crate]
-        attempt = lambda crate: try_crate(of_crate(crate), [libraries[low] for low in awaited[crate]], are_reasons_told)
-        for result in pool.map(attempt, crates):
+def try_all(edits, below, beside, attempt):
+    """Tries the edits of several crates at once. A crate waits for those that it stands on, and for its own library if that is
+    made meanwhile: a folder that is being written can't be copied."""
+    of_crate = lambda crate: [edit for edit in edits if edit.crate == crate]
+    crates, tried = sorted({edit.crate for edit in edits}, key=lambda crate: -len(of_crate(crate))), {}
+    with ThreadPoolExecutor(1) as builder, ThreadPoolExecutor(max(len(crates), 1)) as pool:
+        if beside:
+            libraries = {crate: Future() for crate in below}
+            threading.Thread(target=hear, args=(libraries, beside)).start()
+        else:
+            order = dict.fromkeys(low for edit in edits for low in below[edit.crate])
+            libraries = {crate: builder.submit(build, crate) for crate in order}
+        awaited = lambda crate: {low: libraries[low] for low in (*below[crate], crate) if low in libraries}
+        for result in pool.map(lambda crate: attempt(of_crate(crate), awaited(crate)), crates):
             tried |= result
     return tried
 
@@ -392,15 +406,21 @@ def table(edits):
 
 
 def main(words):
-    if unknown := [word for word in words if word.startswith("-") and word not in ("--reasons", "--after-ci")]:
-        print(__doc__)
-        return 0 if unknown[0] in ("-h", "--help") else 2
+    options = argparse.ArgumentParser(description=__doc__, formatter_class=argparse.RawDescriptionHelpFormatter)
+    options.add_argument("--reasons", action="store_true")
+    options.add_argument("--from-nothing", action="store_true")
+    options.add_argument("--beside", metavar="FOLDER", type=pathlib.Path)
+    options.add_argument("wanted", nargs="*", metavar="CRATE[/NAME]")
+    given = options.parse_args(words)
     below = libraries_below()
-    edits, bad = read_edits([word for word in words if not word.startswith("--")])
-    if "--after-ci" in words:
-        mark_left()
+    edits, bad = read_edits(given.wanted)
     tell(bad, sys.stdout)
-    tried = try_all(edits, below, "--after-ci" in words, "--reasons" in words)
+    if given.beside:
+        LANES.is_quiet.clear()
+    kept = Refusals(ROOT, below, kit(), not given.from_nothing)
+    told = lambda result: [f"{it}: {why}" for it, (is_refused, why) in result.items() if given.reasons or not is_refused]
+    show = lambda result: tell(told(result), sys.stdout)
+    tried = try_all(edits, below, given.beside, lambda edits, libraries: try_crate(edits, libraries, kept, show))
     refused = sum(is_refused for is_refused, _ in tried.values())
     failed = len(bad) + len(tried) - refused
     tell([*table(edits), f"{refused} passed, {failed} failed"], sys.stdout)
