@@ -525,7 +525,7 @@ def attack_by_searches(tally, folder, root, files, given):
     with Heavy(texts) as heavy, contextlib.ExitStack() as ends:
         server = ends.enter_context(Server(given.program, folder, root, more=heavy.settings(), words=("--progress",), seconds=1_200))
         server.started()
-        crawled = f"known {heavy.known} waiting 0 out 0 done {heavy.known} dropped 0\n".encode()
+        crawled = f"known {heavy.known} waiting 0 out 0 done {heavy.known} dropped 0 failed 0\n".encode()
         tally.expect("the texts are crawled", crawls(server, crawled), True)
         wanted = [(b"/search\t%s\r\n" % text.encode(), heavy.reply(text)) for text in heavy_texts()]
         for line, reply in wanted:

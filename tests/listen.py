@@ -77,16 +77,18 @@ def check_ports(tally, program, folder, root):
 
 
 def check_refusals(tally, program, folder, root):
-    """Arguments that are no addresses are bad; addresses that can't be bound are named."""
+    """Arguments that are no addresses are bad; with --progress, addresses that can't be bound are named."""
     for word in NO_ADDRESSES:
         with Server(program, folder, root, words=["--listen", word]) as server:
             output, error, status = server.end()
             is_told = b"error: " in error and b"--listen <ADDRESS>" in error
             tally.expect(f"--listen {word!r}: bad arguments", (output, is_told, status), (b"", True, 2))
     with Server(program, folder, root, words=["--listen", "192.0.2.1"]) as server:
+        tally.expect("an address of another machine: one line", server.end(), (b"", b"hole: 81\n", 1))
+    with Server(program, folder, root, words=["--listen", "192.0.2.1", "--progress"]) as server:
         output, error, status = server.end()
-        told, last = error.split(b"\n")[0], error.split(b"\n")[-2]
-        tally.expect("an address of another machine", (output, b"192.0.2.1" in told, last, status), (b"", True, b"hole: 81", 1))
+        told, last = error.split(b"\n")[0], error.split(b"\n")[1:]
+        tally.expect("an address of another machine", (output, b"192.0.2.1" in told, last, status), (b"", True, [b"hole: 81", b""], 1))
 
 
 def check_usage(tally, program):

@@ -32,6 +32,7 @@ LARGE = bytes(range(256)) * 32_768
 LINE = re.compile(rb"(\d{4})-(\d\d)-(\d\d)T(\d\d):(\d\d):(\d\d)\.(\d{6})Z\t([^\t]*)\t([^\t]*)\t([^\t]*)\t(\d+)\t(\d+)")
 CANT = b"hole: the log can't be written: "
 SIZES = b"known 0 waiting 0 out 0 done 0 dropped 0\n"
+FAILED = b" failed %d\n"
 MOST_SECONDS_FOR_LATE = 5.0
 LINES_FOR_PIPE = 1_700  # of some 4,100 bytes each: more than the pipe and all batches hold
 KEPT_FOR_PIPE = 200  # more than one batch, the threads and the pipe hold, less than 64 batches that were handed on early
@@ -333,12 +334,13 @@ def check_never_read(tally, room):
 
 def check_progress(tally, room):
     """The sizes of the crawl are printed every ten seconds and at its end, and not without --progress."""
-    for words, wanted in ((("--progress",), SIZES), ((), b"")):
+    for words, wanted in ((("--progress",), SIZES[:-1] + FAILED % 0), ((), b"")):
         with room.serve(*words, "--requests", 0) as server:
             server.started()
             tally.expect(f"a crawl of nothing with {words}", server.end(), (SIZES, wanted, 0))
     with socket.create_server((HOST, 0)) as deaf:
-        tables = [f'[[{table}]]\nhost = "{HOST}"\nport = {deaf.getsockname()[1]}\n' for table in ("seeds", "allow")]
+        port = deaf.getsockname()[1]
+        tables = [f'[[{table}]]\nhost = "{HOST}"\nport = {port}\n' for table in ("seeds", "allow")]
         with room.serve("--progress", "--requests", 0, more="".join(tables)) as server:
             server.started()
             fetch, _ = deaf.accept()
@@ -348,9 +350,10 @@ def check_progress(tally, room):
             deaf.close()
             fetch.close()
             output, rest, status = server.end()
-    tally.expect("the sizes of a crawl that goes on", first, b"known 1 waiting 0 out 1 done 0 dropped 0\n")
+    tally.expect("the sizes of a crawl that goes on", first, b"known 1 waiting 0 out 1 done 0 dropped 0" + FAILED % 0)
     tally.expect(f"they came after {seconds:.1f} seconds", 8 < seconds < 13, True)
-    tally.expect("the sizes at its end", (rest, status), (output, 0))
+    failed = f"hole: failed: read 2: 1 {HOST} {port} \n".encode()
+    tally.expect("the sizes at its end", (rest, status), (failed + output[:-1] + FAILED % 1, 0))
     tally.expect("they are those of its end", b" waiting 0 out 0 " in output, True)
 
 

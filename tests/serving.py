@@ -192,10 +192,10 @@ def check_crawl(folder, root):
         for _ in range(5 - asked):
             ask(port, b"\r\n")
         output, error, status = server.end()
-        sizes = b"known 3 waiting 0 out 0 done 3 dropped 0\n"
-        expect("the crawl", (output, status), (sizes, 0))
-        lines = error.splitlines(True)
-        expect("its progress", (lines[-1:], all(line.startswith(b"known ") for line in lines)), ([sizes], True))
+        sizes = b"known 3 waiting 0 out 0 done 3 dropped 0"
+        expect("the crawl", (output, status), (sizes + b"\n", 0))
+        lines = error.splitlines()
+        expect("its progress", (lines[-1:], all(line.startswith(b"known ") for line in lines)), ([sizes + b" failed 0"], True))
 
 
 def check_hits(folder, _root):
@@ -264,11 +264,12 @@ def check_addresses(folder, root):
     with socket.socket() as taken:
         taken.bind(("127.0.0.1", 0))
         taken.listen()
-        with Server(folder, root, host="localhost", port=taken.getsockname()[1], words=("--requests", "1")) as server:
-            expect("the line of half a host", server.started(), f"listening localhost {server.port}\n".encode())
-            expect("a text at ::1", ask(server.port, b"/a.txt\r\n", "::1"), b"hello\r\n.\r\n")
-            error = server.end()[1]
-            expect("what is told of the other", error.startswith(f"hole: can't listen at 127.0.0.1:{server.port}: ".encode()), True)
+        for words in (), ("--progress",):
+            with Server(folder, root, host="localhost", port=taken.getsockname()[1], words=("--requests", "1", *words)) as server:
+                expect("the line of half a host", server.started(), f"listening localhost {server.port}\n".encode())
+                expect("a text at ::1", ask(server.port, b"/a.txt\r\n", "::1"), b"hello\r\n.\r\n")
+                told = f"hole: can't listen at 127.0.0.1:{server.port}: ".encode() in server.end()[1]
+                expect(f"whether the other is told with {words}", told, bool(words))
 
 
 def check_activation(folder, root):
@@ -288,10 +289,11 @@ def check_activation(folder, root):
             expect("the end of handed over sockets", server.end()[1:], (b"", 0))
         other.bind((HOST, 0))
         with Server(folder, root, before=hand_over((other,)), fds=(other,)) as server:
+            expect("a socket that doesn't listen", server.end()[1:], (b"hole: 81\n", 1))
+        with Server(folder, root, before=hand_over((other,)), fds=(other,), words=("--progress",)) as server:
             output, error, status = server.end()
-            expect("a socket that doesn't listen", (error.splitlines()[-1], status), (b"hole: 81", 1))
-            told = error.startswith(b"hole: connections can't be accepted: ")
-            expect("what is told of it", told, True)
+            expect("the same with --progress", (error.splitlines()[-1], status), (b"hole: 81", 1))
+            expect("what is told of it", b"hole: connections can't be accepted: " in error, True)
 
 
 def check_refused_threads(folder, root):
@@ -301,16 +303,17 @@ def check_refused_threads(folder, root):
     with Server(folder, root, more="threads = 1\n", before=before, words=("--progress", "--requests", "1")) as server:
         server.started()
         expect("a text without a thread for the progress", ask(server.port, b"/a.txt\r\n"), b"hello\r\n.\r\n")
-        expect("the end without it", server.end(), (sizes, sizes, 0))
-    told = b"hole: a server thread can't be started\nhole: 82\n"
+        expect("the end without it", server.end(), (sizes, sizes[:-1] + b" failed 0\n", 0))
+    cause, told = b"hole: a server thread can't be started\n", b"hole: 82\n"
     with Server(folder, root, more="threads = 2\n", before=before, words=("--requests", "1")) as server:
         server.started()
         expect("a text by one of two threads", ask(server.port, b"/a.txt\r\n"), b"hello\r\n.\r\n")
         expect("the end of one of two threads", server.end(), (b"", told, 1))
     before = serving.refusing(folder, REFUSED_THREADS=1)
-    with Server(folder, root, more="threads = 1\n", before=before) as server:
-        server.started()
-        expect("the end without a thread", server.end(), (b"", told, 1))
+    for words, wanted in ((), told), (("--progress",), cause + told):
+        with Server(folder, root, more="threads = 1\n", before=before, words=words) as server:
+            server.started()
+            expect(f"the end without a thread, with {words}", server.end(), (b"", wanted, 1))
 
 
 def check_faults(folder, root):
@@ -319,9 +322,11 @@ def check_faults(folder, root):
     taken.bind((HOST, 0))
     taken.listen()
     with Server(folder, root, port=taken.getsockname()[1]) as server:
+        expect("a port that is taken", server.end(), (b"", b"hole: 81\n", 1))
+    with Server(folder, root, port=taken.getsockname()[1], words=("--progress",)) as server:
         told = f"hole: can't listen at {HOST}:{server.port}: ".encode()
         output, error, status = server.end()
-        expect("a port that is taken", (output, error.startswith(told), status), (b"", True, 1))
+        expect("a port that is taken, with --progress", (output, error.startswith(told), status), (b"", True, 1))
         expect("its fault", error.splitlines()[1:], [b"hole: 81"])
     taken.close()
     with Server(folder, folder / "absent") as server:

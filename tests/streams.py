@@ -102,7 +102,7 @@ def check_threads(tally, streams):
         tally.expect(f"of {threads} threads, {refused} don't start", (error, status), wanted)
 
 
-NO_THREAD = b"hole: a server thread can't be started\nhole: 82\n"
+NO_THREAD = b"hole: 82\n"
 # The number of server threads, which of the threads don't start, requests, and how the server ends.
 THREADS = [
     (1, "1", "1", (NO_THREAD, 1)),

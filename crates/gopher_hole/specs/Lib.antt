@@ -1,4 +1,5 @@
 pub mod Ending
+pub mod Failing
 pub mod Fault
 pub mod Program
 pub mod Sending

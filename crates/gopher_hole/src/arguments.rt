@@ -81,7 +81,7 @@ fn progress_argument<'a>(alloc: Global) -> Arg<'a> {
     Arg::new(alloc, "progress")
         .long("progress")
         .action(ArgAction::SetTrue)
-        .help("Print the crawl's progress on standard error every ten seconds")
+        .help("Print what fails, and the progress of the crawl, on standard error")
 }
 
 fn settings_argument<'a>(alloc: Global) -> Arg<'a> {

@@ -7,8 +7,9 @@ ghost use Rattle.gopher_crew.specs.Desk.{IsBlankOf};
 
 use crate::announcing::{tell_listening, tell_status};
 use crate::arguments::Serving;
+use crate::crawl_fetch::CrawlFetch;
+use crate::failures::Failures;
 use crate::fault::ProgramFault;
-use crate::fetching::TcpFetch;
 use crate::listening::listen;
 use crate::opening::{Opened, open, read_settings};
 use crate::progress::{crawl_and_tell, tell_limit};
@@ -30,20 +31,29 @@ use std::sync::{Arc, Wait};
 use std::thread::{Promise, Threads};
 use std::time::Clock;
 
+// What the workers of a crawl work with.
+#[derive(Drop)]
+struct Crawling<'a, C: Crew> {
+    pairs: Vec<(CrawlFetch<'a>, Share<C>)>,
+    // Where failed fetches are added, if the progress is printed.
+    failures: Option<&'a Failures>,
+}
+
 // Pairs each share with a fetcher of its own.
-fn pairs_of<C: Crew>(
+fn crawling_of<'a, C: Crew>(
     alloc: Global,
     shares: Vec<Share<C>>,
-) -> Result<Vec<(TcpFetch, Share<C>)>, ProgramFault> {
+    failures: Option<&'a Failures>,
+) -> Result<Crawling<'a, C>, ProgramFault> {
     let Ok(mut pairs) = Vec::with_capacity(alloc, shares.len()) else {
         return Err(ProgramFault::NoMemory);
     };
     for share in shares {
-        if pairs.push((TcpFetch::new(), share)).is_err() {
+        if pairs.push((CrawlFetch::new(failures), share)).is_err() {
             return Err(ProgramFault::NoMemory);
         }
     }
-    Ok(pairs)
+    Ok(Crawling { pairs, failures })
 }
 
 // The fault of a server by how its threads and its crawl ended, if there is one.
@@ -89,6 +99,8 @@ struct Service {
     replies: Replies,
     requests: Option<u64>,
     log: Option<Arc<LogQueue>>,
+    // Whether threads print on the error stream what fails.
+    tells: bool,
 }
 
 // Starts a server thread for each pass.
@@ -106,12 +118,13 @@ fn start<
         replies,
         requests,
         log,
+        tells,
     } = service;
-    let setups = set_up(rt, alloc, listeners, requests, passes.len(), &log)?;
+    let setups = set_up(rt, alloc, listeners, requests, passes.len(), &log, tells)?;
     let Ok(replies) = Arc::new(alloc, replies) else {
         return Err(ProgramFault::NoMemory);
     };
-    let started = start_threads(rt, alloc, &replies, setups, passes);
+    let started = start_threads(rt, alloc, &replies, setups, passes, tells);
     if started.threads.is_empty() {
         return Err(ProgramFault::NoThread);
     }
@@ -120,6 +133,7 @@ fn start<
 
 // Starts the server threads, crawls, and waits until all of them ended.
 fn serve_and_crawl<
+    'a,
     C: Crew + Send + Sync + 'static,
     R: Net<Listener = NetListener, Stream = TcpStream>
         + Threads
@@ -137,16 +151,17 @@ fn serve_and_crawl<
     service: Service,
     desk: &Desk<C, &R>,
     passes: Vec<Pass<C>>,
-    pairs: Vec<(TcpFetch, Share<C>)>,
-    progress: bool,
-) -> Result<Vec<WorkEnd<TcpFetch, C>>, ProgramFault> {
+    crawling: Crawling<'a, C>,
+) -> Result<Vec<WorkEnd<CrawlFetch<'a>, C>>, ProgramFault> {
     let started = start(rt, alloc, service, passes)?;
-    let crawled = if progress {
-        crawl_and_tell(rt, alloc, desk, pairs)
-    } else {
-        let crawled = crawl(rt, alloc, desk, pairs);
-        tell_limit(rt, desk);
-        crawled
+    let Crawling { pairs, failures } = crawling;
+    let crawled = match failures {
+        Some(failures) => crawl_and_tell(rt, alloc, desk, pairs, failures),
+        None => {
+            let crawled = crawl(rt, alloc, desk, pairs);
+            tell_limit(rt, desk);
+            crawled
+        }
     };
     wait_for_all(rt, started, crawled)
 }
@@ -154,7 +169,7 @@ fn serve_and_crawl<
 // The shares of workers that have ended.
 fn shares_of<C: Crew>(
     alloc: Global,
-    ends: Vec<WorkEnd<TcpFetch, C>>,
+    ends: Vec<WorkEnd<CrawlFetch<'_>, C>>,
 ) -> Result<Vec<Share<C>>, ProgramFault> {
     let mut shares = Vec::new(alloc);
     for end in ends {
@@ -169,7 +184,7 @@ fn shares_of<C: Crew>(
 fn close<C: Crew, R: Wait + Drop>(
     alloc: Global,
     desk: Desk<C, R>,
-    ends: Vec<WorkEnd<TcpFetch, C>>,
+    ends: Vec<WorkEnd<CrawlFetch<'_>, C>>,
 ) -> Result<Status, ProgramFault> {
     match desk.close(shares_of(alloc, ends)?) {
         Ok(catalogue) => Ok(catalogue.status()),
@@ -211,13 +226,14 @@ fn open_listeners<R: Net + Env + Eprint + AllocGlobal, W: Write>(
 ) -> Result<Vec<TcpListener>, ProgramFault>
     ensures { OnOk result (HasSent W.contents output.old output.new (listening_line home.now)) }
 {
-    let listeners = listen(rt, alloc, home, &serving.addresses)?;
+    let listeners = listen(rt, alloc, home, &serving.addresses, serving.progress)?;
     tell_listening(alloc, home, output)?;
     Ok(listeners)
 }
 
 // Listens, serves, and crawls at the desk. Returns the workers' ends once all have ended.
 fn listen_and_serve<
+    'a,
     C: Crew + Send + Sync + 'static,
     R: OpenLog
         + Net<Listener = NetListener, Stream = TcpStream>
@@ -239,13 +255,12 @@ fn listen_and_serve<
     desk: &Desk<C, &R>,
     replies: Replies,
     passes: Vec<Pass<C>>,
-    shares: Vec<Share<C>>,
+    crawling: Crawling<'a, C>,
     output: &mut Watched<W>,
-) -> Result<Vec<WorkEnd<TcpFetch, C>>, ProgramFault>
+) -> Result<Vec<WorkEnd<CrawlFetch<'a>, C>>, ProgramFault>
     ensures { OnOk result (HasSent W.contents output.old output.new (listening_line replies.home)) }
 {
     let alloc = rt.alloc();
-    let pairs = pairs_of(alloc, shares)?;
     let listeners = open_listeners(rt, alloc, replies.home(), serving, output)?;
     let log = start_log_at(rt, alloc, serving.log);
     let service = Service {
@@ -253,8 +268,9 @@ fn listen_and_serve<
         replies,
         requests: serving.requests,
         log: queue_of(&log),
+        tells: serving.progress,
     };
-    let ended = serve_and_crawl(rt, alloc, service, desk, passes, pairs, serving.progress);
+    let ended = serve_and_crawl(rt, alloc, service, desk, passes, crawling);
     end_log(rt, alloc, log);
     ended
 }
@@ -303,11 +319,14 @@ pub fn serve<
         desk,
         passes,
         shares,
+        tries,
     } = open::<C, R>(rt, alloc, settings, blank)?;
     if let Some(bytes) = serving.crawl_memory {
         desk.limit_memory(bytes);
     }
-    let ends = listen_and_serve(rt, serving, &desk, replies, passes, shares, output)?;
+    let failures = Failures::new(alloc, tries);
+    let crawling = crawling_of(alloc, shares, serving.progress.then_some(&failures))?;
+    let ends = listen_and_serve(rt, serving, &desk, replies, passes, crawling, output)?;
     let status = close(alloc, desk, ends)?;
     tell_status(alloc, status, output)
 }

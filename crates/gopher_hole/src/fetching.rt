@@ -14,7 +14,7 @@ use std::str;
 /// Fetches the replies of places, each over a connection of its own to the place's host and port.
 #[derive(Drop)]
 pub struct TcpFetch {
-    calls: u64,
+    pub(crate) calls: u64,
 }
 
 impl TcpFetch {

@@ -3,7 +3,8 @@
 //!
 //! `run` is the whole program, from its arguments to its exit status. For callers of its parts, the
 //! crate also has `answer` and `serve_one` (the reply to a request line), `fetch_over` and
-//! `TcpFetch` (fetching from other servers) and `replay` (replaying the script of a crawl).
+//! `TcpFetch` (fetching from other servers) and `replay` (replaying the script of a crawl). It hands
+//! on the types that these calls take and return, and those with which a pass is made.
 //!
 //! The contracts of this crate cover the program's status and what it writes. `gopher_serve` says
 //! what a client receives, and `gopher_crew` what a crawl leaves.
@@ -15,7 +16,9 @@ mod address_check;
 mod announcing;
 mod arguments;
 mod checking;
+mod crawl_fetch;
 mod crewing;
+mod failures;
 mod fault;
 mod fetching;
 mod listening;
@@ -26,7 +29,13 @@ mod starting;
 
 pub use fault::{Detail, ProgramFault};
 pub use fetching::TcpFetch;
+pub use gopher_catalogue::{Catalogue, OpenFault, OpenRefused, Why};
+pub use gopher_crew::{Blank, Crew, Desk, DeskFault, DeskRefused, Fetch, Pass, Share};
+pub use gopher_item::{Home, ItemFault, NoMemory, Place};
 pub use gopher_log_writer::OpenLog;
-pub use gopher_script::replay;
-pub use gopher_serve::{answer, fetch_over, serve_one};
+pub use gopher_scope::{Key, Rule, Scope, SettingsFault};
+pub use gopher_script::{ReplayFault, replay};
+pub use gopher_serve::{ServeFault, answer, fetch_over, serve_one};
+pub use gopher_text::{MAX_REPLY, Watched};
+pub use gopher_tree::{LoadRefused, Tree, TreeFault};
 pub use program::run;

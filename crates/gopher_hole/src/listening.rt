@@ -16,19 +16,23 @@ const FIRST_INHERITED: u8 = 3;
 // The most of its sockets that are used.
 const MAX_INHERITED: u8 = 64;
 
-// Prints on the error stream why an address can't be bound.
-fn tell<R: Eprint>(rt: &R, host: &str, error: io::Error) {
+// If `tells`, prints on the error stream why an address can't be bound.
+fn tell<R: Eprint>(rt: &R, host: &str, error: io::Error, tells: bool) {
+    if !tells {
+        return;
+    }
     let _ = rt.eprint("hole: can't listen at ");
     let _ = rt.eprint(host);
     let _ = rt.eprint(": ");
     let _ = rt.eprintln(error);
 }
 
-// Listens at an address, or prints why the system refuses.
+// Listens at an address. If the system refuses and `tells`, prints why.
 fn listen_at<R: Net + Eprint>(
     rt: &R,
     alloc: Global,
     address: SocketAddr,
+    tells: bool,
     listeners: &mut Vec<TcpListener>,
 ) -> Result<(), ProgramFault> {
     match TcpListener::bind(rt, address) {
@@ -39,31 +43,32 @@ fn listen_at<R: Net + Eprint>(
         }
         Err(error) => {
             if let Ok(name) = format!(in alloc; "{address}") {
-                tell(rt, name.as_str(), error);
+                tell(rt, name.as_str(), error, tells);
             }
         }
     }
     Ok(())
 }
 
-// Listens at each address of a host, or prints that it has none.
+// Listens at each address of a host.
 fn listen_at_host<R: Net + Eprint>(
     rt: &R,
     alloc: Global,
     host: &str,
     port: u16,
+    tells: bool,
     listeners: &mut Vec<TcpListener>,
 ) -> Result<(), ProgramFault> {
     if let Ok(address) = host.parse::<SocketAddr>() {
-        return listen_at(rt, alloc, address, listeners);
+        return listen_at(rt, alloc, address, tells, listeners);
     }
     match (host, port).to_socket_addrs(rt) {
         Ok(addresses) => {
             for address in addresses {
-                listen_at(rt, alloc, address, listeners)?;
+                listen_at(rt, alloc, address, tells, listeners)?;
             }
         }
-        Err(error) => tell(rt, host, error),
+        Err(error) => tell(rt, host, error, tells),
     }
     Ok(())
 }
@@ -111,16 +116,17 @@ fn listen_at_all<R: Net + Eprint>(
     alloc: Global,
     home: &Home,
     addresses: &[&str],
+    tells: bool,
 ) -> Result<Vec<TcpListener>, ProgramFault> {
     let Ok(host) = str::from_utf8(home.host()) else {
         return Err(ProgramFault::ListenFailed);
     };
     let mut listeners = Vec::new(alloc);
     for address in addresses {
-        listen_at_host(rt, alloc, address, home.port(), &mut listeners)?;
+        listen_at_host(rt, alloc, address, home.port(), tells, &mut listeners)?;
     }
     if addresses.is_empty() {
-        listen_at_host(rt, alloc, host, home.port(), &mut listeners)?;
+        listen_at_host(rt, alloc, host, home.port(), tells, &mut listeners)?;
     }
     Ok(listeners)
 }
@@ -130,8 +136,8 @@ fn listen_at_all<R: Net + Eprint>(
 /// listens at each address of the host of `home`. The `accept` of a listener never blocks.
 ///
 /// If systemd's socket activation hands sockets to the process, it uses these instead of addresses.
-/// It prints on the error stream of `rt` which address can't be bound, and why. One that can is
-/// enough.
+/// If `tells`, it prints on the error stream of `rt` which address can't be bound, and why. One
+/// that can is enough.
 ///
 /// # Errors
 ///
@@ -142,10 +148,11 @@ pub fn listen<R: Net + Env + Eprint + AllocGlobal>(
     alloc: Global,
     home: &Home,
     addresses: &[&str],
+    tells: bool,
 ) -> Result<Vec<TcpListener>, ProgramFault> {
     let mut listeners = inherited(rt, alloc)?;
     if listeners.is_empty() {
-        listeners = listen_at_all(rt, alloc, home, addresses)?;
+        listeners = listen_at_all(rt, alloc, home, addresses, tells)?;
     }
     if listeners.is_empty() {
         return Err(ProgramFault::ListenFailed);

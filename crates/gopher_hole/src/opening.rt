@@ -44,6 +44,8 @@ pub struct Opened<C: Crew, R: Wait + Drop> {
     pub passes: Vec<Pass<C>>,
     /// A share for each worker.
     pub shares: Vec<Share<C>>,
+    /// How often a place is tried.
+    pub tries: u32,
 }
 
 /// Reads the bytes of a settings file.
@@ -191,6 +193,7 @@ pub fn open<'r, C: Crew, R: Files + Wait>(
             desk,
             passes,
             shares,
+            tries,
         }),
         Err(fault) => Err(fault),
     }

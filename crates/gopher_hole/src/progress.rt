@@ -1,8 +1,10 @@
 //! The sizes of a crawl, printed as it goes on.
 
-use crate::fetching::TcpFetch;
+use crate::crawl_fetch::CrawlFetch;
+use crate::failures::Failures;
 use gopher_catalogue::Status;
 use gopher_crew::{CrawlRefused, Crew, Desk, Share, WorkEnd, crawl};
+use gopher_item::NoMemory;
 use gopher_script::status_line;
 use std::alloc::Global;
 use std::io::Eprint;
@@ -19,9 +21,18 @@ const RESTS: u32 = 100;
 // The milliseconds of a rest.
 const REST: u64 = 100;
 
-// Prints the sizes of a frontier on the error stream, or nothing if memory runs out.
-fn tell(rt: &impl Eprint, alloc: Global, status: Status) {
-    let Ok(line) = status_line(alloc, status) else {
+// The line of the sizes of a frontier and the number of failed places.
+fn progress_line(alloc: Global, status: Status, failed: u64) -> Result<Vec<u8>, NoMemory> {
+    let mut line = status_line(alloc, status)?;
+    line.pop();
+    line.extend_from_slice(format!(in alloc; " failed {failed}\n")?.as_bytes())?;
+    Ok(line)
+}
+
+// Prints the sizes of a frontier and the number of failed places on the error stream, or nothing if
+// memory runs out.
+fn tell(rt: &impl Eprint, alloc: Global, status: Status, failed: u64) {
+    let Ok(line) = progress_line(alloc, status, failed) else {
         return;
     };
     if let Ok(text) = str::from_utf8(&line) {
@@ -50,27 +61,29 @@ fn wait_for_end(clock: &impl Clock, is_over: &AtomicBool) -> bool {
     is_over.load(Ordering::SeqCst)
 }
 
-// Prints the sizes every ten seconds if they have changed, and once the crawl is over. Prints once
-// if the crawl reaches its limit of memory.
+// Prints the sizes every ten seconds if they or the number of failed places have changed, and once
+// the crawl is over. Prints once if the crawl reaches its limit of memory.
 fn tell_until_over<C: Crew, R: Wait + Drop, W: Wait + Clock + Eprint>(
     rt: &W,
     alloc: Global,
     desk: &Desk<C, R>,
+    failures: &Failures,
     is_over: &AtomicBool,
 ) {
     let mut told = None;
     let mut is_limit_told = false;
     for _round in rt.forever() {
         let was_over = wait_for_end(rt, is_over);
-        let status = desk.status(rt);
-        if told != Some(status) {
-            tell(rt, alloc, status);
-            told = Some(status);
+        let (status, failed) = (desk.status(rt), failures.count());
+        if told != Some((status, failed)) {
+            tell(rt, alloc, status, failed);
+            told = Some((status, failed));
         }
         if !is_limit_told {
             is_limit_told = tell_limit(rt, desk);
         }
         if was_over {
+            failures.tell_unprinted(rt);
             return;
         }
     }
@@ -79,25 +92,27 @@ fn tell_until_over<C: Crew, R: Wait + Drop, W: Wait + Clock + Eprint>(
 
 // Crawls, and sets `is_over` at the end.
 fn crawl_until_over<
+    'a,
     C: Crew + Send + Sync,
     R: Wait + Drop + Send + Sync,
-    W: Net<Listener = TcpListener, Stream = TcpStream> + Threads + Wait + Sync,
+    W: Net<Listener = TcpListener, Stream = TcpStream> + Threads + Wait + Eprint + Sync,
 >(
     rt: &W,
     alloc: Global,
     desk: &Desk<C, R>,
-    pairs: Vec<(TcpFetch, Share<C>)>,
+    pairs: Vec<(CrawlFetch<'a>, Share<C>)>,
     is_over: &AtomicBool,
-) -> Result<Vec<WorkEnd<TcpFetch, C>>, CrawlRefused<TcpFetch, C>> {
+) -> Result<Vec<WorkEnd<CrawlFetch<'a>, C>>, CrawlRefused<CrawlFetch<'a>, C>> {
     let crawled = crawl(rt, alloc, desk, pairs);
     is_over.store(true, Ordering::SeqCst);
     crawled
 }
 
-/// Crawls as `gopher_crew::crawl` does. Prints the sizes of the crawl on the error stream every ten
-/// seconds if they have changed, and at its end. If the system refuses a thread for that, prints
-/// them only at the end.
+/// Crawls as `gopher_crew::crawl` does. Prints the sizes of the crawl, with the number of failed
+/// places, on the error stream every ten seconds if they have changed, and at its end. If the
+/// system refuses a thread for that, prints them only at the end.
 pub fn crawl_and_tell<
+    'a,
     C: Crew + Send + Sync,
     R: Wait + Drop + Send + Sync,
     W: Net<Listener = TcpListener, Stream = TcpStream> + Threads + Wait + Clock + Eprint + Sync,
@@ -105,13 +120,14 @@ pub fn crawl_and_tell<
     rt: &W,
     alloc: Global,
     desk: &Desk<C, R>,
-    pairs: Vec<(TcpFetch, Share<C>)>,
-) -> Result<Vec<WorkEnd<TcpFetch, C>>, CrawlRefused<TcpFetch, C>> {
+    pairs: Vec<(CrawlFetch<'a>, Share<C>)>,
+    failures: &Failures,
+) -> Result<Vec<WorkEnd<CrawlFetch<'a>, C>>, CrawlRefused<CrawlFetch<'a>, C>> {
     let over = AtomicBool::new(false);
     let is_over = &over;
     let (_told, crawled) = thread::join(
         rt,
-        move || tell_until_over(rt, alloc, desk, is_over),
+        move || tell_until_over(rt, alloc, desk, failures, is_over),
         move || crawl_until_over(rt, alloc, desk, pairs, is_over),
     );
     crawled

@@ -60,8 +60,8 @@ fn start_one<
     thread.ok()
 }
 
-/// Starts a server thread for each pass, with one of the setups. If a thread can't be started,
-/// prints that once on the error stream of `rt`.
+/// Starts a server thread for each pass, with one of the setups. If a thread can't be started and
+/// `tells`, prints that once on the error stream of `rt`.
 pub fn start_threads<
     C: Crew + Send + Sync + 'static,
     R: Threads + Wait + Clock + Eprint + Clone + Send + Drop + 'static,
@@ -71,6 +71,7 @@ pub fn start_threads<
     replies: &Arc<Replies>,
     setups: Vec<ThreadSetup>,
     passes: Vec<Pass<C>>,
+    tells: bool,
 ) -> Started<AnyEnd> {
     let mut is_short = false;
     let mut setups = setups;
@@ -85,7 +86,7 @@ pub fn start_threads<
             None => is_short = true,
         }
     }
-    if is_short {
+    if is_short && tells {
         let _ = rt.eprintln("hole: a server thread can't be started");
     }
     Started { threads, is_short }

@@ -11,7 +11,7 @@ use Rattle.gopher_script.specs.Script.{RunData, run_statements, prepend, answer_
 use Rattle.gopher_script.specs.Replay.{RunEnds, StatementEnds}
 use Rattle.gopher_script.specs.declared.stage.Stage.{Stage}
 use Rattle.gopher_script.specs.declared.fault.ReplayFault.{ReplayFault}
-use Rattle.gopher_script.specs.declared.fault.ReplayFault.TheVariants.{ReadFailed, TooManyTurns, ScriptTooLong, WriteFailed, BadScript, NoMemory}
+use Rattle.gopher_script.specs.declared.fault.ReplayFault.TheVariants.{ReadFailed, TooManyTurns, ReplyTooLong, WriteFailed, BadScript, NoMemory}
 
 -- the state of a run: the bytes written, and the output of the statements that are left
 pub record RunsOn (run : RunData) (old now : Option (List ℕ)) (before after : ℕ) (stage : Stage) (statements : List StatementData) : Type 0 where
@@ -88,4 +88,4 @@ stops run old now new before after later stage s ss all NoMemory is so sent =
     (so.written, (run_statements stage all).output, ap (λ r. r.output) so.left, subst (Appends old new) (append-nil so.written) (Appends-trans old now new so.written [] so.appended sent))
 stops run old now new before after later stage s ss all ReadFailed is so never = absurd never
 stops run old now new before after later stage s ss all TooManyTurns is so never = absurd never
-stops run old now new before after later stage s ss all ScriptTooLong is so never = absurd never
+stops run old now new before after later stage s ss all ReplyTooLong is so never = absurd never

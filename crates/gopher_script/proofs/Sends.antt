@@ -6,7 +6,7 @@ use Rattle.gopher_text.specs.Watched.{HasFailed, CountsErrors}
 use Rattle.gopher_script.specs.Script.{script_output}
 use Rattle.gopher_script.specs.Replay.{AppendsPart, AnswerEnds, ReplayEnds}
 use Rattle.gopher_script.specs.declared.fault.ReplayFault.{ReplayFault}
-use Rattle.gopher_script.specs.declared.fault.ReplayFault.TheVariants.{ReadFailed, TooManyTurns, ScriptTooLong, WriteFailed, BadScript, NoMemory}
+use Rattle.gopher_script.specs.declared.fault.ReplayFault.TheVariants.{ReadFailed, TooManyTurns, ReplyTooLong, WriteFailed, BadScript, NoMemory}
 use Rattle.gopher_script.proofs.Runs.{has_failed-since}
 
 -- the first part was sent, and the second was tried
@@ -17,7 +17,7 @@ sent-then a b old mid new before after later (Err WriteFailed) (sent, counted) (
     ((a ++ part, rest, ap (λ l. a ++ l) split ∙ sym (append_assoc a part rest), Appends-trans old mid new a part sent more), has_failed-since before after later counted failed count, omega arith)
 sent-then a b old mid new before after later (Err ReadFailed) first never = absurd never
 sent-then a b old mid new before after later (Err TooManyTurns) first never = absurd never
-sent-then a b old mid new before after later (Err ScriptTooLong) first never = absurd never
+sent-then a b old mid new before after later (Err ReplyTooLong) first never = absurd never
 sent-then a b old mid new before after later (Err (BadScript line)) first never = absurd never
 sent-then a b old mid new before after later (Err NoMemory) first never = absurd never
 
@@ -27,7 +27,7 @@ pub sent-stopped : (T : Type 0) (a b : List ℕ) (old new : Option (List ℕ)) (
 sent-stopped T a b old new before after WriteFailed ((part, rest, split, sent), failed, count) = ((part, rest ++ b, ap (λ l. l ++ b) split ∙ append_assoc part rest b, sent), failed, count)
 sent-stopped T a b old new before after ReadFailed never = absurd never
 sent-stopped T a b old new before after TooManyTurns never = absurd never
-sent-stopped T a b old new before after ScriptTooLong never = absurd never
+sent-stopped T a b old new before after ReplyTooLong never = absurd never
 sent-stopped T a b old new before after (BadScript line) never = absurd never
 sent-stopped T a b old new before after NoMemory never = absurd never
 
@@ -71,7 +71,7 @@ ends-kept bytes left missed missing old mid new before after later (Err (BadScri
 ends-kept bytes left missed missing old mid new before after later (Err WriteFailed) kept more (few, all, (part, failed)) =
     (few, all, (part-kept old mid new _ kept part, has_failed-later before after later failed more))
 ends-kept bytes left missed missing old mid new before after later (Err NoMemory) kept more (few, some) = (few, some-kept (IsAtEnd left) old mid new (script_output bytes).output kept some)
-ends-kept bytes left missed missing old mid new before after later (Err ScriptTooLong) kept more (long, none) = (long, Keeps-trans old mid new none kept)
+ends-kept bytes left missed missing old mid new before after later (Err ReplyTooLong) kept more (long, none) = (long, Keeps-trans old mid new none kept)
 ends-kept bytes left missed missing old mid new before after later (Err ReadFailed) kept more (few, failed, none) = (few, failed, Keeps-trans old mid new none kept)
 ends-kept bytes left missed missing old mid new before after later (Err TooManyTurns) kept more (few, failed, spent, none) = (few, failed, spent, Keeps-trans old mid new none kept)
 

@@ -8,7 +8,7 @@ use Rattle.gopher_script.specs.Statement.{StatementData}
 use Rattle.gopher_script.specs.Script.{RunData, script_output, answer_at, after_at}
 use Rattle.gopher_script.specs.declared.stage.Stage.{Stage}
 use Rattle.gopher_script.specs.declared.fault.ReplayFault.{ReplayFault}
-use Rattle.gopher_script.specs.declared.fault.ReplayFault.TheVariants.{ReadFailed, TooManyTurns, ScriptTooLong, WriteFailed, BadScript, NoMemory}
+use Rattle.gopher_script.specs.declared.fault.ReplayFault.TheVariants.{ReadFailed, TooManyTurns, ReplyTooLong, WriteFailed, BadScript, NoMemory}
 
 -- a prefix of these bytes was written
 abbrev pub AppendsPart : Option (List ℕ) → Option (List ℕ) → List ℕ → Type 0
@@ -68,7 +68,7 @@ ReplayEnds bytes left missed missing old new before after (Err WriteFailed) =
 ReplayEnds bytes left missed missing old new before after (Err NoMemory) =
     (length bytes ≤ MAX_REPLY)
     × ((IsAtEnd left × AppendsPart old new (script_output bytes).output) ⊎ Keeps old new)
-ReplayEnds bytes left missed missing old new before after (Err ScriptTooLong) =
+ReplayEnds bytes left missed missing old new before after (Err ReplyTooLong) =
     (MAX_REPLY < length bytes) × Keeps old new
 ReplayEnds bytes left missed missing old new before after (Err ReadFailed) =
     (length bytes ≤ MAX_REPLY) × HasFailed missed missing × Keeps old new

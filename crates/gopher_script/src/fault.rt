@@ -18,7 +18,7 @@ pub enum ReplayFault {
     TooManyTurns,
     /// 12: the script has more than 1,048,576 bytes.
     #[error("the script is too long")]
-    ScriptTooLong,
+    ReplyTooLong,
     /// 13: a write failed or took no bytes, or 4,096 writes of one answer were interrupted.
     #[error("a write failed")]
     WriteFailed,
@@ -38,7 +38,7 @@ impl ReplayFault {
         match self {
             ReplayFault::ReadFailed => 10,
             ReplayFault::TooManyTurns => 11,
-            ReplayFault::ScriptTooLong => 12,
+            ReplayFault::ReplyTooLong => 12,
             ReplayFault::WriteFailed => 13,
             ReplayFault::BadScript(_) => 70,
             ReplayFault::NoMemory => 90,
@@ -65,7 +65,7 @@ impl From<ReplyFault> for ReplayFault {
         match why {
             ReplyFault::ReadFailed => ReplayFault::ReadFailed,
             ReplyFault::TooManyTurns => ReplayFault::TooManyTurns,
-            ReplyFault::ReplyTooLong => ReplayFault::ScriptTooLong,
+            ReplyFault::ReplyTooLong => ReplayFault::ReplyTooLong,
             ReplyFault::NoMemory => ReplayFault::NoMemory,
         }
     }

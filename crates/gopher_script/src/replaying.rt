@@ -83,7 +83,7 @@ fn run_script<W: Write>(
 /// - `ReadFailed` (10): a read failed for another reason than an interruption; nothing was written
 /// - `TooManyTurns` (11): 2,097,152 reads, including interrupted ones, didn't reach the end;
 ///   nothing was written
-/// - `ScriptTooLong` (12): the script has more than 1,048,576 bytes (`MAX_REPLY`); nothing was
+/// - `ReplyTooLong` (12): the script has more than 1,048,576 bytes (`MAX_REPLY`); nothing was
 ///   written
 /// - `WriteFailed` (13): a write of an answer failed; a prefix of the script's output was written
 /// - `BadScript` (70): a line isn't a command, or not at this stage; exactly the answers of all

@@ -38,12 +38,16 @@ pub(crate) struct Server<'a, A: Answers<'a> + Drop> {
     pub(crate) log: ThreadLog,
     pub(crate) clock: ThreadClock,
     pub(crate) end: ThreadEnd,
+    /// Whether it prints on the error stream why it fails.
+    pub(crate) tells: bool,
 }
 
-// Prints on the error stream what failed, and the system's error.
-fn tell(rt: &impl Eprint, what: &str, error: io::Error) {
-    let _ = rt.eprint(what);
-    let _ = rt.eprintln(error);
+// If `tells`, prints on the error stream what failed, and the system's error.
+fn tell(rt: &impl Eprint, what: &str, error: io::Error, tells: bool) {
+    if tells {
+        let _ = rt.eprint(what);
+        let _ = rt.eprintln(error);
+    }
 }
 
 impl<'a, A: Answers<'a> + Drop> Server<'a, A> {
@@ -95,7 +99,12 @@ impl<'a, A: Answers<'a> + Drop> Server<'a, A> {
                 true
             }
             AcceptFailure::IsBroken => {
-                tell(rt, "hole: connections can't be accepted: ", error);
+                tell(
+                    rt,
+                    "hole: connections can't be accepted: ",
+                    error,
+                    self.tells,
+                );
                 self.end = ThreadEnd::Failed;
                 self.acceptor.stop(&self.poll);
                 false
@@ -212,7 +221,8 @@ impl<'a, A: Answers<'a> + Drop> Server<'a, A> {
                 return;
             }
             if let Err(error) = self.work(rt, events) {
-                tell(rt, "hole: a server thread can't wait for clients: ", error);
+                let what = "hole: a server thread can't wait for clients: ";
+                tell(rt, what, error, self.tells);
                 return self.give_up(rt);
             }
         }
@@ -240,8 +250,8 @@ impl<'a, A: Answers<'a> + Drop> Server<'a, A> {
 }
 
 /// Serves in this thread: accepts connections and answers each. Returns when the quota is used up
-/// and no connection is left. If it fails before, it reports why on the error stream of `rt` at
-/// once.
+/// and no connection is left. If it fails before and the setup says so, it reports why on the error
+/// stream of `rt` at once.
 pub fn serve<'a, A: Answers<'a> + Drop, R: Wait + Clock + Eprint>(
     rt: &R,
     alloc: Global,
@@ -254,10 +264,13 @@ pub fn serve<'a, A: Answers<'a> + Drop, R: Wait + Clock + Eprint>(
         listeners,
         shared,
         log,
+        tells,
     } = setup;
     let mut events = events;
     let (Ok(connections), Ok(clock)) = (Connections::new(alloc), ThreadClock::new(rt)) else {
-        let _ = rt.eprintln("hole: a server thread ends: out of memory");
+        if tells {
+            let _ = rt.eprintln("hole: a server thread ends: out of memory");
+        }
         return ThreadEnd::LacksMemory;
     };
     let mut server = Server {
@@ -273,6 +286,7 @@ pub fn serve<'a, A: Answers<'a> + Drop, R: Wait + Clock + Eprint>(
         log,
         clock,
         end: ThreadEnd::Served,
+        tells,
     };
     server.work_to_end(rt, &mut events)
 }

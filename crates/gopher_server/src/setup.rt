@@ -24,6 +24,7 @@ pub struct ThreadSetup {
     pub(crate) listeners: Arc<Vec<TcpListener>>,
     pub(crate) shared: Arc<ServerShared>,
     pub(crate) log: ThreadLog,
+    pub(crate) tells: bool,
 }
 
 // The limit of open files of the process.
@@ -70,6 +71,7 @@ fn setup_with(
     listeners: &Arc<Vec<TcpListener>>,
     shared: &Arc<ServerShared>,
     log: &Option<Arc<LogQueue>>,
+    tells: bool,
 ) -> Result<ThreadSetup, NoMemory> {
     let queue = match log {
         Some(queue) => Some(Arc::try_clone(queue)?),
@@ -81,13 +83,14 @@ fn setup_with(
         listeners: Arc::try_clone(listeners)?,
         shared: Arc::try_clone(shared)?,
         log: ThreadLog::new(alloc, queue),
+        tells,
     })
 }
 
 /// Sets up `threads` server threads, or fewer if the system refuses resources. Starts no thread.
 ///
 /// The threads accept `requests` connections together, or any number, at all listeners. They hand
-/// the lines of their log to `log`.
+/// the lines of their log to `log`. If `tells`, they print on the error stream why they fail.
 ///
 /// # Errors
 ///
@@ -99,6 +102,7 @@ pub fn set_up<R: Net>(
     requests: Option<u64>,
     threads: usize,
     log: &Option<Arc<LogQueue>>,
+    tells: bool,
 ) -> Result<Vec<ThreadSetup>, NoMemory> {
     for listener in listeners.iter() {
         limit_send_buffer(listener);
@@ -115,7 +119,7 @@ pub fn set_up<R: Net>(
     )?;
     let mut setups = Vec::with_capacity(alloc, threads)?;
     for poll in polls {
-        let setup = setup_with(alloc, poll, &listeners, &shared, log)?;
+        let setup = setup_with(alloc, poll, &listeners, &shared, log, tells)?;
         if watch(&setup.poll, &listeners) {
             setups.push(setup)?;
         }

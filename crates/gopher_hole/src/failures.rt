@@ -1,0 +1,115 @@
+//! The places that a crawl fails to fetch, printed as they fail.
+
+ghost use Rattle.std.specs.Prelude.{◌≡◌, string_bytes};
+ghost use Rattle.gopher_hole.specs.Failing.{is_last_try, reason_name};
+
+use gopher_catalogue::Why;
+use gopher_item::Place;
+use indexmap::IndexMap;
+use std::alloc::{AllocError, Global};
+use std::io::Eprint;
+use std::sync::atomic::{AtomicU64, Ordering};
+use std::sync::{Mutex, Wait};
+
+// The most failed places that are printed.
+const MAX_PRINTED: u64 = 1_000;
+
+/// How many places a crawl failed to fetch. Its workers share it.
+#[derive(Drop)]
+pub struct Failures {
+    // How often a place is tried.
+    tries: u32,
+    // How often the places failed that may be tried again.
+    tried: Mutex<IndexMap<Place, u32>>,
+    failed: AtomicU64,
+}
+
+// Returns whether a place isn't tried again, by how often it failed before and how often it is
+// tried.
+fn is_last_try(failed: u32, tries: u32) -> bool
+    ensures { result ≡ is_last_try failed tries }
+{
+    tries <= failed.saturating_add(1)
+}
+
+// The name of a reason.
+fn reason_name(why: Why) -> &'static str
+    ensures { string_bytes result.now ≡ reason_name why }
+{
+    match why {
+        Why::Connect => "connect",
+        Why::Read => "read",
+        Why::Write => "write",
+        Why::TooLong => "too long",
+        Why::NoMemory => "memory",
+    }
+}
+
+// The line of a place that failed. No byte of the place reaches a terminal unless it is printable.
+fn failure_line(alloc: Global, place: &Place, why: Why) -> Result<String, AllocError> {
+    let (name, code) = (reason_name(why), why.code());
+    let (kind, host) = ([place.kind()], place.host());
+    let (port, selector) = (place.port(), place.selector());
+    let (kind, host, selector) = (
+        kind.escape_ascii(),
+        host.escape_ascii(),
+        selector.escape_ascii(),
+    );
+    format!(in alloc; "hole: failed: {name} {code}: {kind} {host} {port} {selector}\n")
+}
+
+// Prints the line of a place that failed, or nothing if memory runs out.
+fn print_failure(rt: &impl Eprint, alloc: Global, place: &Place, why: Why) {
+    if let Ok(line) = failure_line(alloc, place, why) {
+        let _ = rt.eprint(line);
+    }
+}
+
+impl Failures {
+    /// No failures yet, of a crawl that tries each place `tries` times.
+    pub fn new(alloc: Global, tries: u32) -> Failures {
+        Failures {
+            tries,
+            tried: Mutex::new(IndexMap::new(alloc)),
+            failed: AtomicU64::new(0),
+        }
+    }
+
+    /// Returns how many places failed for good.
+    pub fn count(&self) -> u64 {
+        self.failed.load(Ordering::SeqCst)
+    }
+
+    // Counts a failed try of a place that may be tried again. Returns whether it was the last one,
+    // or false if memory runs out.
+    fn count_try(&self, rt: &impl Wait, place: &Place) -> bool {
+        let mut tried = self.tried.lock(rt);
+        let failed = match tried.get(place) {
+            Some(failed) => *failed,
+            None => 0,
+        };
+        if let Ok(key) = place.clone() {
+            let _before = tried.insert(key, failed.saturating_add(1));
+            return is_last_try(failed, self.tries);
+        }
+        false
+    }
+
+    /// Adds a failed fetch of a place. If the place isn't tried again, counts it, and prints it
+    /// with the reason on the error stream, unless 1,000 places were printed before.
+    pub fn add<R: Wait + Eprint>(&self, rt: &R, alloc: Global, place: &Place, why: Why) {
+        let is_last = is_last_try(0, self.tries) || self.count_try(rt, place);
+        if is_last && self.failed.fetch_add(1, Ordering::SeqCst) < MAX_PRINTED {
+            print_failure(rt, alloc, place, why);
+        }
+    }
+
+    /// Prints on the error stream how many places failed without being printed, if any did.
+    pub fn tell_unprinted<R: Eprint>(&self, rt: &R) {
+        let unprinted = self.count().saturating_sub(MAX_PRINTED);
+        if unprinted > 0 {
+            let _ = rt.eprint("hole: failed places that aren't printed: ");
+            let _ = rt.eprintln(unprinted);
+        }
+    }
+}
