@@ -44,6 +44,11 @@ PACKAGING = ROOT / "packaging"
 PROGRAM = ROOT / "crates/hole/out/hole"
 OLDEST_GLIBC = (2, 34)
 UNPROVED, UNRELEASED = "~unproved", "+unreleased"
+# What the description says of the proofs, by whether the program was proved.
+CHECKED = {
+    True: "A prover has checked its replies and its searches against formal definitions.",
+    False: "No prover has checked this program: it is for development alone.",
+}
 
 DOCUMENTS = ("packaging/README.md", "docs/OPERATING.md", "docs/SPECIFICATION.md")
 PAGES = (("man/hole.1", "man1"), ("man/hole.toml.5", "man5"))
@@ -267,7 +272,7 @@ def control_of(release, tree):
     """The fields of the package."""
     size = sum((len(content) + 1023) // 1024 for content, _ in tree.files.values()) + len(tree.folders())
     fields = (PACKAGING / "debian/control").read_text()
-    filled = {"VERSION": release.version, "GLIBC": release.glibc_text(), "SIZE": str(size)}
+    filled = {"VERSION": release.version, "GLIBC": release.glibc_text(), "SIZE": str(size), "CHECKED": CHECKED[release.proved]}
     return re.sub(r"@(\w+)@", lambda found: filled[found[1]], fields)
 
 

@@ -163,6 +163,8 @@ def check_installed(tally, machine, package):
         tally.expect(f"{page.name} has the version", f'"{" ".join(shown)}' in text, True)
         if shutil.which("man"):
             tally.expect(f"{page.name} is laid out", run("man", "--warnings", "-l", "-Tutf8", page).stderr, "")
+    told = "\n A prover has checked" in run("dpkg-deb", "--field", package, "Description").stdout
+    tally.expect("only a proved program is said to be checked", told, "~unproved" not in package.name)
     build = machine.text(f"{DOCUMENTS}/BUILD")
     commit = run("git", "-C", ROOT, "rev-parse", "HEAD").stdout.strip()
     tally.expect("BUILD names the commit", f"\ncommit {commit}" in build, True)
