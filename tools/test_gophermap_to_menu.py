@@ -3,6 +3,7 @@
 import os
 import pathlib
 import random
+import re
 import subprocess
 import sys
 import tempfile
@@ -214,6 +215,21 @@ class GophermapToMenu(unittest.TestCase):
         ):
             ran = subprocess.run([sys.executable, TOOL, *words], capture_output=True)
             self.assertEqual((ran.stdout, ran.stderr, ran.returncode), wanted)
+
+    def test_the_conversion_of_a_site_lists_none_of_its_own_files(self):
+        """The commands of docs/OPERATING.md."""
+        page = (TOOLS.parent / "docs/OPERATING.md").read_text()
+        commands = re.search(r"(?m)^ {4}find -L \. -name gophermap .*\n(?: {4}.*\n)+", page)[0]
+        tools = self.root / ".tools"
+        tools.mkdir()
+        (tools / "gophermap_to_menu").symlink_to(TOOL)
+        for folder in (".", "docs"):
+            (self.root / folder / "gophermap").write_bytes(b"Files:\n*\n")
+        environment = {**os.environ, "PATH": f"{tools}:{os.environ['PATH']}"}
+        ran = subprocess.run(["sh", "-ec", commands], cwd=self.root, env=environment, capture_output=True)
+        self.assertEqual(ran.returncode, 0)
+        self.assertEqual((self.root / "docs/.menu").read_bytes(), b"Files:\n0b.txt\t/docs/b.txt\n0part\t/docs/part\n")
+        self.assertEqual([*self.root.rglob("*.new")], [])
 
     def test_links_among_the_listing(self):
         """As UMN gopherd orders them: positive numbers, names, negative numbers."""
