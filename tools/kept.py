@@ -11,7 +11,7 @@ import pathlib
 import tempfile
 
 TOOLS = pathlib.Path(__file__).resolve().parent
-TOOL = [(TOOLS / name).read_bytes() for name in ("wrong_bodies.py", "functions.py", "lanes.py", "kept.py")]
+TOOL = [(TOOLS / name).read_bytes() for name in ("wrong_bodies.py", "functions.py", "answers.py", "lanes.py", "kept.py")]
 # a store that can't be used, or no home for it
 BROKEN = (OSError, ValueError, RuntimeError)
 

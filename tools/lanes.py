@@ -16,7 +16,6 @@ SPARE = 6 << 30
 LEAST = 2 << 30
 # The lowest priority, which is that of its reads and writes too.
 GIVING_WAY = ("nice", "-n", "19")
-PAGE = os.sysconf("SC_PAGE_SIZE")
 
 
 def available():
@@ -24,44 +23,39 @@ def available():
     return int(re.search(r"MemAvailable:\s+(\d+)", pathlib.Path("/proc/meminfo").read_text())[1]) << 10
 
 
-def held_by(pid):
-    """The bytes of memory that a process holds."""
-    with contextlib.suppress(OSError, IndexError, ValueError):
-        return int(pathlib.Path(f"/proc/{pid}/statm").read_text().split()[1]) * PAGE
-    return 0
-
-
 class Lanes:
-    """The checks that run now. `is_quiet` is set once `rt ci` has ended, or if it doesn't run."""
+    """How many checks run now. `is_quiet` is set once `rt ci` has ended, or if it doesn't run."""
 
     def __init__(self):
-        self.running, self.changed, self.is_quiet = set(), threading.Condition(), threading.Event()
+        self.running, self.changed, self.is_quiet = 0, threading.Condition(), threading.Event()
         self.is_quiet.set()
 
     def has_room(self):
-        """Whether one more check may begin; those that have begun have yet to take what they need."""
+        """Whether one more check may begin. Those that run may have yet to take what they need."""
         beside = not self.is_quiet.is_set()
-        if not self.running and not beside:
-            return True
-        grow = sum(max(MEMORY_OF_A_CHECK - held_by(pid), 0) for pid in self.running)
-        free = available() - grow - (SPARE if beside else 0)
-        return len(self.running) < max(len(os.sched_getaffinity(0)) - beside, 1) and free >= MEMORY_OF_A_CHECK
+        free = available() - SPARE * beside
+        is_there = self.running < max(len(os.sched_getaffinity(0)) - beside, 1) and free >= MEMORY_OF_A_CHECK * (self.running + 1)
+        return is_there or not self.running and not beside
 
-    def start(self, words, folder, told):
+    @contextlib.contextmanager
+    def one(self):
+        """Waits for room for a check, and tells whether it is beside `rt ci`."""
         with self.changed:
             while not self.has_room():
                 self.changed.wait(1.0)
-            beside = not self.is_quiet.is_set()
-            words = [*GIVING_WAY, *words] if beside else words
-            process = subprocess.Popen(words, cwd=folder, stdin=subprocess.DEVNULL, stdout=told, stderr=subprocess.STDOUT)
-            self.running.add(process.pid)
+            self.running += 1
+        try:
+            yield not self.is_quiet.is_set()
+        finally:
+            with self.changed:
+                self.running -= 1
+                self.changed.notify_all()
+
+    def end(self, process, beside):
+        """The seconds of the processors that a check took, at its end."""
         if beside:
             with contextlib.suppress(OSError):
                 pathlib.Path(f"/proc/{process.pid}/oom_score_adj").write_text("1000")
-        return process
-
-    def end(self, process):
-        """Waits for the end of a check, and gives the seconds of the processors that it took."""
         pid = 0
         while not pid:
             time.sleep(0.2)
@@ -69,18 +63,15 @@ class Lanes:
             if not pid and not self.is_quiet.is_set() and available() < LEAST:
                 os.kill(process.pid, signal.SIGKILL)
         process.returncode = os.waitstatus_to_exitcode(status)
-        with self.changed:
-            self.running.discard(process.pid)
-            self.changed.notify_all()
         return used.ru_utime + used.ru_stime
 
     def run(self, words, folder):
         """What a check says, and its seconds. One that is killed beside `rt ci` is run again once that has ended."""
         while True:
-            beside = not self.is_quiet.is_set()
-            with tempfile.TemporaryFile("w+", errors="replace") as told:
-                process = self.start(words, folder, told)
-                seconds = self.end(process)
+            with self.one() as beside, tempfile.TemporaryFile("w+", errors="replace") as told:
+                how = {"cwd": folder, "stdin": subprocess.DEVNULL, "stdout": told, "stderr": subprocess.STDOUT}
+                process = subprocess.Popen([*GIVING_WAY, *words] if beside else words, **how)
+                seconds = self.end(process, beside)
                 told.seek(0)
                 said = told.read()
             if not beside or process.returncode >= 0:

@@ -303,7 +303,7 @@ class Lanes(unittest.TestCase):
             self.assertFalse(lane.has_room())
         with mock.patch.object(lanes, "available", lambda: 1 << 40):
             self.assertTrue(lane.has_room())
-            lane.running = {*range(-len(os.sched_getaffinity(0)) + 1, 0)} or {-1}
+            lane.running = max(len(os.sched_getaffinity(0)) - 1, 1)
             self.assertFalse(lane.has_room())
 
 

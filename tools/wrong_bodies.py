@@ -37,6 +37,7 @@ import tempfile
 import threading
 from concurrent.futures import Future, ThreadPoolExecutor
 
+from answers import is_proved, lacking
 from functions import blank, is_in_cycle, names_in, pieces, twin_of, without_tactic
 from kept import Refusals
 from lanes import Lanes
@@ -47,11 +48,6 @@ SECONDS = {}  # of the processors, that each check of a crate took
 PRINTING = threading.Lock()
 CLAUSE = re.compile(r"(?m)^ *(?:ensures|requires|ghost)\b.*$")
 OWN_PROOFS = ("Answers", "Invariants", "Proof")
-NAMES_ALONE = re.compile(r"is not in scope|has no field|has no `|is no name|was not admitted|were not checked|: module `|\(nearest: ")
-
-
-# parts of reasons that show no goal without a proof
-NO_GOAL = re.compile(r"^it calls |^it passes the block |the borrow checker's part in its proof is not made|expected a measure")
 
 
 class BadEdit(Exception):
@@ -278,27 +274,6 @@ def write_proofs(crate, folder, left):
                     file.unlink()
 
 
-def lacking(crate, said, stands):
-    """What each function lacks by itself, from what a check said; names that are gone are no goal."""
-    lacks, errors_of = {}, {}
-    for function, reason in re.findall(rf"(?m)^fn {crate}::(\S+): no proof: (.*)$", said):
-        own = [part for part in reason.split("; ") if not NO_GOAL.search(part)]
-        lacks[function] = "" if "the borrow checker does not cover" in reason else "; ".join(own)
-    for function in re.findall(rf"(?m)^fn {crate}::(\S+): not proved", said):
-        folder = re.escape(function.replace("::", "/"))
-        errors_of[function] = re.findall(rf"(?m)^\./proofs/{folder}/\w+\.antt:\d+:\d+: error: (.*)$", said)
-        lacks[function] = "; ".join(error[:200] for error in errors_of[function] if not NAMES_ALONE.search(error))
-    for file, line, note in re.findall(r"(?m)^note: (src/\S+?):(\d+):\d+: (it is not proved that .*)$", said):
-        function = stands.get((file, int(line)))
-        if not lacks.get(function) and function in errors_of:
-            lacks[function] = note[:200]
-    return {function: lack for function, lack in lacks.items() if lack}
-
-
-def is_proved(crate, function, said):
-    return re.search(rf"(?m)^fn {crate}::{re.escape(function)}: proved", said) is not None
-
-
 def try_group(edits, folder, is_alone):
     """What the check of the copy with these edits says: for each edit what its function lacks, or why it isn't refused."""
     found, stands = write(edits, folder, is_alone)
@@ -358,8 +333,9 @@ def build(crate):
 def hear(libraries, folder):
     """Reads from the standard input which crates are proved, until it ends."""
     try:
-        for line in sys.stdin:
-            libraries[line.strip()].set_result(folder / line.strip())
+        for crate in map(str.strip, sys.stdin):
+            if crate in libraries and not libraries[crate].done():
+                libraries[crate].set_result(folder / crate)
     finally:
         for crate in [crate for crate, library in libraries.items() if not library.done()]:
             libraries[crate].set_exception(RuntimeError(f"{crate} is not proved"))
@@ -418,8 +394,8 @@ def main(words):
     if given.beside:
         LANES.is_quiet.clear()
     kept = Refusals(ROOT, below, kit(), not given.from_nothing)
-    told = lambda result: [f"{it}: {why}" for it, (is_refused, why) in result.items() if given.reasons or not is_refused]
-    show = lambda result: tell(told(result), sys.stdout)
+    lines = lambda result: [f"{it}: {why}" for it, (is_refused, why) in result.items() if given.reasons or not is_refused]
+    show = lambda result: tell(lines(result), sys.stdout)
     tried = try_all(edits, below, given.beside, lambda edits, libraries: try_crate(edits, libraries, kept, show))
     refused = sum(is_refused for is_refused, _ in tried.values())
     failed = len(bad) + len(tried) - refused
