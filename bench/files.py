@@ -1,5 +1,5 @@
 #!/usr/bin/env python3
-"""Writes the files that crates/test_library times: a menu and a text of 16 MiB, a menu and a text of 16 KiB, a menu as long as
+"""Writes the files that bench/timings times: a menu and a text of 16 MiB, a menu and a text of 16 KiB, a menu as long as
 a reply may be, and a small site."""
 import os
 import sys

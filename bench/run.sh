@@ -11,7 +11,6 @@ set -euo pipefail
 output=$(realpath -m "${1:-/dev/null}")
 cd "$(dirname "$0")/.."
 folder=$(mktemp -d)
-calls=crates/test_library/out/test_library_tests
 trap 'rm -rf "$folder"' EXIT
 
 # what a test of timings prints, without the words of the one that runs it
@@ -59,7 +58,7 @@ measure() {
 }
 
 (cd crates/hole && rt run -- replay < stdin > /dev/null)
-(cd crates/test_library && rt test > /dev/null)
+calls=$(bench/build_timings.sh "$folder")
 measure | tee "$folder/output"
 cp "$folder/output" "$output"
 echo

@@ -1,4 +1,4 @@
-/* Splits the lines of a menu and of a text in plain C: what bench/run.sh times crates/test_library beside.
+/* Splits the lines of a menu and of a text in plain C: what bench/run.sh times bench/timings beside.
 
        splits menu|text FILE
 

@@ -27,7 +27,7 @@ from running.server import HOST, PROGRAM, ROOT, WAIT, Server, Tally, ask, free_p
 CRATE = ROOT / "crates" / "test_library"
 CALLS = CRATE / "out" / "test_library_tests"
 CALLED = "refusals::refused_calls_succeed_when_made_again"
-CALLED_WELL = b"replies: as wanted\na catalogue: as wanted\na desk: as wanted\na crawl: as wanted\n"
+CALLED_WELL = b"pages: as wanted\nreplies: as wanted\na catalogue: as wanted\na desk: as wanted\na crawl: as wanted\n"
 MOST_RUNS = 100_000
 SECONDS = 20
 # Links that are twice there, denied and foreign; a word of over 254 times; so many texts that pages are merged.

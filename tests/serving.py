@@ -71,11 +71,16 @@ def ask_over(client, line):
 
 def check_lines(folder, root):
     """Lines at the limit, in pieces, without an end, and more than a line."""
-    with Server(folder, root, words=("--requests", "7")) as server:
+    with Server(folder, root, words=("--requests", "12")) as server:
         port = server.port
         server.started()
         expect("1,024 bytes", ask(port, b"y" * 1_024 + b"\r\n"), error_reply(port, "Bad request"))
         expect("1,025 bytes", ask(port, b"y" * 1_025 + b"\r\n"), b"")
+        for front, reply in ((b"/a.txt\t", b"hello\r\n.\r\n"), (b"/search\t", b".\r\n")):
+            line = front + (b"x " * 1_024)[: 1_025 - len(front)]
+            expect(f"{front}, 1,024 bytes", ask(port, line[:-1] + b"\r\n"), reply)
+            expect(f"{front}, 1,025 bytes", ask(port, line + b"\r\n"), b"")
+        expect("a selector of 255 bytes", ask(port, b"y" * 255 + b"\r\n"), error_reply(port, "Not found"))
         expect("2,000 bytes without an end", ask(port, b"y" * 2_000), b"")
         expect("a second line", ask(port, b"/a.txt\r\n/docs/b.gif\r\n"), b"hello\r\n.\r\n")
         with connect(port) as client:
@@ -105,7 +110,11 @@ WORKED = [
         (b"\r\n", ROOT_MENU), (b"/\t+\r\n", ROOT_MENU), (b"/a.txt\t+\r\n", b"hello\r\n.\r\n"),
         (b"/a.txt\r\nextra", b"hello\r\n.\r\n"), (b"/b\r\n", b"3Not found\tWHERE.\r\n"),
         (b"/search\t -- \r\n", b"3No words\tWHERE.\r\n"), (b"x" * 256 + b"\r\n", b"3Bad request\tWHERE.\r\n"),
-        (b"a" * 1_026, b""),
+        (b"a" * 1_026, b""), *((line, b"3Not found\tWHERE.\r\n") for line in (b"//a.txt\r\n", b"/a.txt/\r\n", b"a.txt\r\n")),
+    ]),
+    ({"b/y": b"", "B": b"", "b/x": b"", "a/.menu": b""}, [
+        (b"\r\n", b"7Search\t/searchWHERE0B\t/BWHERE1a\t/aWHERE1b\t/bWHERE.\r\n"),
+        (b"/b\r\n", b"0x\t/b/xWHERE0y\t/b/yWHERE.\r\n"), (b"/a\r\n", b".\r\n"), (b"/b/\r\n", b"3Not found\tWHERE.\r\n"),
     ]),
     ({"dots": b".\nhi", "empty.txt": b""}, [(b"/dots\r\n", b"..\r\nhi\r\n.\r\n"), (b"/empty.txt\r\n", b".\r\n")]),
     ({"a.txt": b"hello\n", "docs/b.gif": b"GIF89a\n.\n", "docs/.menu": b"Welcome\n0Read\t/a.txt\n1Far\t\tfar.example\t70\n"}, [

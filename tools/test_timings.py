@@ -83,13 +83,13 @@ class Timings(unittest.TestCase):
 
     def test_the_programs_print_such_lines(self):
         printed = {
-            "crates/test_library/src/timed_formats.rt": ['"{what}: read at {read} MB/s, written at {written} MB/s"'],
-            "crates/test_library/src/timed_searches.rt": [
+            "bench/timings/timed_formats.rattle": ['"{what}: read at {read} MB/s, written at {written} MB/s"'],
+            "bench/timings/timed_searches.rattle": [
                 '"{pages} pages: {made} ns a page to make, {added} to claim and add, ', '"{text}: {} us, {hits} hits, {scores} the sum of their scores"',
             ],
             "bench/splits.c": ['"split in plain C: %.0f MB/s'],
             "bench/postings.c": ["making: %.1f us a page", "adding: %.1f us a page", "packing: %.1f us a page", "memory: %.0f bytes a page", '"%s: %.0f us, %zu hits'],
-            "crates/test_library/src/timed_crawls.rt": ['"{workers} workers: {done} places done, {each} bytes a page, {speed} pages/s"'],
+            "bench/timings/timed_crawls.rattle": ['"{workers} workers: {done} places done, {each} bytes a page, {speed} pages/s"'],
             "bench/crew.c": ['"%d threads of C: %u pages, %.0f pages/s'],
             "bench/speeds.py": [
                 *(f'"{name}, requests a second"' for name, _, unit in table.SERVED if "one client" in name),

@@ -1,14 +1,14 @@
-// Lines answered by the tree and the desk of the worked rows, before and after its page was found,
-// and once the desk is closed.
-ghost use Rattle.std.specs.Prelude.{◌≡◌, []};
+// A desk by hand: what its passes find and lines are answered, before and after its page was found,
+// and once it is closed; then a desk over the catalogue that it gave.
+ghost use Rattle.std.specs.Prelude.{◌≡◌, [], length};
+ghost use mathlib.Core.List.{IsPrefix};
 ghost use Rattle.gopher_crew.specs.Desk.{IsBlankOf};
 
-use crate::connections::{Ending, Stream};
-use crate::desks::{DOCS, finds, page, takes};
-use crate::sites::{
-    BAD_REQUEST, FOUND, HELLO, NO_CATALOGUE, NO_WORDS, NOT_FOUND, NOTHING, ROOT, replies,
-};
-use crate::tables::{catalogue, opened};
+use crate::desks::{finds, is_at, takes};
+use crate::stream::{Ending, Stream};
+use crate::tables::{answered, catalogue, is_root, opened, page};
+use crate::trees::{replies_of, tree_of};
+use gopher_catalogue::{Catalogue, Turn, Why};
 use gopher_crew::{Blank, Crew, Pass};
 use gopher_replies::Replies;
 use gopher_serve::{Answers, ServeFault, Site, answer, serve_one};
@@ -21,18 +21,37 @@ use std::sync::Wait;
 /// Lines with their replies.
 type Rows = &'static [(&'static [u8], &'static [u8])];
 
+/// The menu of the root of a tree with the file `a.txt`.
+pub const ROOT: &[u8] =
+    b"7Search\t/search\tlocalhost\t7070\r\n0a.txt\t/a.txt\tlocalhost\t7070\r\n.\r\n";
+
+/// The reply to `/a.txt`.
+pub const HELLO: &[u8] = b"hello\r\n.\r\n";
+
+/// The reply to a bad request.
+pub const BAD_REQUEST: &[u8] = b"3Bad request\t\tlocalhost\t7070\r\n.\r\n";
+
+const NOT_FOUND: &[u8] = b"3Not found\t\tlocalhost\t7070\r\n.\r\n";
+
+const NO_WORDS: &[u8] = b"3No words\t\tlocalhost\t7070\r\n.\r\n";
+
+const NO_CATALOGUE: &[u8] = b"3No catalogue\t\tlocalhost\t7070\r\n.\r\n";
+
+const FOUND: &[u8] = b"1Docs\t\tlocalhost\t70\r\n.\r\n";
+
+const NOTHING: &[u8] = b".\r\n";
+
+const DOCS: &[u8] = b"1Docs\t/docs\tlocalhost\t70\r\n.\r\n";
+
 const SEARCH: &[u8] = b"/search\tdocs";
 
 const EARLY: Rows = &[
     (b"", ROOT),
-    (b"/", ROOT),
     (b"/\t+", ROOT),
-    (b"/a.txt", HELLO),
     (b"/a.txt\t+", HELLO),
     (b"/b", NOT_FOUND),
     (b"/search/", NOT_FOUND),
     (b"/search", NO_WORDS),
-    (b"/search\t", NO_WORDS),
     (b"/search\t -- ", NO_WORDS),
     (b"/a\0b", BAD_REQUEST),
     (&[b'a'; 256], BAD_REQUEST),
@@ -55,17 +74,7 @@ const CLOSED: Rows = &[
     (b"", ROOT),
 ];
 
-// Whether each of the lines has its reply.
-fn answers_all<C: Crew>(alloc: Global, site: &mut Site<'_, C>, rows: Rows) -> bool {
-    for (line, wanted) in rows {
-        if !has_reply(alloc, site, *line, *wanted) {
-            return false;
-        }
-    }
-    true
-}
-
-// Whether a line has this reply.
+// Whether a line has this reply from replies that are kept.
 fn has_reply<C: Crew>(alloc: Global, site: &mut Site<'_, C>, line: &[u8], wanted: &[u8]) -> bool {
     let Ok(answer) = site.answer(alloc, line) else {
         return false;
@@ -76,52 +85,17 @@ fn has_reply<C: Crew>(alloc: Global, site: &mut Site<'_, C>, line: &[u8], wanted
     }
 }
 
-// Whether a line of 1,024 bytes is answered, and one of 1,025 is a bad request.
-fn bounds_a_line<C: Crew>(alloc: Global, site: &mut Site<'_, C>) -> bool {
-    let mut line = [b'x'; 1_025];
-    line[..7].copy_from_slice(b"/a.txt\t");
-    has_reply(alloc, site, &line[..1_024], HELLO) && has_reply(alloc, site, &line, BAD_REQUEST)
+// Whether each of the lines has its reply from replies that are kept.
+fn answers_all<C: Crew>(alloc: Global, site: &mut Site<'_, C>, rows: Rows) -> bool {
+    for (line, wanted) in rows {
+        if !has_reply(alloc, site, *line, *wanted) {
+            return false;
+        }
+    }
+    true
 }
 
-// How `serve_one` ends, how much of these bytes it leaves unread, and how much of the reply it
-// leaves unsent.
-fn served<C: Crew>(
-    alloc: Global,
-    replies: &Replies,
-    pass: &mut Pass<C>,
-    given: (&[u8], Ending),
-    reply: &[u8],
-) -> (Option<ServeFault>, usize, usize) {
-    let mut reader = Watched::new(Stream::giving(given.0, 1, given.1));
-    let mut writer = Watched::new(Stream::taking(reply, 100, Ending::Fails));
-    let end = serve_one(
-        alloc,
-        replies.tree(),
-        replies.home(),
-        pass,
-        &mut reader,
-        &mut writer,
-    );
-    (
-        end.err(),
-        reader.into_inner().bytes.len(),
-        writer.into_inner().left.len(),
-    )
-}
-
-// Whether one line is served and the rest isn't read, and a line too long or a read that fails
-// writes nothing.
-fn serves<C: Crew>(alloc: Global, replies: &Replies, pass: &mut Pass<C>) -> bool {
-    let one = (b"/a.txt\r\nextra".as_slice(), Ending::Ends);
-    let long = ([b'a'; 1_026], Ending::Ends);
-    let failing = (b"/a.t".as_slice(), Ending::Fails);
-    served(alloc, replies, pass, one, HELLO) == (None, 5, 0)
-        && served(alloc, replies, pass, (&long.0, long.1), b"")
-            == (Some(ServeFault::LineTooLong), 0, 0)
-        && served(alloc, replies, pass, failing, b"") == (Some(ServeFault::ReadFailed), 0, 0)
-}
-
-// Whether each of the lines has its reply from the tree, not from replies that are kept.
+// Whether each of the lines has its reply from the tree.
 fn makes_all<C: Crew>(alloc: Global, replies: &Replies, pass: &mut Pass<C>, rows: Rows) -> bool {
     for (line, wanted) in rows {
         match answer(alloc, replies.tree(), replies.home(), pass, *line) {
@@ -132,62 +106,144 @@ fn makes_all<C: Crew>(alloc: Global, replies: &Replies, pass: &mut Pass<C>, rows
     true
 }
 
-// The answers while the pass has seen no page.
-fn answers_early<C: Crew, R: Abort + AllocGlobal>(
+// The lines have their replies, by a pass.
+fn asks<C: Crew, R: Abort + AllocGlobal>(
     rt: &R,
     replies: &Replies,
     pass: Pass<C>,
-) -> Pass<C> {
-    let mut site = Site::new(replies, pass);
-    assert!(rt; answers_all(rt.alloc(), &mut site, EARLY));
-    assert!(rt; bounds_a_line(rt.alloc(), &mut site));
-    let mut pass = site.into_pass();
-    assert!(rt; makes_all(rt.alloc(), replies, &mut pass, EARLY));
-    assert!(rt; serves(rt.alloc(), replies, &mut pass));
-    pass
-}
-
-// The answers once the pass has seen the page.
-fn answers_late<C: Crew, R: Abort + AllocGlobal>(
-    rt: &R,
-    replies: &Replies,
-    pass: Pass<C>,
+    rows: Rows,
 ) -> Pass<C> {
     let mut pass = pass;
-    assert!(rt; makes_all(rt.alloc(), replies, &mut pass, LATE));
+    assert!(rt; makes_all(rt.alloc(), replies, &mut pass, rows));
     let mut site = Site::new(replies, pass);
-    assert!(rt; answers_all(rt.alloc(), &mut site, LATE));
+    assert!(rt; answers_all(rt.alloc(), &mut site, rows));
     site.into_pass()
 }
 
-// Lines are answered by a desk with one pass and one share.
-fn answers_at_a_desk<C: Crew, R: Wait + Abort + AllocGlobal>(
+// How `serve_one` ends over these streams, how much it leaves unread, and how much unsent.
+fn served<C: Crew>(
+    alloc: Global,
+    replies: &Replies,
+    pass: &mut Pass<C>,
+    reader: Stream,
+    writer: Stream,
+) -> (Option<ServeFault>, usize, usize) {
+    let (tree, home) = (replies.tree(), replies.home());
+    let mut reader = Watched::new(reader);
+    let mut writer = Watched::new(writer);
+    let end = serve_one(alloc, tree, home, pass, &mut reader, &mut writer);
+    let (given, taken) = (reader.into_inner(), writer.into_inner());
+    (end.err(), given.bytes.len(), taken.left.len())
+}
+
+// Whether one line is served and the rest isn't read, and a line too long or a read that fails
+// writes nothing.
+fn serves<C: Crew>(alloc: Global, replies: &Replies, pass: &mut Pass<C>) -> bool {
+    let line = Stream::giving(b"/a.txt\r\nextra", 1, Ending::Ends);
+    let long = Stream::giving(&[b'a'; 1_026], 1, Ending::Ends);
+    let broken = Stream::giving(b"/a.t", 1, Ending::Fails);
+    let writer = Stream::taking(HELLO, 100, Ending::Fails);
+    let (too_long, unread) = (ServeFault::LineTooLong, ServeFault::ReadFailed);
+    served(alloc, replies, pass, line, writer) == (None, 5, 0)
+        && served(alloc, replies, pass, long, writer) == (Some(too_long), 0, HELLO.len())
+        && served(alloc, replies, pass, broken, writer) == (Some(unread), 0, HELLO.len())
+}
+
+// Whether a writer that fails after so many bytes of the root's menu has got these.
+fn sends_until<C: Crew>(alloc: Global, replies: &Replies, pass: &mut Pass<C>, room: usize) -> bool {
+    let reader = Stream::giving(b"\r\n", 1, Ending::Ends);
+    let writer = Stream::taking(ROOT, room, Ending::Fails);
+    let wanted = if room < ROOT.len() {
+        Some(ServeFault::WriteFailed)
+    } else {
+        None
+    };
+    served(alloc, replies, pass, reader, writer) == (wanted, 0, ROOT.len().saturating_sub(room))
+}
+
+// Requests over streams are served, and writes that fail end them.
+fn serves_all<C: Crew, R: Abort + AllocGlobal>(rt: &R, replies: &Replies, pass: &mut Pass<C>) {
+    assert!(rt; serves(rt.alloc(), replies, pass));
+    for room in 0..=ROOT.len() {
+        assert!(rt;
+            sends_until(rt.alloc(), replies, pass, room),
+            "after {room} bytes"
+        );
+    }
+}
+
+// A search of `docs` finds the root's page, in a record of this length.
+fn finds_docs<C: Crew, R: Abort + AllocGlobal>(rt: &R, pass: &mut Pass<C>, at: u32) {
+    let answer = answered(rt, pass, b"docs");
+    assert!(rt; answer.at == at && is_root(&answer.hits));
+}
+
+// The first pass hears that a page was found, and the second finds it too. Then the page's
+// directory fails, and the desk is closed.
+fn crawl_docs<C: Crew, R: Wait + Abort + AllocGlobal>(
     rt: &R,
     replies: &Replies,
     blank: Blank,
-)
+) -> Catalogue
     requires blank { IsBlankOf C.name C.parts C.history blank }
     requires begun { blank.begun ≡ [] }
 {
     let begun = catalogue(rt, b"localhost", 10, 1);
-    let (desk, mut passes, mut shares) = opened::<C, R>(rt, blank, begun, 1, 1);
+    let (desk, mut passes, mut shares) = opened::<C, R>(rt, blank, begun, 2, 1);
     let (Some(pass), Some(share)) = (passes.pop(), shares.first_mut()) else {
         panic!(rt; "no pass or no share");
     };
-    let mut pass = answers_early(rt, replies, pass);
+    let mut pass = asks(rt, replies, pass, EARLY);
+    serves_all(rt, replies, &mut pass);
     takes(rt, &desk, share, 0, 2);
     let page = page(rt, b'1', b"", b"localhost", DOCS);
     pass.hear(finds(rt, &desk, share, 0, page, 3));
-    let pass = answers_late(rt, replies, pass);
-    assert!(rt; desk.close(shares).is_ok());
-    let mut site = Site::new(replies, pass);
-    assert!(rt; answers_all(rt.alloc(), &mut site, CLOSED));
+    finds_docs(rt, &mut pass, 3);
+    for other in passes.iter_mut() {
+        finds_docs(rt, other, 3);
+    }
+    let pass = asks(rt, replies, pass, LATE);
+    takes(rt, &desk, share, 1, 4);
+    let Ok(failed) = desk.fail(rt, share, 1, Why::Read) else {
+        panic!(rt; "the failure is refused");
+    };
+    assert!(rt; is_at(&failed, 5));
+    let Ok(catalogue) = desk.close(shares) else {
+        panic!(rt; "the desk isn't closed");
+    };
+    let _pass = asks(rt, replies, pass, CLOSED);
+    catalogue
+}
+
+// A desk over a catalogue of five events shows them, and its share counts them.
+fn go_on<C: Crew, R: Wait + Abort + AllocGlobal>(rt: &R, blank: Blank, begun: Catalogue)
+    requires blank { IsBlankOf C.name C.parts C.history blank }
+    requires begun { blank.begun ≡ [] }
+{
+    let (desk, mut passes, mut shares) = opened::<C, R>(rt, blank, begun, 1, 1);
+    let (Some(share), Some(pass)) = (shares.first_mut(), passes.first_mut()) else {
+        panic!(rt; "no share or no pass");
+    };
+    assert!(rt; share.events() == 4);
+    finds_docs(rt, pass, 5);
+    let Ok((Turn::Finished, note)) = desk.claim(rt, share) else {
+        panic!(rt; "the claim is refused, or the crawl isn't finished");
+    };
+    assert!(rt; is_at(&note, 5));
+    let Ok((_catalogue, note)) = desk.close_with_note(shares) else {
+        panic!(rt; "the desk isn't closed");
+    };
+    assert!(rt; is_at(&note, 5));
 }
 
 #[test]
-fn lines_are_answered(rt: HostRuntime) {
-    let Some(replies) = replies(rt.alloc()) else {
+fn a_note_makes_a_pass_see_a_page(rt: HostRuntime) {
+    let Ok(tree) = tree_of(rt.alloc(), &[(b"a.txt", b"hello\n")]) else {
+        panic!(rt; "no tree");
+    };
+    let Some(replies) = replies_of(rt.alloc(), tree) else {
         panic!(rt; "no replies");
     };
-    answers_at_a_desk::<Brand, _>(&rt, &replies, Blank::new());
+    let catalogue = crawl_docs::<Brand, _>(&rt, &replies, Blank::new());
+    go_on::<Brand, _>(&rt, Blank::new(), catalogue);
 }

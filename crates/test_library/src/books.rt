@@ -1,26 +1,45 @@
-// A book takes in the events of a crawl, one by one, and answers as its catalogue does.
-use crate::calls::{claimed, crawl, page_of};
+// A catalogue's opening and its refusals, and a book that takes in the events of a long crawl.
+ghost use Rattle.std.specs.Prelude.{◌≤◌, length};
+
+use crate::opening::{claimed, crawl, page, query, scope, seeds};
 use crate::tables::is_root;
-use gopher_catalogue::{Book, Catalogue, Event, Why};
-use gopher_index::Index;
+use gopher_catalogue::{Book, Catalogue, Event, OpenRefused, Status, Why};
 use gopher_page::Query;
+use gopher_scope::Scope;
 use std::alloc::Global;
 
-const MENU: &[u8] = b"1Docs\t/docs\tlocalhost\t70\r\n.\r\n";
+const HOST: &[u8] = b"localhost";
 
-// The menu of the root is found.
-fn find_root(alloc: Global, catalogue: &mut Catalogue) -> Option<()> {
+const FILES: u32 = 600;
+
+// The menu of a directory and many files.
+fn menu(alloc: Global) -> Option<Vec<u8>> {
+    let mut menu = Vec::from_slice(alloc, b"1Docs\t/docs\tlocalhost\t70\r\n").ok()?;
+    for number in 0..FILES {
+        let line = format!(in alloc; "0A\t/{number}\tlocalhost\t70\r\n").ok()?;
+        menu.extend_from_slice(line.as_bytes()).ok()?;
+    }
+    Some(menu)
+}
+
+// The root is found.
+fn find_root(alloc: Global, catalogue: &mut Catalogue, menu: &[u8]) -> Option<()> {
+    if menu.len() > 1_048_576 {
+        return None;
+    }
     let number = claimed(catalogue)?;
-    let page = page_of(alloc, catalogue, b"", MENU)?;
+    let page = page(alloc, b'1', b"", HOST, menu)?;
     let _added = catalogue.found(number, page).ok()?;
     Some(())
 }
 
-// A crawl from a root whose menu, of one folder, was found.
-fn with_root(alloc: Global) -> Option<Catalogue> {
-    let mut catalogue = crawl(alloc, &[b""], 10, 1)?;
-    find_root(alloc, &mut catalogue)?;
-    Some(catalogue)
+// None of the other places can be read.
+fn fail_others(catalogue: &mut Catalogue) -> Option<()> {
+    for _place in 0..=FILES {
+        let number = claimed(catalogue)?;
+        catalogue.fail(number, Why::Read).ok()?;
+    }
+    Some(())
 }
 
 fn take_in(book: &mut Book, events: &[Event]) -> Option<()> {
@@ -30,174 +49,104 @@ fn take_in(book: &mut Book, events: &[Event]) -> Option<()> {
     Some(())
 }
 
-fn book_of_all(alloc: Global, events: &[Event]) -> Option<Book> {
-    let mut book = Book::empty(alloc);
-    take_in(&mut book, events)?;
-    Some(book)
-}
-
-// A book of the first events of such a crawl.
-fn book_of(alloc: Global, events: usize) -> Option<Book> {
-    let catalogue = with_root(alloc)?;
-    let record = catalogue.record();
-    book_of_all(alloc, &record[..events.min(record.len())])
-}
-
-fn query(alloc: Global) -> Option<Query> {
-    Query::read(alloc, b"docs").ok()
-}
-
-fn finds_root(alloc: Global, book: &Book) -> Option<bool> {
-    let hits = book.search(&query(alloc)?).ok()?;
-    Some(is_root(&hits))
-}
-
-// The word occurs once, in the page of the root.
-fn has_word_in_root(book: &Book) -> Option<bool> {
+// Whether a book has so many events, and finds the root, in which the word occurs once, from the
+// third event on.
+fn is_of(book: &Book, query: &Query, events: usize) -> Option<bool> {
+    let hits = book.search(query).ok()?;
     let list = book.occurrences(b"docs").ok()?;
-    match list.as_slice() {
-        [(place, count)] => Some(place.selector().is_empty() && *count == 1),
-        _ => Some(false),
-    }
+    let is_found = match list.as_slice() {
+        [(place, count)] => place.selector().is_empty() && *count == 1 && is_root(&hits),
+        _ => false,
+    };
+    let is_empty = list.is_empty() && hits.is_empty();
+    Some(book.len() == events && if events < 3 { is_empty } else { is_found })
 }
 
-// Whether a book of three events answers as it should.
-fn is_of_three(alloc: Global, book: &Book) -> Option<bool> {
-    Some(book.len() == 3 && finds_root(alloc, book)? && has_word_in_root(book)?)
-}
-
-fn holds_three(alloc: Global) -> Option<bool> {
-    is_of_three(alloc, &book_of(alloc, 3)?)
-}
-
-#[test]
-fn a_book_of_three_events(rt: HostRuntime) {
-    assert!(rt; holds_three(rt.alloc()) == Some(true));
-}
-
-// Whether a book has no event and finds nothing.
-fn is_empty(alloc: Global, book: &Book) -> Option<bool> {
-    Some(book.len() == 0 && !finds_root(alloc, book)? && !has_word_in_root(book)?)
-}
-
-fn holds_nothing(alloc: Global) -> Option<bool> {
-    is_empty(alloc, &Book::empty(alloc))
-}
-
-#[test]
-fn an_empty_book(rt: HostRuntime) {
-    assert!(rt; holds_nothing(rt.alloc()) == Some(true));
-}
-
-// How many events the clone of a book has, once the book took in these, and then the book.
-fn sizes_after(earlier: &Book, book: &mut Book, events: &[Event]) -> Option<(usize, usize)> {
-    take_in(book, events)?;
-    Some((earlier.len(), book.len()))
-}
-
-fn sizes_of_clone_and_book(book: &mut Book, events: &[Event]) -> Option<(usize, usize)> {
-    let earlier = book.clone().ok()?;
-    sizes_after(&earlier, book, events)
-}
-
-// The same, for a book of the first two events that takes in the others.
-fn sizes_with_others(alloc: Global, events: &[Event]) -> Option<(usize, usize)> {
-    let (first, others) = events.split_at(events.len().min(2));
-    let mut book = book_of_all(alloc, first)?;
-    sizes_of_clone_and_book(&mut book, others)
-}
-
-fn sizes_at_the_third(alloc: Global) -> Option<(usize, usize)> {
-    let catalogue = with_root(alloc)?;
-    sizes_with_others(alloc, catalogue.record())
-}
-
-#[test]
-fn a_clone_stays_as_its_book_goes_on(rt: HostRuntime) {
-    assert!(rt; sizes_at_the_third(rt.alloc()) == Some((2, 3)));
-}
-
-fn clone_is_of_three(alloc: Global, book: &Book) -> Option<bool> {
+// Whether a book and its clone are of so many events.
+fn is_cloned(book: &Book, query: &Query, events: usize) -> Option<bool> {
     let clone = book.clone().ok()?;
-    is_of_three(alloc, &clone)
+    Some(is_of(book, query, events)? && is_of(&clone, query, events)?)
 }
 
-fn clone_holds_three(alloc: Global) -> Option<bool> {
-    clone_is_of_three(alloc, &book_of(alloc, 3)?)
+// Whether a book answers as it should once it took in more events, and its clone as before.
+fn goes_on(book: &mut Book, query: &Query, more: &[Event]) -> Option<bool> {
+    let before = book.len();
+    let clone = book.clone().ok()?;
+    take_in(book, more)?;
+    let after = before.saturating_add(more.len());
+    Some(is_of(&clone, query, before)? && is_cloned(book, query, after)?)
 }
 
-#[test]
-fn a_clone_answers_as_its_book(rt: HostRuntime) {
-    assert!(rt; clone_holds_three(rt.alloc()) == Some(true));
+// Whether a book answers as it should before these events, after two, after three and after all.
+fn holds_all(alloc: Global, events: &[Event]) -> Option<bool> {
+    let query = query(alloc, b"docs")?;
+    let mut book = Book::empty(alloc);
+    let (first, others) = events.split_at(events.len().min(2));
+    let (third, rest) = others.split_at(others.len().min(1));
+    Some(
+        is_cloned(&book, &query, 0)?
+            && goes_on(&mut book, &query, first)?
+            && goes_on(&mut book, &query, third)?
+            && goes_on(&mut book, &query, rest)?,
+    )
 }
 
-// The next place fails.
-fn fail_next(catalogue: &mut Catalogue) -> Option<()> {
-    let number = claimed(catalogue)?;
-    catalogue.fail(number, Why::Write).ok()
+// Whether the last event, made again, is the last failure.
+fn ends_with_a_failure(events: &[Event]) -> Option<bool> {
+    let again = events.last()?.clone().ok()?;
+    Some(events.len() == 1_205 && matches!(&again, Event::Failed(601, Why::Read)))
 }
 
-// A crawl whose second place failed.
-fn with_a_failure(alloc: Global) -> Option<Catalogue> {
-    let mut catalogue = with_root(alloc)?;
-    fail_next(&mut catalogue)?;
-    Some(catalogue)
-}
-
-// Whether the event is that failure, once it is made again.
-fn is_failure_again(event: &Event) -> Option<bool> {
-    let again = event.clone().ok()?;
-    Some(matches!(&again, Event::Failed(1, Why::Write)))
-}
-
-fn fails_again(alloc: Global) -> Option<bool> {
-    let catalogue = with_a_failure(alloc)?;
-    is_failure_again(catalogue.record().last()?)
-}
-
-#[test]
-fn a_failure_again_is_the_same_failure(rt: HostRuntime) {
-    assert!(rt; fails_again(rt.alloc()) == Some(true));
-}
-
-// A book with that failure.
-fn book_with_a_failure(alloc: Global) -> Option<Book> {
-    let catalogue = with_a_failure(alloc)?;
-    book_of_all(alloc, catalogue.record())
-}
-
-// Whether a book of five events finds the root.
-fn is_of_five(alloc: Global, book: &Book) -> Option<bool> {
-    Some(book.len() == 5 && finds_root(alloc, book)?)
-}
-
-fn finds_root_after_a_failure(alloc: Global) -> Option<bool> {
-    is_of_five(alloc, &book_with_a_failure(alloc)?)
+fn holds_crawl(alloc: Global) -> Option<bool> {
+    let mut catalogue = crawl(alloc, HOST, 1_000, 1)?;
+    find_root(alloc, &mut catalogue, &menu(alloc)?)?;
+    fail_others(&mut catalogue)?;
+    let events = catalogue.record();
+    Some(ends_with_a_failure(events)? && holds_all(alloc, events)?)
 }
 
 #[test]
-fn a_failure_is_an_event_without_a_page(rt: HostRuntime) {
-    assert!(rt; finds_root_after_a_failure(rt.alloc()) == Some(true));
+fn a_book_of_a_crawl(rt: HostRuntime) {
+    assert!(rt; holds_crawl(rt.alloc()) == Some(true));
 }
 
-fn has_root(alloc: Global, index: &Index) -> Option<bool> {
-    let hits = index.search(alloc, &query(alloc)?).ok()?;
-    Some(is_root(&hits))
+// Whether a crawl with two seeds knows the first alone.
+fn knows_the_first_alone(catalogue: &Catalogue) -> bool {
+    let status = Status {
+        known: 1,
+        waiting: 1,
+        out: 0,
+        done: 0,
+        dropped: 1,
+    };
+    catalogue.record().len() == 1
+        && catalogue.places().len() == 1
+        && catalogue.opening().seeds().len() == 2
+        && catalogue.status() == status
 }
 
-fn version_finds_root(alloc: Global, index: &Index) -> Option<bool> {
-    let version = index.share(alloc).ok()?;
-    has_root(alloc, &version)
+// Starts that are refused because nothing is allowed, and then because no place may be known.
+fn refused_twice(alloc: Global) -> Option<OpenRefused> {
+    let nothing = Scope::new(Vec::new(alloc), Vec::new(alloc));
+    let refused = Catalogue::open(alloc, nothing, seeds(alloc, HOST, &[b"/b"])?, 0, 1).err()?;
+    if refused.fault.code() != 50 {
+        return None;
+    }
+    let (_, deny) = refused.scope.into_rules();
+    let (allow, _) = scope(alloc, HOST)?.into_rules();
+    Catalogue::open(alloc, Scope::new(allow, deny), refused.seeds, 0, 1).err()
 }
 
-// Whether the index of the catalogue has the root's page alone, and finds it.
-fn index_finds_root(alloc: Global) -> Option<bool> {
-    let catalogue = with_root(alloc)?;
-    let index = catalogue.index();
-    Some(index.len() == 1 && version_finds_root(alloc, index)?)
+fn starts_at_last(alloc: Global) -> Option<bool> {
+    let refused = refused_twice(alloc)?;
+    if refused.fault.code() != 51 {
+        return None;
+    }
+    let catalogue = Catalogue::open(alloc, refused.scope, refused.seeds, 1, 1).ok()?;
+    Some(knows_the_first_alone(&catalogue))
 }
 
 #[test]
-fn the_index_of_a_catalogue(rt: HostRuntime) {
-    assert!(rt; index_finds_root(rt.alloc()) == Some(true));
+fn a_start_is_refused_and_tried_again(rt: HostRuntime) {
+    assert!(rt; starts_at_last(rt.alloc()) == Some(true));
 }

@@ -1,8 +1,8 @@
 // Conversations over streams in memory: whole ones, and those that come in pieces or break off.
 ghost use Rattle.std.specs.Prelude.{◌<◌, length};
 
-use crate::connections::{Ending, Stream};
-use crate::sites::{BAD_REQUEST, HELLO, ROOT};
+use crate::answers::{BAD_REQUEST, HELLO, ROOT};
+use crate::stream::{Ending, Stream};
 use gopher_item::NoMemory;
 use gopher_replies::{Answer, Reply};
 use gopher_serve::{Answers, Conversation, Progress, ServeFault, converse, serve_with};

@@ -1,37 +1,39 @@
-//! A fetcher over a table of replies.
+//! A fetcher over the replies of a host in memory.
 
 ghost use Rattle.std.specs.Prelude.{◌≡◌, ◌≤◌, vec_len, IfOk};
 
+use crate::tables::Host;
 use gopher_catalogue::Why;
 use gopher_crew::Fetch;
 use gopher_item::Place;
 use std::alloc::Global;
+use std::time::Clock;
 
 // The limit that a worker gives.
 const LIMIT: usize = 1_048_576;
 
-/// The replies of a host in memory.
-pub trait Table {
-    /// The reply of a selector, or why there is none.
-    fn reply(&self, selector: &[u8]) -> Result<&[u8], Why>;
-}
-
-/// Fetches the replies of a table.
+/// Fetches the replies of a host.
 #[derive(Drop)]
-pub struct Fetcher<T> {
+pub struct Fetcher<'a, R> {
     calls: u64,
-    /// The table.
-    pub table: T,
+    /// The host.
+    pub host: &'a Host<'a, R>,
+    /// Which of several fetchers it is.
+    pub number: u8,
 }
 
-impl<T> Fetcher<T> {
+impl<'a, R> Fetcher<'a, R> {
     /// One that has fetched nothing.
-    pub fn new(table: T) -> Fetcher<T> {
-        Fetcher { calls: 0, table }
+    pub fn new(host: &'a Host<'a, R>, number: u8) -> Fetcher<'a, R> {
+        Fetcher {
+            calls: 0,
+            host,
+            number,
+        }
     }
 }
 
-impl<R, T: Table> Fetch<R> for Fetcher<T> {
+impl<'a, R: Clock, W> Fetch<W> for Fetcher<'a, R> {
     ghost called = { λ fetcher. fetcher.calls };
 
     fn calls(&self) -> u64 {
@@ -40,13 +42,13 @@ impl<R, T: Table> Fetch<R> for Fetcher<T> {
 
     fn fetch(
         &mut self,
-        _rt: &R,
+        _rt: &W,
         alloc: Global,
         place: &Place,
         limit: usize,
     ) -> Result<Vec<u8>, Why> {
         self.calls = self.calls.saturating_add(1);
-        match self.table.reply(place.selector()) {
+        match self.host.reply(place.selector()) {
             Ok(reply) => copy(alloc, reply, limit),
             Err(why) => Err(why),
         }

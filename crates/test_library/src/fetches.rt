@@ -1,5 +1,5 @@
 // Fetches over streams in memory.
-use crate::connections::{Ending, Stream};
+use crate::stream::{Ending, Stream};
 use gopher_catalogue::Why;
 use gopher_item::Place;
 use gopher_serve::fetch_over;
@@ -12,7 +12,6 @@ const REQUEST: &[u8] = b"/moon\r\n";
 fn fetched(
     alloc: Global,
     bytes: &[u8],
-    size: usize,
     room: usize,
     ending: Ending,
 ) -> (Result<Vec<u8>, Why>, usize) {
@@ -20,12 +19,9 @@ fn fetched(
         return (Err(Why::NoMemory), 0);
     };
     let mut stream = Watched::new(Stream {
-        bytes,
         left: REQUEST,
         room,
-        size,
-        ending,
-        interrupted: false,
+        ..Stream::giving(bytes, 65_536, ending)
     });
     let reply = fetch_over(alloc, &mut stream, &place, 1_048_576);
     (reply, stream.into_inner().left.len())
@@ -33,7 +29,7 @@ fn fetched(
 
 // Whether a reply is fetched, after the whole request.
 fn fetches(alloc: Global, bytes: &[u8]) -> bool {
-    match fetched(alloc, bytes, 65_536, REQUEST.len(), Ending::Ends) {
+    match fetched(alloc, bytes, REQUEST.len(), Ending::Ends) {
         (Ok(reply), 0) => reply.as_slice() == bytes,
         _ => false,
     }
@@ -41,7 +37,7 @@ fn fetches(alloc: Global, bytes: &[u8]) -> bool {
 
 // Whether a fetch fails for this reason, with so much of the request unsent.
 fn fails(alloc: Global, bytes: &[u8], room: usize, ending: Ending, wanted: Why) -> bool {
-    let (reply, left) = fetched(alloc, bytes, 65_536, room, ending);
+    let (reply, left) = fetched(alloc, bytes, room, ending);
     left == REQUEST.len().saturating_sub(room) && reply.is_err_and(|why| why == wanted)
 }
 

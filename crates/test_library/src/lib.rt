@@ -1,8 +1,8 @@
-//! Tests of the crates up to gopher_serve: worked examples with their bytes, devices and
-//! connections that fail, what calls of the catalogue and the book hand out and give back, a crew
-//! at its desk, answers, fetches and conversations; what no script can show. Then calls that are
-//! made again after a refused allocation (`refusals`), for `tests/refusals.py`, and timings
-//! (`timings`), for `bench/run.sh`.
+//! Tests of the crates up to gopher_serve, of what no script and no request can show: streams that
+//! fail, what calls of the catalogue, the book and a desk hand out and give back, crews, merges, and
+//! calls of the library that the program doesn't make. Then calls that are made again after a
+//! refused allocation (`refusals`), for `tests/refusals.py`. The rows of `proofs/WorkedRows.antt`
+//! show definitions.
 #![tactic(auto)]
 
 #[cfg(test)]
@@ -10,37 +10,21 @@ mod answers;
 #[cfg(test)]
 mod books;
 #[cfg(test)]
-mod calls;
-#[cfg(test)]
-mod connections;
-#[cfg(test)]
 mod conversations;
 #[cfg(test)]
 mod crawls;
 #[cfg(test)]
 mod desks;
 #[cfg(test)]
-mod devices;
-#[cfg(test)]
 mod fetcher;
 #[cfg(test)]
 mod fetches;
 #[cfg(test)]
-mod folders;
-#[cfg(test)]
-mod items;
-#[cfg(test)]
-mod long_books;
-#[cfg(test)]
 mod menus;
-#[cfg(test)]
-mod merged_crawls;
 #[cfg(test)]
 mod merges;
 #[cfg(test)]
-mod pages;
-#[cfg(test)]
-mod queries;
+mod opening;
 #[cfg(test)]
 mod refusals;
 #[cfg(test)]
@@ -52,32 +36,12 @@ mod refused_desks;
 #[cfg(test)]
 mod refused_opening;
 #[cfg(test)]
-mod refused_replies;
+mod refused_pages;
 #[cfg(test)]
-mod replies;
-#[cfg(test)]
-mod runs;
-#[cfg(test)]
-mod settings;
-#[cfg(test)]
-mod sites;
+mod stream;
 #[cfg(test)]
 mod streams;
 #[cfg(test)]
 mod tables;
 #[cfg(test)]
-mod texts;
-#[cfg(test)]
-mod timed_crawls;
-#[cfg(test)]
-mod timed_formats;
-#[cfg(test)]
-mod timed_host;
-#[cfg(test)]
-mod timed_opening;
-#[cfg(test)]
-mod timed_searches;
-#[cfg(test)]
-mod timing;
-#[cfg(test)]
-mod timings;
+mod trees;

@@ -1,148 +1,61 @@
-// Menus read, with the places of their items, and written.
-use gopher_item::{Entry, Menu, MenuLine, read_menu, write_menu};
+// Menus and texts read and written. What other bytes are read as is in proofs/WorkedRows.antt.
+use gopher_item::{Entry, MenuLine, read_menu, read_request, write_menu};
+use gopher_text::{read_text, write_text};
 use std::alloc::Global;
 
-/// What an entry is read as.
-#[derive(Clone, Copy)]
-enum Wanted<'a> {
-    /// The type, display, selector, host and port of an item, and the host of its place, if it has
-    /// one.
-    Item(u8, &'a [u8], &'a [u8], &'a [u8], u16, Option<&'a [u8]>),
-    Odd(&'a [u8]),
-}
+const ABOUT: &[u8] = b"0About internet Gopher\tStuff:About us\trawBits.micro.umn.edu\t70\r\n.\r\n";
 
-use Wanted::{Item, Odd};
-
-// Whether the place of an item has this host, or is refused for its type or its port.
-fn has_place(alloc: Global, line: &MenuLine, wanted: Option<&[u8]>) -> bool {
-    match line.place(alloc) {
-        Ok(place) => {
-            wanted == Some(place.host())
-                && place.kind() == line.kind()
-                && place.selector() == line.selector()
-                && place.port() == line.port()
-        }
-        Err(fault) => wanted.is_none() && matches!(fault.code(), 1 | 4),
+// The line of the one item of a menu.
+fn only_line(alloc: Global, bytes: &[u8]) -> Option<MenuLine> {
+    let mut menu = read_menu(alloc, bytes).ok()?;
+    match (menu.entries.pop(), menu.entries.pop()) {
+        (Some(Entry::Item(line)), None) => Some(line),
+        _ => None,
     }
 }
 
-fn is_entry(alloc: Global, entry: &Entry, wanted: Wanted) -> bool {
-    match (entry, wanted) {
-        (Entry::Item(line), Item(kind, display, selector, host, port, place)) => {
-            line.kind() == kind
-                && line.display() == display
-                && line.selector() == selector
-                && line.host() == host
-                && line.port() == port
-                && has_place(alloc, line, place)
-        }
-        (Entry::Odd(bytes), Odd(wanted)) => bytes.as_slice() == wanted,
-        _ => false,
-    }
+// Whether a menu of this one line is written so.
+fn is_written_as(alloc: Global, line: MenuLine, wanted: &[u8]) -> bool {
+    let mut out = Vec::new(alloc);
+    write_menu(&[line], &mut out).is_ok() && out.as_slice() == wanted
 }
 
-fn are_entries(alloc: Global, menu: &Menu, wanted: &[Wanted]) -> bool {
-    if menu.entries.len() != wanted.len() {
-        return false;
-    }
-    for (entry, wanted) in menu.entries.iter().zip(wanted) {
-        if !is_entry(alloc, entry, *wanted) {
-            return false;
-        }
-    }
-    true
+// Whether a line is that of the worked menu, with its place.
+fn is_about(alloc: Global, line: MenuLine) -> bool {
+    let has_place = match line.place(alloc) {
+        Ok(place) => place.host() == b"rawbits.micro.umn.edu".as_slice(),
+        Err(_fault) => false,
+    };
+    has_place
+        && line.host() == b"rawBits.micro.umn.edu".as_slice()
+        && is_written_as(alloc, line, ABOUT)
 }
-
-// Whether these bytes are read as these entries, and whether the menu ended.
-fn is_read_as(alloc: Global, bytes: &[u8], wanted: &[Wanted], ended: bool) -> bool {
-    match read_menu(alloc, bytes) {
-        Ok(menu) => menu.ended == ended && are_entries(alloc, &menu, wanted),
-        Err(_refused) => false,
-    }
-}
-
-const ABOUT: &[u8] = b"0About internet Gopher\tStuff:About us\trawBits.micro.umn.edu\t70\r\n";
-
-// Menus, what they are read as, and whether they ended.
-const MENUS: &[(&[u8], &[Wanted], bool)] = &[
-    (
-        ABOUT,
-        &[Item(
-            b'0',
-            b"About internet Gopher",
-            b"Stuff:About us",
-            b"rawBits.micro.umn.edu",
-            70,
-            Some(b"rawbits.micro.umn.edu"),
-        )],
-        false,
-    ),
-    (
-        b"iWelcome\tfake\t(NULL)\t0\r\nhSite\tURL:http://x/\th\t70\r\n1Dir\t/d\t h \t 70 \t+\nbroken\r\n\r\n0T\t/t\th\t70",
-        &[
-            Item(b'i', b"Welcome", b"fake", b"(NULL)", 0, None),
-            Item(b'h', b"Site", b"URL:http://x/", b"h", 70, None),
-            Item(b'1', b"Dir", b"/d", b"h", 70, Some(b"h")),
-            Odd(b"broken"),
-            Item(b'0', b"T", b"/t", b"h", 70, Some(b"h")),
-        ],
-        false,
-    ),
-    (
-        b"0A\t/a\th\t65535\n0A\t/a\th\t00070\n0A\t/a\th\t65536\n0A\t/a\th\t7o\n0A\t/a\th\t",
-        &[
-            Item(b'0', b"A", b"/a", b"h", 65_535, Some(b"h")),
-            Item(b'0', b"A", b"/a", b"h", 70, Some(b"h")),
-            Odd(b"0A"),
-            Odd(b"0A"),
-            Odd(b"0A"),
-        ],
-        false,
-    ),
-    (
-        b".x\r\n.x\ts\th\t70\r\n.\r\n1Z\t\th\t70\r\n",
-        &[Odd(b".x"), Item(b'.', b"x", b"s", b"h", 70, None)],
-        true,
-    ),
-    (b"", &[], false),
-    (b".", &[], true),
-    (b"1Mo", &[Odd(b"1Mo")], false),
-    (b"0A\t/a\th\t70\r", &[Odd(b"0A")], false),
-    (b"\t/a\th\t70\r\n", &[Odd(b"")], false),
-    (b"0A\t/a\0\th\t70\r\n", &[Odd(b"0A")], false),
-    (
-        b"1A\t/a\th\t0",
-        &[Item(b'1', b"A", b"/a", b"h", 0, None)],
-        false,
-    ),
-];
 
 #[test]
-fn reads_menus(rt: HostRuntime) {
-    for (bytes, wanted, ended) in MENUS {
-        assert!(rt; is_read_as(rt.alloc(), bytes, wanted, *ended));
-    }
+fn writes_a_menu_that_it_read(rt: HostRuntime) {
+    let alloc = rt.alloc();
+    assert!(rt; only_line(alloc, ABOUT).is_some_and(|line| is_about(alloc, line)));
 }
 
-// Whether a line with this type byte is an item of that type. Bytes that end a field or a line are
-// no type.
+// Whether the bytes are read as one item of this type, or as one odd line.
 fn is_read_by_type(alloc: Global, kind: u8) -> bool {
     let bytes = [
         kind, b'x', b'\t', b'/', b's', b'\t', b'h', b'\t', b'7', b'0', b'\r', b'\n',
     ];
-    let place: Option<&[u8]> = if kind == b'0' || kind == b'1' {
-        Some(b"h")
-    } else {
-        None
+    let Ok(menu) = read_menu(alloc, &bytes) else {
+        return false;
     };
-    let wanted = match kind {
-        b'\t' => Odd(b""),
-        b'\r' => Odd(b"\rx"),
-        b'\n' => Item(b'x', b"", b"/s", b"h", 70, None),
-        0 => Odd(b"\0x"),
-        _ => Item(kind, b"x", b"/s", b"h", 70, place),
-    };
-    is_read_as(alloc, &bytes, &[wanted], false)
+    match (kind, menu.entries.as_slice()) {
+        (b'\t', [Entry::Odd(odd)]) => odd.as_slice().is_empty(),
+        (b'\r' | 0, [Entry::Odd(odd)]) => odd.as_slice() == [kind, b'x'].as_slice(),
+        (b'\n', [Entry::Item(line)]) => line.kind() == b'x' && line.display().is_empty(),
+        (_, [Entry::Item(line)]) => {
+            line.kind() == kind
+                && line.display() == [b'x'].as_slice()
+                && line.selector() == b"/s".as_slice()
+        }
+        _ => false,
+    }
 }
 
 #[test]
@@ -152,67 +65,34 @@ fn reads_every_type_byte(rt: HostRuntime) {
     }
 }
 
-// Whether a mebibyte of line feeds has no entry, and one of another byte is one odd line.
-fn is_mebibyte_read(alloc: Global, byte: u8) -> bool {
-    let Ok(bytes) = vec![in alloc; byte; 1_048_576] else {
-        return false;
-    };
-    if byte == b'\n' {
-        is_read_as(alloc, &bytes, &[], false)
-    } else {
-        is_read_as(alloc, &bytes, &[Odd(&bytes)], false)
+// How many items and odd lines a mebibyte of this byte has, and how long the first odd line is.
+fn entries_of_mebibyte(alloc: Global, byte: u8) -> Option<(usize, usize)> {
+    let bytes = vec![in alloc; byte; 1_048_576].ok()?;
+    let menu = read_menu(alloc, &bytes).ok()?;
+    match menu.entries.first() {
+        Some(Entry::Odd(line)) => Some((menu.entries.len(), line.as_slice().len())),
+        _ => Some((menu.entries.len(), 0)),
     }
 }
 
 #[test]
 fn reads_a_mebibyte_of_one_byte(rt: HostRuntime) {
-    assert!(rt; is_mebibyte_read(rt.alloc(), b'\n'));
-    assert!(rt; is_mebibyte_read(rt.alloc(), b'a'));
-}
-
-// The line of the one item of a menu.
-fn only_line(alloc: Global, bytes: &[u8]) -> Option<MenuLine> {
-    match read_menu(alloc, bytes).ok()?.entries.pop() {
-        Some(Entry::Item(line)) => Some(line),
-        _ => None,
-    }
-}
-
-// What a menu of this line is written as.
-fn written(alloc: Global, line: MenuLine) -> Option<Vec<u8>> {
-    let mut out = Vec::new(alloc);
-    write_menu(&[line], &mut out).ok()?;
-    Some(out)
-}
-
-// Whether a menu of this one line is written so.
-fn is_written_as(alloc: Global, line: Option<MenuLine>, wanted: &[u8]) -> bool {
-    let Some(line) = line else {
-        return false;
-    };
-    match written(alloc, line) {
-        Some(out) => out.as_slice() == wanted,
-        None => false,
-    }
-}
-
-#[test]
-fn writes_what_it_read(rt: HostRuntime) {
-    let wanted: &[u8] =
-        b"0About internet Gopher\tStuff:About us\trawBits.micro.umn.edu\t70\r\n.\r\n";
-    assert!(rt; is_written_as(rt.alloc(), only_line(rt.alloc(), ABOUT), wanted));
+    assert!(rt; entries_of_mebibyte(rt.alloc(), b'\n') == Some((0, 0)));
+    assert!(rt; entries_of_mebibyte(rt.alloc(), b'a') == Some((1, 1_048_576)));
 }
 
 // The type, display, selector, host and port of a line that is made, and what it is written as, or
 // the number of its fault.
-const MADE: &[(u8, &[u8], &[u8], &[u8], u16, Result<&[u8], u8>)] = &[
+type Made<'a> = (u8, &'a [u8], &'a [u8], &'a [u8], u16, Result<&'a [u8], u8>);
+
+const MADE: &[Made] = &[
     (
         b'0',
         b"About us",
         b"/about",
-        b"Gopher.Example",
+        b"G.Example",
         70,
-        Ok(b"0About us\t/about\tGopher.Example\t70\r\n.\r\n"),
+        Ok(b"0About us\t/about\tG.Example\t70\r\n.\r\n"),
     ),
     (b'i', b"x", b"", b"h", 0, Ok(b"ix\t\th\t0\r\n.\r\n")),
     (b'+', b"", b"", b"h", 65_535, Ok(b"+\t\th\t65535\r\n.\r\n")),
@@ -225,28 +105,64 @@ const MADE: &[(u8, &[u8], &[u8], &[u8], u16, Result<&[u8], u8>)] = &[
     (b' ', b"x\t", b"\t", b"", 0, Err(2)),
 ];
 
-// Whether a line of these parts is made and written so, or refused so.
-fn is_made_as(
-    alloc: Global,
-    kind: u8,
-    display: &[u8],
-    selector: &[u8],
-    host: &[u8],
-    port: u16,
-    wanted: Result<&[u8], u8>,
-) -> bool {
-    match MenuLine::new(alloc, kind, display, selector, host, port) {
-        Ok(line) => match wanted {
-            Ok(bytes) => is_written_as(alloc, Some(line), bytes),
-            Err(_code) => false,
-        },
-        Err(fault) => wanted == Err(fault.code()),
+// Whether a line is made and written so, or refused so.
+fn is_made(alloc: Global, made: Made) -> bool {
+    let (kind, display, selector, host, port, wanted) = made;
+    match (
+        MenuLine::new(alloc, kind, display, selector, host, port),
+        wanted,
+    ) {
+        (Ok(line), Ok(bytes)) => is_written_as(alloc, line, bytes),
+        (Err(fault), Err(code)) => fault.code() == code,
+        _ => false,
     }
 }
 
 #[test]
 fn makes_lines(rt: HostRuntime) {
-    for (kind, display, selector, host, port, wanted) in MADE {
-        assert!(rt; is_made_as(rt.alloc(), *kind, display, selector, host, *port, *wanted));
+    for made in MADE {
+        assert!(rt; is_made(rt.alloc(), *made));
+    }
+}
+
+// Whether a text that is read is written as it was.
+fn is_written_again(alloc: Global, bytes: &[u8]) -> bool {
+    let Ok(text) = read_text(alloc, bytes) else {
+        return false;
+    };
+    let mut out = Vec::new(alloc);
+    text.ended && write_text(&text.lines, &mut out).is_ok() && out.as_slice() == bytes
+}
+
+#[test]
+fn writes_a_text_that_it_read(rt: HostRuntime) {
+    assert!(rt; is_written_again(rt.alloc(), b"..\r\nhi\r\n\r\na\r\n.\r\n"));
+}
+
+const LONG: &[u8] = &[b's'; 256];
+
+// Request lines, each with its selector and whether it has a search string, or its fault.
+const REQUESTS: &[(&[u8], Result<(&[u8], bool), u8>)] = &[
+    (b"a\tb\tc", Ok((b"a", true))),
+    (b"", Ok((b"", false))),
+    (b"a\0b", Err(2)),
+    (&[b's'; 255], Ok((&[b's'; 255], false))),
+    (LONG, Err(2)),
+    (&[b's'; 1_024], Err(2)),
+    (&[b's'; 1_025], Err(7)),
+];
+
+// Whether a request line is read so.
+fn is_request(alloc: Global, line: &[u8], wanted: Result<(&[u8], bool), u8>) -> bool {
+    match read_request(alloc, line) {
+        Ok(request) => wanted == Ok((request.selector.as_slice(), request.search.is_some())),
+        Err(fault) => wanted == Err(fault.code()),
+    }
+}
+
+#[test]
+fn reads_requests(rt: HostRuntime) {
+    for (line, wanted) in REQUESTS {
+        assert!(rt; is_request(rt.alloc(), line, *wanted));
     }
 }

@@ -1,24 +1,31 @@
-// How often the pages of an index are merged depends on their number alone.
-use gopher_index::Index;
-use gopher_item::{Place, Scope};
+// How the pages of an index are merged, and crawls with enough pages that workers merge some.
+ghost use Rattle.std.specs.Prelude.{◌≡◌, IfSome};
+ghost use Rattle.gopher_index.specs.Index.{IsSliceOf};
+
+use crate::crawls::{Plan, crawled};
+use crate::opening;
+use crate::tables::{Fate, MOON};
+use gopher_catalogue::Catalogue;
+use gopher_crew::{Answer, Blank};
+use gopher_index::{Due, Index};
 use gopher_page::Page;
-use std::alloc::Global;
+use std::alloc::{AllocError, Global};
+use std::marker::Brand;
+use std::process::Abort;
 use std::sync::Arc;
 
 // A page with a long word of its own.
 fn page(alloc: Global, number: u32) -> Option<Arc<Page>> {
-    let word = format!(in alloc; "wwwwwwwwwwwwwwwwwwwwwwwwwwwwwww{number}").ok()?;
+    let word = format!(in alloc; "wwwwwwwwwwwwwwwwwwwwwwwwwwwwww{number}").ok()?;
     if word.len() > 1_048_576 {
         return None;
     }
-    let place = Place::new(alloc, b'0', b"", b"h", 70).ok()?;
-    let scope = Scope::new(Vec::new(alloc), Vec::new(alloc));
-    let page = Page::of(alloc, &scope, &place, word.as_bytes()).ok()?;
+    let page = opening::page(alloc, b'0', b"", b"h", word.as_bytes())?;
     Arc::new(alloc, page).ok()
 }
 
-/// Adds the page of a number at the end of an index.
-pub fn add(alloc: Global, index: &mut Index, number: u32) -> Option<()> {
+// Adds the page of a number at the end of an index.
+fn add(alloc: Global, index: &mut Index, number: u32) -> Option<()> {
     if index.len() >= 65_536 {
         return None;
     }
@@ -35,8 +42,8 @@ fn merges_one(alloc: Global, index: &mut Index) -> Option<bool> {
     Some(true)
 }
 
-/// How often pages are merged, at most 64 times, until none are due.
-pub fn merges(alloc: Global, index: &mut Index) -> Option<u32> {
+// How often pages are merged, at most 64 times, until none are due.
+fn merges(alloc: Global, index: &mut Index) -> Option<u32> {
     for count in 0..64u32 {
         if !merges_one(alloc, index)? {
             return Some(count);
@@ -63,4 +70,116 @@ fn pages_are_merged(rt: HostRuntime) {
     assert!(rt; merges_of(rt.alloc(), 63) == Some(0));
     assert!(rt; merges_of(rt.alloc(), 256) == Some(4 + 1));
     assert!(rt; merges_of(rt.alloc(), 21_504) == Some(336 + 84 + 21 + 5 + 1));
+}
+
+// An index of `pages` pages, none of which is in a segment.
+fn loose(alloc: Global, pages: u32) -> Option<Index> {
+    let mut index = Index::new(alloc);
+    for number in 0..pages {
+        add(alloc, &mut index, number)?;
+    }
+    Some(index)
+}
+
+// Whether an index has one page more than before, and no longer once its pages are in a segment.
+fn has_one_page_more(alloc: Global) -> Option<bool> {
+    let mut index = loose(alloc, 63)?;
+    let before = index.share(alloc).ok()?;
+    add(alloc, &mut index, 63)?;
+    let has_more = index.page_after(&before).is_some();
+    let count = merges(alloc, &mut index)?;
+    Some(has_more && count == 1 && index.page_after(&before).is_none())
+}
+
+#[test]
+fn an_index_has_one_page_more(rt: HostRuntime) {
+    assert!(rt; has_one_page_more(rt.alloc()) == Some(true));
+}
+
+// The run that is due next, merged.
+fn merged_run(alloc: Global, index: &mut Index) -> Option<Due>
+    ensures same { index.new ≡ index.old }
+    ensures stands { IfSome result (λ due. IsSliceOf due index.new) }
+{
+    let mut due = index.due().ok()??;
+    due.merge(alloc).ok()?;
+    Some(due)
+}
+
+// Merges two runs before either is put in its place, the later one first.
+fn merge_two(alloc: Global, index: &mut Index) -> Option<()> {
+    let first = merged_run(alloc, index)?;
+    let second = merged_run(alloc, index)?;
+    index.install(second);
+    index.install(first);
+    Some(())
+}
+
+// Whether nothing is left to merge of 128 pages once two runs are in their places.
+fn are_apart(alloc: Global) -> Option<bool> {
+    let mut index = loose(alloc, 128)?;
+    merge_two(alloc, &mut index)?;
+    Some(merges(alloc, &mut index)? == 0)
+}
+
+#[test]
+fn two_runs_have_no_page_in_common(rt: HostRuntime) {
+    assert!(rt; are_apart(rt.alloc()) == Some(true));
+}
+
+// How many files there are: more than 8,192, and a number at which pages would be due to be merged
+// at the end if workers merged none. Without workers an index merges its pages at 512 loose ones.
+const FILES: u32 = 8_378;
+
+fn digits(number: u32) -> [u8; 4] {
+    let digit = |unit: u32| b'0' + (number / unit % 10) as u8;
+    [digit(1_000), digit(100), digit(10), digit(1)]
+}
+
+// The menu of files from `/1000` on. Those that come first in place order are spread over all of
+// it.
+fn menu(alloc: Global) -> Result<Vec<u8>, AllocError> {
+    let mut menu = Vec::new(alloc);
+    for step in 0..FILES {
+        menu.extend_from_slice(b"0A\t/")?;
+        menu.extend_from_slice(&digits(1_000 + step * 7 % FILES))?;
+        menu.extend_from_slice(b"\th\t70\r\n")?;
+    }
+    Ok(menu)
+}
+
+// The first 50 of the files are found, of a record in which all of them are.
+fn finds_first_files<R: Abort>(rt: &R, answer: &Answer) {
+    assert!(rt; answer.at == 2 * FILES + 3);
+    assert!(rt; answer.hits.len() == 50);
+    for (number, hit) in (1_000..1_050u32).zip(answer.hits.iter()) {
+        assert!(rt; hit.place.selector().ends_with(&digits(number)));
+    }
+}
+
+// All that was due to be merged was.
+fn is_merged<R: Abort + AllocGlobal>(rt: &R, catalogue: &Catalogue) -> bool {
+    let Ok(mut index) = catalogue.index().share(rt.alloc()) else {
+        panic!(rt; "no memory");
+    };
+    matches!(index.due(), Ok(None))
+}
+
+#[test]
+fn pages_that_were_merged_are_found(rt: HostRuntime) {
+    let Ok(menu) = menu(rt.alloc()) else {
+        panic!(rt; "no memory");
+    };
+    for workers in [1, 4] {
+        let plan = Plan {
+            root: &menu,
+            rest: MOON,
+            fate: Fate::Answered,
+            tries: 1,
+            workers,
+        };
+        let crawled = crawled::<Brand, _>(&rt, Blank::new(), plan);
+        assert!(rt; workers > 1 || is_merged(&rt, &crawled.catalogue));
+        finds_first_files(&rt, &crawled.moons);
+    }
 }

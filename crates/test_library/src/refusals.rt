@@ -4,22 +4,28 @@
 //! The test prints the same whichever allocation is refused: `tests/refusals.py` refuses each in
 //! turn. It also shows the calls that only read what they are given, by the built program.
 
-use crate::refused_opening::Checked;
-use crate::timing::Failed;
-use crate::{refused_catalogues, refused_crawls, refused_desks, refused_replies};
+use crate::opening::Checked;
+use crate::{refused_catalogues, refused_crawls, refused_desks, refused_pages};
 use gopher_crew::Blank;
 use std::marker::Brand;
 use std::rt::Runtime;
 use std::sync::Wait;
+use std::time::Clock;
+
+/// A call didn't end as wanted.
+#[derive(Clone, Copy, Debug)]
+pub struct Failed;
 
 fn tell<R: Runtime>(rt: &R, subject: &str, checked: Checked<()>) -> Option<()> {
-    println!(rt; "{subject}: {}", checked.err().unwrap_or("as wanted")).ok()
+    println!(rt; "{subject}: {}", checked.err().unwrap_or("as wanted")).ok()?;
+    checked.ok()
 }
 
 // Makes each of these calls, and prints for each kind whether it ended as wanted.
-fn check<R: Runtime + AllocGlobal + Wait>(rt: &R) -> Option<()> {
+fn check<R: Runtime + AllocGlobal + Wait + Clock>(rt: &R) -> Option<()> {
     let alloc = rt.alloc();
-    tell(rt, "replies", refused_replies::check(alloc))?;
+    tell(rt, "pages", refused_pages::check(alloc))?;
+    tell(rt, "replies", refused_pages::check_replies(alloc))?;
     tell(rt, "a catalogue", refused_catalogues::check(alloc))?;
     tell(
         rt,

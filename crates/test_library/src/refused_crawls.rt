@@ -3,29 +3,18 @@
 ghost use Rattle.std.specs.Prelude.{◌≡◌, []};
 ghost use Rattle.gopher_crew.specs.Desk.{IsBlankOf};
 
-use crate::fetcher::{Fetcher, Table};
-use crate::refused_desks::{query, searched};
-use crate::refused_opening::{Checked, opened};
-use crate::sites::closed;
-use crate::tables::all_done;
+use crate::fetcher::Fetcher;
+use crate::opening::{Checked, at_last, query};
+use crate::refused_desks::searched;
+use crate::refused_opening::opened;
+use crate::tables::{Fate, Host, MOON, TWO_FILES, all_done};
 use gopher_catalogue::{Event, Status, Why};
 use gopher_crew::{Blank, Crew, Desk, Pass, Share, Stop, work};
 use gopher_page::Query;
 use std::alloc::Global;
 use std::sync::Wait;
-
-// The replies of a root with two files.
-#[derive(Drop)]
-struct TwoFiles;
-
-impl Table for TwoFiles {
-    fn reply(&self, selector: &[u8]) -> Result<&[u8], Why> {
-        match selector {
-            b"" => Ok(b"0A\t/a\th\t70\r\n0B\t/b\th\t70\r\n.\r\n"),
-            _ => Ok(b"moon\r\n.\r\n"),
-        }
-    }
-}
+use std::sync::atomic::AtomicU64;
+use std::time::Clock;
 
 // Checks that no place failed for a reason other than out of memory.
 fn check_failures(record: &[Event]) -> Checked<()> {
@@ -68,18 +57,26 @@ fn check_end<C: Crew>(
     if !is_whole(status, failed) {
         return Err("a crawl stops before its end");
     }
-    let query = query(alloc, b"moon")?;
+    let query = at_last(|| query(alloc, b"moon"))?;
     sees_all(pass, &query, status.known, failed)
 }
 
 // Crawls by one worker, which takes the share and returns it.
-fn crawls<C: Crew, R: Wait + AllocGlobal>(
+fn crawls<C: Crew, R: Wait + Clock + AllocGlobal>(
     rt: &R,
     desk: &Desk<C, &R>,
     pass: &mut Pass<C>,
     share: Share<C>,
 ) -> Checked<Share<C>> {
-    let end = work(rt, rt.alloc(), desk, Fetcher::new(TwoFiles), share);
+    let counter = AtomicU64::new(0);
+    let host = Host {
+        clock: rt,
+        root: TWO_FILES,
+        rest: MOON,
+        fate: Fate::Answered,
+        counter: &counter,
+    };
+    let end = work(rt, rt.alloc(), desk, Fetcher::new(&host, 0), share);
     if end.stop == Stop::Finished {
         check_end(rt.alloc(), pass, desk.status(rt), end.failed)?;
     }
@@ -87,7 +84,7 @@ fn crawls<C: Crew, R: Wait + AllocGlobal>(
 }
 
 // Crawls by the one share of a desk, and puts the share back.
-fn crawls_by<C: Crew, R: Wait + AllocGlobal>(
+fn crawls_by<C: Crew, R: Wait + Clock + AllocGlobal>(
     rt: &R,
     desk: &Desk<C, &R>,
     passes: &mut [Pass<C>],
@@ -103,15 +100,15 @@ fn crawls_by<C: Crew, R: Wait + AllocGlobal>(
 }
 
 fn closes<C: Crew, R: Wait>(desk: Desk<C, &R>, shares: Vec<Share<C>>) -> Checked<()> {
-    match closed(desk, shares) {
-        Some(catalogue) => check_failures(catalogue.record()),
-        None => Err("a desk isn't closed"),
+    match desk.close(shares) {
+        Ok(catalogue) => check_failures(catalogue.record()),
+        Err(_refused) => Err("a desk isn't closed"),
     }
 }
 
 /// Crawls a root with two files by one worker. A refused growth fails one place, or stops the
 /// worker, or delays a publication until the end of the crawl.
-pub fn check<C: Crew, R: Wait + AllocGlobal>(rt: &R, blank: Blank) -> Checked<()>
+pub fn check<C: Crew, R: Wait + Clock + AllocGlobal>(rt: &R, blank: Blank) -> Checked<()>
     requires blank { IsBlankOf C.name C.parts C.history blank }
     requires begun { blank.begun ≡ [] }
 {

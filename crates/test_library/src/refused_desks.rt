@@ -4,13 +4,12 @@
 ghost use Rattle.std.specs.Prelude.{◌≡◌, []};
 ghost use Rattle.gopher_crew.specs.Desk.{IsBlankOf};
 
-use crate::refused_opening::{Checked, opened, scope_at_last, seeds_at_last};
+use crate::opening::{Checked, at_last, page, query};
+use crate::refused_opening::opened;
 use crate::tables::is_root;
 use gopher_catalogue::{Added, FoundRefused, Turn};
 use gopher_crew::{Answer, Blank, Crew, Desk, Note, Pass, SearchFault, Share};
-use gopher_item::{Place, Scope};
 use gopher_page::{Page, Query};
-use std::alloc::Global;
 use std::sync::Wait;
 
 const HOST: &[u8] = b"localhost";
@@ -23,14 +22,6 @@ pub fn searched<C: Crew>(pass: &mut Pass<C>, query: &Query) -> Checked<Answer> {
         Ok(answer) => Ok(answer),
         Err(SearchFault::NoMemory) => pass.search(query).ok().ok_or("a search is refused twice"),
         Err(_fault) => Err("a search is refused twice"),
-    }
-}
-
-/// A query of one word, in one of two tries.
-pub fn query(alloc: Global, word: &[u8; 4]) -> Checked<Query> {
-    match Query::read(alloc, word) {
-        Ok(query) => Ok(query),
-        Err(_refused) => Query::read(alloc, word).ok().ok_or("no query"),
     }
 }
 
@@ -65,31 +56,6 @@ fn claims<C: Crew, R: Wait>(
     } else {
         Err("a claim answers another turn")
     }
-}
-
-// The page of a root that leads to one directory, in one of two tries.
-fn page_of(alloc: Global, scope: &Scope, root: &Place) -> Checked<Page> {
-    match Page::of(alloc, scope, root, DOCS) {
-        Ok(page) => Ok(page),
-        Err(_refused) => match Page::of(alloc, scope, root, DOCS) {
-            Ok(page) => Ok(page),
-            Err(_again) => Err("a page is refused twice"),
-        },
-    }
-}
-
-// The page of the first of these places.
-fn page_of_first(alloc: Global, places: &[Place]) -> Checked<Page> {
-    let Some(root) = places.first() else {
-        return Err("no root");
-    };
-    let scope = scope_at_last(alloc, HOST)?;
-    page_of(alloc, &scope, root)
-}
-
-fn page(alloc: Global) -> Checked<Page> {
-    let seeds = seeds_at_last(alloc, HOST)?;
-    page_of_first(alloc, &seeds)
 }
 
 fn found_again<C: Crew, R: Wait>(
@@ -152,7 +118,8 @@ fn finds_root<C: Crew, R: Wait + AllocGlobal>(
     desk: &Desk<C, &R>,
     share: &mut Share<C>,
 ) -> Checked<Option<Note<C>>> {
-    let (added, note) = found(rt, desk, share, page(rt.alloc())?)?;
+    let page = at_last(|| page(rt.alloc(), b'1', b"", HOST, DOCS))?;
+    let (added, note) = found(rt, desk, share, page)?;
     if added.fresh == 1 {
         Ok(note)
     } else {
@@ -227,7 +194,7 @@ fn work_by<C: Crew, R: Wait + AllocGlobal>(
     let Some(second) = others.first_mut() else {
         return Err("no second pass");
     };
-    let query = query(rt.alloc(), b"docs")?;
+    let query = at_last(|| query(rt.alloc(), b"docs"))?;
     work_at(rt, desk, share, first, second, &query)
 }
 

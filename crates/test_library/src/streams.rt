@@ -1,14 +1,23 @@
 // Lines and replies read from streams, and bytes sent: how each ends, and with which fault.
 ghost use Rattle.std.specs.Prelude.{◌≤◌};
 
-use crate::devices::{Ending, Narrow, Slow};
+use crate::stream::{Ending, Stream};
 use gopher_text::{Watched, read_line_from, read_reply, send};
 use std::alloc::Global;
 use std::io::{Read, Write};
 
+// A stream that gives a byte a read, each after so many interrupted reads.
+fn slow(bytes: &[u8], interruptions: u32, ending: Ending) -> Stream<'_> {
+    Stream {
+        interruptions,
+        now: interruptions,
+        ..Stream::giving(bytes, 1, ending)
+    }
+}
+
 // The length of the line that a reader gives, or the number of its fault; how many bytes it has
 // left, and how many of its reads failed.
-fn line_of(alloc: Global, slow: Slow) -> (Result<usize, u8>, usize, u64) {
+fn line_of(alloc: Global, slow: Stream) -> (Result<usize, u8>, usize, u64) {
     let mut reader = Watched::new(slow);
     let end = match read_line_from(alloc, &mut reader) {
         Ok(line) => Ok(line.len()),
@@ -28,7 +37,7 @@ fn bounds_a_line(
 ) -> Option<bool> {
     let mut bytes = vec![in alloc; b'a'; count].ok()?;
     bytes.extend_from_slice(end).ok()?;
-    Some(line_of(alloc, Slow::new(&bytes, interruptions, false)) == wanted)
+    Some(line_of(alloc, slow(&bytes, interruptions, Ending::Ends)) == wanted)
 }
 
 // A count of letters, what follows them, how many reads are interrupted before each byte; the
@@ -64,15 +73,15 @@ fn reads_lines(rt: HostRuntime) {
 fn a_read_that_fails_ends_a_line_at_each_place(rt: HostRuntime) {
     let line: &[u8] = b"/a.txt\r\n";
     for count in 0..line.len() {
-        let (end, _left, _failures) = line_of(rt.alloc(), Slow::new(&line[..count], 0, true));
+        let (end, _left, _failures) = line_of(rt.alloc(), slow(&line[..count], 0, Ending::Fails));
         assert!(rt; end == Err(10));
     }
-    assert!(rt; line_of(rt.alloc(), Slow::new(line, 0, true)) == (Ok(6), 0, 0));
+    assert!(rt; line_of(rt.alloc(), slow(line, 0, Ending::Fails)) == (Ok(6), 0, 0));
 }
 
 // Whether reading a reply of at most `limit` bytes succeeds or fails as wanted, returns the first
 // bytes that the reader had, and leaves `left` bytes.
-fn reply_of(alloc: Global, slow: Slow, limit: usize, wanted: Result<(), u8>, left: usize) -> bool
+fn reply_of(alloc: Global, slow: Stream, limit: usize, wanted: Result<(), u8>, left: usize) -> bool
     requires { limit ≤ 1048576 }
 {
     let bytes = slow.bytes;
@@ -98,24 +107,24 @@ const MEBIBYTES: &[(usize, u32, Result<(), u8>, usize)] = &[
 fn reads_mebibytes(rt: HostRuntime) {
     for (count, interruptions, wanted, left) in MEBIBYTES {
         let bytes = vec![in rt.alloc(); b'a'; *count].expect(&rt, "memory");
-        let slow = Slow::new(&bytes, *interruptions, false);
+        let slow = slow(&bytes, *interruptions, Ending::Ends);
         assert!(rt; reply_of(rt.alloc(), slow, 1_048_576, *wanted, *left));
     }
 }
 
 #[test]
 fn reads_replies(rt: HostRuntime) {
-    assert!(rt; reply_of(rt.alloc(), Slow::new(b"abc", 0, false), 3, Ok(()), 0));
-    assert!(rt; reply_of(rt.alloc(), Slow::new(b"abcd", 0, false), 3, Err(12), 0));
-    assert!(rt; reply_of(rt.alloc(), Slow::new(b"", 0, false), 0, Ok(()), 0));
-    assert!(rt; reply_of(rt.alloc(), Slow::new(b"a", 0, false), 0, Err(12), 0));
-    assert!(rt; reply_of(rt.alloc(), Slow::new(b"aa", 3, true), 3, Err(10), 0));
+    assert!(rt; reply_of(rt.alloc(), slow(b"abc", 0, Ending::Ends), 3, Ok(()), 0));
+    assert!(rt; reply_of(rt.alloc(), slow(b"abcd", 0, Ending::Ends), 3, Err(12), 0));
+    assert!(rt; reply_of(rt.alloc(), slow(b"", 0, Ending::Ends), 0, Ok(()), 0));
+    assert!(rt; reply_of(rt.alloc(), slow(b"a", 0, Ending::Ends), 0, Err(12), 0));
+    assert!(rt; reply_of(rt.alloc(), slow(b"aa", 3, Ending::Fails), 3, Err(10), 0));
 }
 
 // How many bytes are sent before the fault, if there is one; how many are left to be taken, and how
 // many calls failed, of which the last is a flush.
-fn sent(bytes: &[u8], narrow: Narrow) -> (Option<(u8, usize)>, usize, u64) {
-    let mut writer = Watched::new(narrow);
+fn sent(bytes: &[u8], taker: Stream) -> (Option<(u8, usize)>, usize, u64) {
+    let mut writer = Watched::new(taker);
     let fault = match send(&mut writer, bytes) {
         Ok(()) => None,
         Err(fault) => Some((fault.code(), fault.sent)),
@@ -125,50 +134,44 @@ fn sent(bytes: &[u8], narrow: Narrow) -> (Option<(u8, usize)>, usize, u64) {
     (fault, writer.into_inner().left.len(), failures)
 }
 
+// How many of six bytes a writer takes, in writes of at most how many, how many writes are
+// interrupted before the first and before each other; how many bytes are sent before the fault, how
+// many are left, and how many calls failed.
+const SENT: &[(usize, usize, u32, u32, (Option<(u8, usize)>, usize, u64))] = &[
+    (6, 3, 0, 0, (None, 0, 1)),
+    (4, 4, 0, 0, (Some((13, 4)), 2, 2)),
+    (6, 6, 4_095, 0, (None, 0, 4_096)),
+    (6, 1, 0, 4_096, (Some((13, 1)), 5, 4_097)),
+];
+
 #[test]
 fn sends_all_or_says_how_much(rt: HostRuntime) {
-    for (bytes, room, interruptions, ending, wanted) in [
-        (b"abcdef", 3, 0, Ending::Takes, (None, 0, 1)),
-        (b"abcdef", 4, 0, Ending::Fails, (Some((13, 4)), 2, 2)),
-        (b"ab....", 0, 4_095, Ending::Takes, (None, 0, 4_096)),
-        (
-            b"ab....",
-            1,
-            4_096,
-            Ending::Takes,
-            (Some((13, 1)), 5, 4_097),
-        ),
-        (b"ab....", 0, 0, Ending::TakesNothing, (Some((13, 0)), 6, 2)),
-    ] {
-        let narrow = Narrow {
-            left: bytes,
-            room,
-            interruptions,
-            ending,
+    let bytes = b"ab....";
+    for (room, size, now, interruptions, wanted) in SENT {
+        let taker = Stream {
+            size: *size,
+            interruptions: *interruptions,
+            now: *now,
+            ..Stream::taking(bytes, *room, Ending::Fails)
         };
-        assert!(rt; sent(bytes, narrow) == wanted, "at {room}");
+        assert!(rt; sent(bytes, taker) == *wanted, "at {room}");
     }
+    let full = Stream::taking(bytes, 0, Ending::Ends);
+    assert!(rt; sent(bytes, full) == (Some((13, 0)), 6, 2));
 }
 
 // Whether a call with this buffer has all of it.
 fn has_whole_buffer(buffer: &mut [u8]) -> bool {
-    let mut reader = Watched::new(Slow::new(b"", 0, false));
-    if reader.read(buffer).is_err() || reader.into_inner().length != buffer.len() {
-        return false;
-    }
-    let mut writer = Watched::new(Narrow {
-        left: buffer,
-        room: buffer.len(),
-        interruptions: 0,
-        ending: Ending::Fails,
-    });
-    matches!(writer.write(buffer), Ok(count) if count == buffer.len())
+    let bytes = [b'a'; 5_000];
+    let mut device = Stream::giving(&bytes, 5_000, Ending::Ends);
+    (device.left, device.room, device.interruptions, device.now) = (&bytes, 5_000, 0, 0);
+    let mut watched = Watched::new(device);
+    let is_read = matches!(watched.read(buffer), Ok(count) if count == buffer.len());
+    is_read && matches!(watched.write(buffer), Ok(count) if count == buffer.len())
 }
 
 #[test]
 fn a_watched_call_has_the_whole_buffer(rt: HostRuntime) {
-    for length in [1usize, 5, 4_097] {
-        let mut buffer = vec![in rt.alloc(); b'a'; length].expect(&rt, "memory");
-        assert!(rt; has_whole_buffer(&mut buffer));
-    }
+    let mut buffer = [0; 4_097];
+    assert!(rt; has_whole_buffer(&mut buffer));
 }

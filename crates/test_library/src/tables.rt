@@ -3,12 +3,11 @@ ghost use Rattle.std.specs.Prelude.{◌≡◌, ◌≤◌, length};
 ghost use mathlib.Core.List.{IsPrefix};
 ghost use Rattle.gopher_crew.specs.Desk.{IsBlankOf};
 
-use crate::fetcher::Table;
+use crate::opening;
+use crate::opening::Opened;
 use gopher_catalogue::{Catalogue, Hit, Status, Why};
-use gopher_crew::{Answer, Blank, Crew, Desk, Pass, Share};
-use gopher_item::{Place, Rule, Scope};
-use gopher_page::Query;
-use std::alloc::Global;
+use gopher_crew::{Answer, Blank, Crew, Desk, Pass};
+use gopher_page::{Page, Query};
 use std::process::Abort;
 use std::sync::Wait;
 use std::sync::atomic::{AtomicU64, Ordering};
@@ -38,19 +37,18 @@ const SLEEP: u64 = 10;
 // For how many milliseconds a late fetch sleeps, while another worker finds nothing to do.
 const LATE: u64 = 300;
 
-/// What befalls fetches.
-#[derive(Clone, Copy, Drop)]
-pub enum Fate<'a> {
+/// What befalls fetches of files, of all fetchers together.
+#[derive(Clone, Copy)]
+pub enum Fate {
     /// Nothing.
     Answered,
-    /// This many fetches of `/a`, of all fetchers together, can't be read.
-    Failing(&'a AtomicU64),
-    /// Fetches of `/a` are late, and are refused for this reason, if there is one.
+    /// The first of `/a` can't be read.
+    Fails,
+    /// Those of `/a` are late, and are refused for this reason, if there is one.
     Late(Option<Why>),
-    /// A fetch of a file is held until the files between it and this last letter were answered, of
-    /// which these are counted.
-    Held(&'a AtomicU64, u8),
-    /// `/b` can't be read.
+    /// One is held until the files between it and this last letter were answered.
+    Held(u8),
+    /// Those of `/b` can't be read.
     Unread,
 }
 
@@ -60,19 +58,9 @@ pub struct Host<'a, R> {
     pub clock: &'a R,
     pub root: &'a [u8],
     pub rest: &'a [u8],
-    pub fate: Fate<'a>,
-    /// Which of several fetchers has them.
-    pub number: u8,
-}
-
-// Takes one of at most three failures that are left, if there is one.
-fn takes_failure(failures: &AtomicU64) -> bool {
-    let order = Ordering::SeqCst;
-    (1..4u64).any(|left| {
-        failures
-            .compare_exchange(left, left - 1, order, order)
-            .is_ok()
-    })
+    pub fate: Fate,
+    /// How many fetches failed, or files were answered.
+    pub counter: &'a AtomicU64,
 }
 
 // Waits until `before` files were answered, and counts one more. A file that waits in vain can't be
@@ -88,31 +76,41 @@ fn hold(clock: &impl Clock, answered: &AtomicU64, before: u64) -> Result<(), Why
     Err(Why::Read)
 }
 
-// Whether a file with this letter is answered, and when.
-fn befall(clock: &impl Clock, fate: Fate<'_>, letter: u8) -> Result<(), Why> {
-    match fate {
-        Fate::Failing(failures) if letter == b'a' && takes_failure(failures) => Err(Why::Read),
-        Fate::Late(why) if letter == b'a' => {
-            thread::sleep(clock, Duration::from_millis(LATE));
-            match why {
-                Some(why) => Err(why),
-                None => Ok(()),
-            }
-        }
-        Fate::Held(answered, last) => {
-            hold(clock, answered, u64::from(last.saturating_sub(letter)))
-        }
-        Fate::Unread if letter == b'b' => Err(Why::Read),
-        _ => Ok(()),
+// Sleeps, and then fails for this reason, if there is one.
+fn end_late(clock: &impl Clock, why: Option<Why>) -> Result<(), Why> {
+    thread::sleep(clock, Duration::from_millis(LATE));
+    match why {
+        Some(why) => Err(why),
+        None => Ok(()),
     }
 }
 
-impl<R: Clock> Table for Host<'_, R> {
-    fn reply(&self, selector: &[u8]) -> Result<&[u8], Why> {
+impl<R: Clock> Host<'_, R> {
+    // Whether a file with this letter is answered, and when.
+    fn befall(&self, letter: u8) -> Result<(), Why> {
+        match (self.fate, letter) {
+            (Fate::Fails, b'a') if self.counter.fetch_add(1, Ordering::SeqCst) == 0 => {
+                Err(Why::Read)
+            }
+            (Fate::Late(why), b'a') => end_late(self.clock, why),
+            (Fate::Held(last), _) => {
+                hold(
+                    self.clock,
+                    self.counter,
+                    u64::from(last.saturating_sub(letter)),
+                )
+            }
+            (Fate::Unread, b'b') => Err(Why::Read),
+            _ => Ok(()),
+        }
+    }
+
+    /// The reply of a selector, or why there is none.
+    pub fn reply(&self, selector: &[u8]) -> Result<&[u8], Why> {
         match selector.last() {
             None => Ok(self.root),
             Some(letter) => {
-                befall(self.clock, self.fate, *letter)?;
+                self.befall(*letter)?;
                 Ok(self.rest)
             }
         }
@@ -142,47 +140,34 @@ pub fn all_done(known: u32) -> Status {
     }
 }
 
-/// A scope that allows a host at port 70.
-pub fn scope<R: Abort + AllocGlobal>(rt: &R, host: &[u8]) -> Scope {
-    let alloc = rt.alloc();
-    let mut allow = Vec::new(alloc);
-    let Ok(rule) = Rule::new(alloc, host, 70, b"") else {
-        panic!(rt; "no rule");
+/// The page of a place of a host.
+pub fn page<R: Abort + AllocGlobal>(
+    rt: &R,
+    kind: u8,
+    selector: &[u8],
+    host: &[u8],
+    bytes: &[u8],
+) -> Page
+    requires { length bytes.now ≤ 1048576 }
+{
+    let Some(page) = opening::page(rt.alloc(), kind, selector, host, bytes) else {
+        panic!(rt; "no page");
     };
-    let Ok(()) = allow.push(rule) else {
-        panic!(rt; "no memory");
-    };
-    Scope::new(allow, Vec::new(alloc))
+    page
 }
 
-/// A place at port 70.
-pub fn place<R: Abort + AllocGlobal>(rt: &R, kind: u8, selector: &[u8], host: &[u8]) -> Place {
-    let Ok(place) = Place::new(rt.alloc(), kind, selector, host, 70) else {
-        panic!(rt; "no place");
-    };
-    place
-}
-
-/// A crawl of a host at port 70 that begins in its root and knows at most `places` places.
+/// A crawl of a host that begins in its root and knows at most `places` places.
 pub fn catalogue<R: Abort + AllocGlobal>(
     rt: &R,
     host: &[u8],
     places: u32,
     tries: u32,
 ) -> Catalogue {
-    let alloc = rt.alloc();
-    let mut seeds = Vec::new(alloc);
-    let Ok(()) = seeds.push(place(rt, b'1', b"", host)) else {
-        panic!(rt; "no memory");
-    };
-    let Ok(catalogue) = Catalogue::open(alloc, scope(rt, host), seeds, places, tries) else {
+    let Some(catalogue) = opening::crawl(rt.alloc(), host, places, tries) else {
         panic!(rt; "the crawl isn't opened");
     };
     catalogue
 }
-
-/// A desk that was opened, with its passes and shares.
-pub type Opened<'a, C, R> = (Desk<C, &'a R>, Vec<Pass<C>>, Vec<Share<C>>);
 
 /// A desk over a catalogue, which has to be opened.
 pub fn opened<'a, C: Crew, R: Wait + Abort + AllocGlobal>(
@@ -205,7 +190,7 @@ pub fn opened<'a, C: Crew, R: Wait + Abort + AllocGlobal>(
 fn query<R: Abort + AllocGlobal>(rt: &R, text: &[u8]) -> Query
     requires { length text.now ≤ 1024 }
 {
-    let Ok(query) = Query::read(rt.alloc(), text) else {
+    let Some(query) = opening::query(rt.alloc(), text) else {
         panic!(rt; "the query isn't read");
     };
     query

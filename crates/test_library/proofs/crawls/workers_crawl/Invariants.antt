@@ -1,4 +1,4 @@
-use Rattle.test_library.proofs.crawls.a_circle_of_links_ends.Given as goal
+use Rattle.test_library.proofs.crawls.workers_crawl.Given as goal
 
 -- the names of the blank that was made
 abbrev pub ghosts-crawled-C-Ledger : goal.ghosts-crawled-C-Ledger

@@ -1,4 +1,4 @@
-use Rattle.test_library.proofs.desks.a_note_makes_a_pass_see_a_page.Given as goal
+use Rattle.test_library.proofs.answers.a_note_makes_a_pass_see_a_page.Given as goal
 
 -- the names of the blank that was made
 abbrev pub ghosts-crawl_docs-C-Ledger : goal.ghosts-crawl_docs-C-Ledger

@@ -1,5 +1,5 @@
-// A stream in memory that gives and takes little at a time, and that fails.
-ghost use Rattle.std.specs.Prelude.{◌≡◌, IfOk};
+//! A stream in memory that gives and takes little at a time, is interrupted, waits and fails.
+ghost use Rattle.std.specs.Prelude.{◌≡◌, length, IfOk};
 
 use std::io;
 use std::io::{Error, ErrorKind, Read, Write};
@@ -25,7 +25,7 @@ impl Ending {
 }
 
 /// Gives `bytes` and takes `room` bytes, which have to be those that `left` begins with, at most
-/// `size` a call, of which every other is interrupted. Then it goes on as `ending` says.
+/// `size` a call. Then it goes on as `ending` says.
 #[derive(Clone, Copy)]
 pub struct Stream<'a> {
     pub bytes: &'a [u8],
@@ -33,11 +33,14 @@ pub struct Stream<'a> {
     pub room: usize,
     pub size: usize,
     pub ending: Ending,
-    pub interrupted: bool,
+    /// How many calls are interrupted before each that isn't.
+    pub interruptions: u32,
+    /// How many calls are interrupted before the next that isn't.
+    pub now: u32,
 }
 
 impl<'a> Stream<'a> {
-    /// One that gives these bytes.
+    /// One that gives these bytes. Every other call is interrupted.
     pub fn giving(bytes: &'a [u8], size: usize, ending: Ending) -> Stream<'a> {
         Stream {
             bytes,
@@ -45,11 +48,12 @@ impl<'a> Stream<'a> {
             room: 0,
             size,
             ending,
-            interrupted: false,
+            interruptions: 1,
+            now: 1,
         }
     }
 
-    /// One that takes `room` of these bytes, three at a time.
+    /// One that takes `room` of these bytes, three at a time. Every other call is interrupted.
     pub fn taking(left: &'a [u8], room: usize, ending: Ending) -> Stream<'a> {
         Stream {
             bytes: b"",
@@ -57,7 +61,31 @@ impl<'a> Stream<'a> {
             room,
             size: 3,
             ending,
-            interrupted: false,
+            interruptions: 1,
+            now: 1,
+        }
+    }
+
+    // Whether the next call is interrupted.
+    fn is_interrupted(&mut self) -> bool {
+        if self.now > 0 {
+            self.now -= 1;
+            return true;
+        }
+        self.now = self.interruptions;
+        false
+    }
+
+    // Takes these bytes, if they are those that come next.
+    fn take(&mut self, bytes: &[u8]) -> io::Result<usize>
+        ensures { IfOk result (λ count. count ≡ length bytes.now) }
+    {
+        match self.left.strip_prefix(bytes) {
+            Some(rest) => {
+                self.left = rest;
+                Ok(bytes.len())
+            }
+            None => Err(Error::other("other bytes")),
         }
     }
 }
@@ -67,8 +95,7 @@ impl Read for Stream<'_> {
         if self.bytes.is_empty() {
             return self.ending.answer();
         }
-        self.interrupted = !self.interrupted;
-        if self.interrupted {
+        if self.is_interrupted() {
             return Err(Error::new(ErrorKind::Interrupted, "again"));
         }
         let count = buf.len().min(self.size);
@@ -81,20 +108,15 @@ impl Write for Stream<'_> {
         if self.room == 0 {
             return self.ending.answer();
         }
-        self.interrupted = !self.interrupted;
-        if self.interrupted {
+        if self.is_interrupted() {
             return Err(Error::new(ErrorKind::Interrupted, "again"));
         }
         let count = buf.len().min(self.size).min(self.room);
-        let Some(rest) = self.left.strip_prefix(&buf[..count]) else {
-            return Err(Error::other("other bytes"));
-        };
-        self.left = rest;
         self.room -= count;
-        Ok(count)
+        self.take(&buf[..count])
     }
 
     fn flush(&mut self) -> io::Result<()> {
-        Ok(())
+        Err(Error::other("broken"))
     }
 }
