@@ -1,8 +1,8 @@
 -- Definitions on worked bytes: each row computes.
 use Rattle.std.specs.Prelude.{◌≡◌, refl, [], ◌∷◌, codes, None, Some, true, false}
-use Rattle.gopher_bytes.specs.Lines.{lines_of}
+use Rattle.gopher_bytes.specs.Lines.{any_last_line, lines_of}
 use Rattle.gopher_item.specs.Place.{address_fault}
-use Rattle.gopher_item.specs.Menu.{any_last_line, entries_of}
+use Rattle.gopher_item.specs.Menu.{entries_of}
 use Rattle.gopher_item.specs.MenuLine.{menu_line_of}
 use Rattle.gopher_item.specs.Request.{request_of}
 use Rattle.gopher_item.specs.declared.fault.ItemFault.TheVariants.{BadHost, BadPort}

@@ -4,8 +4,8 @@ ghost use Rattle.std.specs.Prelude.{◌≤◌, length};
 use crate::opening::{claimed, crawl, page, query, scope, seeds};
 use crate::tables::is_root;
 use gopher_catalogue::{Book, Catalogue, Event, OpenRefused, Status, Why};
+use gopher_item::Scope;
 use gopher_page::Query;
-use gopher_scope::Scope;
 use std::alloc::Global;
 
 const HOST: &[u8] = b"localhost";

@@ -1,6 +1,10 @@
 // Menus and texts read and written. What other bytes are read as is in proofs/WorkedRows.antt.
+
+ghost use Rattle.std.specs.Prelude.{IfSome};
+ghost use Rattle.gopher_text.specs.Text.{HoldNoFeed, lines_in};
+
 use gopher_item::{Entry, MenuLine, read_menu, read_request, write_menu};
-use gopher_text::{read_text, write_text};
+use gopher_text::{first_text_line, read_text, write_text};
 use std::alloc::Global;
 
 const ABOUT: &[u8] = b"0About internet Gopher\tStuff:About us\trawBits.micro.umn.edu\t70\r\n.\r\n";
@@ -125,13 +129,27 @@ fn makes_lines(rt: HostRuntime) {
     }
 }
 
+// The lines of a text, each in a vector of its own.
+fn text_lines(alloc: Global, bytes: &[u8]) -> Option<Vec<Vec<u8>>>
+    ensures { IfSome result (λ lines. HoldNoFeed (lines_in lines.items)) }
+{
+    let mut lines = Vec::new(alloc);
+    let mut rest = bytes;
+    while let Some((line, after)) = first_text_line(rest) {
+        lines.push(Vec::from_slice(alloc, line).ok()?).ok()?;
+        rest = after;
+    }
+    Some(lines)
+}
+
 // Whether a text that is read is written as it was.
 fn is_written_again(alloc: Global, bytes: &[u8]) -> bool {
-    let Ok(text) = read_text(alloc, bytes) else {
+    let (Ok(text), Some(lines)) = (read_text(alloc, bytes), text_lines(alloc, bytes)) else {
         return false;
     };
     let mut out = Vec::new(alloc);
-    text.ended && write_text(&text.lines, &mut out).is_ok() && out.as_slice() == bytes
+    let is_read = text.ended && text.lines.len() == lines.len();
+    is_read && write_text(&lines, &mut out).is_ok() && out.as_slice() == bytes
 }
 
 #[test]

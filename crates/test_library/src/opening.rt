@@ -4,9 +4,8 @@ ghost use Rattle.std.specs.Prelude.{◌≤◌, length};
 
 use gopher_catalogue::{Catalogue, Turn};
 use gopher_crew::{Desk, Pass, Share};
-use gopher_item::Place;
+use gopher_item::{Place, Rule, Scope};
 use gopher_page::{Page, Query};
-use gopher_scope::{Rule, Scope};
 use std::alloc::Global;
 
 /// What a check gives, or what was not as wanted.

@@ -1,6 +1,6 @@
 use Rattle.std.proofs.Common.{length}
 use Rattle.gopher_text.specs.Text.{HoldNoFeed, lines_in}
-use Rattle.test_library.proofs.texts.text_lines.Given as goal
+use Rattle.test_library.proofs.menus.text_lines.Given as goal
 
 abbrev pub invariant-loop-line : goal.invariant-loop-line
 invariant-loop-line l = HoldNoFeed (lines_in l.lines.items)
