@@ -4,7 +4,6 @@ use Rattle.std.specs.List.{filter_map, find, flat_map, sum_by}
 use Rattle.std.specs.Option.{option_map_or}
 use Rattle.std.specs.Arc.{arc_value}
 use Rattle.std.specs.declared.sync.Arc.{Arc}
-use Rattle.std.specs.Borrow.{Bor}
 use Rattle.gopher_item.specs.Special.{is_control}
 use Rattle.gopher_bytes.specs.Lines.{lines_of}
 use Rattle.gopher_item.specs.Place.{PlaceData, same_place, distinct}
@@ -42,10 +41,6 @@ page_with place title links counts =
 -- the links of a page, which keeps a list only if it has any
 abbrev pub links_kept : {Z : Type 0} → Option (Arc (List PlaceData) Z) → List PlaceData
 links_kept links = option_map_or arc_value links []
-
--- the links that are lent, if there are any
-abbrev pub links_lent : Option (Bor (List PlaceData)) → List PlaceData
-links_lent links = option_map_or (λ lent. lent.now) links []
 
 -- the place that an entry of a menu names, if it names one
 abbrev pub place_of_entry : Entry → Option PlaceData

@@ -10,6 +10,7 @@ ghost use Rattle.gopher_bytes.specs.Parts.{ArePacked, start_at};
 ghost use Rattle.gopher_page.specs.Packed.{AreCounts, part_at};
 ghost use Rattle.gopher_page.specs.Page.{words_bytes};
 
+use crate::each_count::EachCount;
 use crate::ends::Ends;
 use crate::numbered::Numbered;
 use crate::repeats::Repeats;
@@ -178,6 +179,13 @@ impl Counts {
         ensures { slice_get self.now index ≡ Some (result.0.now, result.1) }
     {
         part_at(&self.bytes, &self.ends, &self.counts, index)
+    }
+
+    /// Returns an iterator over the words and their counts.
+    pub fn iter(&self) -> EachCount<'_>
+        ensures { result ≡ self.now }
+    {
+        EachCount::of(self)
     }
 
     fn is_before(&self, index: usize, sought: &[u8]) -> bool

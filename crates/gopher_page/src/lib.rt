@@ -10,6 +10,7 @@
 #![tactic(auto)]
 
 mod counts;
+mod each_count;
 mod ends;
 mod fault;
 mod line;
@@ -24,6 +25,7 @@ mod title;
 mod word;
 
 pub use counts::{Counts, is_meant};
+pub use each_count::EachCount;
 pub use fault::QueryFault;
 pub use numbered::Numbered;
 pub use page::Page;

@@ -3,16 +3,17 @@
 ghost use Rattle.std.specs.Prelude.{◌≡◌, ◌≤◌, false, length, IfOk};
 ghost use Rattle.std.specs.Arc.{arc_value};
 ghost use Rattle.std.specs.List.{sum_by};
+ghost use Rattle.gopher_item.specs.Places.{places_lent};
 ghost use Rattle.gopher_page.specs.Words.{texts};
 ghost use Rattle.gopher_page.specs.Counts.{count_meant};
-ghost use Rattle.gopher_page.specs.Page.{IsPageOfLines, is_large, links_kept, links_lent, page_of, page_of_menu, page_of_text};
+ghost use Rattle.gopher_page.specs.Page.{IsPageOfLines, is_large, links_kept, page_of, page_of_menu, page_of_text};
 
 use crate::counts::Counts;
 use crate::line::{entry_lines, text_lines};
 use crate::links::links_of_entries;
 use crate::tally::count_words;
 use crate::title::title_of;
-use gopher_item::{ByteString, NoMemory, Place, Places, Scope, read_menu};
+use gopher_item::{ByteString, EachPlace, NoMemory, Place, Places, Scope, read_menu};
 use gopher_text::MAX_REPLY;
 use std::alloc::Global;
 use std::marker::Model;
@@ -187,10 +188,18 @@ impl Page {
         self.parts.title.as_slice()
     }
 
-    /// Returns the links, at most 1,048,576 (`MAX_REPLY`): the allowed places that the menu names,
-    /// each once, in the order of first mention. `None` means that there are none.
-    pub fn links(&self) -> Option<&Places>
-        ensures links { links_lent result ≡ self.now.links }
+    /// Returns an iterator over the links, at most 1,048,576 (`MAX_REPLY`): the allowed places that
+    /// the menu names, each once, in the order of first mention.
+    pub fn links(&self) -> EachPlace<'_>
+        ensures links { result ≡ self.now.links }
+        ensures few { length self.now.links ≤ MAX_REPLY }
+    {
+        EachPlace::of(self.packed_links())
+    }
+
+    /// Returns the packed list of the links. `None` means that there are none.
+    pub fn packed_links(&self) -> Option<&Places>
+        ensures links { places_lent result ≡ self.now.links }
         ensures few { length self.now.links ≤ MAX_REPLY }
     {
         match &self.parts.links {
@@ -222,7 +231,7 @@ impl Page {
     pub fn size(&self) -> usize {
         let size = PAGE_SIZE.saturating_add(self.parts.title.len());
         let size = size.saturating_add(self.size_of_words());
-        match self.links() {
+        match self.packed_links() {
             Some(links) => size.saturating_add(size_of_links(links)),
             None => size,
         }
