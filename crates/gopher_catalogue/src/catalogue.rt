@@ -99,7 +99,7 @@ fn learn(
     ensures err { OnErr result (KeepsFrontier frontier.old frontier.new) }
 {
     let none = Places::new(alloc);
-    let links = match page.links() {
+    let links = match page.packed_links() {
         Some(links) => links,
         None => &none,
     };

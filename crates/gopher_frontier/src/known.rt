@@ -181,7 +181,7 @@ impl KnownPlaces {
     {
         let mut dropped = 0;
         for index in 0..links.len() {
-            let link = Arc::new(alloc, links.get(alloc, index)?)?;
+            let link = Arc::new(alloc, links.get(index).to_place(alloc)?)?;
             dropped += u32::from(self.mention_link(scope, limit, &link)?);
         }
         Ok(dropped)

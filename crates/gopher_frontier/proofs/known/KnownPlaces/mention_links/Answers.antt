@@ -9,7 +9,7 @@ loop-index-preserved c =
     let e = c.in_ok-mention_link.ensures.places in
     let link = arc_value c.in_ok-link.link in
     let is : link ≡ get_or c.args.links.now c.loop-index.index link =
-    c.in_ok-link.ensures.ok ∙ sym (get_or_from_slice_get c.args.links.now c.loop-index.index c.in_ok-get.field-0 link c.in_ok-get.ensures)
+    c.in_ok-link.ensures.ok ∙ c.in_ok-to_place.ensures ∙ sym (get_or_from_slice_get c.args.links.now c.loop-index.index c.get.result link c.get.ensures)
     in
     let within : c.loop-index.index < length c.args.links.now = omega (arith, c.loop-index-test.true, c.len-index-end.ensures) in
     record {
