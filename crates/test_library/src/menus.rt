@@ -3,9 +3,10 @@
 ghost use Rattle.std.specs.Prelude.{IfSome};
 ghost use Rattle.gopher_text.specs.Text.{HoldNoFeed, lines_in};
 
-use gopher_item::{Entry, MenuLine, read_menu, read_request, write_menu};
+use gopher_item::{Entry, MenuLine, Place, read_menu, read_request, write_menu};
 use gopher_text::{first_text_line, read_text, write_text};
 use std::alloc::Global;
+use std::cmp::Ordering;
 
 const ABOUT: &[u8] = b"0About internet Gopher\tStuff:About us\trawBits.micro.umn.edu\t70\r\n.\r\n";
 
@@ -182,5 +183,40 @@ fn is_request(alloc: Global, line: &[u8], wanted: Result<(&[u8], bool), u8>) -> 
 fn reads_requests(rt: HostRuntime) {
     for (line, wanted) in REQUESTS {
         assert!(rt; is_request(rt.alloc(), line, *wanted));
+    }
+}
+
+// The type, selector, host and port of a place.
+type Parts = (u8, &'static [u8], &'static [u8], u16);
+
+// Places in their order.
+const ORDER: &[Parts] = &[
+    (b'1', b"/z", b"a", 70),
+    (b'0', b"/a", b"h", 70),
+    (b'1', b"/a", b"h", 70),
+    (b'0', b"/b", b"h", 70),
+    (b'0', b"", b"h", 7070),
+];
+
+fn place(alloc: Global, parts: Parts) -> Option<Place> {
+    let (kind, selector, host, port) = parts;
+    Place::new(alloc, kind, selector, host, port).ok()
+}
+
+// How two places compare.
+fn compared(alloc: Global, first: Parts, second: Parts) -> Option<Ordering> {
+    Some(place(alloc, first)?.cmp(&place(alloc, second)?))
+}
+
+#[test]
+fn places_are_ordered(rt: HostRuntime) {
+    for (first, second) in ORDER.iter().zip(&ORDER[1..]) {
+        assert!(rt; matches!(compared(rt.alloc(), *first, *second), Some(Ordering::Less)));
+        assert!(rt;
+            matches!(
+                compared(rt.alloc(), *second, *first),
+                Some(Ordering::Greater)
+            )
+        );
     }
 }

@@ -14,13 +14,16 @@ pub type Checked<T> = Result<T, &'static str>;
 /// A desk, with its passes and its shares.
 pub type Opened<'a, C, R> = (Desk<C, &'a R>, Vec<Pass<C>>, Vec<Share<C>>);
 
+/// What is told of a call that gives nothing in both tries.
+pub const TWICE: &str = "a call is refused twice";
+
 /// What a call gives in one of two tries.
-pub fn at_last<T: Drop, F: Fn() -> Option<T>>(call: F) -> Checked<T>
+pub fn at_last<T: Drop, F: Fn() -> Option<T>>(call: F) -> Option<T>
     requires { F.IsAlwaysCallable call }
 {
     match call() {
-        Some(given) => Ok(given),
-        None => call().ok_or("a call is refused twice"),
+        Some(given) => Some(given),
+        None => call(),
     }
 }
 

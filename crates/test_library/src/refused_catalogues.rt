@@ -1,7 +1,7 @@
 //! A crawl on a catalogue, of which one growth may be refused. What a refused call leaves is proved.
 
 use crate::opening;
-use crate::opening::{Checked, at_last, scope, seeds};
+use crate::opening::{Checked, TWICE, at_last, scope, seeds};
 use crate::tables::all_done;
 use gopher_catalogue::{Catalogue, Claim, FoundRefused, OpenRefused, Turn, Why};
 use gopher_page::{Page, Query};
@@ -34,8 +34,8 @@ fn opened_again(alloc: Global, refused: OpenRefused) -> Checked<Catalogue> {
 }
 
 fn opened(alloc: Global) -> Checked<Catalogue> {
-    let scope = at_last(|| scope(alloc, b"h"))?;
-    let seeds = at_last(|| seeds(alloc, b"h", &[]))?;
+    let scope = at_last(|| scope(alloc, b"h")).ok_or(TWICE)?;
+    let seeds = at_last(|| seeds(alloc, b"h", &[])).ok_or(TWICE)?;
     match Catalogue::open(alloc, scope, seeds, 64, 1) {
         Ok(catalogue) => Ok(catalogue),
         Err(refused) => opened_again(alloc, refused),
@@ -88,7 +88,7 @@ fn settles(alloc: Global, catalogue: &mut Catalogue, claim: &Claim) -> Checked<(
             };
         }
     };
-    let page = at_last(|| page(alloc, catalogue, claim, reply))?;
+    let page = at_last(|| page(alloc, catalogue, claim, reply)).ok_or(TWICE)?;
     finds(catalogue, claim.number, page)
 }
 
@@ -124,8 +124,8 @@ fn found_by(catalogue: &Catalogue, query: &Query) -> Option<(usize, u64, usize)>
 
 fn check_found(alloc: Global, catalogue: &Catalogue) -> Checked<()> {
     for (text, hits, score) in FOUND {
-        let query = at_last(|| query(alloc, *text))?;
-        if at_last(|| found_by(catalogue, &query))? != (*hits, *score, 2) {
+        let query = at_last(|| query(alloc, *text)).ok_or(TWICE)?;
+        if at_last(|| found_by(catalogue, &query)).ok_or(TWICE)? != (*hits, *score, 2) {
             return Err("a search finds others");
         }
     }

@@ -4,7 +4,7 @@ ghost use Rattle.std.specs.Prelude.{◌≡◌, []};
 ghost use Rattle.gopher_crew.specs.Desk.{IsBlankOf};
 
 use crate::fetcher::Fetcher;
-use crate::opening::{Checked, at_last, query};
+use crate::opening::{Checked, TWICE, at_last, query};
 use crate::refused_desks::searched;
 use crate::refused_opening::opened;
 use crate::tables::{Fate, Host, MOON, TWO_FILES, all_done};
@@ -57,7 +57,7 @@ fn check_end<C: Crew>(
     if !is_whole(status, failed) {
         return Err("a crawl stops before its end");
     }
-    let query = at_last(|| query(alloc, b"moon"))?;
+    let query = at_last(|| query(alloc, b"moon")).ok_or(TWICE)?;
     sees_all(pass, &query, status.known, failed)
 }
 

@@ -4,7 +4,7 @@
 ghost use Rattle.std.specs.Prelude.{◌≡◌, []};
 ghost use Rattle.gopher_crew.specs.Desk.{IsBlankOf};
 
-use crate::opening::{Checked, at_last, page, query};
+use crate::opening::{Checked, TWICE, at_last, page, query};
 use crate::refused_opening::opened;
 use crate::tables::is_root;
 use gopher_catalogue::{Added, FoundRefused, Turn};
@@ -118,7 +118,7 @@ fn finds_root<C: Crew, R: Wait + AllocGlobal>(
     desk: &Desk<C, &R>,
     share: &mut Share<C>,
 ) -> Checked<Option<Note<C>>> {
-    let page = at_last(|| page(rt.alloc(), b'1', b"", HOST, DOCS))?;
+    let page = at_last(|| page(rt.alloc(), b'1', b"", HOST, DOCS)).ok_or(TWICE)?;
     let (added, note) = found(rt, desk, share, page)?;
     if added.fresh == 1 {
         Ok(note)
@@ -194,7 +194,7 @@ fn work_by<C: Crew, R: Wait + AllocGlobal>(
     let Some(second) = others.first_mut() else {
         return Err("no second pass");
     };
-    let query = at_last(|| query(rt.alloc(), b"docs"))?;
+    let query = at_last(|| query(rt.alloc(), b"docs")).ok_or(TWICE)?;
     work_at(rt, desk, share, first, second, &query)
 }
 

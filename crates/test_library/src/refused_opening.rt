@@ -4,7 +4,7 @@ ghost use Rattle.std.specs.Prelude.{◌≡◌, []};
 ghost use mathlib.Core.List.{IsPrefix};
 ghost use Rattle.gopher_crew.specs.Desk.{IsBlankOf};
 
-use crate::opening::{Checked, Opened, at_last, crawl};
+use crate::opening::{Checked, Opened, TWICE, at_last, crawl};
 use gopher_crew::{Blank, Crew, Desk, DeskRefused};
 use std::sync::Wait;
 
@@ -32,7 +32,7 @@ pub fn opened<'a, C: Crew, R: Wait + AllocGlobal>(
     requires blank { IsBlankOf C.name C.parts C.history blank }
     requires begun { blank.begun ≡ [] }
 {
-    let catalogue = at_last(|| crawl(rt.alloc(), host, 10, 1))?;
+    let catalogue = at_last(|| crawl(rt.alloc(), host, 10, 1)).ok_or(TWICE)?;
     match Desk::<C, &R>::open(rt, rt.alloc(), catalogue, 2, 1, blank) {
         Ok(opened) => Ok(opened),
         Err(refused) => opened_again(rt, refused),

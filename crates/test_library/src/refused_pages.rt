@@ -1,7 +1,7 @@
 //! Words, pages and queries, of which one growth may be refused, and the replies of a tree.
 
 use crate::opening;
-use crate::opening::{Checked, at_last};
+use crate::opening::{Checked, TWICE, at_last};
 use crate::trees::tree_of;
 use gopher_item::Home;
 use gopher_page::{Page, Query, words};
@@ -78,7 +78,7 @@ const ROWS: &[Row] = &[
 ];
 
 fn is_word(alloc: Global, bytes: &[u8], wanted: Option<&[u8]>) -> Checked<()> {
-    let found = at_last(|| words(alloc, bytes).ok())?;
+    let found = at_last(|| words(alloc, bytes).ok()).ok_or(TWICE)?;
     let is_same = match found.as_slice() {
         [] => wanted.is_none(),
         [word] => wanted == Some(word.as_slice()),
@@ -107,7 +107,7 @@ fn query(alloc: Global, text: &[u8]) -> Option<Query> {
 }
 
 fn is_titled(alloc: Global, selector: &[u8], reply: &[u8], title: &[u8]) -> Checked<()> {
-    let page = at_last(|| page(alloc, selector, reply))?;
+    let page = at_last(|| page(alloc, selector, reply)).ok_or(TWICE)?;
     if page.title() == title {
         Ok(())
     } else {
@@ -130,8 +130,8 @@ fn wants(query: &Query, wanted: &[(&[u8], bool)]) -> bool {
 
 fn is_matched(alloc: Global, row: Row) -> Checked<()> {
     let (text, reply, score, wanted) = row;
-    let query = at_last(|| query(alloc, text))?;
-    let page = at_last(|| page(alloc, b"/a", reply))?;
+    let query = at_last(|| query(alloc, text)).ok_or(TWICE)?;
+    let page = at_last(|| page(alloc, b"/a", reply)).ok_or(TWICE)?;
     let is_score = match score {
         Some(score) => query.matches(&page) && query.score(&page) == score,
         None => !query.matches(&page),
@@ -159,8 +159,8 @@ pub fn check(alloc: Global) -> Checked<()> {
 
 // The replies of a tree with one text, made of what comes back if they are refused.
 fn replies(alloc: Global) -> Checked<Replies> {
-    let tree = at_last(|| tree_of(alloc, &[(b"a.txt", b"hello\n")]).ok())?;
-    let home = at_last(|| Home::new(alloc, b"localhost", 7070).ok())?;
+    let tree = at_last(|| tree_of(alloc, &[(b"a.txt", b"hello\n")]).ok()).ok_or(TWICE)?;
+    let home = at_last(|| Home::new(alloc, b"localhost", 7070).ok()).ok_or(TWICE)?;
     match Replies::new(alloc, tree, home) {
         Ok(replies) => Ok(replies),
         Err(refused) => Replies::new(alloc, refused.tree, refused.home)
@@ -179,5 +179,5 @@ fn has_text(alloc: Global, replies: &Replies) -> Option<()> {
 /// The replies of a tree.
 pub fn check_replies(alloc: Global) -> Checked<()> {
     let replies = replies(alloc)?;
-    at_last(|| has_text(alloc, &replies))
+    at_last(|| has_text(alloc, &replies)).ok_or(TWICE)
 }
