@@ -3,7 +3,7 @@
 ghost use Rattle.std.specs.Prelude.{◌≡◌, ◌≤◌, vec_len, IfOk};
 
 use gopher_catalogue::Why;
-use gopher_crew::Fetch;
+use gopher_crew::{Calls, Fetch};
 use gopher_item::Place;
 use std::alloc::Global;
 
@@ -57,14 +57,16 @@ fn copy(alloc: Global, reply: &[u8], limit: usize) -> Result<Vec<u8>, Why>
     }
 }
 
-// The runtime is what a fetch over a network would wait by. This one waits for nobody.
-impl<R> Fetch<R> for Burrow {
+impl Calls for Burrow {
     ghost called = { λ burrow. burrow.calls };
 
     fn calls(&self) -> u64 {
         self.calls
     }
+}
 
+// The runtime is what a fetch over a network would wait by. This one waits for nobody.
+impl<R> Fetch<R> for Burrow {
     fn fetch(
         &mut self,
         _rt: &R,

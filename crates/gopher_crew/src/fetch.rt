@@ -7,19 +7,23 @@ use gopher_catalogue::Why;
 use gopher_item::Place;
 use std::alloc::Global;
 
-/// Fetches the replies of places. `R` is the runtime that it needs. A fetch over a network waits
-/// for its peer; one from memory needs no runtime.
-pub trait Fetch<R> {
+/// Counts a fetcher's calls. `Fetch` has the runtime as a parameter, so the count has its own
+/// trait: `fetcher.calls()` names no runtime.
+pub trait Calls {
     ghost called: { Self → ℕ };
 
     /// Returns the number of fetches, failed or not. It stays at the last value of a `u64`.
     fn calls(&self) -> u64
         ensures { result ≡ called self.now };
+}
 
+/// Fetches the replies of places. `R` is the runtime that it needs. A fetch over a network waits
+/// for its peer; one from memory needs no runtime.
+pub trait Fetch<R>: Calls {
     /// Fetches the reply of a place, at most `limit` bytes, which is at most 1,048,576 (`MAX_REPLY`
     /// of gopher_text). Returns the reason if there is none.
     fn fetch(&mut self, rt: &R, alloc: Global, place: &Place, limit: usize) -> Result<Vec<u8>, Why>
         requires { limit ≤ 1048576 }
         ensures within { IfOk result (λ bytes. vec_len bytes ≤ limit) }
-        ensures calls { called self.new ≡ one_more_call (called self.old) };
+        ensures calls { Self.called self.new ≡ one_more_call (Self.called self.old) };
 }

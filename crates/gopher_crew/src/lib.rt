@@ -106,7 +106,7 @@ pub use crawling::{CrawlRefused, crawl};
 pub use crew::Crew;
 pub use desk::Desk;
 pub use fault::{DeskFault, SearchFault};
-pub use fetch::Fetch;
+pub use fetch::{Calls, Fetch};
 pub use note::Note;
 pub use pass::{Answer, Pass};
 pub use refusals::{CloseRefused, DeskRefused};

@@ -3,7 +3,7 @@
 ghost use Rattle.std.specs.Prelude.{◌≡◌};
 
 use gopher_catalogue::Why;
-use gopher_crew::Fetch;
+use gopher_crew::{Calls, Fetch};
 use gopher_item::Place;
 use gopher_serve::fetch_over;
 use gopher_text::Watched;
@@ -36,13 +36,15 @@ fn connect<R: Net<Listener = TcpListener, Stream = TcpStream>>(
     TcpStream::connect(rt, (host, place.port())).ok()
 }
 
-impl<R: Net<Listener = TcpListener, Stream = TcpStream>> Fetch<R> for TcpFetch {
+impl Calls for TcpFetch {
     ghost called = { λ fetcher. fetcher.calls };
 
     fn calls(&self) -> u64 {
         self.calls
     }
+}
 
+impl<R: Net<Listener = TcpListener, Stream = TcpStream>> Fetch<R> for TcpFetch {
     fn fetch(
         &mut self,
         rt: &R,

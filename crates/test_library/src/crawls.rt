@@ -8,7 +8,7 @@ use crate::tables::{
     are_files, catalogue, hits, opened,
 };
 use gopher_catalogue::{Catalogue, Event, Status, Why};
-use gopher_crew::{Answer, Blank, Crew, Desk, Fetch, Share, Stop, WorkEnd, crawl, work};
+use gopher_crew::{Answer, Blank, Calls, Crew, Desk, Share, Stop, WorkEnd, crawl, work};
 use std::marker::Brand;
 use std::process::Abort;
 use std::sync::Wait;
@@ -93,7 +93,7 @@ pub fn crawled<C: Crew + Send + Sync, R: Threads + Wait + Clock + Abort + AllocG
 // A worker has finished, with as many calls as it found or failed places, and at least this many.
 fn has_finished<C: Crew, R: Clock + Abort>(rt: &R, end: &WorkEnd<Fetcher<'_, R>, C>, least: u64) {
     assert!(rt; end.stop == Stop::Finished);
-    let calls = Fetch::<R>::calls(&end.fetcher);
+    let calls = end.fetcher.calls();
     assert!(rt; calls == u64::from(end.found) + u64::from(end.failed) && calls >= least);
 }
 

@@ -4,7 +4,7 @@ ghost use Rattle.std.specs.Prelude.{◌≡◌, ◌≤◌, vec_len, IfOk};
 
 use crate::tables::Host;
 use gopher_catalogue::Why;
-use gopher_crew::Fetch;
+use gopher_crew::{Calls, Fetch};
 use gopher_item::Place;
 use std::alloc::Global;
 use std::time::Clock;
@@ -33,13 +33,15 @@ impl<'a, R> Fetcher<'a, R> {
     }
 }
 
-impl<'a, R: Clock, W> Fetch<W> for Fetcher<'a, R> {
+impl<'a, R> Calls for Fetcher<'a, R> {
     ghost called = { λ fetcher. fetcher.calls };
 
     fn calls(&self) -> u64 {
         self.calls
     }
+}
 
+impl<'a, R: Clock, W> Fetch<W> for Fetcher<'a, R> {
     fn fetch(
         &mut self,
         _rt: &W,

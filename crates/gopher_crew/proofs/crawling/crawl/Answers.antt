@@ -16,10 +16,10 @@ returns-clause-each g c =
     let ended : List W = c.run_all.new.workers in
     let written = take_at ended (drop (length ended) c.workers_of.new.workers.items) c.workers_of.new.workers.len (c.run_all.ensures.len ∙ c.as_mut_slice.ensures.len) in
     let Q : P → W → Type 0 = λ p w. (w.fetcher ≡ p.0) × (w.share ≡ p.1) in
-    let S : P → W → Type 0 = λ p w. Works p.1 (g.F.Fetch.called p.0) w.share (g.F.Fetch.called w.fetcher) (w.found + w.failed) w.stop in
+    let S : P → W → Type 0 = λ p w. Works p.1 (g.F.Calls.called p.0) w.share (g.F.Calls.called w.fetcher) (w.found + w.failed) w.stop in
     let idle = subst (λ (workers : List W). AllZip Q pairs workers) (sym c.as_mut_slice.ensures.value) c.workers_of.ensures.idle in
     subst (λ (workers : List W). AllZip S pairs workers) (sym written)
-    (all_work g.F.Fetch.called (λ (w : W). w.fetcher) (λ (w : W). w.share) (λ (w : W). w.found + w.failed) (λ (w : W). w.stop)
+    (all_work g.F.Calls.called (λ (w : W). w.fetcher) (λ (w : W). w.share) (λ (w : W). w.found + w.failed) (λ (w : W). w.stop)
     (λ (p : P). p.0) (λ (p : P). p.1) pairs c.as_mut_slice.result.now ended idle c.run_all.ensures.each)
 
 pub returns-clause-parts : goal.returns-clause-parts
@@ -27,5 +27,5 @@ returns-clause-parts g c =
     let F = g.row.F.Denot in
     let W = WorkEnd F g.row.C.Denot in
     let P = F × ShareData in
-    same_parts (λ (p : P). p.1) (λ (p : P). g.F.Fetch.called p.0) (λ (w : W). w.share) (λ (w : W). g.F.Fetch.called w.fetcher)
+    same_parts (λ (p : P). p.1) (λ (p : P). g.F.Calls.called p.0) (λ (w : W). w.share) (λ (w : W). g.F.Calls.called w.fetcher)
     (λ (w : W). w.found + w.failed) (λ (w : W). w.stop) c.args.pairs.items _ (returns-clause-each g c)

@@ -4,6 +4,6 @@ use Rattle.gopher_crew.proofs.working.run.Given as goal
 
 abbrev pub invariant-loop-round : goal.invariant-loop-round
 invariant-loop-round g l = record {
-  earns : Earns l.initial.worker.share.events (g.F.Fetch.called l.initial.worker.fetcher) l.worker.share.events (g.F.Fetch.called l.worker.fetcher) (l.worker.found + l.worker.failed);
+  earns : Earns l.initial.worker.share.events (g.F.Calls.called l.initial.worker.fetcher) l.worker.share.events (g.F.Calls.called l.worker.fetcher) (l.worker.found + l.worker.failed);
   parts : l.worker.share.parts ≡ l.initial.worker.share.parts;
 }
