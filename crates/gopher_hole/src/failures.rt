@@ -1,6 +1,6 @@
 //! The places that a crawl fails to fetch, printed as they fail.
 
-ghost use Rattle.std.specs.Prelude.{◌≡◌, string_bytes};
+ghost use Rattle.std.specs.Prelude.{◌≡◌};
 ghost use Rattle.gopher_hole.specs.Failing.{is_last_try, reason_name};
 
 use gopher_catalogue::Why;
@@ -34,7 +34,7 @@ fn is_last_try(failed: u32, tries: u32) -> bool
 
 // The name of a reason.
 fn reason_name(why: Why) -> &'static str
-    ensures { string_bytes result.now ≡ reason_name why }
+    ensures { result.now ≡ reason_name why }
 {
     match why {
         Why::Connect => "connect",
