@@ -5,7 +5,7 @@ ghost use Rattle.std.specs.Prelude.{◌≡◌};
 use crate::failures::Failures;
 use crate::fetching::TcpFetch;
 use gopher_catalogue::Why;
-use gopher_crew::Fetch;
+use gopher_crew::{Calls, Fetch};
 use gopher_item::Place;
 use std::alloc::Global;
 use std::io::Eprint;
@@ -31,14 +31,16 @@ impl<'a> CrawlFetch<'a> {
     }
 }
 
-impl<'a, R: Net<Listener = TcpListener, Stream = TcpStream> + Wait + Eprint> Fetch<R>
-    for CrawlFetch<'a> {
+impl<'a> Calls for CrawlFetch<'a> {
     ghost called = { λ fetcher. fetcher.fetcher.calls };
 
     fn calls(&self) -> u64 {
         self.fetcher.calls
     }
+}
 
+impl<'a, R: Net<Listener = TcpListener, Stream = TcpStream> + Wait + Eprint> Fetch<R>
+    for CrawlFetch<'a> {
     fn fetch(
         &mut self,
         rt: &R,

@@ -30,7 +30,7 @@ mod starting;
 pub use fault::{Detail, ProgramFault};
 pub use fetching::TcpFetch;
 pub use gopher_catalogue::{Catalogue, OpenFault, OpenRefused, Why};
-pub use gopher_crew::{Blank, Crew, Desk, DeskFault, DeskRefused, Fetch, Pass, Share};
+pub use gopher_crew::{Blank, Calls, Crew, Desk, DeskFault, DeskRefused, Fetch, Pass, Share};
 pub use gopher_item::{Home, ItemFault, NoMemory, Place};
 pub use gopher_log_writer::OpenLog;
 pub use gopher_scope::{Key, Rule, Scope, SettingsFault};
