@@ -1,8 +1,6 @@
 -- What a worker does.
 use Rattle.std.specs.Prelude.{ℕ, ◌≡◌, ◌+◌, ◌*◌, ◌≤◌, ◌⊎◌, false, min, List, Option, Some, None, Result, Ok, Err}
 use Rattle.std.specs.List.{sum_by}
-use Rattle.std.specs.Arc.{arc_value}
-use Rattle.std.specs.declared.sync.Arc.{Arc}
 use Rattle.gopher_item.specs.Place.{PlaceData}
 use Rattle.gopher_item.specs.Scope.{ScopeData}
 use Rattle.gopher_page.specs.Page.{PageData, page_of}
@@ -15,7 +13,7 @@ use Rattle.gopher_crew.specs.declared.working.Outcome.TheVariants.{Found, Failed
 use Rattle.gopher_crew.specs.declared.working.Stop.{Stop}
 use Rattle.gopher_crew.specs.declared.working.Stop.TheVariants.{Finished, NoMemory as NoMemoryStop}
 use Rattle.gopher_crew.specs.declared.working.WorkEnd.{WorkEnd}
-use Rattle.gopher_crew.specs.Kept.{AnswersTurn, IsOutOn}
+use Rattle.gopher_crew.specs.Kept.{AnswersTurn, IsOutOn, LetsClaim}
 
 -- a fetcher's number of calls after one more
 abbrev pub one_more_call : ℕ → ℕ
@@ -54,10 +52,11 @@ pub record Earns (before calls after calls' outcomes : ℕ) : Type 0 where
   pub at_least : before + 2 * outcomes ≤ after
   pub at_most : (calls' ≡ 18446744073709551615) ⊎ (after + 2 * calls ≤ before + 2 * calls')
 
--- a worker that finished did so on a legal record on which nothing waits and nothing is out
+-- why a worker stopped: on a legal record nothing waits and nothing is out, or a place waits, whose
+-- claim ran out of memory
 abbrev pub IsStop : Stop → Type 0
 IsStop Finished = AnswersTurn FinishedTurn
-IsStop NoMemoryStop = Unit {0}
+IsStop NoMemoryStop = LetsClaim
 
 -- what a worker did in one round: it called its fetcher once and made at most two events, or it
 -- stopped
@@ -105,9 +104,8 @@ HaveAsManyParts pairs ends =
     sum_by (λ end. end.share.parts) ends ≡ sum_by (λ pair. pair.1.parts) pairs
 
 -- the bytes that were fetched of a place become its page, unless memory runs out
-abbrev pub SettlesBytes : {Z : Type 0} → ScopeData → Arc PlaceData Z → List ℕ
-    → Result PageData Why → Type 0
-SettlesBytes scope place bytes (Ok page) = page ≡ page_of scope (arc_value place) bytes
+abbrev pub SettlesBytes : ScopeData → PlaceData → List ℕ → Result PageData Why → Type 0
+SettlesBytes scope place bytes (Ok page) = page ≡ page_of scope place bytes
 SettlesBytes scope place bytes (Err why) = why ≡ NoMemory
 
 -- why nothing was fetched stays

@@ -6,7 +6,7 @@ ghost use Rattle.gopher_crew.specs.Work.{one_more_call, found_rise, failed_rise,
 use crate::crew::Crew;
 use crate::desk::Desk;
 use crate::fetch::Fetch;
-use crate::settling::settle;
+use crate::settling::settle_shared;
 use crate::share::Share;
 use gopher_catalogue::{Claim, Turn, Why};
 use gopher_item::Scope;
@@ -20,7 +20,7 @@ use std::sync::Wait;
 pub enum Stop {
     /// The crawl is finished: no place waits and none is out.
     Finished,
-    /// Out of memory at a claim, or before the first one.
+    /// A place waits, but its claim ran out of memory.
     NoMemory,
 }
 
@@ -115,12 +115,27 @@ fn hand_in<C: Crew, R: Wait + Drop, W: Wait>(
     hand_in_failure(rt, desk, share, number, why)
 }
 
+// Makes the page of a fetched reply, by the scope of the desk's opening.
+fn settle_at<C: Crew, R: Wait + Drop, W: Wait>(
+    rt: &W,
+    alloc: Global,
+    desk: &Desk<C, R>,
+    claim: &Claim,
+    fetched: Result<Vec<u8>, Why>,
+) -> Result<Page, Why>
+    requires { IfOk fetched (λ bytes. vec_len bytes ≤ MAX_REPLY) }
+{
+    let Ok(opening) = desk.opening(rt) else {
+        return Err(Why::NoMemory);
+    };
+    settle_shared(alloc, opening.scope(), &claim.place, fetched)
+}
+
 // Fetches a place that was claimed, makes its page, and hands it in or fails the place.
 fn fetch_and_report<C: Crew, R: Wait + Drop, W: Wait, F: Fetch<W> + Drop>(
     rt: &W,
     alloc: Global,
     desk: &Desk<C, R>,
-    scope: &Scope,
     claim: &Claim,
     worker: &mut WorkEnd<F, C>,
 ) -> Outcome
@@ -133,7 +148,7 @@ fn fetch_and_report<C: Crew, R: Wait + Drop, W: Wait, F: Fetch<W> + Drop>(
     ensures out { EndsClaim result claim.now.number }
 {
     let fetched = worker.fetcher.fetch(rt, alloc, &claim.place, MAX_REPLY);
-    let settled = settle(alloc, scope, &claim.place, fetched);
+    let settled = settle_at(rt, alloc, desk, claim, fetched);
     hand_in(rt, desk, &mut worker.share, claim.number, settled)
 }
 
@@ -173,7 +188,6 @@ fn work_once<C: Crew, R: Wait + Drop, W: Wait, F: Fetch<W> + Drop>(
     rt: &W,
     alloc: Global,
     desk: &Desk<C, R>,
-    scope: &Scope,
     worker: &mut WorkEnd<F, C>,
 ) -> Option<Stop>
     ensures calls { WorksOnce F.called worker.old worker.new result }
@@ -182,7 +196,7 @@ fn work_once<C: Crew, R: Wait + Drop, W: Wait, F: Fetch<W> + Drop>(
 {
     match desk.next(rt, alloc, &mut worker.share) {
         Ok(Turn::Take(claim)) => {
-            let outcome = fetch_and_report(rt, alloc, desk, scope, &claim, worker);
+            let outcome = fetch_and_report(rt, alloc, desk, &claim, worker);
             count(outcome, worker);
             None
         }
@@ -203,12 +217,8 @@ pub(crate) fn run<C: Crew, R: Wait + Drop, W: Wait, F: Fetch<W> + Drop>(
 {
     worker.found = 0;
     worker.failed = 0;
-    worker.stop = Stop::NoMemory;
-    let Ok(opening) = desk.opening(rt) else {
-        return;
-    };
     for _round in rt.forever() {
-        if let Some(stop) = work_once(rt, alloc, desk, opening.scope(), worker) {
+        if let Some(stop) = work_once(rt, alloc, desk, worker) {
             worker.stop = stop;
             return;
         }
