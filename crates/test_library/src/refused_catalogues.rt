@@ -4,6 +4,7 @@ use crate::opening;
 use crate::opening::{Checked, TWICE, at_last, scope, seeds};
 use crate::tables::all_done;
 use gopher_catalogue::{Catalogue, Claim, FoundRefused, OpenRefused, Turn, Why};
+use gopher_crew::laws::settle;
 use gopher_page::{Page, Query};
 use std::alloc::Global;
 
@@ -70,10 +71,11 @@ fn finds(catalogue: &mut Catalogue, number: u32, page: Page) -> Checked<()> {
 }
 
 fn page(alloc: Global, catalogue: &Catalogue, claim: &Claim, reply: &[u8]) -> Option<Page> {
-    if reply.len() > 1_048_576 {
+    let bytes = Vec::from_slice(alloc, reply).ok()?;
+    if bytes.len() > 1_048_576 {
         return None;
     }
-    Page::of(alloc, catalogue.opening().scope(), &claim.place, reply).ok()
+    settle(alloc, catalogue.opening().scope(), &claim.place, Ok(bytes)).ok()
 }
 
 // Hands in the outcome of a fetch. The directory can't be fetched.
