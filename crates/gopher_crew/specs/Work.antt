@@ -1,6 +1,8 @@
 -- What a worker does.
 use Rattle.std.specs.Prelude.{ℕ, ◌≡◌, ◌+◌, ◌*◌, ◌≤◌, ◌⊎◌, false, min, List, Option, Some, None, Result, Ok, Err}
 use Rattle.std.specs.List.{sum_by}
+use Rattle.std.specs.Arc.{arc_value}
+use Rattle.std.specs.declared.sync.Arc.{Arc}
 use Rattle.gopher_item.specs.Place.{PlaceData}
 use Rattle.gopher_item.specs.Scope.{ScopeData}
 use Rattle.gopher_page.specs.Page.{PageData, page_of}
@@ -107,6 +109,11 @@ HaveAsManyParts pairs ends =
 abbrev pub SettlesBytes : ScopeData → PlaceData → List ℕ → Result PageData Why → Type 0
 SettlesBytes scope place bytes (Ok page) = page ≡ page_of scope place bytes
 SettlesBytes scope place bytes (Err why) = why ≡ NoMemory
+
+-- the same of a place that is shared
+abbrev pub SettlesShared : {Z : Type 0} → ScopeData → Arc PlaceData Z → List ℕ
+    → Result PageData Why → Type 0
+SettlesShared scope place bytes result = SettlesBytes scope (arc_value place) bytes result
 
 -- why nothing was fetched stays
 abbrev pub SettlesWhy : Why → Result PageData Why → Type 0

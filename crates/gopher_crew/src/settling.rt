@@ -2,7 +2,7 @@
 
 ghost use Rattle.std.specs.Arc.{arc_value};
 ghost use Rattle.std.specs.Prelude.{◌≡◌, ◌≤◌, vec_len, IfOk, IfErr};
-ghost use Rattle.gopher_crew.specs.Work.{SettlesBytes, SettlesWhy};
+ghost use Rattle.gopher_crew.specs.Work.{SettlesBytes, SettlesShared, SettlesWhy};
 
 use gopher_catalogue::Why;
 use gopher_item::{NoMemory, Place, Scope};
@@ -11,6 +11,7 @@ use gopher_text::MAX_REPLY;
 use std::alloc::Global;
 use std::sync::Arc;
 
+// A copy of a place, to be shared.
 fn shared(alloc: Global, place: &Place) -> Result<Arc<Place>, NoMemory>
     ensures { IfOk result (λ shared. arc_value shared ≡ place.now) }
 {
@@ -44,8 +45,7 @@ pub(crate) fn settle_shared(
     fetched: Result<Vec<u8>, Why>,
 ) -> Result<Page, Why>
     requires { IfOk fetched (λ bytes. vec_len bytes ≤ MAX_REPLY) }
-    ensures fetched { IfOk fetched (λ bytes. SettlesBytes scope.now (arc_value place.now) bytes.items
-        result) }
+    ensures fetched { IfOk fetched (λ bytes. SettlesShared scope.now place.now bytes.items result) }
     ensures unfetched { IfErr fetched (λ why. SettlesWhy why result) }
 {
     let bytes = fetched?;

@@ -3,8 +3,8 @@
 //!
 //! `run` is the whole program, from its arguments to its exit status. For callers of its parts, the
 //! crate also has `answer` and `serve_one` (the reply to a request line), `fetch_over` and
-//! `TcpFetch` (fetching from other servers) and `replay` (replaying the script of a crawl). It hands
-//! on the types that these calls take and return, and those with which a pass is made.
+//! `TcpFetch` (fetching from other servers) and `replay` (replaying the script of a crawl). It
+//! hands on the types that these calls take and return, and those with which a pass is made.
 //!
 //! The contracts of this crate cover the program's status and what it writes. `gopher_serve` says
 //! what a client receives, and `gopher_crew` what a crawl leaves.

@@ -49,8 +49,8 @@ fn take_in(book: &mut Book, events: &[Event]) -> Option<()> {
     Some(())
 }
 
-// Whether a book has so many events, and finds the root, in which the word occurs once, from the
-// third event on.
+// Whether a book has this number of events, and from the third on finds the root, in which the word
+// occurs once.
 fn is_of(book: &Book, query: &Query, events: usize) -> Option<bool> {
     let hits = book.search(query).ok()?;
     let list = book.occurrences(b"docs").ok()?;
@@ -62,7 +62,7 @@ fn is_of(book: &Book, query: &Query, events: usize) -> Option<bool> {
     Some(book.len() == events && if events < 3 { is_empty } else { is_found })
 }
 
-// Whether a book and its clone are of so many events.
+// Whether a book and its clone each have this number of events.
 fn is_cloned(book: &Book, query: &Query, events: usize) -> Option<bool> {
     let clone = book.clone().ok()?;
     Some(is_of(book, query, events)? && is_of(&clone, query, events)?)
