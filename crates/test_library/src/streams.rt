@@ -6,7 +6,7 @@ use gopher_text::{Watched, read_line_from, read_reply, send};
 use std::alloc::Global;
 use std::io::{Read, Write};
 
-// A stream that gives a byte a read, each after so many interrupted reads.
+// A stream that gives a byte a read, each after a number of interrupted reads.
 fn slow(bytes: &[u8], interruptions: u32, ending: Ending) -> Stream<'_> {
     Stream {
         interruptions,
