@@ -149,7 +149,7 @@ fn serves<C: Crew>(alloc: Global, replies: &Replies, pass: &mut Pass<C>) -> bool
         && served(alloc, replies, pass, broken, writer) == (Some(unread), 0, HELLO.len())
 }
 
-// Whether a writer that fails after so many bytes of the root's menu has got these.
+// Whether a writer that fails after this part of the root's menu has got these.
 fn sends_until<C: Crew>(alloc: Global, replies: &Replies, pass: &mut Pass<C>, room: usize) -> bool {
     let reader = Stream::giving(b"\r\n", 1, Ending::Ends);
     let writer = Stream::taking(ROOT, room, Ending::Fails);
