@@ -52,13 +52,6 @@ insert-unshown show eq m ys k w h absent =
 
 -- ---- more known places
 
-pub Extends-same : (old new : KnownData) → new ≡ old → Extends old new
-Extends-same old new e =
-    record { more = []; places = ap (λ v. v.places) e ∙ sym (append-nil old.places); standings = ap (λ v. v.standings) e ∙ sym (append-nil old.standings) }
-
-pub Extends-push : (old new : KnownData) (place : PlaceData) → new.places ≡ old.places ++ place ∷ [] → new.standings ≡ old.standings ++ unclaimed ∷ [] → Extends old new
-Extends-push old new place e f = record { more = place ∷ []; places = e; standings = f }
-
 pub Extends-trans : (a b c : KnownData) → Extends a b → Extends b c → Extends a c
 Extends-trans a b c h k =
     record {
@@ -68,13 +61,6 @@ Extends-trans a b c h k =
           k.standings ∙ ap (λ l. l ++ replicate (length k.more) unclaimed) h.standings ∙ append_assoc a.standings (replicate (length h.more) unclaimed) (replicate (length k.more) unclaimed)
           ∙ ap (λ l. a.standings ++ l) (replicate-append-replicate (length h.more) (length k.more) unclaimed ∙ ap (λ n. replicate n unclaimed) (sym (length-append h.more k.more)));
     }
-
--- truncating to the length before restores the tables
-pub Extends-take : (old new : KnownData) (size : ℕ) → Extends old new → size ≡ length old.places → size ≡ length old.standings → (take size new.places ≡ old.places) × (take size new.standings ≡ old.standings)
-Extends-take old new size h e f = (
-  ap (take size) h.places ∙ ap (λ n. take n (old.places ++ h.more)) e ∙ take-append_seam old.places h.more,
-  ap (take size) h.standings ∙ ap (λ n. take n (old.standings ++ replicate (length h.more) unclaimed)) f ∙ take-append_seam old.standings (replicate (length h.more) unclaimed),
-)
 
 -- ---- no more than the limit
 

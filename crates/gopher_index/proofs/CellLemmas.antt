@@ -87,9 +87,6 @@ added_few (score ∷ scores) (count ∷ counts) bound few small =
     by rest zero d less = omega (arith, few 0 d (omega arith), small 0 d (omega arith))
     by rest (suc k) d less = rest k d (omega arith)
 
-pub kept_few : (scores : List ℕ) (bound : ℕ) → All (λ score. score ≤ bound) scores → All (λ score. score ≤ bound + 1048576) scores
-kept_few scores bound few = λ k d less. omega (arith, few k d less)
-
 -- ---- the first
 
 add_to_none : (counts : List ℕ) (n : ℕ) → n ≡ length counts → counts ≡ zipped (λ score count. score + count) (replicate n 0) counts

@@ -47,14 +47,3 @@ pushed_index segments loose loose' page settled more few index =
       settled_is = index.settled_is;
       bound = omega (arith, long, few, index.settled_is, length-append (pages_of segments) (map arc_value loose));
     }
-
--- runs but for one, and that one
-module _ (pages : List PageData) (runs : List SegmentData) (at : ℕ) (less : at < length runs) (stand : AllStandIn pages runs) where
-  pub others_stand : (run : SegmentData) → AllStandIn pages (swap_remove runs at run)
-  others_stand run =
-      let P : SegmentData → Type 0 = λ r. IsSliceOf r pages in
-      let last = get_or runs (length runs - 1) run in
-      All-take P (length runs - 1) (set runs at last) (All-set P runs at last (All-get_or P runs (length runs - 1) run (omega (arith, less)) stand) stand)
-
-  pub one_stands : (run : SegmentData) → run ≡ get_or runs at run → IsSliceOf run pages
-  one_stands run is = subst (λ r. IsSliceOf r pages) (sym is) (All-get_or (λ r. IsSliceOf r pages) runs at run less stand)

@@ -151,9 +151,6 @@ say_alike_push groups group none holds fails = record {
     plain : (n c : ℕ) → n + 0 * c ≡ n
     plain n c = grind arith
 
-pub say_alike : (groups : List Group) → SayAlike groups groups
-say_alike groups = record { verdicts = λ counts. refl; totals = λ counts. refl; wanted = refl }
-
 -- ---- the group of a term takes it in
 
 joined_verdict : (term : TermData) (number : ℕ) (old new : Group) → Joins term number old new → (holds : Bool) → cond holds new.holds new.fails ≡ max (cond holds old.holds old.fails) (verdict_of term.operator number holds)

@@ -7,10 +7,6 @@ pub map-next : {X Y : Type 0} (f : X → Y) (xs : List X) (i : ℕ) (x : X) → 
 map-next f xs i x within is =
     ap (map f) (take_more xs i x within) ∙ map-append f (take i xs) (get_or xs i x ∷ []) ∙ ap (λ y. map f (take i xs) ++ f y ∷ []) (sym is)
 
--- the same through another list
-pub map-next-through : {X Y Z : Type 0} (f : Y → Z) (g : X → Y) (xs : List X) (i : ℕ) (x : X) → i < length xs → x ≡ get_or xs i x → map f (map g (take (i + 1) xs)) ≡ map f (map g (take i xs)) ++ f (g x) ∷ []
-map-next-through f g xs i x within is = ap (map f) (map-next g xs i x within is) ∙ map-append f (map g (take i xs)) (g x ∷ [])
-
 -- an element of a list that is made of another by its elements
 pub made-at : {X Y Z : Type 0} (f : Y → Z) (g : X → Y) (xs : List X) (zs : List Z) (i : ℕ) (x : X) (d : Z) → i < length xs → x ≡ get_or xs i x → zs ≡ map f (map g xs) → get_or zs i d ≡ f (g x)
 made-at f g xs zs i x d within is made =

@@ -132,13 +132,6 @@ module _ (segments : List SegmentData) (loose : List PageData) (settled start co
         number = refl;
       }
 
-  -- and so are so many loose pages from an index on
-  pub loose_run : start ≤ length loose → IsIndexRun (settled + start) [] (take count (drop start loose))
-  loose_run few = record {
-    consecutive = tt;
-    bound = omega (arith, few, index.bound, length-take count (drop start loose), length-drop start loose);
-  }
-
   pub loose_stands : start ≤ length loose → IsSliceOf (run_data (settled + start) [] (take count (drop start loose))) (pages_of segments ++ loose)
   loose_stands few =
       let first = take start loose in
@@ -164,10 +157,3 @@ module _ (segments segments' : List SegmentData) (loose loose' : List PageData) 
         settled_is = is;
         bound = omega (arith, is, long, index.settled_is, index.bound);
       }
-
-  pub segments_index : pages_of segments' ≡ pages_of segments → IsIndex segments' loose settled
-  segments_index same = record {
-    consecutive = consecutive;
-    settled_is = index.settled_is ∙ sym (ap length same);
-    bound = index.bound;
-  }

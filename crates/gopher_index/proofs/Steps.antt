@@ -23,22 +23,6 @@ module _ (segments done groups : ℕ) (ahead : done < segments) where
       let apart : segments - done ≡ (segments - (done + 1)) + 1 = omega (arith, ahead) in
       ap (λ n. n * (groups + 1)) apart ∙ times_more (segments - (done + 1)) (groups + 1)
 
-  -- the pages of a segment
-  pub segment_fewer : (joined loose plan : ℕ) → joined ≤ groups → ((segments - (done + 1)) * (groups + 1) - 0) + loose + plan < ((segments - done) * (groups + 1) - joined) + loose + plan
-  segment_fewer joined loose plan all = omega (arith, one_less, all)
-
-  -- some of its groups
-  pub groups_fewer : (old new loose plan : ℕ) → old < new → new ≤ groups → ((segments - done) * (groups + 1) - new) + loose + plan < ((segments - done) * (groups + 1) - old) + loose + plan
-  groups_fewer old new loose plan forward within = omega (arith, one_less, forward, within)
-
--- some loose pages
-pub loose_fewer : (before loose old new plan : ℕ) → old < new → new ≤ loose → before + (loose - new) + plan < before + (loose - old) + plan
-loose_fewer before loose old new plan forward within = omega (arith, forward, within)
-
--- the groups of the terms
-pub plan_fewer : (before old new : ℕ) → old ≡ 0 → 0 < new → before + (1 - new) < before + (1 - old)
-plan_fewer before old new none some = omega (arith, none, some)
-
 -- no loose page is taken in before the last segment
 pub none_loose : (loose done segments : ℕ) → (0 < loose → done ≡ segments) → done < segments → loose ≡ 0
 none_loose zero done segments order ahead = refl

@@ -232,9 +232,6 @@ module _ (rows : List Row) (end : ℕ) (row d : Row) (within : end < length rows
       ∙ ap (λ b. cond b (joined_from (row.0, row.1 ++ next.1) (drop (end + 1) rows)) (row ∷ joined_from next (drop (end + 1) rows))) differ
       ∙ ap (λ l. row ∷ joined_rows l) (sym (drop_more rows end d within))
 
-last_row : (rows : List Row) (end : ℕ) (row : Row) → length rows ≤ end → joined_from row (drop end rows) ≡ row ∷ joined_rows (drop end rows)
-last_row rows end row past = subst (λ l. joined_from row l ≡ row ∷ joined_rows l) (sym (drop_all end rows past)) refl
-
 -- ---- and their heads
 
 module _ (chains : Lists) (heads : List Head) where
@@ -272,10 +269,6 @@ module _ (chains : Lists) (heads : List Head) where
     pub other_joined : same_word next.0 first.0 ≡ false
         → joined_from (word_at (rows_of_heads chains heads) start, begun) (drop end (rows_of_heads chains heads)) ≡ (word_at (rows_of_heads chains heads) start, begun) ∷ joined_rows (drop end (rows_of_heads chains heads))
     other_joined differ = other_row rows end (word_at rows start, begun) (head_row chains next) (omega (arith, within, as_many)) (same_words ∙ differ)
-
-  pub last_joined : (start end : ℕ) (begun : List (ℕ × ℕ)) → length heads ≤ end
-      → joined_from (word_at (rows_of_heads chains heads) start, begun) (drop end (rows_of_heads chains heads)) ≡ (word_at (rows_of_heads chains heads) start, begun) ∷ joined_rows (drop end (rows_of_heads chains heads))
-  last_joined start end begun past = last_row rows end (word_at rows start, begun) (omega (arith, past, as_many))
 
 -- heads of which all are joined, behind those that were
 pub all_joined : (chains : Lists) (heads : List Head) (so_far : List Row) (at : ℕ) → length heads ≤ at → so_far ++ joined_rows (drop at (rows_of_heads chains heads)) ≡ joined_rows (rows_of_heads chains heads) → so_far ≡ joined_rows (rows_of_heads chains heads)

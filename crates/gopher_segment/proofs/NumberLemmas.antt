@@ -32,15 +32,6 @@ never_lower number own (Some low) (Some word) low_is is above = by (is_before wo
     by true e = absurd (not_both word low e (lower_word number own low word low_is is above))
     by false e = refl
 
--- words whose numbers differ aren't the same
-pub not_at : (own number : ℕ) (word : List ℕ) (rows : List (List ℕ × List (ℕ × ℕ))) → IsNumberOf own (first_word rows) → IsNumbered number word → (own ≡ number → ⊥) → false ≡ is_at word rows
-not_at own number word [] own_is is apart = refl
-not_at own number word (row ∷ rows) own_is is apart = by (same_word row.0 word) refl
-  where
-    by : (b : Bool) → same_word row.0 word ≡ b → false ≡ b
-    by true e = absurd (apart (own_is.number_is ∙ ap (leading 8) ((bytes_decides row.0 word).0 e) ∙ sym is.number_is))
-    by false e = refl
-
 -- the lower of two words
 lower_is : (low word : Option (List ℕ)) → lower low word ≡ cond (is_lower word low) word low
 lower_is None None = refl

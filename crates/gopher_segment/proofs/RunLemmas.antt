@@ -8,13 +8,6 @@ use Rattle.gopher_bytes.proofs.Zips.{get_or-zip, length-zip, zip-append, zip-dro
 use Rattle.gopher_segment.specs.Postings.{ArePackedRuns, AreWithin}
 use Rattle.gopher_bytes.proofs.PartLemmas.{parts-get, parts_more, parts_push, ends_push, ends_grow, last_push, last_le_limit}
 
-pub one_posting : (pages counts : List ℕ) → length counts ≡ length pages → length pages ≡ 1 → zip pages counts ≡ (get_or pages 0 0, get_or counts 0 0) ∷ []
-one_posting [] counts same one = absurd (omega (arith, one))
-one_posting (page ∷ other ∷ pages) counts same one = absurd (omega (arith, one))
-one_posting (page ∷ []) [] same one = absurd (omega (arith, same))
-one_posting (page ∷ []) (count ∷ other ∷ counts) same one = absurd (omega (arith, same))
-one_posting (page ∷ []) (count ∷ []) same one = refl
-
 -- ---- runs
 
 -- the run at an index
