@@ -259,12 +259,16 @@ def debian_changelog(release, maintainer):
 
 
 def site_files():
-    return sorted(file for file in (PACKAGING / "site").rglob("*") if file.is_file())
+    """The files of the first site by their paths in it. The page on searching is that of the example's site."""
+    site = PACKAGING / "site"
+    found = {str(file.relative_to(site)): file for file in site.rglob("*") if file.is_file()}
+    found["searching.txt"] = ROOT / "examples/site/searching.txt"
+    return {path: found[path].read_bytes() for path in sorted(found)}
 
 
 def script_of(name):
     """A script of the package, with the sums of the first site's files."""
-    sums = "".join(f"{sum_of(file.read_bytes())}  {file.relative_to(PACKAGING / 'site')}\n" for file in site_files())
+    sums = "".join(f"{sum_of(content)}  {path}\n" for path, content in site_files().items())
     return (PACKAGING / "debian" / name).read_text().replace("@SITE_SUMS@", sums.strip())
 
 
@@ -280,8 +284,8 @@ def debian_tree(release, maintainer):
     """The files of the package for Debian."""
     tree = release.tree("usr/", "usr/share/doc/hole", "lib/systemd/system", compressed=True)
     tree.add("etc/hole/hole.toml", (PACKAGING / "debian/hole.toml").read_bytes())
-    for file in site_files():
-        tree.add(f"usr/share/hole/site/{file.relative_to(PACKAGING / 'site')}", file.read_bytes())
+    for path, content in site_files().items():
+        tree.add(f"usr/share/hole/site/{path}", content)
     tree.add("usr/share/doc/hole/changelog.gz", zipped(debian_changelog(release, maintainer).encode()))
     tree.add("usr/share/doc/hole/copyright", (PACKAGING / "debian/copyright").read_bytes())
     tree.add("usr/share/lintian/overrides/hole", (PACKAGING / "debian/lintian-overrides").read_bytes())

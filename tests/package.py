@@ -67,6 +67,11 @@ def files_below(root):
     return sorted(str(path.relative_to(root)) for path in root.rglob("*") if not path.is_dir() or path.is_symlink())
 
 
+def first_site():
+    """The files of the package's first site: its own, and the page on searching of the example's site."""
+    return sorted([*files_below(SITE), "searching.txt"])
+
+
 def check_refusals(tally, program, folder):
     """A program that no stamp calls proved isn't packed."""
     copy = pathlib.Path(shutil.copy(program, folder / "hole"))
@@ -154,7 +159,7 @@ class Machine:
 def check_installed(tally, machine, package):
     ran = machine.dpkg("--install", package)
     tally.expect("it installs", (ran.returncode, "error" in ran.stderr.lower()), (0, False))
-    tally.expect("the first site is there", files_below(machine.root / "srv/gopher"), files_below(SITE))
+    tally.expect("the first site is there", files_below(machine.root / "srv/gopher"), first_site())
     modes = {path.stat().st_mode & 0o777 for path in (machine.root / "srv/gopher").rglob("*") if path.is_file()}
     tally.expect("everybody may read it", modes, {0o644})
     shown = run(*machine.hole("--version")).stdout.split()
@@ -257,7 +262,7 @@ def check_removed(tally, machine, package):
     """Removal leaves the settings and the site, and purging leaves nothing."""
     tally.expect("it is removed", machine.dpkg("--remove", "hole").returncode, 0)
     left = [file for file in machine.files() if file not in machine.empty and not file.startswith("etc/systemd/")]
-    kept = ["etc/hole/hole.toml", *(f"srv/gopher/{file}" for file in files_below(SITE))]
+    kept = ["etc/hole/hole.toml", *(f"srv/gopher/{file}" for file in first_site())]
     tally.expect("removal leaves the settings and the site", left, kept)
     tally.expect("it is purged", machine.dpkg("--purge", "hole").returncode, 0)
     tally.expect("purging leaves nothing", [file for file in machine.files() if file not in machine.empty], [])
@@ -275,7 +280,7 @@ def check_owner(tally, machine, package):
         settings.write("# my own\n")
     tally.expect("it installs again", machine.dpkg("--install", package).returncode, 0)
     tally.expect("the settings stay", machine.text("etc/hole/hole.toml").endswith("# my own\n"), True)
-    stayed = sorted([*(file for file in files_below(SITE) if file != "first-steps.txt"), "own.txt"])
+    stayed = sorted([*(file for file in first_site() if file != "first-steps.txt"), "own.txt"])
     tally.expect("the site stays", files_below(machine.root / "srv/gopher"), stayed)
     machine.dpkg("--purge", "hole")
     tally.expect("a purge leaves the owner's files", files_below(machine.root / "srv/gopher"), [".menu", "own.txt"])
