@@ -202,10 +202,12 @@ class Proved:
             self.changed.notify_all()
 
     def end(self):
-        """`rt ci` has ended: what couldn't be set aside before is, unless an older library with its stamp has its place."""
+        """`rt ci` has ended: what couldn't be set aside before is, unless an older library with its stamp has its place. A crate
+        without a library is named all the same, since its library can be built now."""
         for name in self.said:
             if name not in self.names and not (ROOT / "crates" / name / "out" / "rlib" / "stamp").exists():
                 self.set_aside(name)
+        self.names += [name for name in self.said if name not in self.names]
         self.stands.set()
         self.ended.set()
         with self.changed:

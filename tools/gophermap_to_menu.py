@@ -28,7 +28,7 @@ In a gophermap:
   absent or a script is left out, and so is one that is included eight files deep.
 - `*` becomes the listing that the folder has now, by names, without those that `-name` lines before it hide; that is told,
   since it changes no more with the folder. The first line of a file `gophertag` in a folder is that folder's name there, and the
-  file itself isn't listed. It ends the gophermap. In an included file it ends that file and lists nothing.
+  file itself isn't listed. `*` ends the gophermap. In an included file it ends that file and lists nothing.
 - A line that begins with `.` ends the file that it stands in.
 - `:ext=type`, `~` and `%` have no counterpart, and are left out.
 

@@ -152,14 +152,14 @@ class Beside(unittest.TestCase):
     def test_wrong_bodies_are_told_of_a_library_that_is_set_aside(self):
         rows, said = run_all(self.ci("low"), self.wrong_bodies("read it; touch seen; sleep 0.5; cat $0/$it/low.rlib/format; cat; echo 3 passed, 0 failed"))
         self.assertEqual([(rows[row].passed, rows[row].failed) for row in ("proofs", "wrong bodies")], [(2, 0), (3, 0)])
-        self.assertIn("statements\n3 passed", said)
+        self.assertIn("statements\nlast\n3 passed", said)
         self.assertIn("the library last isn't set aside", said)
 
     def test_what_fails_beside_is_tried_once_more(self):
         fails_once = "[ -e seen ] && { cat; echo 3 passed, 0 failed; exit 0; }; touch seen; exit 1"
         rows, said = run_all(self.ci("low"), self.wrong_bodies(fails_once))
         self.assertEqual((rows["wrong bodies"].passed, rows["wrong bodies"].failed), (3, 0))
-        self.assertIn("low\n3 passed", said)
+        self.assertIn("low\nlast\n3 passed", said)
 
     def test_tests_of_the_program_begin_when_it_stands_and_those_alone_when_all_is_over(self):
         beside = gate.Part("beside", "tests of the program", ("sh", "-c", "touch seen; echo 1 passed, 0 failed", gate.PROGRAM))
@@ -181,6 +181,7 @@ class Parts(unittest.TestCase):
         for it in gate.parts():
             self.assertIn(it.row, gate.ROWS)
             self.assertTrue(it.words[0] == "rt" or os.access(gate.ROOT / it.words[0], os.X_OK), it.words[0])
+        self.assertLessEqual(gate.ALONE | gate.AFTER_CI, {*names})
 
     def test_a_script_that_is_added_to_tests_is_a_part(self):
         with tempfile.TemporaryDirectory() as room:

@@ -304,10 +304,10 @@ def try_crate(edits, libraries, kept, show):
     """Tries the edits of a crate once its libraries are there, but for those whose refusal is kept; shows what each check showed."""
     crate, tried = edits[0].crate, {}
     try:
-        built = {name: library.result() for name, library in libraries.items()}
         tried |= {edit: (True, why) for edit, why in kept.known(edits).items()}
         show(tried)
         left = [edit for edit in edits if edit not in tried]
+        built = {name: library.result() for name, library in libraries.items()} if left else {}
         tell([f"{crate}: {len(tried)} of {len(edits)} kept"] if tried else [], sys.stderr)
         for result in results_of(left, built) if left else ():
             tried |= result
@@ -335,7 +335,7 @@ def hear(libraries, folder):
     try:
         for crate in map(str.strip, sys.stdin):
             if crate in libraries and not libraries[crate].done():
-                libraries[crate].set_result(folder / crate)
+                libraries[crate].set_result(folder / crate if (folder / crate).is_dir() else build(crate))
     finally:
         for crate in [crate for crate, library in libraries.items() if not library.done()]:
             libraries[crate].set_exception(RuntimeError(f"{crate} is not proved"))
@@ -398,7 +398,7 @@ def main(words):
     show = lambda result: tell(lines(result), sys.stdout)
     tried = try_all(edits, below, given.beside, lambda edits, libraries: try_crate(edits, libraries, kept, show))
     refused = sum(is_refused for is_refused, _ in tried.values())
-    failed = len(bad) + len(tried) - refused
+    failed = len(bad) + len(edits) - refused
     tell([*table(edits), f"{refused} passed, {failed} failed"], sys.stdout)
     return 1 if failed or not refused else 0
 

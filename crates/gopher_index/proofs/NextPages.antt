@@ -8,7 +8,6 @@ use Rattle.gopher_segment.proofs.Pieces.{BeginsPage, pieces_begin}
 use Rattle.gopher_index.specs.Cells.{term_counts}
 
 module _ (term : TermData) where
-
   abbrev pub HaveNone : List PageData → Type 0
   HaveNone pages = AllByRecursion (λ page. count_of_term page.counts term ≡ 0) pages
 
