@@ -184,11 +184,15 @@ const ROWS: &[Row] = &[
 
 // The crawl of a circle has the directory's page, by its title's word.
 fn has_directory<R: Abort + AllocGlobal>(rt: &R, catalogue: &Catalogue) {
-    let found = hits(rt, catalogue, b"home");
+    let found = hits(rt, catalogue, b"b");
     assert!(rt; are_files(&found, b"a"));
     for hit in found.iter() {
         assert!(rt; hit.title.as_slice() == b"Home".as_slice());
     }
+    let Ok(places) = catalogue.occurrences(b"home") else {
+        panic!(rt; "out of memory");
+    };
+    assert!(rt; places.len() == 1);
 }
 
 #[test]

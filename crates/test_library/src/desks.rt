@@ -159,6 +159,7 @@ fn closed_at_last<C: Crew, R: Wait + Abort + AllocGlobal>(
 // Three places are done, and the files are found.
 fn has_both<R: Abort + AllocGlobal>(rt: &R, catalogue: &Catalogue) {
     assert!(rt; catalogue.status() == all_done(3) && catalogue.record().len() == 7);
+    assert!(rt; catalogue.is_finished());
     assert!(rt; are_files(&hits(rt, catalogue, b"moon"), b"ab"));
 }
 

@@ -38,6 +38,8 @@ mod refused_opening;
 #[cfg(test)]
 mod refused_pages;
 #[cfg(test)]
+mod settings;
+#[cfg(test)]
 mod stream;
 #[cfg(test)]
 mod streams;
@@ -45,3 +47,5 @@ mod streams;
 mod tables;
 #[cfg(test)]
 mod trees;
+#[cfg(test)]
+mod walks;

@@ -3,7 +3,7 @@
 ghost use Rattle.std.specs.Prelude.{IfSome};
 ghost use Rattle.gopher_text.specs.Text.{HoldNoFeed, lines_in};
 
-use gopher_item::{Entry, MenuLine, Place, read_menu, read_request, write_menu};
+use gopher_item::{Entry, MenuLine, Place, lines, read_menu, read_request, write_menu};
 use gopher_text::{first_text_line, read_text, write_text};
 use std::alloc::Global;
 use std::cmp::Ordering;
@@ -156,6 +156,27 @@ fn is_written_again(alloc: Global, bytes: &[u8]) -> bool {
 #[test]
 fn writes_a_text_that_it_read(rt: HostRuntime) {
     assert!(rt; is_written_again(rt.alloc(), b"..\r\nhi\r\n\r\na\r\n.\r\n"));
+}
+
+// Whether bytes are cut into lines.
+fn are_cut(alloc: Global) -> bool {
+    let Ok(lines) = lines(alloc, b"a\r\n\nb\r\r\nc\r") else {
+        return false;
+    };
+    match lines.as_slice() {
+        [first, second, third, last] => {
+            *first == b"a".as_slice()
+                && second.is_empty()
+                && *third == b"b\r".as_slice()
+                && *last == b"c\r".as_slice()
+        }
+        _ => false,
+    }
+}
+
+#[test]
+fn cuts_lines(rt: HostRuntime) {
+    assert!(rt; are_cut(rt.alloc()));
 }
 
 const LONG: &[u8] = &[b's'; 256];
