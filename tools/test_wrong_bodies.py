@@ -307,5 +307,21 @@ class Lanes(unittest.TestCase):
             self.assertFalse(lane.has_room())
 
 
+class Heard(unittest.TestCase):
+    def test_a_library_that_lacks_is_built_unless_the_crate_is_a_program(self):
+        with tempfile.TemporaryDirectory() as room, mock.patch.object(wrong_bodies, "build", lambda crate: f"built {crate}"):
+            folder = pathlib.Path(room)
+            (folder / "low").mkdir()
+            libraries = {crate: wrong_bodies.Future() for crate in ("low", "above", "program", "later")}
+            main = folder / "crates/program/src/main.rt"
+            main.parent.mkdir(parents=True)
+            main.touch()
+            lines = ["low\n", "above\n", "program\n"]
+            with mock.patch.object(wrong_bodies, "ROOT", folder), mock.patch.object(sys, "stdin", lines):
+                wrong_bodies.hear(libraries, folder)
+        self.assertEqual([libraries[crate].result() for crate in ("low", "above", "program")], [folder / "low", "built above", folder / "program"])
+        self.assertRaises(RuntimeError, libraries["later"].result)
+
+
 if __name__ == "__main__":
     unittest.main()

@@ -331,11 +331,12 @@ def build(crate):
 
 
 def hear(libraries, folder):
-    """Reads from the standard input which crates are proved, until it ends."""
+    """Reads from the standard input which crates are proved, until it ends. A program has no library."""
     try:
         for crate in map(str.strip, sys.stdin):
             if crate in libraries and not libraries[crate].done():
-                libraries[crate].set_result(folder / crate if (folder / crate).is_dir() else build(crate))
+                is_there = (folder / crate).is_dir() or (ROOT / "crates" / crate / "src" / "main.rt").exists()
+                libraries[crate].set_result(folder / crate if is_there else build(crate))
     finally:
         for crate in [crate for crate, library in libraries.items() if not library.done()]:
             libraries[crate].set_exception(RuntimeError(f"{crate} is not proved"))
