@@ -22,9 +22,6 @@ both_false s t p q = rw p q
 pub none_after : (test : ℕ → Bool) (xs ys : List ℕ) → list_any test (xs ++ ys) ≡ false → list_any test ys ≡ false
 none_after test xs ys h = right_false _ _ (sym (list_any-append test xs ys) ∙ h)
 
-pub none_before : (test : ℕ → Bool) (xs ys : List ℕ) → list_any test (xs ++ ys) ≡ false → list_any test xs ≡ false
-none_before test xs ys h = left_false _ _ (sym (list_any-append test xs ys) ∙ h)
-
 pub none_in_reverse : (test : ℕ → Bool) (xs : List ℕ) → list_any test xs ≡ false → list_any test (reverse xs) ≡ false
 none_in_reverse test [] h = h
 none_in_reverse test (x ∷ xs) h =

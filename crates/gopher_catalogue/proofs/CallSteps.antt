@@ -1,17 +1,15 @@
 -- The effects of one call on a legal record: a claim, a failure, a find, and opening.
-use Rattle.std.proofs.Common.{◌≡◌, ◌≢◌, ℕ, ◌+◌, ◌-◌, ◌≤◌, ◌<◌, true, false, not, List, [], ◌∷◌, ◌++◌, length, drop, Some, refl, sym, ◌∙◌, ap, arith}
+use Rattle.std.proofs.Common.{◌≡◌, ◌≢◌, ℕ, ◌+◌, ◌-◌, ◌≤◌, ◌<◌, true, false, List, [], ◌∷◌, ◌++◌, length, drop, Some, refl, sym, ◌∙◌, ap, arith}
 use Rattle.std.specs.List.{slice_get, range_with_len}
 use Rattle.std.proofs.lemmas.Bool.{lt-leb}
 use Rattle.std.proofs.lemmas.List.{append-nil}
 use Rattle.std.proofs.lemmas.List.Sums.{count_by-le-length, length-filter}
 use Rattle.std.proofs.lemmas.List.FromFn.{length-range_with_len}
-use Rattle.gopher_item.specs.Place.{PlaceData, is_among}
 use Rattle.gopher_page.specs.Page.{PageData}
 use Rattle.gopher_catalogue.specs.declared.event.Why.{Why}
 use Rattle.gopher_catalogue.specs.Event.{OpeningData, EventData, Opened, Claimed, Found, Failed}
 use Rattle.gopher_catalogue.specs.Frontier.{mentions, known, dropped, claims, finds, failures, entries, waiting, is_out, is_done, out, done}
 use Rattle.gopher_catalogue.specs.Legal.{IsLegalOpening, IsOut, IsLegal}
-use Rattle.gopher_catalogue.proofs.Places.{known_of, dropped_of}
 use Rattle.gopher_frontier.proofs.Ranges.{filter_range_none}
 use Rattle.gopher_catalogue.proofs.Legal.{IsLegal-push, IsLegal-opened}
 use Rattle.gopher_catalogue.proofs.Steps.{known-claimed, known-failed, dropped-claimed, dropped-failed, claims-claimed, claims-claimed_other, claims-found, claims-failed, is_out-claimed, is_out-claimed_other, is_out-found, is_out-found_other, is_out-failed, is_out-failed_other, waiting-claimed, waiting-failed_last, length-known}
@@ -143,9 +141,6 @@ begin_step opening legal = record {
 pub mentions-begin : (opening : OpeningData) → mentions opening [] ≡ opening.seeds
 unfolding mentions
 mentions-begin opening = append-nil opening.seeds
-
-pub dropped_of-length : (limit : ℕ) (ms : List PlaceData) → dropped_of limit ms ≤ length ms
-dropped_of-length limit ms = count_by-le-length (λ p. not (is_among (known_of limit ms) p)) ms
 
 pub few_known : (opening : OpeningData) (events : List EventData) → length (known opening events) ≤ opening.limit
 few_known opening events = length-known opening events

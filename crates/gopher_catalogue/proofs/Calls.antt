@@ -68,10 +68,6 @@ IsOut-from_test opening events n h =
     let parts = and_parts (ltb n (length (known opening events))) (is_out events n) (sym (is_out_in_is opening events n) ∙ h) in
     record { is_known = ltb-true n (length (known opening events)) parts.0; is_out = parts.1 }
 
-pub is_place_in-at : (opening : OpeningData) (events : List EventData) (n : ℕ) (place other : PlaceData) → slice_get (known opening events) n ≡ Some other → is_place_in (Opened opening ∷ events) n place ≡ same_place other place
-unfolding is_place_in
-is_place_in-at opening events n place other at' = rw at' refl
-
 pub place_from_test : (opening : OpeningData) (events : List EventData) (n : ℕ) (place : PlaceData) → is_place_in (Opened opening ∷ events) n place ≡ true → slice_get (known opening events) n ≡ Some place
 unfolding is_place_in
 place_from_test opening events n place h = cases (slice_get (known opening events) n) refl where

@@ -4,7 +4,7 @@ use Rattle.std.proofs.lemmas.List.{take_all, take-take, take-append-le, take_at,
 use Rattle.std.proofs.lemmas.Option.{slice_get_within}
 use Rattle.gopher_catalogue.specs.Event.{OpeningData, EventData, Opened, Claimed, Found, Failed}
 use Rattle.gopher_catalogue.specs.Legal.{IsLegalOpening, MayFollow, FollowEachOther, IsLegal}
-use Rattle.gopher_catalogue.proofs.Lists.{slice_get_push_cases, slice_get_last, slice_get-take, take_next}
+use Rattle.gopher_catalogue.proofs.Lists.{slice_get_push_cases, slice_get-take, take_next}
 
 -- ---- events that follow each other
 
@@ -24,12 +24,6 @@ FollowEachOther-take opening events n follows k event h =
     let lt : k < n = omega (arith, length-take n events) in
     let le : k ≤ n = omega arith in
     rw take-take (follows k event (sym (slice_get-take n events k lt) ∙ h))
-
-pub FollowEachOther-before : (opening : OpeningData) (events : List EventData) (e : EventData) → FollowEachOther opening (events ++ e ∷ []) → FollowEachOther opening events
-FollowEachOther-before opening events e follows = subst (λ xs. FollowEachOther opening xs) (take_at events (e ∷ []) (length events) refl) (FollowEachOther-take opening (events ++ e ∷ []) (length events) follows)
-
-pub MayFollow-last : (opening : OpeningData) (events : List EventData) (e : EventData) → FollowEachOther opening (events ++ e ∷ []) → MayFollow opening events e
-MayFollow-last opening events e follows = subst (λ xs. MayFollow opening xs e) (take_at events (e ∷ []) (length events) refl) (follows (length events) e (slice_get_last events e))
 
 -- a property of an opened record that each event that may follow keeps holds for all legal records
 pub legal_ind : (P : List EventData → Type 0) (opening : OpeningData) → P [] → ((events : List EventData) (e : EventData) → FollowEachOther opening events → MayFollow opening events e → P events → P (events ++ e ∷ [])) → (events : List EventData) → FollowEachOther opening events → P events
@@ -61,9 +55,6 @@ IsLegal-take (Failed number why ∷ events) n legal = absurd legal
 pub IsLegal-take_more : (record_ : List EventData) (n : ℕ) → IsLegal record_ → 1 ≤ n → IsLegal (take n record_)
 IsLegal-take_more record_ zero legal some = absurd (omega arith)
 IsLegal-take_more record_ (suc n) legal some = IsLegal-take record_ n legal
-
-pub IsLegal-front : (front rest : List EventData) → IsLegal (front ++ rest) → 1 ≤ length front → IsLegal front
-IsLegal-front front rest legal some = subst IsLegal (take_at front rest (length front) refl) (IsLegal-take_more (front ++ rest) (length front) legal some)
 
 -- a legal record begins with an opening
 pub IsLegal-opening : (record_ : List EventData) → IsLegal record_ → (opening : OpeningData) × (events : List EventData) × (record_ ≡ Opened opening ∷ events) × IsLegalOpening opening × FollowEachOther opening events

@@ -134,12 +134,6 @@ pub length-entries_most : (opening : OpeningData) (events : List EventData) → 
 length-entries_most opening events legal =
     bounded_length opening.tries (length (known opening events)) (entries opening events) (λ n. ((counted opening events legal).numbers n).few_entries) (λ n beyond. ((counted opening events legal).numbers n).unknown beyond)
 
--- the greatest length with these limits of places and tries
-pub length-events_most : (opening : OpeningData) (events : List EventData) → IsLegal (Opened opening ∷ events) → length events ≤ 2 * (opening.limit * opening.tries)
-length-events_most opening events legal =
-    let most : length (known opening events) * opening.tries ≤ opening.limit * opening.tries = mul-le-mul_right opening.tries (length-known opening events) in
-    omega (arith, events_and_out opening events legal, claims_made_fit opening events legal, length-entries_most opening events legal)
-
 pub length-entries_fits : (opening : OpeningData) (events : List EventData) → IsLegal (Opened opening ∷ events) → length (entries opening events) ≤ 327680
 length-entries_fits opening events legal =
     let few = length-known opening events in

@@ -1,10 +1,9 @@
 -- Elements by index in a list that grows at its end.
-use Rattle.std.proofs.Common.{◌≡◌, ℕ, suc, zero, ◌+◌, ◌<◌, List, [], ◌∷◌, ◌++◌, length, take, get_or, ◌⊎◌, inl, inr, Some, refl, sym, ◌∙◌, ap, arith}
+use Rattle.std.proofs.Common.{◌≡◌, ℕ, suc, zero, ◌+◌, ◌<◌, List, [], ◌∷◌, ◌++◌, length, take, ◌⊎◌, inl, inr, Some, refl, sym, ◌∙◌, ap, arith}
 use Rattle.std.specs.List.{slice_get}
 use Rattle.std.proofs.lemmas.Bool.{cases_lt}
 use Rattle.std.proofs.lemmas.Option.{slice_get_within}
 use Rattle.std.proofs.lemmas.List.{length_push}
-use Rattle.std.proofs.Math.Seq.{take-suc}
 
 pub slice_get-append_left : {X : Type 0} (xs ys : List X) (k : ℕ) → k < length xs → slice_get (xs ++ ys) k ≡ slice_get xs k
 slice_get-append_left [] ys k h = absurd (omega arith)
@@ -45,9 +44,3 @@ take_next (x ∷ xs) (suc n) h = let next = take_next xs n (omega arith) in (nex
 
 pub slice_get_at : {X : Type 0} (xs : List X) (k : ℕ) → k < length xs → (x : X) × (slice_get xs k ≡ Some x)
 slice_get_at xs k h = let next = take_next xs k h in (next.0, next.1)
-
--- the elements that a loop has passed, and the next
-pub take-next : {X : Type 0} (xs : List X) (n : ℕ) (d : X) → n < length xs → take (n + 1) xs ≡ take n xs ++ get_or xs n d ∷ []
-take-next xs n d within =
-    let more : n + 1 ≡ suc n = omega arith in
-    ap (λ m. take m xs) more ∙ take-suc xs n d within

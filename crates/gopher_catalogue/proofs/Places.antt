@@ -12,10 +12,6 @@ use Rattle.gopher_item.specs.Place.{PlaceData, same_place, is_among, distinct}
 
 -- ---- tests
 
-pub and-true : (a b : Bool) → (a && b) ≡ true → (a ≡ true) × (b ≡ true)
-and-true true b h = (refl, h)
-and-true false b h = cc
-
 pub bools_agree : (a b : Bool) → (a ≡ true → b ≡ true) → (b ≡ true → a ≡ true) → a ≡ b
 bools_agree true b f g = sym (f refl)
 bools_agree false true f g = g refl
@@ -66,9 +62,6 @@ distinct-among (x ∷ xs) p = among_step (distinct-among xs p) (same_place p x) 
       let differs : (k : PlaceData) → same_place p k ≡ true → not (same_place x k) ≡ true =
       λ k h. let s = same_place-is p k h in rw (← s, same_place_comm x p, e) refl in
       rw e (any-filter_same (same_place p) (λ other. not (same_place x other)) true differs (distinct xs) ∙ ih)
-
-not_among : List PlaceData → PlaceData → Bool
-not_among xs p = not (is_among xs p)
 
 pub distinct-append : (xs ys : List PlaceData) → distinct (xs ++ ys) ≡ distinct xs ++ filter (λ p. not (is_among xs p)) (distinct ys)
 distinct-append [] ys = sym (filter_every (distinct ys))

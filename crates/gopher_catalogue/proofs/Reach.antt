@@ -52,10 +52,6 @@ among_filter_from f (x ∷ xs) p h t = step (among_filter_from f xs p) (same_pla
 
 -- ---- pages
 
-page_of-place : (scope : ScopeData) (place : PlaceData) (bytes : List ℕ) → (page_of scope place bytes).place ≡ place
-unfolding page_of
-page_of-place scope place bytes = refl
-
 page_of-links : (scope : ScopeData) (place : PlaceData) (bytes : List ℕ) → (page_of scope place bytes).links ≡ links_of scope place bytes
 unfolding page_of
 page_of-links scope place bytes = refl

@@ -153,13 +153,6 @@ out_at opening events legal n h =
       | inr s ↦ elim s as (λ q. Out opening events n) [ inl done' ↦ absurd (let e = done'.not_out in cc) | inr unknown ↦ absurd (let e = unknown.not_out in cc) ]
     ]
 
-pub done_at : (opening : OpeningData) (events : List EventData) → IsLegal (Opened opening ∷ events) → (n : ℕ) → is_done opening events n ≡ true → Done opening events n
-done_at opening events legal n h =
-    elim (state opening events legal n) as (λ q. Done opening events n) [
-      | inl s ↦ elim s as (λ q. Done opening events n) [ inl waits ↦ absurd (let e = waits.not_done in cc) | inr out' ↦ absurd (let e = out'.not_done in cc) ]
-      | inr s ↦ elim s as (λ q. Done opening events n) [ inl done' ↦ done' | inr unknown ↦ absurd (let e = unknown.not_done in cc) ]
-    ]
-
 pub unknown_at : (opening : OpeningData) (events : List EventData) → IsLegal (Opened opening ∷ events) → (n : ℕ) → length (known opening events) ≤ n → Unknown opening events n
 unknown_at opening events legal n h =
     elim (state opening events legal n) as (λ q. Unknown opening events n) [

@@ -1,11 +1,11 @@
 -- The effects of one more event on each definition of a record: an equation for each kind of event.
-use Rattle.std.proofs.Common.{◌≡◌, ◌≢◌, ℕ, ◌+◌, ◌-◌, ◌≤◌, ◌<◌, true, false, ◌||◌, not, cond, List, [], ◌∷◌, ◌++◌, length, take, drop, filter, refl, sym, ◌∙◌, ap, arith, eqb, ltb, leb}
+use Rattle.std.proofs.Common.{◌≡◌, ◌≢◌, ℕ, ◌+◌, ◌-◌, ◌≤◌, ◌<◌, true, false, ◌||◌, cond, List, [], ◌∷◌, ◌++◌, length, drop, filter, refl, sym, ◌∙◌, ap, arith, eqb, ltb, leb}
 use Rattle.std.specs.List.{range_with_len, count_by, flat_map}
 use Rattle.std.proofs.lemmas.Bool.{eqb-true, eq-eqb, ne_eqb, lt-ltb, le-ltb, lt-leb, le-leb, or_right}
-use Rattle.std.proofs.lemmas.List.{append-nil, append_assoc, length-append, drop-drop, drop-append-le, take_at}
+use Rattle.std.proofs.lemmas.List.{append-nil, append_assoc, length-append, drop-drop, drop-append-le}
 use Rattle.std.proofs.lemmas.List.Concat.{flat_map-append}
 use Rattle.std.proofs.lemmas.List.Sums.{sum_by_push}
-use Rattle.gopher_item.specs.Place.{PlaceData, is_among, distinct}
+use Rattle.gopher_item.specs.Place.{PlaceData}
 use Rattle.gopher_item.specs.Scope.{allows}
 use Rattle.gopher_page.specs.Page.{PageData}
 use Rattle.gopher_catalogue.specs.declared.event.Why.{Why}
@@ -102,12 +102,6 @@ pub known-failed : (opening : OpeningData) (events : List EventData) (n : ℕ) (
 unfolding known
 known-failed opening events n why = ap (known_of opening.limit) (mentions-failed opening events n why)
 
--- a page makes its first allowed and unknown links known, each once, as many as there is room for
-pub known-found : (opening : OpeningData) (events : List EventData) (n : ℕ) (page : PageData) → known opening (events ++ Found n page ∷ []) ≡ known opening events ++ take (opening.limit - length (known opening events)) (filter (λ p. not (is_among (known opening events) p)) (distinct (filter (allows opening.scope) page.links)))
-unfolding known
-known-found opening events n page =
-    ap (known_of opening.limit) (mentions-found opening events n page) ∙ known_of-append opening.limit (mentions opening events) (filter (allows opening.scope) page.links)
-
 -- the places known after a page, mention by mention
 pub known-found_mentions : (opening : OpeningData) (events : List EventData) (n : ℕ) (page : PageData) → known opening (events ++ Found n page ∷ []) ≡ known_of opening.limit (mentions opening events ++ filter (allows opening.scope) page.links)
 unfolding known
@@ -130,9 +124,6 @@ known_push opening events e =
 
 pub length-known_push : (opening : OpeningData) (events : List EventData) (e : EventData) → length (known opening events) ≤ length (known opening (events ++ e ∷ []))
 length-known_push opening events e = let more = known_push opening events e in rw (more.1, length-append (known opening events) more.0) (omega arith)
-
-pub take-known_push : (opening : OpeningData) (events : List EventData) (e : EventData) → take (length (known opening events)) (known opening (events ++ e ∷ [])) ≡ known opening events
-take-known_push opening events e = let more = known_push opening events e in rw more.1 (take_at (known opening events) more.0 (length (known opening events)) refl)
 
 pub length-known : (opening : OpeningData) (events : List EventData) → length (known opening events) ≤ opening.limit
 unfolding known

@@ -120,18 +120,6 @@ tied_same b word other p q s t e is = is ∙ by (cases_order (length word) (leng
     by (inr (inl below)) = ne_eqb (length word) (length other) (λ same. omega arith) ∙ sym (not_same word other Less (order ∙ less_number (length word) (length other) below) refl)
     by (inr (inr above)) = ne_eqb (length word) (length other) (λ same. omega arith) ∙ sym (not_same word other Greater (order ∙ more_number (length word) (length other) above) refl)
 
-pub equal_numbers : (m n : ℕ) → nat_cmp m n ≡ Equal → m ≡ n
-equal_numbers m n e = by (cases_order m n)
-  where
-    by : (m ≡ n) ⊎ ((m < n) ⊎ (n < m)) → m ≡ n
-    by (inl same) = same
-    by (inr (inl below)) =
-        let both : Less ≡ Equal = sym (less_number m n below) ∙ e in
-        absurd cc
-    by (inr (inr above)) =
-        let both : Greater ≡ Equal = sym (more_number m n above) ∙ e in
-        absurd cc
-
 -- ---- overlapping halves
 
 -- the last four of the first eight bytes, moved to the front and cut to four bytes

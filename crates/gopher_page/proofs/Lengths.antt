@@ -79,12 +79,6 @@ one_word_other words start end within apart so_far =
         by true g = absurd (both_ways _ (subst (λ w. same_word w (get_or words start []) ≡ false) (sym ((bytes_decides (get_or words start []) (get_or words end [])).0 g)) e) (itself (get_or words start [])))
         by false g = refl
 
-pub one_word_last : (words : List (List ℕ)) (start end : ℕ) → length words ≤ end → IsOneWord words start end
-    → run_lengths (drop start words) ≡ (get_or words start [], end - start) ∷ run_lengths (drop end words)
-one_word_last words start end past so_far =
-    let none : drop end words ≡ [] = drop_all end words past in
-    so_far ∙ ap (λ l. joined_run (get_or words start []) (end - start) (run_lengths l)) none ∙ ap (λ l. (get_or words start [], end - start) ∷ run_lengths l) (sym none)
-
 -- ---- words in order
 
 -- each word is equal to the one before it or comes after it

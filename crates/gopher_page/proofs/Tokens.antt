@@ -9,10 +9,6 @@ use Rattle.std.specs.List.{slice_split, zip}
 use Rattle.gopher_bytes.specs.Case.{lower_case}
 use Rattle.gopher_page.specs.Words.{Token, is_gap, is_word, runs_of, token_of, tokens_of, bare_words, words_of}
 
--- the tokens of runs
-tokens_in : List (List ℕ × Bool) → List Token
-tokens_in runs = map token_of (filter (λ run. is_word run.0) runs)
-
 pub tokens_of-word : (text run after : List ℕ) (mark : Bool) → runs_of text ≡ (run, mark) ∷ runs_of after → is_word run ≡ true → tokens_of text ≡ record { word = map lower_case run; is_prefix = mark } ∷ tokens_of after
 unfolding tokens_of
 tokens_of-word text run after mark runs word =

@@ -61,11 +61,6 @@ ends_well run old now before after stage all is so =
     let all_written : run.output ≡ so.written = ap (λ r. r.output) whole ∙ append-nil so.written in
     (ap (λ r. r.bad_line) whole, subst (Appends old now) (sym all_written) so.appended, so.counted)
 
--- the run fails because it is out of memory
-pub ends_early : (run : RunData) (old now : Option (List ℕ)) (before after : ℕ) (stage : Stage) (all : List StatementData)
-    → RunsOn run old now before after stage all → RunEnds {T = Unit {0}} run old now before after (Err NoMemory)
-ends_early run old now before after stage all so = (so.written, (run_statements stage all).output, ap (λ r. r.output) so.left, so.appended)
-
 pub has_failed-since : (before after later : ℕ) → before ≤ after → HasFailed after later → after ≤ later → HasFailed before later
 has_failed-since before after later a (inl e) b = inl (omega arith)
 has_failed-since before after later a (inr e) b = grind arith

@@ -31,22 +31,6 @@ sent-stopped T a b old new before after ReplyTooLong never = absurd never
 sent-stopped T a b old new before after (BadScript line) never = absurd never
 sent-stopped T a b old new before after NoMemory never = absurd never
 
--- sending a line of three parts, by the part that failed
-pub line-first : (a b c : List ℕ) (old new : Option (List ℕ)) (before after : ℕ) (fault : ReplayFault)
-    → AnswerEnds {T = Unit {0}} a old new before after (Err fault) → AnswerEnds {T = Unit {0}} (a ++ b ++ c) old new before after (Err fault)
-line-first a b c old new before after fault first = sent-stopped (Unit {0}) (a ++ b) c old new before after fault (sent-stopped (Unit {0}) a b old new before after fault first)
-
-pub line-second : (a b c : List ℕ) (old mid new : Option (List ℕ)) (before after later : ℕ) (fault : ReplayFault)
-    → AnswerEnds {T = Unit {0}} a old mid before after (Ok tt) → AnswerEnds {T = Unit {0}} b mid new after later (Err fault) → AnswerEnds {T = Unit {0}} (a ++ b ++ c) old new before later (Err fault)
-line-second a b c old mid new before after later fault first second =
-    sent-stopped (Unit {0}) (a ++ b) c old new before later fault (sent-then {T = Unit {0}} a b old mid new before after later (Err fault) first second)
-
-pub line-third : (a b c : List ℕ) (old mid then new : Option (List ℕ)) (before after later last : ℕ) (end : Result (Unit {0}) ReplayFault)
-    → AnswerEnds {T = Unit {0}} a old mid before after (Ok tt) → AnswerEnds {T = Unit {0}} b mid then after later (Ok tt) → AnswerEnds c then new later last end
-    → AnswerEnds (a ++ b ++ c) old new before last end
-line-third a b c old mid then new before after later last end first second third =
-    sent-then (a ++ b) c old then new before later last end (sent-then {T = Unit {0}} a b old mid then before after later (Ok tt) first second) third
-
 -- a count of failures never decreases
 pub counts-grow : {T E : Type 0} (before after : ℕ) (end : Result T E) → CountsErrors before after end → before ≤ after
 counts-grow before after (Ok value) same = omega arith

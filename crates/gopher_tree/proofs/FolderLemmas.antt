@@ -9,11 +9,6 @@ use Rattle.gopher_tree.specs.Files.{Child, child_of, child_of_rest}
 use Rattle.gopher_tree.specs.Index.{folder_with, folders_after}
 use Rattle.gopher_tree.specs.declared.tree.index.Entry.{Entry}
 
--- removing an entry and then putting one replaces it
-pub put_taken : (t : Bool) (new mid old put wanted : Option Entry) → new ≡ cond t put mid → mid ≡ cond t None old → put ≡ wanted → new ≡ cond t wanted old
-put_taken true new mid old put wanted n m e = n ∙ e
-put_taken false new mid old put wanted n m e = n ∙ m
-
 -- a path leads through no folder that is at least as long
 pub rest_after-short : (q path : List ℕ) → length path ≤ length q → is_some (rest_after q path) ≡ false
 rest_after-short q [] short = refl
