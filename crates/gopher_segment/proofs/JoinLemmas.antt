@@ -1,7 +1,7 @@
 -- Rows joined: what they tell, and their order.
-use Rattle.std.proofs.Common.{◌≡◌, ◌⊎◌, ℕ, Bool, true, false, suc, ◌+◌, ◌<◌, ◌≤◌, List, [], ◌∷◌, ◌++◌, reverse, cond, not, ◌&&◌, length, drop, get_or, append_assoc, refl, sym, ap, subst, ◌∙◌, inl, inr, arith}
+use Rattle.std.proofs.Common.{◌≡◌, ◌⊎◌, ℕ, Bool, true, false, suc, ◌+◌, ◌<◌, ◌≤◌, List, [], ◌∷◌, ◌++◌, cond, not, ◌&&◌, length, drop, get_or, append_assoc, refl, sym, ap, subst, ◌∙◌, inl, inr, arith}
 use Rattle.std.proofs.lemmas.Bool.{both_ways}
-use Rattle.std.proofs.lemmas.List.{drop_more, drop_all, get_or-map, append-nil, length-map, map-append, reverse-append}
+use Rattle.std.proofs.lemmas.List.{drop_more, drop_all, get_or-map, append-nil}
 use Rattle.std.proofs.lemmas.List.Sums.{sum_by-cons}
 use Rattle.std.proofs.lemmas.List.Sorted.{sum_by-IsPermutation}
 use Rattle.std.specs.List.{AllByRecursion, flat_map, filter, sum_by}
@@ -13,19 +13,12 @@ use Rattle.gopher_page.specs.Words.{same_word}
 use Rattle.gopher_page.specs.Counts.{is_before}
 use Rattle.gopher_segment.specs.Postings.{count_in}
 use Rattle.gopher_segment.specs.Rows.{words_of_rows, AreInOrder, rows_count, postings_of, TellAlike, joined_from, joined_rows}
-use Rattle.gopher_segment.specs.Groups.{head_row, latest, rows_of_heads}
 use Rattle.gopher_segment.proofs.PostingLemmas.{count_in-append}
 use Rattle.gopher_segment.proofs.RowSearch.{word_at}
 use Rattle.gopher_segment.proofs.WordOrder.{order_of, never_before_itself, less_from_apart}
 
 abbrev Row : Type 0
 Row = List ℕ × List (ℕ × ℕ)
-
-abbrev Head : Type 0
-Head = List ℕ × ℕ
-
-abbrev Lists : Type 0
-Lists = List (List (ℕ × ℕ))
 
 -- ---- what joined rows tell
 
@@ -71,15 +64,15 @@ Rise [] = Unit {0}
 Rise (row ∷ []) = Unit {0}
 Rise (row ∷ next ∷ rows) = (is_before next.0 row.0 ≡ false) × Rise (next ∷ rows)
 
-rises : (chains : Lists) (heads : List Head) → IsSorted (λ x y. slice_cmp nat_cmp x.0 y.0) heads → Rise (rows_of_heads chains heads)
-rises chains [] sorted = tt
-rises chains (head ∷ []) sorted = tt
-rises chains (head ∷ next ∷ heads) sorted = (
-  sorted 0 head (omega arith) (omega arith),
-  rises chains (next ∷ heads)
+rises : (rows : List Row) → IsSorted (λ x y. slice_cmp nat_cmp x.0 y.0) rows → Rise rows
+rises [] sorted = tt
+rises (row ∷ []) sorted = tt
+rises (row ∷ next ∷ rows) sorted = (
+  sorted 0 row (omega arith) (omega arith),
+  rises (next ∷ rows)
       (λ k d low within.
       let more : suc k + 1 ≡ suc (k + 1) = omega arith in
-      subst (λ n. is_before (get_or (head ∷ next ∷ heads) n d).0 (get_or (head ∷ next ∷ heads) (suc k) d).0 ≡ false) more (sorted (suc k) d (omega arith) (omega arith))),
+      subst (λ n. is_before (get_or (row ∷ next ∷ rows) n d).0 (get_or (row ∷ next ∷ rows) (suc k) d).0 ≡ false) more (sorted (suc k) d (omega arith) (omega arith))),
 )
 
 -- a word before another comes before each that doesn't come before that
@@ -122,32 +115,25 @@ joined_order row (next ∷ rows) rise =
         let less : slice_cmp nat_cmp row.0 next.0 ≡ Less = less_from_apart next.0 row.0 rise.0 (λ same. both_ways _ e ((bytes_decides next.0 row.0).1 same)) in
         (joined_all (λ w. slice_cmp nat_cmp row.0 w ≡ Less) next rows less (all_less row.0 next rows less rise.1), alone)
 
-pub joined_in_order : (chains : Lists) (heads : List Head) → IsSorted (λ x y. slice_cmp nat_cmp x.0 y.0) heads → AreInOrder (joined_rows (rows_of_heads chains heads))
+pub joined_in_order : (rows : List Row) → IsSorted (λ x y. slice_cmp nat_cmp x.0 y.0) rows → AreInOrder (joined_rows rows)
 unfolding IsStrictlySortedBy
-joined_in_order chains [] sorted = tt
-joined_in_order chains (head ∷ heads) sorted = joined_order (head_row chains head) (rows_of_heads chains heads) (rises chains (head ∷ heads) sorted)
+joined_in_order [] sorted = tt
+joined_in_order (row ∷ rows) sorted = joined_order row rows (rises (row ∷ rows) sorted)
 
--- ---- heads sorted
+-- ---- rows sorted
 
-pub alike_through : (rows middle last : List Row) → TellAlike rows middle → TellAlike middle last → TellAlike rows last
-alike_through rows middle last first second = record {
-  counts = λ test page. second.counts test page ∙ first.counts test page;
-  runs = λ word. second.runs word ∙ first.runs word;
-}
+counts_as_sum : (test : List ℕ → Bool) (page : ℕ) (rows : List Row) → rows_count test page rows ≡ sum_by (λ row. cond (test row.0) (count_in page row.1) 0) rows
+counts_as_sum test page [] = refl
+counts_as_sum test page (row ∷ rows) =
+    ap (λ n. cond (test row.0) (count_in page row.1) 0 + n) (counts_as_sum test page rows)
+    ∙ sym (sum_by-cons (λ (r : Row). cond (test r.0) (count_in page r.1) 0) row rows)
 
-counts_as_sum : (test : List ℕ → Bool) (page : ℕ) (chains : Lists) (heads : List Head) → rows_count test page (rows_of_heads chains heads) ≡ sum_by (λ head. cond (test head.0) (count_in page (get_or chains head.1 [])) 0) heads
-counts_as_sum test page chains [] = refl
-counts_as_sum test page chains (head ∷ heads) =
-    ap (λ n. cond (test head.0) (count_in page (get_or chains head.1 [])) 0 + n) (counts_as_sum test page chains heads)
-    ∙ sym (sum_by-cons (λ (h : Head). cond (test h.0) (count_in page (get_or chains h.1 [])) 0) head heads)
-
-kept_postings : (word : List ℕ) (chains : Lists) (heads : List Head) → postings_of word (rows_of_heads chains heads) ≡ flat_map (λ head. get_or chains head.1 []) (filter (λ head. same_word word head.0) heads)
-kept_postings word chains [] = refl
-kept_postings word chains (head ∷ heads) = by (kept_postings word chains heads) (same_word word head.0)
+kept_postings : (word : List ℕ) (rows : List Row) → postings_of word rows ≡ flat_map (λ row. row.1) (filter (λ row. same_word word row.0) rows)
+kept_postings word [] = refl
+kept_postings word (row ∷ rows) = by (kept_postings word rows) (same_word word row.0)
   where
-    by : postings_of word (rows_of_heads chains heads) ≡ flat_map (λ (h : Head). get_or chains h.1 []) (filter (λ (h : Head). same_word word h.0) heads)
-        → (b : Bool) → cond b (get_or chains head.1 []) [] ++ postings_of word (rows_of_heads chains heads) ≡ flat_map (λ (h : Head). get_or chains h.1 []) (cond b (head ∷ filter (λ (h : Head). same_word word h.0) heads) (filter (λ (h : Head). same_word word h.0) heads))
-    by rest true = ap (λ l. get_or chains head.1 [] ++ l) rest
+    by : postings_of word rows ≡ flat_map (λ (r : Row). r.1) (filter (λ (r : Row). same_word word r.0) rows) → (b : Bool) → cond b row.1 [] ++ postings_of word rows ≡ flat_map (λ (r : Row). r.1) (cond b (row ∷ filter (λ (r : Row). same_word word r.0) rows) (filter (λ (r : Row). same_word word r.0) rows))
+    by rest true = ap (λ l. row.1 ++ l) rest
     by rest false = rest
 
 apart : (word other : List ℕ) → (word ≡ other → ⊥) → same_word word other ≡ false
@@ -178,100 +164,54 @@ tied word other = by (order_of word other)
         subst (λ w. (not (is_before word w) && not (is_before w word)) ≡ same_word word w) same itself
     by (inr (inr more)) = ap (λ b. not (is_before word other) && not b) (ap is_lt more) ∙ second (not (is_before word other)) ∙ sym (apart word other (back more))
 
-sorted_alike : (chains : Lists) (heads sorted : List Head) → IsPermutation heads sorted → IsStable (λ x y. slice_cmp nat_cmp x.0 y.0) heads sorted → TellAlike (rows_of_heads chains heads) (rows_of_heads chains sorted)
-sorted_alike chains heads sorted moved stable = record {
+pub sorted_alike : (rows sorted : List Row) → IsPermutation rows sorted → IsStable (λ x y. slice_cmp nat_cmp x.0 y.0) rows sorted → TellAlike rows sorted
+sorted_alike rows sorted moved stable = record {
   counts = λ test page.
-      counts_as_sum test page chains sorted
-      ∙ sum_by-IsPermutation (λ (head : Head). cond (test head.0) (count_in page (get_or chains head.1 [])) 0) heads sorted moved
-      ∙ sym (counts_as_sum test page chains heads);
+      counts_as_sum test page sorted
+      ∙ sum_by-IsPermutation (λ (row : Row). cond (test row.0) (count_in page row.1) 0) rows sorted moved
+      ∙ sym (counts_as_sum test page rows);
   runs = λ word.
-      kept_postings word chains sorted
-      ∙ (λ i. flat_map (λ (head : Head). get_or chains head.1 []) (filter (λ (head : Head). sym (tied word head.0) i) sorted))
-      ∙ ap (flat_map (λ (head : Head). get_or chains head.1 [])) (stable (word, 0))
-      ∙ (λ i. flat_map (λ (head : Head). get_or chains head.1 []) (filter (λ (head : Head). tied word head.0 i) heads))
-      ∙ sym (kept_postings word chains heads);
+      kept_postings word sorted
+      ∙ (λ i. flat_map (λ (row : Row). row.1) (filter (λ (row : Row). sym (tied word row.0) i) sorted))
+      ∙ ap (flat_map (λ (row : Row). row.1)) (stable (word, []))
+      ∙ (λ i. flat_map (λ (row : Row). row.1) (filter (λ (row : Row). tied word row.0 i) rows))
+      ∙ sym (kept_postings word rows);
 }
-
-latest_reversed : (chains : Lists) (heads : List Head) → latest chains heads ≡ rows_of_heads chains (reverse heads)
-latest_reversed chains [] = refl
-latest_reversed chains (head ∷ heads) =
-    ap (λ l. l ++ head_row chains head ∷ []) (latest_reversed chains heads)
-    ∙ sym (map-append (head_row chains) (reverse heads) (head ∷ []))
-    ∙ ap (rows_of_heads chains) (sym (reverse-append (head ∷ []) heads))
-
--- the last heads first, and then sorted
-pub reversed_alike : (rows : List Row) (chains : Lists) (heads turned sorted : List Head) → turned ≡ reverse heads → IsPermutation turned sorted → IsStable (λ x y. slice_cmp nat_cmp x.0 y.0) turned sorted
-    → TellAlike rows (latest chains heads) → TellAlike rows (rows_of_heads chains sorted)
-reversed_alike rows chains heads turned sorted is moved stable alike =
-    alike_through rows (rows_of_heads chains turned) (rows_of_heads chains sorted)
-    (subst (TellAlike rows) (latest_reversed chains heads ∙ ap (rows_of_heads chains) (sym is)) alike)
-    (sorted_alike chains turned sorted moved stable)
 
 pub joined_alike : (rows : List Row) → TellAlike rows (joined_rows rows)
 joined_alike [] = record { counts = λ test page. refl; runs = λ word. refl }
 joined_alike (row ∷ rows) = record { counts = λ test page. joined_counts test page row rows; runs = λ word. joined_postings word row rows }
 
+pub alike_through : (rows middle last : List Row) → TellAlike rows middle → TellAlike middle last → TellAlike rows last
+alike_through rows middle last first second = record {
+  counts = λ test page. second.counts test page ∙ first.counts test page;
+  runs = λ word. second.runs word ∙ first.runs word;
+}
+
 -- ---- the rows of one word, one after another
 
-first_row : (rows : List Row) (start : ℕ) (d : Row) → start < length rows → joined_rows (drop start rows) ≡ joined_from (word_at rows start, (get_or rows start d).1) (drop (start + 1) rows)
-first_row rows start d within =
+pub first_joined : (rows : List Row) (start : ℕ) (d : Row) → start < length rows → joined_rows (drop start rows) ≡ joined_from (word_at rows start, (get_or rows start d).1) (drop (start + 1) rows)
+first_joined rows start d within =
     ap joined_rows (drop_more rows start d within)
     ∙ ap (λ w. joined_from (w, (get_or rows start d).1) (drop (start + 1) rows)) (sym (get_or-map (λ (row : Row). row.0) rows start d [] within))
 
 module _ (rows : List Row) (end : ℕ) (row d : Row) (within : end < length rows) where
-  next_row : same_word (get_or rows end d).0 row.0 ≡ true → joined_from row (drop end rows) ≡ joined_from (row.0, row.1 ++ (get_or rows end d).1) (drop (end + 1) rows)
-  next_row same =
+  pub next_joined : same_word (get_or rows end d).0 row.0 ≡ true → joined_from row (drop end rows) ≡ joined_from (row.0, row.1 ++ (get_or rows end d).1) (drop (end + 1) rows)
+  next_joined same =
       let next = get_or rows end d in
       ap (joined_from row) (drop_more rows end d within)
       ∙ ap (λ b. cond b (joined_from (row.0, row.1 ++ next.1) (drop (end + 1) rows)) (row ∷ joined_from next (drop (end + 1) rows))) same
 
-  other_row : same_word (get_or rows end d).0 row.0 ≡ false → joined_from row (drop end rows) ≡ row ∷ joined_rows (drop end rows)
-  other_row differ =
+  pub other_joined : same_word (get_or rows end d).0 row.0 ≡ false → joined_from row (drop end rows) ≡ row ∷ joined_rows (drop end rows)
+  other_joined differ =
       let next = get_or rows end d in
       ap (joined_from row) (drop_more rows end d within)
       ∙ ap (λ b. cond b (joined_from (row.0, row.1 ++ next.1) (drop (end + 1) rows)) (row ∷ joined_from next (drop (end + 1) rows))) differ
       ∙ ap (λ l. row ∷ joined_rows l) (sym (drop_more rows end d within))
 
--- ---- and their heads
+pub last_joined : (rows : List Row) (end : ℕ) (row : Row) → length rows ≤ end → joined_from row (drop end rows) ≡ row ∷ joined_rows (drop end rows)
+last_joined rows end row past = subst (λ l. joined_from row l ≡ row ∷ joined_rows l) (sym (drop_all end rows past)) refl
 
-module _ (chains : Lists) (heads : List Head) where
-  abbrev rows : List Row
-  rows = rows_of_heads chains heads
-
-  as_many : length rows ≡ length heads
-  as_many = length-map heads (head_row chains)
-
-  row_at : (k : ℕ) (head : Head) → k < length heads → head ≡ get_or heads k head → get_or rows k (head_row chains head) ≡ head_row chains head
-  row_at k head within is = get_or-map (head_row chains) heads k head (head_row chains head) within ∙ ap (head_row chains) (sym is)
-
-  pub word_of_head : (k : ℕ) (head : Head) → k < length heads → head ≡ get_or heads k head → word_at (rows_of_heads chains heads) k ≡ head.0
-  word_of_head k head within is =
-      get_or-map (λ (row : Row). row.0) rows k (head_row chains head) [] (omega (arith, within, as_many))
-      ∙ ap (λ (row : Row). row.0) (row_at k head within is)
-
-  pub first_joined : (start : ℕ) (head : Head) → start < length heads → head ≡ get_or heads start head
-      → joined_rows (drop start (rows_of_heads chains heads)) ≡ joined_from (word_at (rows_of_heads chains heads) start, get_or chains head.1 []) (drop (start + 1) (rows_of_heads chains heads))
-  first_joined start head within is =
-      first_row rows start (head_row chains head) (omega (arith, within, as_many))
-      ∙ ap (λ (row : Row). joined_from (word_at rows start, row.1) (drop (start + 1) rows)) (row_at start head within is)
-
-  module _ (start end : ℕ) (first next : Head) (before : start < length heads) (within : end < length heads) (first_is : first ≡ get_or heads start first) (next_is : next ≡ get_or heads end next) (begun : List (ℕ × ℕ)) where
-    same_words : same_word (get_or rows end (head_row chains next)).0 (word_at rows start) ≡ same_word next.0 first.0
-    same_words i = same_word (row_at end next within next_is i).0 (word_of_head start first before first_is i)
-
-    pub next_joined : same_word next.0 first.0 ≡ true
-        → joined_from (word_at (rows_of_heads chains heads) start, begun) (drop end (rows_of_heads chains heads))
-        ≡ joined_from (word_at (rows_of_heads chains heads) start, begun ++ get_or chains next.1 []) (drop (end + 1) (rows_of_heads chains heads))
-    next_joined same =
-        next_row rows end (word_at rows start, begun) (head_row chains next) (omega (arith, within, as_many)) (same_words ∙ same)
-        ∙ ap (λ (row : Row). joined_from (word_at rows start, begun ++ row.1) (drop (end + 1) rows)) (row_at end next within next_is)
-
-    pub other_joined : same_word next.0 first.0 ≡ false
-        → joined_from (word_at (rows_of_heads chains heads) start, begun) (drop end (rows_of_heads chains heads)) ≡ (word_at (rows_of_heads chains heads) start, begun) ∷ joined_rows (drop end (rows_of_heads chains heads))
-    other_joined differ = other_row rows end (word_at rows start, begun) (head_row chains next) (omega (arith, within, as_many)) (same_words ∙ differ)
-
--- heads of which all are joined, behind those that were
-pub all_joined : (chains : Lists) (heads : List Head) (so_far : List Row) (at : ℕ) → length heads ≤ at → so_far ++ joined_rows (drop at (rows_of_heads chains heads)) ≡ joined_rows (rows_of_heads chains heads) → so_far ≡ joined_rows (rows_of_heads chains heads)
-all_joined chains heads so_far at past whole =
-    let rows = rows_of_heads chains heads in
-    sym (append-nil so_far) ∙ ap (λ l. so_far ++ joined_rows l) (sym (drop_all at rows (omega (arith, past, length-map heads (head_row chains))))) ∙ whole
+-- rows of which all are joined, behind those that were
+pub all_joined : (rows so_far : List Row) (at : ℕ) → length rows ≤ at → so_far ++ joined_rows (drop at rows) ≡ joined_rows rows → so_far ≡ joined_rows rows
+all_joined rows so_far at past whole = sym (append-nil so_far) ∙ ap (λ l. so_far ++ joined_rows l) (sym (drop_all at rows past)) ∙ whole

@@ -5,9 +5,6 @@ mod RowSearch
 mod WordOrder
 mod NumberLemmas
 mod MergeLemmas
-mod ChainLemmas
-mod GroupLemmas
-mod GroupSteps
 mod JoinLemmas
 mod SegmentLemmas
 mod LargeLemmas

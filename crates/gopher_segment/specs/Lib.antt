@@ -1,6 +1,4 @@
 pub mod Cells
-pub mod Chains
-pub mod Groups
 pub mod Large
 pub mod PostingList
 pub mod Postings

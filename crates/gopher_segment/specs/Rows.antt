@@ -184,13 +184,6 @@ pub record TellAlike (rows others : List (List ℕ × List (ℕ × ℕ))) : Type
       → rows_count test page others ≡ rows_count test page rows
   pub runs : (word : List ℕ) → postings_of word others ≡ postings_of word rows
 
--- if some rows tell the same as the old ones, then the new ones tell the same as these rows with
--- one more in front
-abbrev pub AddsRow : List ℕ × List (ℕ × ℕ) → List (List ℕ × List (ℕ × ℕ))
-    → List (List ℕ × List (ℕ × ℕ)) → Type 0
-AddsRow row old new =
-    (rows : List (List ℕ × List (ℕ × ℕ))) → TellAlike rows old → TellAlike (row ∷ rows) new
-
 -- the rows after neighbours with equal words are joined, beginning with this row
 abbrev pub joined_from : List ℕ × List (ℕ × ℕ) → List (List ℕ × List (ℕ × ℕ))
     → List (List ℕ × List (ℕ × ℕ))

@@ -15,10 +15,7 @@
 //! fails with it leaves its arguments unchanged. Calls that can't fail with it allocate nothing.
 #![tactic(auto)]
 
-mod chains;
 mod gathering;
-mod groups;
-mod head;
 mod joining;
 mod large;
 mod merging;

@@ -62,16 +62,15 @@ impl Model for Segment {
 impl Segment {
     /// Makes the segment of `pages`. The first page has the number `first`.
     ///
-    /// While it runs it allocates up to 127 bytes for each distinct word of each page that isn't
-    /// large, and 65,536 bytes more. Then it sorts the places of the pages, with up to 34 bytes for
-    /// each.
+    /// While it runs it allocates up to 83 bytes for each distinct word of each page that isn't
+    /// large. Then it sorts the places of the pages, with up to 34 bytes for each.
     pub fn of_pages(alloc: Global, first: usize, pages: &[Arc<Page>]) -> Result<Segment, NoMemory>
         requires { first + length pages.now ≤ 65536 }
         ensures first { IfOk result (λ segment. segment.first ≡ first) }
         ensures pages { IfOk result (λ segment. segment.pages ≡ map arc_value pages.now) }
     {
         let rows = rows_of(alloc, first, pages)?;
-        let table = join(alloc, &rows)?;
+        let table = join(alloc, rows)?;
         let pages = shared(alloc, pages)?;
         let ranks = ranks_of(alloc, &pages)?;
         let large = large_of(alloc, &pages)?;

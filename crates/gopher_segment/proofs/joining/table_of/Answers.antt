@@ -1,20 +1,21 @@
 use Rattle.std.proofs.Common.{◌≡◌, ℕ, List, ◌++◌, ◌∷◌, [], length, drop, sym, ap, ◌∙◌, append_assoc, arith}
-use Rattle.std.proofs.lemmas.List.{length-append}
+use Rattle.std.proofs.lemmas.List.{length-append, get_or-map}
 use Rattle.std.proofs.lemmas.Result.{IfOk-weaker}
 use Rattle.std.specs.List.{zip}
 use Rattle.gopher_segment.specs.Rows.{joined_rows}
-use Rattle.gopher_segment.specs.Groups.{rows_of_heads}
 use Rattle.gopher_segment.proofs.RowSearch.{word_at}
 use Rattle.gopher_bytes.proofs.Zips.{zip-append}
-use Rattle.gopher_segment.proofs.JoinLemmas.{word_of_head, all_joined}
+use Rattle.gopher_segment.proofs.JoinLemmas.{all_joined}
 use Rattle.gopher_segment.proofs.joining.table_of.Goals as goal
 
 pub loop-at-preserved : goal.loop-at-preserved
 loop-at-preserved c =
-    let rows : List (List ℕ × List (ℕ × ℕ)) = rows_of_heads c.args.chains.now c.args.heads.now in
+    let rows : List (List ℕ × List (ℕ × ℕ)) = c.args.rows.now in
     let word : List ℕ = word_at rows c.loop-at.at in
     let postings : List (ℕ × ℕ) = c.take_word.new.runs.begun in
-    let is : c.word.result.now ≡ word = c.word.ensures ∙ sym (word_of_head c.args.chains.now c.args.heads.now c.loop-at.at c.index-heads-at.result c.loop-at-test.true c.index-heads-at.is) in
+    let is : c.word.result.now ≡ word =
+    c.word.ensures ∙ ap (λ (row : List ℕ × List (ℕ × ℕ)). row.0) c.index-rows-at.is ∙ sym (get_or-map (λ (row : List ℕ × List (ℕ × ℕ)). row.0) rows c.loop-at.at c.index-rows-at.result [] c.loop-at-test.true)
+    in
     let pushed : c.push.new.self ≡ c.loop-at.words ++ word ∷ [] = c.in_ok-push.ensures.added ∙ ap (λ w. c.loop-at.words ++ w ∷ []) is in
     let ended : c.end_run.new.self.whole ≡ c.loop-at.runs.whole ++ postings ∷ [] = c.in_ok-end_run.ensures.whole ∙ ap (λ l. l ++ postings ∷ []) c.in_ok-at.ensures.whole in
     let so_far : List (List ℕ × List (ℕ × ℕ)) = zip c.loop-at.words c.loop-at.runs.whole in
@@ -34,5 +35,5 @@ loop-at-preserved c =
 pub returns : goal.returns
 returns c =
     let so_far : List (List ℕ × List (ℕ × ℕ)) = zip c.loop-at.words c.loop-at.runs.whole in
-    let all = all_joined c.args.chains.now c.args.heads.now so_far c.loop-at.at (omega (arith, c.loop-at-test.false)) c.loop-at.invariant.joined in
-    IfOk-weaker c.packed.result (λ table. table ≡ so_far) (λ table. table ≡ joined_rows (rows_of_heads c.args.chains.now c.args.heads.now)) (λ table is. is ∙ all) c.packed.ensures
+    let all = all_joined c.args.rows.now so_far c.loop-at.at (omega (arith, c.loop-at-test.false)) c.loop-at.invariant.joined in
+    IfOk-weaker c.packed.result (λ table. table ≡ so_far) (λ table. table ≡ joined_rows c.args.rows.now) (λ table is. is ∙ all) c.packed.ensures
