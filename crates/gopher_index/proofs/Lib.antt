@@ -5,7 +5,6 @@ pub mod GroupCells
 pub mod Lists
 pub mod Zipping
 pub mod CellLemmas
-pub mod Unwanted
 pub mod Taking
 pub mod TieLemmas
 pub mod LeastLemmas
@@ -16,6 +15,5 @@ pub mod Blocks
 pub mod PostingLemmas
 pub mod NextPages
 pub mod Walking
-pub mod WordSegments
 pub mod Steps
 pub mod EarlyRuns
