@@ -4,7 +4,6 @@ pub mod Groups
 pub mod GroupCells
 pub mod Lists
 pub mod Zipping
-pub mod CellLemmas
 pub mod Taking
 pub mod TieLemmas
 pub mod LeastLemmas

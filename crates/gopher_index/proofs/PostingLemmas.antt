@@ -1,6 +1,7 @@
 -- A query of one term.
-use Rattle.std.proofs.Common.{◌≡◌, ℕ, ◌+◌, false, List, [], ◌∷◌, length, get_or, sym, ap, ◌∙◌, arith}
+use Rattle.std.proofs.Common.{◌≡◌, ℕ, ◌+◌, false, refl, List, [], ◌∷◌, length, get_or, sym, ap, ◌∙◌, arith}
 use Rattle.std.specs.Prelude.{Option, None, Some, IfSome, nat_lt}
+use Rattle.gopher_page.specs.Page.{PageData}
 use Rattle.gopher_page.specs.Query.{TermData, count_of_term, joined, matches, score}
 use Rattle.gopher_page.specs.declared.query.Operator.TheVariants.{And}
 use Rattle.gopher_segment.specs.PostingList.{IsPostingListOf}
@@ -8,8 +9,12 @@ use Rattle.gopher_segment.specs.Postings.{run_of}
 use Rattle.gopher_segment.specs.Segment.{SegmentData, meant_counts}
 use Rattle.gopher_segment.specs.declared.postings.Postings.{Postings}
 use Rattle.gopher_index.specs.ByPostings.{IsListOf}
-use Rattle.gopher_index.proofs.CellLemmas.{meant_is_term}
+use Rattle.gopher_index.specs.Cells.{term_counts}
 use Rattle.gopher_page.proofs.OneMoreTerm.{added, matches_one_more, score_one_more, score_of_none, all_match}
+
+pub meant_is_term : (term : TermData) (pages : List PageData) → meant_counts term.is_prefix term.word pages ≡ term_counts term pages
+unfolding count_of_term
+meant_is_term term pages = refl
 
 module _ (term : TermData) (and : term.operator ≡ And) (counts : List (List ℕ × ℕ)) where
   pub one_matches : matches (term ∷ []) counts ≡ nat_lt 0 (count_of_term counts term)

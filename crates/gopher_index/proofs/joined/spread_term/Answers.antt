@@ -1,6 +1,6 @@
 use Rattle.std.proofs.Common.{◌∙◌}
 use Rattle.gopher_segment.specs.Segment.{meant_counts}
-use Rattle.gopher_index.proofs.CellLemmas.{meant_is_term}
+use Rattle.gopher_index.proofs.PostingLemmas.{meant_is_term}
 use Rattle.gopher_index.proofs.joined.spread_term.Goals as goal
 
 pub returns-clause-counts : goal.returns-clause-counts
