@@ -16,6 +16,10 @@ abbrev pub is_shown : List ℕ → Bool
 is_shown [] = false
 is_shown (byte ∷ more) = not (byte == 46) || is_menu_name (byte ∷ more)
 
+-- the names, and one more if it is listed
+abbrev pub with_shown : List (List ℕ) → List ℕ → List (List ℕ)
+with_shown names name = if is_shown name then names ++ name ∷ [] else names
+
 -- all these names are listed
 abbrev pub AreShown : {A : Type 0} → List (String A) → Type 0
 AreShown names = All (λ name. is_shown (string_bytes name) ≡ true) names

@@ -3,12 +3,12 @@
 //! A name can vanish between any two calls, because other programs change the folder while it is
 //! read. A name that has vanished counts as a link that leads nowhere.
 
-ghost use Rattle.std.specs.Prelude.{◌≡◌, ◌≢◌, [], IfErr, IfOk, None, Some, string_cmp};
+ghost use Rattle.std.specs.Prelude.{◌≡◌, ◌≢◌, [], IfErr, IfOk, None, OnOk, Some, map, string_bytes, string_cmp};
 ghost use Rattle.std.specs.List.Sorted.{IsSorted};
 ghost use Rattle.std.specs.Fs.{metadata_len};
 ghost use Rattle.std.specs.IoError.{error_kind};
 ghost use Rattle.std.specs.declared.io.ErrorKind.TheVariants.{OutOfMemory};
-ghost use Rattle.gopher_tree.specs.Load.{is_shown, AreShown, IsOfFolder, IsOfFile, IsUnreadable, most_read, ReadsMost};
+ghost use Rattle.gopher_tree.specs.Load.{is_shown, with_shown, AreShown, IsOfFolder, IsOfFile, IsUnreadable, most_read, ReadsMost};
 
 use crate::fault::TreeFault;
 use crate::tree::file_faults::MAX_FILE;
@@ -56,7 +56,9 @@ fn is_shown(name: &[u8]) -> bool
 // Appends the name if it is listed.
 fn push_shown(alloc: Global, name: &str, names: &mut Vec<String>) -> Result<(), AllocError>
     requires { AreShown names.old.items }
-    ensures { AreShown names.new.items }
+    ensures shown { AreShown names.new.items }
+    ensures kept { OnOk result (map (λ each. string_bytes each) names.new.items
+        ≡ with_shown (map (λ each. string_bytes each) names.old.items) name.now) }
 {
     if is_shown(name.as_bytes()) {
         names.push(String::from_str(alloc, name)?)?;
