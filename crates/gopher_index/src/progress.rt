@@ -1,7 +1,7 @@
 //! The state of a search that is done in steps: the pages that it shares, its terms, and the best
 //! of the pages that were searched.
 
-ghost use Rattle.std.specs.Prelude.{◌≡◌, ◌≤◌, ◌<◌, None, Ok, length, map, IfOk, IfSome, OnOk};
+ghost use Rattle.std.specs.Prelude.{◌≡◌, ◌≤◌, ◌<◌, None, Ok, length, map, IfOk, IfSome, OnErr, OnOk};
 ghost use Rattle.std.specs.Arc.{arc_value};
 ghost use Rattle.gopher_page.specs.Query.{IsQuery};
 ghost use Rattle.gopher_index.specs.Plan.{wanted_in};
@@ -127,6 +127,7 @@ impl Progress {
         requires none { length self.old.groups.items ≡ 0 }
         ensures same { IsSameSearch self.old self.new }
         ensures fewer { OnOk result (steps_left self.new < steps_left self.old) }
+        ensures refused { OnErr result (steps_left self.new ≡ steps_left self.old) }
     {
         self.groups = groups_of(self.alloc, &self.terms)?;
         Ok(())
@@ -139,6 +140,7 @@ impl Progress {
         requires groups { self.old.joined.groups < length self.old.groups.items }
         ensures same { IsSameSearch self.old self.new }
         ensures fewer { OnOk result (steps_left self.new < steps_left self.old) }
+        ensures refused { OnErr result (steps_left self.new ≡ steps_left self.old) }
     {
         let segment = &self.segments[self.segments_done];
         self.joined.advance(segment, &self.groups)?;
@@ -154,6 +156,7 @@ impl Progress {
         requires groups { self.old.joined.groups ≡ length self.old.groups.items }
         ensures same { IsSameSearch self.old self.new }
         ensures fewer { OnOk result (steps_left self.new < steps_left self.old) }
+        ensures refused { OnErr result (steps_left self.new ≡ steps_left self.old) }
     {
         let segment = &self.segments[self.segments_done];
         let Joined {
@@ -175,6 +178,7 @@ impl Progress {
         requires loose { self.old.loose_done < length self.old.loose.items }
         ensures same { IsSameSearch self.old self.new }
         ensures fewer { OnOk result (steps_left self.new < steps_left self.old) }
+        ensures refused { OnErr result (steps_left self.new ≡ steps_left self.old) }
     {
         let start = self.loose_done;
         let end = pages_end(&self.loose, start);
@@ -199,7 +203,9 @@ impl Progress {
         requires { IsProgress self.old }
         ensures same { IsSameSearch self.old self.new }
         ensures found { IfOk result (λ it. IfSome it (λ hits. hits.items ≡ search_hits self.old)) }
+        ensures still { IfOk result (λ it. IfSome it (λ _. steps_left self.new ≡ steps_left self.old)) }
         ensures fewer { result ≡ Ok None → steps_left self.new < steps_left self.old }
+        ensures refused { OnErr result (steps_left self.new ≡ steps_left self.old) }
     {
         if self.groups.is_empty() {
             self.plan()?;

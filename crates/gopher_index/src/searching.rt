@@ -1,6 +1,6 @@
 //! Searches that are done in steps.
 
-ghost use Rattle.std.specs.Prelude.{◌≡◌, ◌<◌, None, Ok, IfOk, IfSome};
+ghost use Rattle.std.specs.Prelude.{◌≡◌, ◌<◌, None, Ok, IfOk, IfSome, OnErr};
 ghost use Rattle.gopher_page.specs.Query.{IsQuery};
 ghost use Rattle.gopher_index.specs.Answer.{answer_over};
 
@@ -61,11 +61,13 @@ impl Search {
     ///
     /// # Errors
     ///
-    /// `NoMemory` (90): the step wasn't done, and can be tried again.
+    /// `NoMemory` (90): the step wasn't done, and as many are left. It can be tried again.
     pub fn step(&mut self) -> Result<Option<Vec<Hit>>, NoMemory>
         ensures hits { self.new.hits ≡ self.old.hits }
         ensures found { IfOk result (λ found. IfSome found (λ hits. hits.items ≡ self.old.hits)) }
+        ensures still { IfOk result (λ it. IfSome it (λ _. self.new.left ≡ self.old.left)) }
         ensures left { result ≡ Ok None → self.new.left < self.old.left }
+        ensures refused { OnErr result (self.new.left ≡ self.old.left) }
     {
         self.progress.step()
     }
