@@ -6,6 +6,7 @@
 The host has a menu of menus, of which each leads to 128 texts. N is 10,000 unless said. Another host counts what it is asked
 for: what the rules allow, once, and a place that can't be fetched as often as the settings say; --progress names each place that
 failed for good. A crawl of a host where nobody listens ends. The words of a text that comes in pieces are those of its bytes.
+As many workers fetch at once as the settings say.
 The last line is 'crawling: N passed, M failed'.
 """
 import argparse
@@ -35,6 +36,8 @@ MOST_PRINTED, MORE = 1_000, 7
 # The pieces of a text, sent one by one: a word is cut, and so are the end of a line and the last line.
 PIECES = (b"The ti", b"tle of a text\r", b"\nalpha", b"bet moon\r\n..stuffed\r\n", b".\r", b"\nafterwards\r\n")
 SECONDS_BETWEEN = 0.2
+# How many workers fetch from a host that holds its replies back until as many have asked, and how many texts it has.
+WORKERS, HELD = 3, 8
 # How long a host is watched after the last fetch that is expected of it. Fetches follow each other within milliseconds.
 SECONDS_AFTER = 1.0
 
@@ -97,6 +100,26 @@ class Counted(socketserver.ThreadingTCPServer):
 
     def shutdown_request(self, request):
         self.close_request(request)
+
+
+class Holding(socketserver.StreamRequestHandler):
+    """Notes how many clients ask at once. A text isn't sent before as many ask as are expected, and a while longer."""
+
+    def handle(self):
+        host, line = self.server, self.rfile.readline(1_026).rstrip(b"\r\n")
+        if not line:
+            self.wfile.write(host.menu)
+            return
+        with host.lock:
+            host.now += 1
+            host.most = max(host.most, host.now)
+            if host.now == WORKERS:
+                host.reached.set()
+        host.reached.wait(SECONDS_FOR_ALL)
+        time.sleep(SECONDS_AFTER)
+        with host.lock:
+            host.now -= 1
+        self.wfile.write(b"moon\r\n.\r\n")
 
 
 class InPieces(socketserver.BaseRequestHandler):
@@ -260,6 +283,24 @@ def check_pieces(tally, program):
         host.shutdown()
 
 
+def check_workers(tally, program):
+    """As many workers as the settings say fetch at once, and no more."""
+    with tempfile.TemporaryDirectory() as place, Pages((HOST, 0), Holding) as host:
+        port, folder = host.server_address[1], pathlib.Path(place)
+        names = [b"/%d" % number for number in range(HELD)]
+        host.menu = b"".join(b"0Text\t%s\t%s\t%d\r\n" % (name, HOST.encode(), port) for name in names) + b".\r\n"
+        host.lock, host.reached, host.now, host.most = threading.Lock(), threading.Event(), 0, 0
+        threading.Thread(target=host.serve_forever, daemon=True).start()
+        where = f'host = "{HOST}"\nport = {port}\n'
+        (folder / "root").mkdir()
+        more = f"workers = {WORKERS}\n[[seeds]]\n{where}[[allow]]\n{where}"
+        with Server(program, folder, folder / "root", more=more) as server:
+            server.started()
+            tally.expect("each held text is found", sorted(found_at_last(server, b"moon", names)), names)
+        tally.expect("how many workers fetch at once", host.most, WORKERS)
+        host.shutdown()
+
+
 def main():
     words = argparse.ArgumentParser()
     words.add_argument("--pages", type=int, default=10_000)
@@ -270,6 +311,7 @@ def main():
     check_absent(tally, given.program)
     check_many_failures(tally, given.program)
     check_pieces(tally, given.program)
+    check_workers(tally, given.program)
     check_crawl(tally, given.program, given.pages)
     return tally.status()
 
