@@ -1,7 +1,7 @@
 -- A packed list of places: their hosts, their selectors, and a row for each with the rest.
-use Rattle.std.specs.Prelude.{◌≡◌, ℕ, ◌<◌, List, ◌++◌, Option, length, map, slice_index_or, []}
+use Rattle.std.specs.Prelude.{◌≡◌, ℕ, ◌+◌, ◌<◌, ◌≤◌, ◌⊎◌, List, ◌++◌, Option, length, map, slice_index_or, []}
 use Rattle.std.specs.Borrow.{Bor}
-use Rattle.std.specs.List.{zip, AllByRecursion}
+use Rattle.std.specs.List.{sum_by, zip, AllByRecursion}
 use Rattle.std.specs.Option.{option_map_or}
 use Rattle.gopher_item.specs.Place.{PlaceData}
 use Rattle.gopher_item.specs.declared.places.Row.{Row}
@@ -37,3 +37,11 @@ pub record AreRows (hosts selectors : List (List ℕ)) (rows : List Row) : Type 
 pub record HasMore (old new : List (List ℕ)) : Type 0 where
   pub more : List (List ℕ)
   pub is : new ≡ old ++ more
+
+-- the bytes of the selectors and hosts of places, if each has its own
+abbrev pub names_len : List PlaceData → ℕ
+names_len places = sum_by (λ place. length place.selector + length place.host) places
+
+-- a sum of bytes as a `usize` holds it: it is exact, or the largest number
+abbrev pub IsSum : ℕ → ℕ → Type 0
+IsSum total number = (number ≤ total) × ((number ≡ total) ⊎ (18446744073709551615 ≤ number))

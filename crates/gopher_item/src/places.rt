@@ -1,7 +1,7 @@
 //! `Places`: a packed list of places.
 
 ghost use Rattle.std.specs.Prelude.{◌≡◌, ◌<◌, ◌++◌, [], ◌∷◌, Some, length, slice_get, IfOk, OnOk, OnErr};
-ghost use Rattle.gopher_item.specs.Places.{HasMore};
+ghost use Rattle.gopher_item.specs.Places.{HasMore, names_len, IsSum};
 
 use crate::each_place::EachPlace;
 use crate::place::Place;
@@ -85,11 +85,14 @@ impl Places {
     }
 
     /// Returns how many bytes the selectors and the hosts of the places have, if each place has its
-    /// own.
-    pub fn names_len(&self) -> usize {
-        let mut names = self.selectors.bytes_len();
-        for row in self.rows.iter() {
-            names = names.saturating_add(self.hosts.get(row.host as usize).len());
+    /// own; at most `usize::MAX`.
+    pub fn names_len(&self) -> usize
+        ensures { IsSum (names_len self.now) result }
+    {
+        let mut names = 0_usize;
+        for place in self.iter() {
+            let name = place.selector.len().saturating_add(place.host.len());
+            names = names.saturating_add(name);
         }
         names
     }
