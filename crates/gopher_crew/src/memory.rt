@@ -1,6 +1,6 @@
 //! The limit of the memory that the pages of a crawl may take.
 
-ghost use Rattle.std.specs.Prelude.{◌≡◌, ◌+◌, ◌≤◌, ◌<◌, true, false};
+ghost use Rattle.std.specs.Prelude.{◌≡◌, ◌+◌, nat_lt, None, Some, if◌then◌else◌};
 
 use std::sync::atomic::{AtomicU64, Ordering};
 
@@ -13,12 +13,15 @@ pub(crate) struct PageMemory {
     refused: AtomicU64,
 }
 
-// Returns whether a page of `size` bytes fits beside those that take `taken` bytes.
-fn fits(limit: u64, taken: u64, size: u64) -> bool
-    ensures within { result ≡ true → taken + size ≤ limit }
-    ensures past { result ≡ false → limit < taken + size }
+// What is taken once a page of `size` bytes is too; `None` if the page doesn't fit.
+fn with_page(limit: u64, taken: u64, size: u64) -> Option<u64>
+    ensures { result ≡ (if nat_lt limit (taken + size) then None else Some (taken + size)) }
 {
-    size <= limit && taken <= limit - size
+    if size <= limit && taken <= limit - size {
+        Some(taken + size)
+    } else {
+        None
+    }
 }
 
 impl PageMemory {
@@ -36,15 +39,19 @@ impl PageMemory {
         self.limit.store(bytes, Ordering::SeqCst);
     }
 
-    /// Takes memory for a page of `size` bytes, if it fits, and returns whether it does.
+    /// Takes memory for a page of `size` bytes, if it fits, and returns whether it does. A page that
+    /// doesn't fit takes nothing, so it never makes a page of another worker fail.
     pub fn take(&self, size: u64) -> bool {
-        let taken = self.taken.fetch_add(size, Ordering::SeqCst);
-        let is_taken = fits(self.limit.load(Ordering::SeqCst), taken, size);
-        if !is_taken {
-            self.give_back(size);
+        let limit = self.limit.load(Ordering::SeqCst);
+        let taken = self.taken.fetch_update(
+            Ordering::SeqCst,
+            Ordering::SeqCst,
+            move |taken| with_page(limit, taken, size),
+        );
+        if taken.is_err() {
             let _before = self.refused.fetch_add(1, Ordering::SeqCst);
         }
-        is_taken
+        taken.is_ok()
     }
 
     /// Gives back the memory of a page that wasn't added.
