@@ -59,6 +59,15 @@ full_device() {
   [ "$code" = 1 ] && [ "$(cat "$folder/told")" = "$2" ]
 }
 
+# A server that may open too few files for its threads, with seeds for its workers too: 81 before it listens.
+few_files() {
+  local code=0
+  printf 'host = "127.0.0.1"\nport = %d\nroot = "%s"\n%b' $((20000 + RANDOM % 10000)) "$folder" "$2" > "$folder/few.toml"
+  (ulimit -n "$1" && exec timeout 20 "$program" serve "$folder/few.toml" --progress --requests 0) > "$folder/written" 2> "$folder/told" || code=$?
+  [ "$code" = 1 ] && [ ! -s "$folder/written" ] && grep -q 'limit of open files is too low' "$folder/told" \
+    && [ "$(tail -1 "$folder/told")" = 'hole: 81' ]
+}
+
 count as_wanted 'allow\ta b\t70\t\n' 0 'refused 3\n' '' replay
 count as_wanted 'claim\n' 1 '' 'hole: 70 line 1\n' replay
 count as_wanted 'start\t1\n\nstart\t1\n' 1 'ok\n' 'hole: 70 line 3\n' replay
@@ -68,6 +77,10 @@ count refused replay extra
 count refused serve
 count refused serve s.toml --requests 1000001
 count refused serve s.toml --log
+count refused serve examples/hole.toml $(printf -- '--listen 127.0.0.1:%d ' $(seq 20001 21025))
+count few_files 64 'threads = 1\n'
+count few_files 68 'workers = 4\n[[seeds]]\nhost = "h"\n[[allow]]\nhost = "h"\n'
+count few_files 89 'threads = 8\nworkers = 16\n[[seeds]]\nhost = "h"\n[[allow]]\nhost = "h"\n'
 count shown --help
 count shown --version
 count named

@@ -18,6 +18,6 @@ mod work_queue;
 
 pub use connections::Connections;
 pub use deadlines::Deadlines;
-pub use places::{Places, max_places};
+pub use places::{Places, max_places, other_files, serves_crawl};
 pub use quota::AcceptQuota;
 pub use work_queue::WorkQueue;

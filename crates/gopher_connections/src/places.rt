@@ -1,12 +1,16 @@
 //! How many connections all server threads may hold together, and the fair share of one thread.
 
 ghost use Rattle.std.specs.Prelude.{◌≡◌, ◌-◌, ◌<◌, ◌≤◌, max, nat_lt, true, false, None, Some, if◌then◌else◌};
-ghost use Rattle.gopher_connections.specs.Places.{max_places as most, fair_share};
+ghost use Rattle.gopher_connections.specs.Places.{max_places as most, other_files, serves_crawl, fair_share};
 
 use std::sync::atomic::{AtomicU64, Ordering};
 
-// The number of open files that are left for the rest of the program.
+// The fewest files that are left for the rest of the program.
 const OTHER_FILES: u64 = 64;
+
+// Files that aren't counted one by one: the standard streams, the log, settings, and the system's
+// own.
+const UNCOUNTED_FILES: u64 = 16;
 
 // The most connections that a server holds.
 const MAX_CONNECTIONS: u64 = 16_384;
@@ -15,15 +19,31 @@ const MAX_CONNECTIONS: u64 = 16_384;
 // share.
 const MAX_ABOVE_SHARE: u64 = 16;
 
-/// Returns the most connections that a server holds if its process may open `files` files: from 1
-/// to 16,384, with 64 files left for the rest of the program.
-pub fn max_places(files: u64) -> u64
-    ensures { result ≡ most files }
+/// Returns how many files a server with these numbers of listeners, threads and workers opens beside
+/// its connections: at least 64.
+pub fn other_files(listeners: u32, threads: u32, workers: u32) -> u64
+    ensures { result ≡ other_files listeners threads workers }
 {
-    files
-        .saturating_sub(OTHER_FILES)
-        .min(MAX_CONNECTIONS)
-        .max(1)
+    let of_threads = 3 * u64::from(threads);
+    let of_workers = 2 * u64::from(workers);
+    let all = UNCOUNTED_FILES + u64::from(listeners) + of_threads + of_workers;
+    all.max(OTHER_FILES)
+}
+
+/// Returns the most connections that a server holds if its process may open `files` files, `others`
+/// of them for what isn't a connection: at most 16,384.
+pub fn max_places(files: u64, others: u64) -> u64
+    ensures { result ≡ most files others }
+{
+    files.saturating_sub(others).min(MAX_CONNECTIONS)
+}
+
+/// Returns whether a server with `places` places can serve its own crawl by `workers` workers, and
+/// one client beside it.
+pub fn serves_crawl(places: u64, workers: u32) -> bool
+    ensures { result ≡ serves_crawl places workers }
+{
+    u64::from(workers) < places
 }
 
 // The fair share of one of `threads` threads in `all` connections, at least 1.

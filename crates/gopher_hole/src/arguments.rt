@@ -2,6 +2,7 @@
 
 use clap::{Arg, ArgAction, ArgMatches, Command, Error, value_parser};
 use gopher_item::NoMemory;
+use gopher_server::MAX_LISTENERS;
 use std::alloc::{AllocError, Global};
 use std::net::{IpAddr, Ipv6Addr, SocketAddr};
 
@@ -223,6 +224,12 @@ fn no_address<'a>(alloc: Global, argument: &str) -> Result<Asked<'a>, NoMemory> 
     bad_value(alloc, argument, "--listen <ADDRESS>", problem)
 }
 
+// The text about an address that is one too many.
+fn too_many_addresses<'a>(alloc: Global, argument: &str) -> Result<Asked<'a>, NoMemory> {
+    let problem = "there are more than 1024 addresses";
+    bad_value(alloc, argument, "--listen <ADDRESS>", problem)
+}
+
 // The text about an argument that isn't a number of bytes.
 fn no_bytes<'a>(alloc: Global, argument: &str) -> Result<Asked<'a>, NoMemory> {
     let problem = "expected a number of bytes, for example 65536, 64K, 64M or 64G";
@@ -236,6 +243,9 @@ fn read_serve<'a>(alloc: Global, serve: &ArgMatches<'a>) -> Result<Asked<'a>, No
     };
     let mut addresses = Vec::new(alloc);
     for argument in serve.get_strs("listen").unwrap_or(&[]) {
+        if addresses.len() >= MAX_LISTENERS {
+            return too_many_addresses(alloc, argument);
+        }
         match address_of(argument) {
             Some(address) => addresses.push(address)?,
             None => return no_address(alloc, argument),

@@ -11,6 +11,7 @@ use crate::crawl_fetch::CrawlFetch;
 use crate::failures::Failures;
 use crate::fault::ProgramFault;
 use crate::listening::listen;
+use crate::open_files::connections_by_limit;
 use crate::opening::{Opened, open, read_settings};
 use crate::progress::{crawl_and_tell, tell_limit};
 use crate::starting::{AnyEnd, Started, ThreadsEnd, join_all, start_threads};
@@ -98,6 +99,8 @@ struct Service {
     listeners: Vec<TcpListener>,
     replies: Replies,
     requests: Option<u64>,
+    // How many connections the threads hold at once.
+    places: u64,
     log: Option<Arc<LogQueue>>,
     // Whether threads print on the error stream what fails.
     tells: bool,
@@ -117,10 +120,12 @@ fn start<
         listeners,
         replies,
         requests,
+        places,
         log,
         tells,
     } = service;
-    let setups = set_up(rt, alloc, listeners, requests, passes.len(), &log, tells)?;
+    let threads = passes.len();
+    let setups = set_up(rt, alloc, listeners, requests, threads, places, &log, tells)?;
     let Ok(replies) = Arc::new(alloc, replies) else {
         return Err(ProgramFault::NoMemory);
     };
@@ -216,19 +221,37 @@ fn end_log<R: Threads + Wait>(rt: &R, alloc: Global, log: Option<Log>) {
     }
 }
 
-// Listens at the addresses of a server, and says so.
+// Listens at the addresses of a server with these numbers of threads and of workers that crawl, and
+// says so. Returns the listeners, and how many connections the threads may hold.
 fn open_listeners<R: Net + Env + Eprint + AllocGlobal, W: Write>(
     rt: &R,
     alloc: Global,
     home: &Home,
     serving: &Serving<'_>,
+    threads: usize,
+    workers: usize,
     output: &mut Watched<W>,
-) -> Result<Vec<TcpListener>, ProgramFault>
+) -> Result<(Vec<TcpListener>, u64), ProgramFault>
     ensures { OnOk result (HasSent W.contents output.old output.new (listening_line home.now)) }
 {
     let listeners = listen(rt, alloc, home, &serving.addresses, serving.progress)?;
+    let tells = serving.progress;
+    let places = connections_by_limit(rt, listeners.len(), threads, workers, tells)?;
     tell_listening(alloc, home, output)?;
-    Ok(listeners)
+    Ok((listeners, places))
+}
+
+// The number of workers that crawl: none if no place waits.
+fn crawling_workers<C: Crew, R: Wait + Drop, W: Wait>(
+    rt: &W,
+    desk: &Desk<C, R>,
+    crawling: &Crawling<'_, C>,
+) -> usize {
+    if desk.status(rt).waiting > 0 {
+        crawling.pairs.len()
+    } else {
+        0
+    }
 }
 
 // Listens, serves, and crawls at the desk. Returns the workers' ends once all have ended.
@@ -261,12 +284,16 @@ fn listen_and_serve<
     ensures { OnOk result (HasSent W.contents output.old output.new (listening_line replies.home)) }
 {
     let alloc = rt.alloc();
-    let listeners = open_listeners(rt, alloc, replies.home(), serving, output)?;
+    let workers = crawling_workers(rt, desk, &crawling);
+    let threads = passes.len();
+    let home = replies.home();
+    let (listeners, places) = open_listeners(rt, alloc, home, serving, threads, workers, output)?;
     let log = start_log_at(rt, alloc, serving.log);
     let service = Service {
         listeners,
         replies,
         requests: serving.requests,
+        places,
         log: queue_of(&log),
         tells: serving.progress,
     };

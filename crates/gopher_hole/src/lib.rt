@@ -22,6 +22,7 @@ mod failures;
 mod fault;
 mod fetching;
 mod listening;
+mod open_files;
 mod opening;
 mod program;
 mod progress;

@@ -2,6 +2,7 @@
 
 use crate::fault::ProgramFault;
 use gopher_item::Home;
+use gopher_server::{MAX_LISTENERS, limit_send_buffers};
 use mio::net::TcpListener;
 use os::FromRawFd;
 use std::alloc::Global;
@@ -27,7 +28,8 @@ fn tell<R: Eprint>(rt: &R, host: &str, error: io::Error, tells: bool) {
     let _ = rt.eprintln(error);
 }
 
-// Listens at an address. If the system refuses and `tells`, prints why.
+// Listens at an address, unless there are as many listeners as a server may have. If the system
+// refuses and `tells`, prints why.
 fn listen_at<R: Net + Eprint>(
     rt: &R,
     alloc: Global,
@@ -35,6 +37,9 @@ fn listen_at<R: Net + Eprint>(
     tells: bool,
     listeners: &mut Vec<TcpListener>,
 ) -> Result<(), ProgramFault> {
+    if listeners.len() >= MAX_LISTENERS {
+        return Ok(());
+    }
     match TcpListener::bind(rt, address) {
         Ok(listener) => {
             if listeners.push(listener).is_err() {
@@ -157,5 +162,6 @@ pub fn listen<R: Net + Env + Eprint + AllocGlobal>(
     if listeners.is_empty() {
         return Err(ProgramFault::ListenFailed);
     }
+    limit_send_buffers(&listeners);
     Ok(listeners)
 }

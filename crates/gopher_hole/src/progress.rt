@@ -3,7 +3,7 @@
 use crate::crawl_fetch::CrawlFetch;
 use crate::failures::Failures;
 use gopher_catalogue::Status;
-use gopher_crew::{CrawlRefused, Crew, Desk, Share, WorkEnd, crawl};
+use gopher_crew::{CrawlRefused, Crew, Desk, Share, Stop, WorkEnd, crawl};
 use gopher_item::NoMemory;
 use gopher_script::status_line;
 use std::alloc::Global;
@@ -48,6 +48,36 @@ pub fn tell_limit<C: Crew, R: Wait + Drop>(rt: &impl Eprint, desk: &Desk<C, R>) 
         let _ = rt.eprintln("hole: the crawl reached --crawl-memory: it leaves pages out");
     }
     is_reached
+}
+
+// The number of workers that stopped because memory ran out.
+fn short_workers<F: Drop, C: Crew>(ends: &[WorkEnd<F, C>]) -> u32 {
+    let mut short: u32 = 0;
+    for end in ends {
+        if end.stop == Stop::NoMemory {
+            short = short.saturating_add(1);
+        }
+    }
+    short
+}
+
+// Prints on the error stream that a crawl, or workers of it, had no memory, if that is so.
+fn tell_memory<F: Drop, C: Crew>(
+    rt: &impl Eprint,
+    crawled: &Result<Vec<WorkEnd<F, C>>, CrawlRefused<F, C>>,
+) {
+    match crawled {
+        Ok(ends) => {
+            let short = short_workers(ends);
+            if short > 0 {
+                let _ = rt.eprint("hole: workers that stopped, out of memory: ");
+                let _ = rt.eprintln(short);
+            }
+        }
+        Err(_refused) => {
+            let _ = rt.eprintln("hole: the crawl can't start: out of memory");
+        }
+    }
 }
 
 // Waits until the crawl is over, for ten seconds at most, and returns whether it is.
@@ -130,5 +160,6 @@ pub fn crawl_and_tell<
         move || tell_until_over(rt, alloc, desk, failures, is_over),
         move || crawl_until_over(rt, alloc, desk, pairs, is_over),
     );
+    tell_memory(rt, &crawled);
     crawled
 }

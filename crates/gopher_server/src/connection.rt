@@ -1,7 +1,7 @@
 //! One connection with a client.
 
 use crate::send_buffer::ReplyWriter;
-use gopher_conversation::{Answers, Conversation, Progress, converse};
+use gopher_conversation::{Answers, Conversation, Progress, ServeFault, converse};
 use gopher_log_writer::{Accepted, ThreadLog};
 use gopher_text::Watched;
 use mio::net::TcpStream;
@@ -58,6 +58,8 @@ pub(crate) struct Connection<'a> {
     reported: Option<Interest>,
     // Whether the system queues more for its client than for others.
     is_large: bool,
+    // Whether it failed because memory ran out.
+    lacked_memory: bool,
 }
 
 // Adds the line of a conversation to the log, if a line was asked.
@@ -87,7 +89,13 @@ impl<'a> Connection<'a> {
             activity: Activity::Talks,
             reported: None,
             is_large: false,
+            lacked_memory: false,
         }
+    }
+
+    /// Returns whether it failed because memory ran out.
+    pub(crate) fn lacked_memory(&self) -> bool {
+        self.lacked_memory
     }
 
     /// Returns whether the system queues more for its client than for others.
@@ -183,7 +191,11 @@ impl<'a> Connection<'a> {
             }
             Progress::Waits => NextStep::Waits,
             Progress::Done => self.end_reply(),
-            Progress::Paused | Progress::Failed(_) => NextStep::Ends,
+            Progress::Paused => NextStep::Ends,
+            Progress::Failed(fault) => {
+                self.lacked_memory = fault == ServeFault::NoMemory;
+                NextStep::Ends
+            }
         }
     }
 

@@ -22,7 +22,9 @@ mod thread_clock;
 mod thread_end;
 mod waiting;
 
+pub use listeners::MAX_LISTENERS;
+pub use send_buffer::limit_send_buffers;
 pub use server::serve;
-pub use setup::{ThreadSetup, set_up};
+pub use setup::{ThreadSetup, max_connections, set_up};
 pub use shared::ServerShared;
 pub use thread_end::ThreadEnd;

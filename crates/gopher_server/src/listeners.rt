@@ -4,6 +4,9 @@ use mio::Poll;
 use mio::net::TcpListener;
 use std::os::fd::AsRawFd;
 
+/// The most listeners of a server.
+pub const MAX_LISTENERS: usize = 1_024;
+
 // The token of the first listener's events; each further listener has the next number. Keys of
 // connections are lower.
 const FIRST_LISTENER: usize = usize::MAX - 1_024;

@@ -33,9 +33,12 @@ fn set_send_buffer(socket: RawFd, bytes: i32) {
     };
 }
 
-/// Limits the bytes that the system queues for each client of a listener.
-pub(crate) fn limit_send_buffer(listener: &TcpListener) {
-    set_send_buffer(listener.as_raw_fd(), SEND_BUFFER);
+/// Limits the bytes that the system queues for each client of these listeners. A client that
+/// connected before isn't limited, so call it before any client knows of them.
+pub fn limit_send_buffers(listeners: &[TcpListener]) {
+    for listener in listeners {
+        set_send_buffer(listener.as_raw_fd(), SEND_BUFFER);
+    }
 }
 
 /// Writes to a client. Before it writes a long reply, it has the system queue more, if it may.

@@ -21,6 +21,17 @@ use std::time::{Clock, Duration};
 // The most connections that are accepted before other events are handled.
 const MAX_ACCEPTS: u32 = 16;
 
+/// Whether a client got no whole reply because memory ran out.
+#[derive(Clone, Copy, PartialEq, Eq)]
+pub(crate) enum Shortage {
+    /// No client so far.
+    NotMet,
+    /// A client did, and nobody was told.
+    Met,
+    /// A client did, and that was told.
+    Told,
+}
+
 /// A server thread.
 #[derive(Drop)]
 pub(crate) struct Server<'a, A: Answers<'a> + Drop> {
@@ -38,6 +49,8 @@ pub(crate) struct Server<'a, A: Answers<'a> + Drop> {
     pub(crate) log: ThreadLog,
     pub(crate) clock: ThreadClock,
     pub(crate) end: ThreadEnd,
+    /// Whether a client got no whole reply because memory ran out.
+    pub(crate) shortage: Shortage,
     /// Whether it prints on the error stream why it fails.
     pub(crate) tells: bool,
 }
@@ -136,10 +149,28 @@ impl<'a, A: Answers<'a> + Drop> Server<'a, A> {
         let mut connection = connection;
         let may_enlarge = self.may_enlarge();
         let step = connection.go_on(self.alloc, &mut self.answers, &mut self.buffer, may_enlarge);
+        self.meet_shortage(connection.lacked_memory());
         if step == NextStep::Ends {
             connection.log_request(rt, self.alloc, &mut self.log);
         } else {
             self.keep(rt, connection, step);
+        }
+    }
+
+    /// Records that a client got no whole reply because memory ran out, if `lacked_memory`.
+    pub(crate) fn meet_shortage(&mut self, lacked_memory: bool) {
+        if lacked_memory && self.shortage == Shortage::NotMet {
+            self.shortage = Shortage::Met;
+        }
+    }
+
+    // Prints once on the error stream that a client got no whole reply, if it tells.
+    fn tell_shortage(&mut self, rt: &impl Eprint) {
+        if self.shortage == Shortage::Met {
+            self.shortage = Shortage::Told;
+            if self.tells {
+                let _ = rt.eprintln("hole: a client got no whole reply: out of memory");
+            }
         }
     }
 
@@ -205,6 +236,7 @@ impl<'a, A: Answers<'a> + Drop> Server<'a, A> {
             self.handle_event(rt, event.token().0, is_gone);
         }
         self.search(rt);
+        self.tell_shortage(rt);
         self.end_lingering(rt);
         self.close_excess(rt);
         self.keep_share(rt);
@@ -286,6 +318,7 @@ pub fn serve<'a, A: Answers<'a> + Drop, R: Wait + Clock + Eprint>(
         log,
         clock,
         end: ThreadEnd::Served,
+        shortage: Shortage::NotMet,
         tells,
     };
     server.work_to_end(rt, &mut events)

@@ -1,9 +1,8 @@
 //! What server threads need of the system, made before they start (`set_up`).
 
 use crate::listeners::{WAKER, watch};
-use crate::send_buffer::limit_send_buffer;
 use crate::shared::ServerShared;
-use gopher_connections::{AcceptQuota, Places, max_places};
+use gopher_connections::{AcceptQuota, Places, max_places, other_files, serves_crawl};
 use gopher_item::NoMemory;
 use gopher_log_writer::{LogQueue, ThreadLog};
 use mio::net::TcpListener;
@@ -37,6 +36,25 @@ fn max_files() -> u64 {
         limit.rlim_cur
     } else {
         0
+    }
+}
+
+// A number of things as a `u32`, or its last value if there are more.
+fn count_of(number: usize) -> u32 {
+    u32::try_from(number).unwrap_or(u32::MAX)
+}
+
+/// Returns how many connections a server may hold at once by the limit of open files: at most
+/// 16,384. `None` if they don't suffice for a crawl of this very server by `workers` workers, and
+/// one client beside it. Without a crawl, `workers` is 0.
+pub fn max_connections(listeners: usize, threads: usize, workers: usize) -> Option<u64> {
+    let workers = count_of(workers);
+    let others = other_files(count_of(listeners), count_of(threads), workers);
+    let places = max_places(max_files(), others);
+    if serves_crawl(places, workers) {
+        Some(places)
+    } else {
+        None
     }
 }
 
@@ -89,7 +107,8 @@ fn setup_with(
 
 /// Sets up `threads` server threads, or fewer if the system refuses resources. Starts no thread.
 ///
-/// The threads accept `requests` connections together, or any number, at all listeners. They hand
+/// The threads accept `requests` connections together, or any number, at all listeners, and hold at
+/// most `places` of them at once (`max_connections`). They hand
 /// the lines of their log to `log`. If `tells`, they print on the error stream why they fail.
 ///
 /// # Errors
@@ -101,19 +120,17 @@ pub fn set_up<R: Net>(
     listeners: Vec<TcpListener>,
     requests: Option<u64>,
     threads: usize,
+    places: u64,
     log: &Option<Arc<LogQueue>>,
     tells: bool,
 ) -> Result<Vec<ThreadSetup>, NoMemory> {
-    for listener in listeners.iter() {
-        limit_send_buffer(listener);
-    }
     let (polls, wakers) = polls_and_wakers(rt, alloc, threads)?;
     let listeners = Arc::new(alloc, listeners)?;
     let shared = Arc::new(
         alloc,
         ServerShared {
             quota: AcceptQuota::new(requests),
-            places: Places::new(max_places(max_files())),
+            places: Places::new(places),
             wakers,
         },
     )?;

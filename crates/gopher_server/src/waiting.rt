@@ -145,6 +145,8 @@ impl<'a, A: Answers<'a> + Drop> Server<'a, A> {
                 may_enlarge,
             );
             let became_large = connection.is_large() && !was_large;
+            let lacked_memory = connection.lacked_memory();
+            self.meet_shortage(lacked_memory);
             self.count_large(became_large);
             self.meet_later_step(rt, key, step);
         } else if is_gone {
@@ -224,6 +226,8 @@ impl<'a, A: Answers<'a> + Drop> Server<'a, A> {
             };
             let step = connection.go_on(self.alloc, &mut self.answers, &mut self.buffer, false);
             if step != NextStep::Works || self.clock.micros(clock) >= until {
+                let lacked_memory = connection.lacked_memory();
+                self.meet_shortage(lacked_memory);
                 return step;
             }
         }
