@@ -5,7 +5,7 @@ use crate::opening::{claimed, crawl, page, query, scope, seeds};
 use crate::tables::is_root;
 use gopher_catalogue::{Book, Catalogue, Event, OpenRefused, Status, Why};
 use gopher_item::Scope;
-use gopher_page::Query;
+use gopher_page::{Page, Query};
 use std::alloc::Global;
 
 const HOST: &[u8] = b"localhost";
@@ -22,14 +22,19 @@ fn menu(alloc: Global) -> Option<Vec<u8>> {
     Some(menu)
 }
 
-// The root is found.
-fn find_root(alloc: Global, catalogue: &mut Catalogue, menu: &[u8]) -> Option<()> {
+// The page of the root.
+fn root(alloc: Global) -> Option<Page> {
+    let menu = menu(alloc)?;
     if menu.len() > 1_048_576 {
         return None;
     }
+    page(alloc, b'1', b"", HOST, &menu)
+}
+
+// The root is found.
+fn find_root(alloc: Global, catalogue: &mut Catalogue) -> Option<()> {
     let number = claimed(catalogue)?;
-    let page = page(alloc, b'1', b"", HOST, menu)?;
-    let _added = catalogue.found(number, page).ok()?;
+    let _added = catalogue.found(number, root(alloc)?).ok()?;
     Some(())
 }
 
@@ -68,27 +73,36 @@ fn is_cloned(book: &Book, query: &Query, events: usize) -> Option<bool> {
     Some(is_of(book, query, events)? && is_of(&clone, query, events)?)
 }
 
-// Whether a book answers as it should once it took in more events, and its clone as before.
-fn goes_on(book: &mut Book, query: &Query, more: &[Event]) -> Option<bool> {
+// Whether a book answers as it should once it took in more events, and a clone of before as before.
+fn leaves(book: &mut Book, clone: &Book, query: &Query, more: &[Event]) -> Option<bool> {
     let before = book.len();
-    let clone = book.clone().ok()?;
     take_in(book, more)?;
     let after = before.saturating_add(more.len());
-    Some(is_of(&clone, query, before)? && is_cloned(book, query, after)?)
+    Some(is_of(clone, query, before)? && is_cloned(book, query, after)?)
+}
+
+// Whether a book goes on, and leaves its clone as it was.
+fn goes_on(book: &mut Book, query: &Query, more: &[Event]) -> Option<bool> {
+    let clone = book.clone().ok()?;
+    leaves(book, &clone, query, more)
 }
 
 // Whether a book answers as it should before these events, after two, after three and after all.
-fn holds_all(alloc: Global, events: &[Event]) -> Option<bool> {
-    let query = query(alloc, b"docs")?;
-    let mut book = Book::empty(alloc);
+fn holds_parts(book: &mut Book, query: &Query, events: &[Event]) -> Option<bool> {
     let (first, others) = events.split_at(events.len().min(2));
     let (third, rest) = others.split_at(others.len().min(1));
     Some(
-        is_cloned(&book, &query, 0)?
-            && goes_on(&mut book, &query, first)?
-            && goes_on(&mut book, &query, third)?
-            && goes_on(&mut book, &query, rest)?,
+        is_cloned(book, query, 0)?
+            && goes_on(book, query, first)?
+            && goes_on(book, query, third)?
+            && goes_on(book, query, rest)?,
     )
+}
+
+fn holds_all(alloc: Global, events: &[Event]) -> Option<bool> {
+    let query = query(alloc, b"docs")?;
+    let mut book = Book::empty(alloc);
+    holds_parts(&mut book, &query, events)
 }
 
 // Whether the last event, made again, is the last failure.
@@ -97,12 +111,17 @@ fn ends_with_a_failure(events: &[Event]) -> Option<bool> {
     Some(events.len() == 1_205 && matches!(&again, Event::Failed(601, Why::Read)))
 }
 
-fn holds_crawl(alloc: Global) -> Option<bool> {
-    let mut catalogue = crawl(alloc, HOST, 1_000, 1)?;
-    find_root(alloc, &mut catalogue, &menu(alloc)?)?;
-    fail_others(&mut catalogue)?;
+// The catalogue is lent here, since each exit of the function that owns it drops it.
+fn is_held(alloc: Global, catalogue: &mut Catalogue) -> Option<bool> {
+    find_root(alloc, catalogue)?;
+    fail_others(catalogue)?;
     let events = catalogue.record();
     Some(ends_with_a_failure(events)? && holds_all(alloc, events)?)
+}
+
+fn holds_crawl(alloc: Global) -> Option<bool> {
+    let mut catalogue = crawl(alloc, HOST, 1_000, 1)?;
+    is_held(alloc, &mut catalogue)
 }
 
 #[test]

@@ -38,8 +38,6 @@ mod refused_opening;
 #[cfg(test)]
 mod refused_pages;
 #[cfg(test)]
-mod settings;
-#[cfg(test)]
 mod stream;
 #[cfg(test)]
 mod streams;

@@ -1,8 +1,8 @@
 // Settings: what the worked text states. Refused texts, and other values, are shown by
 // tests/check.py.
 use gopher_item::Place;
-use gopher_scope::Settings;
-use std::alloc::Global;
+use gopher_scope::{Key, Settings, SettingsFault};
+use std::alloc::{AllocError, Global};
 
 const WORKED: &str =
     "host = \"localhost\"\nport = 7070\nroot = \"/srv/hole\"\n[[seeds]]\nhost = \"localhost\"\nport = 7070\n[[allow]]\nhost = \"LOCALHOST\"\nport = 7070\n[[deny]]\nhost = \"localhost\"\nport = 7070\nprefix = \"/private\"\n";
@@ -79,4 +79,15 @@ fn reads_what_is_stated(rt: HostRuntime) {
         panic!(rt; "the settings are refused");
     };
     assert!(rt; states(&settings, (b"h", "r", [70, 65_536, 16, 8, 5], 2)));
+}
+
+// Whether the words of a fault begin with its key.
+fn tells_key(alloc: Global) -> Result<bool, AllocError> {
+    let told = format!(in alloc; "{}", SettingsFault::OutOfRange(Key::Port))?;
+    Ok(told.as_str().starts_with("port: "))
+}
+
+#[test]
+fn a_fault_tells_its_key(rt: HostRuntime) {
+    assert!(rt; tells_key(rt.alloc()) == Ok(true));
 }
