@@ -6,10 +6,10 @@ ghost use Rattle.gopher_crew.specs.Desk.{IsBlankOf};
 
 use crate::desks::{finds, is_at, takes};
 use crate::stream::{Ending, Stream};
-use crate::tables::{answered, catalogue, is_root, opened, page};
+use crate::tables::{answered, catalogue, closed, is_root, opened, page};
 use crate::trees::{replies_of, tree_of};
 use gopher_catalogue::{Catalogue, Turn, Why};
-use gopher_crew::{Blank, Crew, Pass};
+use gopher_crew::{Blank, Crew, Desk, Pass, Share};
 use gopher_replies::Replies;
 use gopher_serve::{Answers, ServeFault, Site, answer, serve_one};
 use gopher_text::Watched;
@@ -95,29 +95,59 @@ fn answers_all<C: Crew>(alloc: Global, site: &mut Site<'_, C>, rows: Rows) -> bo
     true
 }
 
+// Whether a line has this reply from the tree.
+fn makes<C: Crew>(
+    alloc: Global,
+    replies: &Replies,
+    pass: &mut Pass<C>,
+    line: &[u8],
+    wanted: &[u8],
+) -> bool {
+    match answer(alloc, replies.tree(), replies.home(), pass, line) {
+        Ok(reply) => reply.as_slice() == wanted,
+        Err(_) => false,
+    }
+}
+
 // Whether each of the lines has its reply from the tree.
 fn makes_all<C: Crew>(alloc: Global, replies: &Replies, pass: &mut Pass<C>, rows: Rows) -> bool {
     for (line, wanted) in rows {
-        match answer(alloc, replies.tree(), replies.home(), pass, *line) {
-            Ok(reply) if reply.as_slice() == *wanted => {}
-            _ => return false,
+        if !makes(alloc, replies, pass, *line, *wanted) {
+            return false;
         }
     }
     true
 }
 
-// The lines have their replies, by a pass.
+// The lines have their replies from replies that are kept, by the last of the passes.
+fn asks_site<C: Crew, R: Abort + AllocGlobal>(
+    rt: &R,
+    replies: &Replies,
+    passes: &mut Vec<Pass<C>>,
+    rows: Rows,
+) {
+    let Some(pass) = passes.pop() else {
+        panic!(rt; "no pass");
+    };
+    let mut site = Site::new(replies, pass);
+    assert!(rt; answers_all(rt.alloc(), &mut site, rows));
+    let Ok(()) = passes.push(site.into_pass()) else {
+        panic!(rt; "no memory");
+    };
+}
+
+// The lines have their replies, by the last of the passes.
 fn asks<C: Crew, R: Abort + AllocGlobal>(
     rt: &R,
     replies: &Replies,
-    pass: Pass<C>,
+    passes: &mut Vec<Pass<C>>,
     rows: Rows,
-) -> Pass<C> {
-    let mut pass = pass;
-    assert!(rt; makes_all(rt.alloc(), replies, &mut pass, rows));
-    let mut site = Site::new(replies, pass);
-    assert!(rt; answers_all(rt.alloc(), &mut site, rows));
-    site.into_pass()
+) {
+    let Some(pass) = passes.last_mut() else {
+        panic!(rt; "no pass");
+    };
+    assert!(rt; makes_all(rt.alloc(), replies, pass, rows));
+    asks_site(rt, replies, passes, rows);
 }
 
 // How `serve_one` ends over these streams, how much it leaves unread, and how much unsent.
@@ -136,17 +166,33 @@ fn served<C: Crew>(
     (end.err(), given.bytes.len(), taken.left.len())
 }
 
+// What a reader gives and how it goes on; the fault, if there is one, how much is left unread, and
+// how much unsent.
+const SERVED: &[(&[u8], Ending, (Option<ServeFault>, usize, usize))] = &[
+    (b"/a.txt\r\nextra", Ending::Ends, (None, 5, 0)),
+    (
+        &[b'a'; 1_026],
+        Ending::Ends,
+        (Some(ServeFault::LineTooLong), 0, 10),
+    ),
+    (
+        b"/a.t",
+        Ending::Fails,
+        (Some(ServeFault::ReadFailed), 0, 10),
+    ),
+];
+
 // Whether one line is served and the rest isn't read, and a line too long or a read that fails
 // writes nothing.
 fn serves<C: Crew>(alloc: Global, replies: &Replies, pass: &mut Pass<C>) -> bool {
-    let line = Stream::giving(b"/a.txt\r\nextra", 1, Ending::Ends);
-    let long = Stream::giving(&[b'a'; 1_026], 1, Ending::Ends);
-    let broken = Stream::giving(b"/a.t", 1, Ending::Fails);
-    let writer = Stream::taking(HELLO, 100, Ending::Fails);
-    let (too_long, unread) = (ServeFault::LineTooLong, ServeFault::ReadFailed);
-    served(alloc, replies, pass, line, writer) == (None, 5, 0)
-        && served(alloc, replies, pass, long, writer) == (Some(too_long), 0, HELLO.len())
-        && served(alloc, replies, pass, broken, writer) == (Some(unread), 0, HELLO.len())
+    for (bytes, ending, wanted) in SERVED {
+        let reader = Stream::giving(*bytes, 1, *ending);
+        let writer = Stream::taking(HELLO, 100, Ending::Fails);
+        if served(alloc, replies, pass, reader, writer) != *wanted {
+            return false;
+        }
+    }
+    true
 }
 
 // Whether a writer that fails after this part of the root's menu has got these.
@@ -178,8 +224,54 @@ fn finds_docs<C: Crew, R: Abort + AllocGlobal>(rt: &R, pass: &mut Pass<C>, at: u
     assert!(rt; answer.at == at && is_root(&answer.hits));
 }
 
-// The first pass hears that a page was found, and the second finds it too. Then the page's
-// directory fails, and the desk is closed.
+// Requests are served by the last of the passes.
+fn serves_by_last<C: Crew, R: Abort + AllocGlobal>(
+    rt: &R,
+    replies: &Replies,
+    passes: &mut [Pass<C>],
+) {
+    let Some(pass) = passes.last_mut() else {
+        panic!(rt; "no pass");
+    };
+    serves_all(rt, replies, pass);
+}
+
+// The root's page is found. The last of the passes hears of it, and each finds it.
+fn find_docs<C: Crew, R: Wait + Abort + AllocGlobal>(
+    rt: &R,
+    desk: &Desk<C, &R>,
+    passes: &mut [Pass<C>],
+    shares: &mut [Share<C>],
+) {
+    let (Some(pass), Some(share)) = (passes.last_mut(), shares.first_mut()) else {
+        panic!(rt; "no pass or no share");
+    };
+    takes(rt, desk, share, 0, 2);
+    let page = page(rt, b'1', b"", b"localhost", DOCS);
+    pass.hear(finds(rt, desk, share, 0, page, 3));
+    for pass in passes.iter_mut().rev() {
+        finds_docs(rt, pass, 3);
+    }
+}
+
+// The page's directory fails.
+fn fail_directory<C: Crew, R: Wait + Abort + AllocGlobal>(
+    rt: &R,
+    desk: &Desk<C, &R>,
+    shares: &mut [Share<C>],
+) {
+    let Some(share) = shares.first_mut() else {
+        panic!(rt; "no share");
+    };
+    takes(rt, desk, share, 1, 4);
+    let Ok(failed) = desk.fail(rt, share, 1, Why::Read) else {
+        panic!(rt; "the failure is refused");
+    };
+    assert!(rt; is_at(&failed, 5));
+}
+
+// A pass hears that a page was found, and another finds it too. Then the page's directory fails,
+// and the desk is closed.
 fn crawl_docs<C: Crew, R: Wait + Abort + AllocGlobal>(
     rt: &R,
     replies: &Replies,
@@ -190,37 +282,23 @@ fn crawl_docs<C: Crew, R: Wait + Abort + AllocGlobal>(
 {
     let begun = catalogue(rt, b"localhost", 10, 1);
     let (desk, mut passes, mut shares) = opened::<C, R>(rt, blank, begun, 2, 1);
-    let (Some(pass), Some(share)) = (passes.pop(), shares.first_mut()) else {
-        panic!(rt; "no pass or no share");
-    };
-    let mut pass = asks(rt, replies, pass, EARLY);
-    serves_all(rt, replies, &mut pass);
-    takes(rt, &desk, share, 0, 2);
-    let page = page(rt, b'1', b"", b"localhost", DOCS);
-    pass.hear(finds(rt, &desk, share, 0, page, 3));
-    finds_docs(rt, &mut pass, 3);
-    for other in passes.iter_mut() {
-        finds_docs(rt, other, 3);
-    }
-    let pass = asks(rt, replies, pass, LATE);
-    takes(rt, &desk, share, 1, 4);
-    let Ok(failed) = desk.fail(rt, share, 1, Why::Read) else {
-        panic!(rt; "the failure is refused");
-    };
-    assert!(rt; is_at(&failed, 5));
-    let Ok(catalogue) = desk.close(shares) else {
-        panic!(rt; "the desk isn't closed");
-    };
-    let _pass = asks(rt, replies, pass, CLOSED);
+    asks(rt, replies, &mut passes, EARLY);
+    serves_by_last(rt, replies, &mut passes);
+    find_docs(rt, &desk, &mut passes, &mut shares);
+    asks(rt, replies, &mut passes, LATE);
+    fail_directory(rt, &desk, &mut shares);
+    let catalogue = closed(rt, desk, shares);
+    asks(rt, replies, &mut passes, CLOSED);
     catalogue
 }
 
 // A desk over a catalogue of five events shows them, and its share counts them.
-fn go_on<C: Crew, R: Wait + Abort + AllocGlobal>(rt: &R, blank: Blank, begun: Catalogue)
-    requires blank { IsBlankOf C.name C.parts C.history blank }
-    requires begun { blank.begun ≡ [] }
-{
-    let (desk, mut passes, mut shares) = opened::<C, R>(rt, blank, begun, 1, 1);
+fn has_gone_on<C: Crew, R: Wait + Abort + AllocGlobal>(
+    rt: &R,
+    desk: &Desk<C, &R>,
+    passes: &mut [Pass<C>],
+    shares: &mut [Share<C>],
+) {
     let (Some(share), Some(pass)) = (shares.first_mut(), passes.first_mut()) else {
         panic!(rt; "no share or no pass");
     };
@@ -230,10 +308,24 @@ fn go_on<C: Crew, R: Wait + Abort + AllocGlobal>(rt: &R, blank: Blank, begun: Ca
         panic!(rt; "the claim is refused, or the crawl isn't finished");
     };
     assert!(rt; is_at(&note, 5));
+}
+
+// A desk is closed with a note of five events.
+fn closes_with_note<C: Crew, R: Wait + Abort>(rt: &R, desk: Desk<C, &R>, shares: Vec<Share<C>>) {
     let Ok((_catalogue, note)) = desk.close_with_note(shares) else {
         panic!(rt; "the desk isn't closed");
     };
     assert!(rt; is_at(&note, 5));
+}
+
+// A desk goes on with a catalogue of five events.
+fn go_on<C: Crew, R: Wait + Abort + AllocGlobal>(rt: &R, blank: Blank, begun: Catalogue)
+    requires blank { IsBlankOf C.name C.parts C.history blank }
+    requires begun { blank.begun ≡ [] }
+{
+    let (desk, mut passes, mut shares) = opened::<C, R>(rt, blank, begun, 1, 1);
+    has_gone_on(rt, &desk, &mut passes, &mut shares);
+    closes_with_note(rt, desk, shares);
 }
 
 #[test]

@@ -5,7 +5,7 @@ ghost use Rattle.gopher_crew.specs.Desk.{IsBlankOf};
 use crate::fetcher::Fetcher;
 use crate::tables::{
     FOUR_FILES, Fate, HOME_AND_FILE, Host, MOON, ONE_DIRECTORY, TWO_FILES, all_done, answered,
-    are_files, catalogue, hits, opened,
+    are_files, catalogue, closed, hits, opened,
 };
 use gopher_catalogue::{Catalogue, Event, Status, Why};
 use gopher_crew::{Answer, Blank, Calls, Crew, Desk, Share, Stop, WorkEnd, crawl, work};
@@ -79,9 +79,7 @@ pub fn crawled<C: Crew + Send + Sync, R: Threads + Wait + Clock + Abort + AllocG
     let status = desk.status(rt);
     let least = u64::from(matches!(plan.fate, Fate::Held(_)));
     let (shares, found) = shares_of(rt, ends, least);
-    let Ok(catalogue) = desk.close(shares) else {
-        panic!(rt; "the desk isn't closed");
-    };
+    let catalogue = closed(rt, desk, shares);
     assert!(rt; catalogue.index().len() as u64 == found);
     EndedCrawl {
         catalogue,
@@ -134,13 +132,12 @@ fn has_failures(events: &[Event], wanted: Option<(u32, Why)>) -> bool {
     })
 }
 
-// A root and what all else is, what befalls fetches, tries and workers; then how many places are
-// known at the end, the letters of the files that are found, the length of the record, and the place
-// that fails, with its reason.
-type Row = (
-    (&'static [u8], &'static [u8], Fate, u32, u8),
-    (u32, &'static [u8], usize, Option<(u32, Why)>),
-);
+// How many places are known at the end, the letters of the files that are found, the length of the
+// record, and the place that fails, with its reason.
+type Wanted = (u32, &'static [u8], usize, Option<(u32, Why)>);
+
+// A root and what all else is, what befalls fetches, tries and workers; then how the crawl ends.
+type Row = ((&'static [u8], &'static [u8], Fate, u32, u8), Wanted);
 
 const UNREAD: Option<(u32, Why)> = Some((1, Why::Read));
 
@@ -195,9 +192,20 @@ fn has_directory<R: Abort + AllocGlobal>(rt: &R, catalogue: &Catalogue) {
     assert!(rt; places.len() == 1);
 }
 
+// A crawl has ended as its row says.
+fn has_ended<R: Abort + AllocGlobal>(rt: &R, crawled: &EndedCrawl, wanted: Wanted) {
+    let (known, letters, events, failure) = wanted;
+    has_files(rt, crawled, known, letters);
+    let record = crawled.catalogue.record();
+    assert!(rt; record.len() == events && has_failures(record, failure));
+    if letters.is_empty() {
+        has_directory(rt, &crawled.catalogue);
+    }
+}
+
 #[test]
 fn workers_crawl(rt: HostRuntime) {
-    for ((root, rest, fate, tries, workers), (known, letters, events, failure)) in ROWS {
+    for ((root, rest, fate, tries, workers), wanted) in ROWS {
         let plan = Plan {
             root,
             rest,
@@ -206,20 +214,16 @@ fn workers_crawl(rt: HostRuntime) {
             workers: *workers,
         };
         let crawled = crawled::<Brand, _>(&rt, Blank::new(), plan);
-        has_files(&rt, &crawled, *known, letters);
-        let record = crawled.catalogue.record();
-        assert!(rt; record.len() == *events && has_failures(record, *failure));
-        if letters.is_empty() {
-            has_directory(&rt, &crawled.catalogue);
-        }
+        has_ended(&rt, &crawled, *wanted);
     }
 }
 
 // One worker works at a desk by itself: it finds three places by three calls.
-fn works<C: Crew, R: Wait + Clock + Abort + AllocGlobal>(rt: &R, blank: Blank)
-    requires blank { IsBlankOf C.name C.parts C.history blank }
-    requires begun { blank.begun ≡ [] }
-{
+fn works_at<C: Crew, R: Wait + Clock + Abort + AllocGlobal>(
+    rt: &R,
+    desk: &Desk<C, &R>,
+    share: Share<C>,
+) {
     let counter = AtomicU64::new(0);
     let host = Host {
         clock: rt,
@@ -228,14 +232,21 @@ fn works<C: Crew, R: Wait + Clock + Abort + AllocGlobal>(rt: &R, blank: Blank)
         fate: Fate::Answered,
         counter: &counter,
     };
+    let end = work(rt, rt.alloc(), desk, Fetcher::new(&host, 0), share);
+    has_finished(rt, &end, 3);
+    assert!(rt; (end.found, end.failed, end.share.events()) == (3, 0, 6));
+    assert!(rt; desk.status(rt) == all_done(3));
+}
+
+fn works<C: Crew, R: Wait + Clock + Abort + AllocGlobal>(rt: &R, blank: Blank)
+    requires blank { IsBlankOf C.name C.parts C.history blank }
+    requires begun { blank.begun ≡ [] }
+{
     let (desk, _passes, mut shares) = opened::<C, R>(rt, blank, catalogue(rt, b"h", 10, 1), 1, 1);
     let Some(share) = shares.pop() else {
         panic!(rt; "no share");
     };
-    let end = work(rt, rt.alloc(), &desk, Fetcher::new(&host, 0), share);
-    has_finished(rt, &end, 3);
-    assert!(rt; (end.found, end.failed, end.share.events()) == (3, 0, 6));
-    assert!(rt; desk.status(rt) == all_done(3));
+    works_at(rt, &desk, share);
 }
 
 #[test]

@@ -5,10 +5,10 @@ ghost use mathlib.Core.List.{IsPrefix};
 ghost use Rattle.gopher_crew.specs.Desk.{IsBlankOf};
 
 use crate::tables::{
-    MOON, TWO_FILES, all_done, answered, are_files, catalogue, hits, opened, page,
+    MOON, TWO_FILES, all_done, answered, are_files, catalogue, closed, hits, opened, page,
 };
 use gopher_catalogue::{Catalogue, FoundRefused, Turn, Why};
-use gopher_crew::{Blank, Crew, Desk, Note, Share};
+use gopher_crew::{Blank, Crew, Desk, Note, Pass, Share};
 use gopher_page::Page;
 use std::marker::Brand;
 use std::process::Abort;
@@ -69,19 +69,36 @@ fn refused_desks<C: Crew, R: Wait + Abort + AllocGlobal>(rt: &R, blank: Blank)
         panic!(rt; "a desk with 17 shares is opened");
     };
     assert!(rt; refused.fault.code() == 60);
-    let (begun, blank) = (refused.catalogue, refused.blank);
+    crawl_by_two::<C, R>(rt, refused.blank, refused.catalogue);
+}
+
+// Two shares crawl.
+fn crawl_by_two<C: Crew, R: Wait + Abort + AllocGlobal>(rt: &R, blank: Blank, begun: Catalogue)
+    requires blank { IsBlankOf C.name C.parts C.history blank }
+    requires begun { IsPrefix blank.begun begun }
+{
     let (desk, mut passes, mut shares) = opened::<C, R>(rt, blank, begun, 1, 2);
-    let (Some(share), Some(pass)) = (shares.first_mut(), passes.first_mut()) else {
-        panic!(rt; "no share or pass");
+    call_by_two(rt, &desk, &mut passes, &mut shares);
+    has_both(rt, &closed_at_last(rt, desk, shares));
+}
+
+// The first share's calls are refused, but for a claim; the other's find all, as a pass sees.
+fn call_by_two<C: Crew, R: Wait + Abort + AllocGlobal>(
+    rt: &R,
+    desk: &Desk<C, &R>,
+    passes: &mut [Pass<C>],
+    shares: &mut [Share<C>],
+) {
+    let (Some(pass), Some((share, others))) = (passes.first_mut(), shares.split_first_mut()) else {
+        panic!(rt; "no pass or share");
     };
-    refused_calls(rt, &desk, share);
-    let Some(other) = shares.last_mut() else {
+    refused_calls(rt, desk, share);
+    let Some(other) = others.last_mut() else {
         panic!(rt; "no other share");
     };
-    find_both(rt, &desk, other);
+    find_both(rt, desk, other);
     let answer = answered(rt, pass, b"moon");
     assert!(rt; answer.at == 7 && are_files(&answer.hits, b"ab"));
-    has_both(rt, &closed_at_last(rt, desk, shares));
 }
 
 // Whether a refusal of this number gives back a page that is as this one.
@@ -94,6 +111,20 @@ fn gives_back(refused: &FoundRefused, code: u8, page: &Page) -> bool {
         && back.count(b"b") == page.count(b"b")
 }
 
+// The page of a selector is refused as the root's, and given back.
+fn is_refused<C: Crew, R: Wait + Abort + AllocGlobal>(
+    rt: &R,
+    desk: &Desk<C, &R>,
+    share: &mut Share<C>,
+    selector: &[u8],
+    code: u8,
+) {
+    let Err(refused) = desk.found(rt, share, 0, page(rt, b'1', selector, b"h", TWO_FILES)) else {
+        panic!(rt; "a page is taken that is to be refused with {code}");
+    };
+    assert!(rt; gives_back(&refused, code, &page(rt, b'1', selector, b"h", TWO_FILES)));
+}
+
 // Calls of numbers that aren't out, and of another place's page.
 fn refused_calls<C: Crew, R: Wait + Abort + AllocGlobal>(
     rt: &R,
@@ -104,15 +135,9 @@ fn refused_calls<C: Crew, R: Wait + Abort + AllocGlobal>(
         panic!(rt; "a place that isn't out fails");
     };
     assert!(rt; fault.code() == 52);
-    let Err(refused) = desk.found(rt, share, 0, page(rt, b'1', b"", b"h", TWO_FILES)) else {
-        panic!(rt; "a page of a place that isn't out is taken");
-    };
-    assert!(rt; gives_back(&refused, 52, &page(rt, b'1', b"", b"h", TWO_FILES)));
+    is_refused(rt, desk, share, b"", 52);
     takes(rt, desk, share, 0, 2);
-    let Err(refused) = desk.found(rt, share, 0, page(rt, b'1', b"/a", b"h", TWO_FILES)) else {
-        panic!(rt; "a page of another place is taken");
-    };
-    assert!(rt; gives_back(&refused, 53, &page(rt, b'1', b"/a", b"h", TWO_FILES)));
+    is_refused(rt, desk, share, b"/a", 53);
 }
 
 // The root that is out is found, then the second of its files, and then the first.
@@ -146,14 +171,21 @@ fn closed_at_last<C: Crew, R: Wait + Abort + AllocGlobal>(
         panic!(rt; "the desk is closed without a share");
     };
     assert!(rt; (refused.code(), refused.events, refused.shares.len()) == (62, 6, 1));
-    let (desk, mut shares) = (refused.desk, refused.shares);
-    let Ok(()) = shares.push(withheld) else {
+    closed_with(rt, refused.desk, refused.shares, withheld)
+}
+
+// The catalogue of a desk that is closed with these shares and one more.
+fn closed_with<C: Crew, R: Wait + Abort>(
+    rt: &R,
+    desk: Desk<C, &R>,
+    shares: Vec<Share<C>>,
+    more: Share<C>,
+) -> Catalogue {
+    let mut shares = shares;
+    let Ok(()) = shares.push(more) else {
         panic!(rt; "no memory");
     };
-    let Ok(catalogue) = desk.close(shares) else {
-        panic!(rt; "the desk isn't closed");
-    };
-    catalogue
+    closed(rt, desk, shares)
 }
 
 // Three places are done, and the files are found.

@@ -6,7 +6,7 @@ ghost use Rattle.gopher_crew.specs.Desk.{IsBlankOf};
 use crate::opening;
 use crate::opening::Opened;
 use gopher_catalogue::{Catalogue, Hit, Status, Why};
-use gopher_crew::{Answer, Blank, Crew, Desk, Pass};
+use gopher_crew::{Answer, Blank, Crew, Desk, Pass, Share};
 use gopher_page::{Page, Query};
 use std::process::Abort;
 use std::sync::Wait;
@@ -184,6 +184,18 @@ pub fn opened<'a, C: Crew, R: Wait + Abort + AllocGlobal>(
         panic!(rt; "the desk isn't opened");
     };
     opened
+}
+
+/// The catalogue of a desk, which has to be closed.
+pub fn closed<C: Crew, R: Wait + Abort>(
+    rt: &R,
+    desk: Desk<C, &R>,
+    shares: Vec<Share<C>>,
+) -> Catalogue {
+    let Ok(catalogue) = desk.close(shares) else {
+        panic!(rt; "the desk isn't closed");
+    };
+    catalogue
 }
 
 // A query.
