@@ -363,7 +363,7 @@ def check_lines(tally, program):
         for text, line in (SETTINGS | behind).items():
             site.write(text + "\n")
             tally.expect(f"{text[:80]!r}: end of a server", site.serve(), (f"hole: {line}\n".encode(), 1))
-        site.write(f'host = "h"\nroot = "{site.root}"\n' + '[[allow]]\nhost = "h"\n' * 256)
+        site.write(f'host = "localhost"\nroot = "{site.root}"\n' + '[[allow]]\nhost = "h"\n' * 256)
         tally.expect("256 rules", site.check()[1:], (b"", 0))
         for line in BAD_LINES:
             site.add(b".menu", line)

@@ -92,6 +92,14 @@ def check_refusals(tally, program, folder, root):
 
 
 def check_usage(tally, program):
+    for words in (["replay", "a"], ["replay", "--help"]):
+        ran = subprocess.run([str(program), *words], capture_output=True, timeout=WAIT)
+        told = b"Usage: hole replay < SCRIPT\n" in ran.stdout + ran.stderr
+        tally.expect(f"{words}: how a script is given", (told, ran.returncode), (True, 2 if words[1] == "a" else 0))
+    for word in NO_ADDRESSES:
+        ran = subprocess.run([str(program), "check", "a.toml", "--listen", word], capture_output=True, timeout=WAIT)
+        told = b"--listen <ADDRESS>" in ran.stderr and b"hole check --help" in ran.stderr
+        tally.expect(f"check --listen {word!r}: bad arguments", (ran.stdout, told, ran.returncode), (b"", True, 2))
     for words in (["serve"], ["serve", "a", "b"], ["check"]):
         ran = subprocess.run([str(program), *words], capture_output=True, timeout=WAIT)
         usage = f"\nUsage: hole {words[0]} ".encode()
@@ -102,7 +110,7 @@ def check_usage(tally, program):
 
 
 def check_checks(tally, program, folder, root):
-    """`hole check` resolves the host; with --listen it prints what the system says of each address."""
+    """`hole check` resolves the host, or binds addresses, and prints what the system says of each."""
     port = free_port()
     settings = folder / "check.toml"
 
@@ -125,10 +133,29 @@ def check_checks(tally, program, folder, root):
     lines, error, status = run("192.0.2.1", "--listen")
     tally.expect("an address of another machine", ("Cannot assign" in lines, error, status), (True, b"hole: 81\n", 1))
     lines, error, status = run("no.such.host.invalid")
-    tally.expect("a name without addresses", (lines.startswith("resolves to nothing: "), error, status), (True, b"", 0))
+    tally.expect("a name without addresses", (lines.startswith("resolves to nothing: "), error, status), (True, b"hole: 81\n", 1))
     lines, error, status = run("no.such.host.invalid", "--listen")
     tally.expect("the same, to be bound", (lines.startswith("resolves to nothing: "), error, status), (True, b"hole: 81\n", 1))
+    check_named(tally, run, port)
 
+
+def check_named(tally, run, port):
+    """With --listen ADDRESS a check doesn't resolve the host, and an address in use doesn't fail it."""
+    name = "no.such.host.invalid"
+    wanted = f"can listen at: {OTHER}:{port}\nsound\n"
+    tally.expect("a named address", run(name, "--listen", OTHER), (wanted, b"", 0))
+    with socket.socket() as taken:
+        taken.bind((HOST, port))
+        taken.listen()
+        lines, error, status = run(name, "--listen", HOST)
+        is_told = lines.startswith(f"can't listen at: {HOST}:{port}: Address already in use") and lines.endswith("\nsound\n")
+        tally.expect("a named address in use", (is_told, error, status), (True, b"", 0))
+        lines, error, status = run(name, "--listen", f"{HOST}:{port}", "--listen", "192.0.2.1:7")
+        found = (lines.count("can't listen at: "), "192.0.2.1:7: Cannot assign" in lines, error, status)
+        tally.expect("one in use, one of another machine", found, (2, True, b"", 0))
+    lines, error, status = run(HOST, "--listen", "192.0.2.1")
+    found = ("Cannot assign" in lines, "sound" in lines, error, status)
+    tally.expect("a named address of another machine", found, (True, False, b"hole: 81\n", 1))
 
 def main():
     words = argparse.ArgumentParser()

@@ -26,7 +26,7 @@ import tempfile
 import time
 from concurrent.futures import ThreadPoolExecutor
 
-from running.server import HOST, PROGRAM, ROOT, WAIT, Server, Tally, ask, connect, read_all, refusing
+from running.server import HOST, PROGRAM, ROOT, WAIT, Server, Tally, ask, connect, free_port, read_all, refusing
 
 LARGE = bytes(range(256)) * 32_768
 LINE = re.compile(rb"(\d{4})-(\d\d)-(\d\d)T(\d\d):(\d\d):(\d\d)\.(\d{6})Z\t([^\t]*)\t([^\t]*)\t([^\t]*)\t(\d+)\t(\d+)")
@@ -292,6 +292,24 @@ def check_refused(tally, room, path, what):
     tally.expect(f"{what}: told once", (error.startswith(CANT), error.count(b"\n")), (True, 1))
 
 
+def check_standard_error(tally, room):
+    """With --log - the lines are on standard error, also if that is a socket, as under systemd."""
+    settings = room.folder / "error.toml"
+    port = free_port()
+    settings.write_text(f'host = "{HOST}"\nport = {port}\nroot = "{room.root}"\nthreads = 1\n')
+    ours, theirs = socket.socketpair()
+    words = [str(room.program), "serve", str(settings), "--log", "-", "--requests", "2"]
+    with ours, subprocess.Popen(words, stdout=subprocess.PIPE, stderr=theirs) as server:
+        theirs.close()
+        server.stdout.readline()
+        replies = [ask(port, line) for line in (b"/a.txt\r\n", b"/gone\r\n")]
+        found = [request_of(line) for line in lines_of(read_all(ours))]
+        tally.expect("--log -: the server ends well", (server.stdout.read(), server.wait()), (SIZES, 0))
+    wanted = [(b"/a.txt", len(replies[0])), (b"/gone", len(replies[1]))]
+    told = [(line.selector, line.sent) if isinstance(line, Request) else line for line in found]
+    tally.expect("--log -: a line for each request on standard error", told, wanted)
+
+
 def check_unread(tally, room):
     """A pipe that nobody reads stalls nobody; once it is read, its lines and the number of dropped ones make up all."""
     path = room.folder / "pipe"
@@ -384,7 +402,7 @@ def check_ratio(tally, room, least):
 
 CHECKS = (
     check_fields, check_steady, check_escapes, check_idle, check_refused_watch, check_empty_writes, check_closed, check_silence,
-    check_reset, check_threads, check_unread, check_never_read, check_progress,
+    check_reset, check_threads, check_standard_error, check_unread, check_never_read, check_progress,
 )
 
 

@@ -1,42 +1,43 @@
-//! The addresses of a server's host, in the report of a check.
+//! The addresses at which a server will listen, in the report of a check.
 
 ghost use Rattle.std.specs.Prelude.{OnOk};
 ghost use Rattle.gopher_hole.specs.Ending.{HasWritten};
 
 use crate::announcing::send_text;
+use crate::arguments::Checking;
 use crate::fault::ProgramFault;
 use gopher_item::Home;
 use gopher_text::Watched;
 use mio::net::TcpListener;
 use std::alloc::{AllocError, Global};
-use std::io::{self, Write};
-use std::net::{Net, SocketAddr, ToSocketAddrs};
+use std::io::{self, ErrorKind, Write};
+use std::net::{IpAddr, Net, SocketAddr, ToSocketAddrs};
 use std::str;
 
-// Appends a line that says whether a server can listen at an address, and if not, why. Returns
-// whether it can.
+// Appends a line that says whether a server can listen at an address, and if not, why. Returns the
+// reason.
 fn push_bound(
     alloc: Global,
     address: SocketAddr,
     bound: io::Result<TcpListener>,
     lines: &mut Vec<u8>,
-) -> Result<bool, AllocError> {
+) -> Result<Option<ErrorKind>, AllocError> {
     match bound {
         Ok(_listener) => {
             let line = format!(in alloc; "can listen at: {address}\n")?;
             lines.extend_from_slice(line.as_bytes())?;
-            Ok(true)
+            Ok(None)
         }
         Err(error) => {
             let line = format!(in alloc; "can't listen at: {address}: {error}\n")?;
             lines.extend_from_slice(line.as_bytes())?;
-            Ok(false)
+            Ok(Some(error.kind()))
         }
     }
 }
 
-// Appends the lines of an address. If `listens`, binds it for a moment. Returns whether it was
-// bound.
+// Appends the lines of an address of the host. If `listens`, binds it for a moment. Returns whether
+// a server can listen there, as far as that was tried.
 fn push_address<R: Net>(
     rt: &R,
     alloc: Global,
@@ -47,13 +48,14 @@ fn push_address<R: Net>(
     let line = format!(in alloc; "resolves to: {address}\n")?;
     lines.extend_from_slice(line.as_bytes())?;
     if !listens {
-        return Ok(false);
+        return Ok(true);
     }
-    push_bound(alloc, address, TcpListener::bind(rt, address), lines)
+    let refused = push_bound(alloc, address, TcpListener::bind(rt, address), lines)?;
+    Ok(refused.is_none())
 }
 
-// Appends the lines of a host's addresses. If `listens`, binds each for a moment. Returns whether
-// one was bound.
+// Appends the lines of a host's addresses. If `listens`, binds each for a moment. Returns whether a
+// server can listen at one of them, as far as that was tried.
 fn push_host<R: Net>(
     rt: &R,
     alloc: Global,
@@ -69,19 +71,79 @@ fn push_host<R: Net>(
             return Ok(false);
         }
     };
-    let mut is_bound = false;
+    let mut is_fine = false;
     for address in addresses {
-        is_bound |= push_address(rt, alloc, address, listens, lines)?;
+        is_fine |= push_address(rt, alloc, address, listens, lines)?;
     }
-    Ok(is_bound)
+    Ok(is_fine)
 }
 
-/// Writes the addresses of a server's host, a line each. If `listens`, binds each for a moment and
-/// writes whether that succeeded, or the system's error.
+// The socket address that an argument names: its own port, or the server's.
+fn named_address(argument: &str, port: u16) -> Option<SocketAddr> {
+    if let Ok(address) = argument.parse::<SocketAddr>() {
+        return Some(address);
+    }
+    match argument.parse::<IpAddr>() {
+        Ok(address) => Some(SocketAddr::new(address, port)),
+        Err(_) => None,
+    }
+}
+
+// Whether a server may be able to listen at an address. One that is in use may be the server's own,
+// and the server may have the right to a port that whoever checks lacks.
+fn may_listen(refused: Option<ErrorKind>) -> bool {
+    match refused {
+        None | Some(ErrorKind::AddrInUse | ErrorKind::PermissionDenied) => true,
+        Some(_) => false,
+    }
+}
+
+// Binds each address that arguments name for a moment, and appends a line for each. Returns whether
+// a server may be able to listen at one of them.
+fn push_named<R: Net>(
+    rt: &R,
+    alloc: Global,
+    arguments: &[&str],
+    port: u16,
+    lines: &mut Vec<u8>,
+) -> Result<bool, AllocError> {
+    let mut is_fine = false;
+    for argument in arguments {
+        if let Some(address) = named_address(argument, port) {
+            let refused = push_bound(alloc, address, TcpListener::bind(rt, address), lines)?;
+            is_fine |= may_listen(refused);
+        }
+    }
+    Ok(is_fine)
+}
+
+// Appends the lines of the addresses at which a server will listen. Returns whether it may be able
+// to listen at one of them, as far as that was tried.
+fn push_all<R: Net>(
+    rt: &R,
+    alloc: Global,
+    home: &Home,
+    checking: &Checking<'_>,
+    lines: &mut Vec<u8>,
+) -> Result<bool, AllocError> {
+    if !checking.addresses.is_empty() {
+        return push_named(rt, alloc, &checking.addresses, home.port(), lines);
+    }
+    match str::from_utf8(home.host()) {
+        Ok(host) => push_host(rt, alloc, (host, home.port()), checking.listens, lines),
+        Err(_) => Ok(false),
+    }
+}
+
+/// Writes the addresses at which a server will listen, a line each. These are the addresses of its
+/// host, or those that `checking` names. Binds each for a moment if `checking` asks for that, and
+/// writes whether that succeeded, or the system's error. Named addresses aren't resolved.
 ///
 /// # Errors
 ///
-/// - `ListenFailed` (81): the host isn't UTF-8, or `listens` is set and no address could be bound
+/// - `ListenFailed` (81): the host has no address; or its addresses are to be bound and none can
+///   be; or none of the named addresses can be bound, for other reasons than that it is in use or
+///   that permission is missing
 /// - `WriteFailed` (13): the lines couldn't be written or flushed
 /// - `NoMemory` (90)
 #[tactic(auto, using(crate::proofs::Ends::writes_some))]
@@ -89,22 +151,19 @@ pub fn tell_addresses<R: Net, W: Write>(
     rt: &R,
     alloc: Global,
     home: &Home,
-    listens: bool,
+    checking: &Checking<'_>,
     output: &mut Watched<W>,
 ) -> Result<(), ProgramFault>
     ensures { OnOk result (HasWritten W.contents output.old output.new) }
 {
-    let Ok(host) = str::from_utf8(home.host()) else {
-        return Err(ProgramFault::ListenFailed);
-    };
     let mut lines = Vec::new(alloc);
-    let Ok(is_bound) = push_host(rt, alloc, (host, home.port()), listens, &mut lines) else {
+    let Ok(is_fine) = push_all(rt, alloc, home, checking, &mut lines) else {
         return Err(ProgramFault::NoMemory);
     };
     send_text(output, &lines)?;
-    if listens && !is_bound {
-        Err(ProgramFault::ListenFailed)
-    } else {
+    if is_fine {
         Ok(())
+    } else {
+        Err(ProgramFault::ListenFailed)
     }
 }

@@ -26,12 +26,15 @@ pub enum Asked<'a> {
 }
 
 /// The arguments of `check`.
-#[derive(Clone, Copy)]
+#[derive(Drop)]
 pub struct Checking<'a> {
     /// The path of the settings.
     pub settings: &'a str,
-    /// Whether to bind each address of the host for a moment.
+    /// Whether to bind each address for a moment.
     pub listens: bool,
+    /// Where the server will listen, as in `Serving`. If there are none, it will listen at the
+    /// addresses of the settings' host.
+    pub addresses: Vec<&'a str>,
 }
 
 /// A text that is printed and ends the program.
@@ -67,7 +70,7 @@ fn log_argument<'a>(alloc: Global) -> Arg<'a> {
         .long("log")
         .value_name("FILE")
         .action(ArgAction::Set)
-        .help("Append a line for each request to this file")
+        .help("Append a line for each request to this file, or with - to standard error")
 }
 
 fn memory_argument<'a>(alloc: Global) -> Arg<'a> {
@@ -103,8 +106,10 @@ fn address_argument<'a>(alloc: Global) -> Arg<'a> {
 fn check_command<'a>(alloc: Global) -> Result<Command<'a>, AllocError> {
     let listens = Arg::new(alloc, "listen")
         .long("listen")
-        .action(ArgAction::SetTrue)
-        .help("Also try to listen at each address of the host");
+        .value_name("ADDRESS")
+        .num_args(0..=1)
+        .action(ArgAction::Append)
+        .help("Also try to listen at this IP address, or at each address of the host");
     Command::new(alloc, "check")
         .about("Report what is wrong with the settings or the folder, and where")
         .arg(settings_argument(alloc))?
@@ -137,7 +142,9 @@ fn serve_command<'a>(alloc: Global) -> Result<Command<'a>, AllocError> {
 }
 
 fn replay_command<'a>(alloc: Global) -> Command<'a> {
-    Command::new(alloc, "replay").about("Read a script from standard input and replay its crawl")
+    Command::new(alloc, "replay")
+        .about("Read a script from standard input and replay its crawl")
+        .override_usage("hole replay < SCRIPT")
 }
 
 // The program without its subcommands.
@@ -204,36 +211,81 @@ fn bytes_of(argument: &str) -> Option<u64> {
     }
 }
 
-// The text about a bad value of an option.
+// The text about a bad value of an option of a command.
 fn bad_value<'a>(
     alloc: Global,
     argument: &str,
     option: &str,
     problem: &str,
+    command: &str,
 ) -> Result<Asked<'a>, NoMemory> {
     let text = format!(in alloc;
         "error: invalid value '{argument}' for '{option}': {problem}\n\n\
-         For more information, try 'hole serve --help'.\n"
+         For more information, try 'hole {command} --help'.\n"
     )?;
     Ok(Asked::Told(Text::Refusal(text)))
 }
 
 // The text about an argument that isn't an address.
-fn no_address<'a>(alloc: Global, argument: &str) -> Result<Asked<'a>, NoMemory> {
+fn no_address<'a>(alloc: Global, argument: &str, command: &str) -> Result<Asked<'a>, NoMemory> {
     let problem = "expected an IP address, with or without a port";
-    bad_value(alloc, argument, "--listen <ADDRESS>", problem)
+    bad_value(alloc, argument, "--listen <ADDRESS>", problem, command)
 }
 
 // The text about an address that is one too many.
-fn too_many_addresses<'a>(alloc: Global, argument: &str) -> Result<Asked<'a>, NoMemory> {
+fn too_many_addresses<'a>(
+    alloc: Global,
+    argument: &str,
+    command: &str,
+) -> Result<Asked<'a>, NoMemory> {
     let problem = "there are more than 1024 addresses";
-    bad_value(alloc, argument, "--listen <ADDRESS>", problem)
+    bad_value(alloc, argument, "--listen <ADDRESS>", problem, command)
 }
 
 // The text about an argument that isn't a number of bytes.
 fn no_bytes<'a>(alloc: Global, argument: &str) -> Result<Asked<'a>, NoMemory> {
     let problem = "expected a number of bytes, for example 65536, 64K, 64M or 64G";
-    bad_value(alloc, argument, "--crawl-memory <BYTES>", problem)
+    bad_value(alloc, argument, "--crawl-memory <BYTES>", problem, "serve")
+}
+
+// The first argument that isn't an address.
+fn first_bad<'a>(arguments: &[&'a str]) -> Option<&'a str> {
+    for argument in arguments {
+        if address_of(argument).is_none() {
+            return Some(argument);
+        }
+    }
+    None
+}
+
+// The addresses that arguments name.
+fn addresses_of<'a>(alloc: Global, arguments: &[&'a str]) -> Result<Vec<&'a str>, NoMemory> {
+    let mut addresses = Vec::new(alloc);
+    for argument in arguments {
+        if let Some(address) = address_of(argument) {
+            addresses.push(address)?;
+        }
+    }
+    Ok(addresses)
+}
+
+// The arguments of `check`, or the text about a bad one.
+fn read_check<'a>(alloc: Global, check: &ArgMatches<'a>) -> Result<Asked<'a>, NoMemory> {
+    let Some(settings) = check.get_str("SETTINGS") else {
+        return Err(NoMemory);
+    };
+    let arguments = check.get_strs("listen").unwrap_or(&[]);
+    if let Some(argument) = first_bad(arguments) {
+        return no_address(alloc, argument, "check");
+    }
+    if let Some(argument) = arguments.get(MAX_LISTENERS) {
+        return too_many_addresses(alloc, argument, "check");
+    }
+    Ok(Asked::Check(Checking {
+        settings,
+        listens: check.contains_id("listen"),
+        addresses: addresses_of(alloc, arguments)?,
+    }))
 }
 
 // The arguments of `serve`, or the text about a bad one.
@@ -241,15 +293,12 @@ fn read_serve<'a>(alloc: Global, serve: &ArgMatches<'a>) -> Result<Asked<'a>, No
     let Some(settings) = serve.get_str("SETTINGS") else {
         return Err(NoMemory);
     };
-    let mut addresses = Vec::new(alloc);
-    for argument in serve.get_strs("listen").unwrap_or(&[]) {
-        if addresses.len() >= MAX_LISTENERS {
-            return too_many_addresses(alloc, argument);
-        }
-        match address_of(argument) {
-            Some(address) => addresses.push(address)?,
-            None => return no_address(alloc, argument),
-        }
+    let arguments = serve.get_strs("listen").unwrap_or(&[]);
+    if let Some(argument) = first_bad(arguments) {
+        return no_address(alloc, argument, "serve");
+    }
+    if let Some(argument) = arguments.get(MAX_LISTENERS) {
+        return too_many_addresses(alloc, argument, "serve");
     }
     let mut crawl_memory = None;
     if let Some(argument) = serve.get_str("crawl-memory") {
@@ -264,7 +313,7 @@ fn read_serve<'a>(alloc: Global, serve: &ArgMatches<'a>) -> Result<Asked<'a>, No
         log: serve.get_str("log"),
         progress: serve.get_flag("progress"),
         crawl_memory,
-        addresses,
+        addresses: addresses_of(alloc, arguments)?,
     }))
 }
 
@@ -282,11 +331,7 @@ pub fn read_arguments<'a>(alloc: Global, arguments: &'a [String]) -> Result<Aske
         Err(error) => return Ok(Asked::Told(shown(alloc, &error)?)),
     };
     if let Some(check) = matches.subcommand_matches("check") {
-        let listens = check.get_flag("listen");
-        return match check.get_str("SETTINGS") {
-            Some(settings) => Ok(Asked::Check(Checking { settings, listens })),
-            None => Err(NoMemory),
-        };
+        return read_check(alloc, check);
     }
     match matches.subcommand_matches("serve") {
         Some(serve) => read_serve(alloc, serve),

@@ -51,17 +51,17 @@ fn file_report<R: Files>(rt: &R, alloc: Global, path: &str) -> Result<Report, No
 }
 
 /// Checks the settings in a file and their folder as a server would, and writes a report. For a
-/// site without a fault, the addresses of its host come before the last line.
+/// site without a fault, the addresses at which it will listen come before the last line.
 ///
 /// # Errors
 ///
 /// - those of `serve` for the same fault: 80, 30 to 34, 20 to 26, 50, 90
-/// - `ListenFailed` (81): `--listen` was given and no address of the host could be bound
+/// - `ListenFailed` (81): as `tell_addresses` fails
 /// - `WriteFailed` (13): the report on a site without a fault couldn't be written
 pub fn check_site<R: Files + Net, W: Write>(
     rt: &R,
     alloc: Global,
-    checking: Checking<'_>,
+    checking: &Checking<'_>,
     output: &mut Watched<W>,
 ) -> Result<(), ProgramFault>
     ensures { OnOk result (FoundSound W.contents output.old output.new) }
@@ -74,6 +74,6 @@ pub fn check_site<R: Files + Net, W: Write>(
     let words = report.words.strip_suffix(SOUND).unwrap_or(&report.words);
     send_text(output, words)?;
     let settings = read_settings(rt, alloc, checking.settings)?;
-    tell_addresses(rt, alloc, &settings.home, checking.listens, output)?;
+    tell_addresses(rt, alloc, &settings.home, checking, output)?;
     send_text(output, SOUND)
 }

@@ -145,7 +145,7 @@ fn run_serve<
 // Checks a site, and writes the line of the fault, if there is one. Returns the exit status.
 fn run_check<H: Files + Net + AllocGlobal, W: Write, E: Write>(
     rt: &H,
-    checking: Checking<'_>,
+    checking: &Checking<'_>,
     output: &mut Watched<W>,
     error: &mut Watched<E>,
 ) -> u8
@@ -217,7 +217,7 @@ pub fn run<
     match read_arguments(rt.alloc(), words) {
         Ok(Asked::Replay) => run_replay(rt.alloc(), input, output, error),
         Ok(Asked::Serve(serving)) => run_serve(rt, &serving, output, error),
-        Ok(Asked::Check(checking)) => run_check(rt, checking, output, error),
+        Ok(Asked::Check(checking)) => run_check(rt, &checking, output, error),
         Ok(Asked::Told(text)) => tell_text(&text, output, error),
         Err(_refused) => tell_fault(error, ProgramFault::NoMemory),
     }

@@ -12,6 +12,7 @@
 mod pending;
 mod queue;
 mod rests;
+mod standard_error;
 mod thread_log;
 mod timing;
 mod writer;

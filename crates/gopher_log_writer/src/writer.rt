@@ -6,6 +6,7 @@ ghost use Rattle.gopher_log_writer.specs.Pending.{KeepsPending};
 use crate::pending::{Pending, Step, step_after};
 use crate::queue::LogQueue;
 use crate::rests::Rests;
+use crate::standard_error::{ErrorStream, STANDARD_ERROR};
 use crossbeam_channel::Receiver;
 use gopher_item::NoMemory;
 use gopher_log::Batch;
@@ -69,7 +70,7 @@ impl LogWriter {
 
     // Opens the file, if it isn't open.
     fn open<R: OpenLog + Eprint>(&mut self, rt: &R) {
-        if self.file.is_some() {
+        if self.file.is_some() || self.path.as_str() == STANDARD_ERROR {
             return;
         }
         match rt.open_log(self.path.as_str()) {
@@ -102,14 +103,24 @@ impl LogWriter {
         true
     }
 
-    // Writes what is left of the batch, as far as the file takes it.
-    fn write(&mut self, rt: &impl Eprint) -> Step
+    // Calls the file once with what is left of the batch. Without a file nothing is written.
+    fn write_once<R: Eprint>(&mut self, rt: &R) -> io::Result<usize>
         requires { self.old.pending.batch.dropped ≡ 0 }
     {
-        let Some(file) = &mut self.file else {
-            return Step::Refused;
-        };
-        match self.pending.write_to(self.alloc, file) {
+        if self.path.as_str() == STANDARD_ERROR {
+            return self.pending.write_to(self.alloc, &mut ErrorStream { rt });
+        }
+        match &mut self.file {
+            Some(file) => self.pending.write_to(self.alloc, file),
+            None => Ok(0),
+        }
+    }
+
+    // Writes what is left of the batch, as far as the file takes it.
+    fn write<R: Eprint>(&mut self, rt: &R) -> Step
+        requires { self.old.pending.batch.dropped ≡ 0 }
+    {
+        match self.write_once(rt) {
             Ok(0) => Step::Refused,
             Ok(_) => Step::Written,
             Err(error) => {
@@ -187,7 +198,7 @@ fn spawn_writer<R: OpenLog + Threads + Wait + Clock + Eprint + Clone + Send + Dr
     }
 }
 
-/// Starts the thread that writes the log at `path`. If it can't be started, prints that on the
+/// Starts the thread that writes the log at `path`; `-` is standard error. If it can't be started, prints that on the
 /// error stream and returns `None`; then nothing is logged.
 pub fn start_log<R: OpenLog + Threads + Wait + Clock + Eprint + Clone + Send + Drop + 'static>(
     rt: &R,
