@@ -90,7 +90,7 @@ fn named_address(argument: &str, port: u16) -> Option<SocketAddr> {
 }
 
 // Whether a server may be able to listen at an address. One that is in use may be the server's own,
-// and the server may have the right to a port that whoever checks lacks.
+// and the server may have the right to a port that the user of the check lacks.
 fn may_listen(refused: Option<ErrorKind>) -> bool {
     match refused {
         None | Some(ErrorKind::AddrInUse | ErrorKind::PermissionDenied) => true,

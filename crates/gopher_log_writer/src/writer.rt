@@ -198,7 +198,7 @@ fn spawn_writer<R: OpenLog + Threads + Wait + Clock + Eprint + Clone + Send + Dr
     }
 }
 
-/// Starts the thread that writes the log at `path`; `-` is standard error. If it can't be started, prints that on the
+/// Starts the thread that writes the log at `path`. If it can't be started, prints that on the
 /// error stream and returns `None`; then nothing is logged.
 pub fn start_log<R: OpenLog + Threads + Wait + Clock + Eprint + Clone + Send + Drop + 'static>(
     rt: &R,
