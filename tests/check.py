@@ -49,7 +49,9 @@ WRONG_KIND = (
     "this key's value has the wrong type, or a value in one of its tables has",
     "put strings in quotation marks, write integers without, and begin tables with [[seeds]], [[allow]] or [[deny]]",
 )
-OUT_OF_RANGE = ("this key's value is out of range, or a value in one of its tables is", "use a value that hole.toml(5) allows")
+OUT_OF_RANGE = "this key's value is out of range, or a value in one of its tables is"
+HINT = b"hint: ~ isn't expanded in root; write the whole path\n"
+NO_SEEDS = "warning: searches find nothing, because the settings have no [[seeds]]\n"
 UNKNOWN = (
     "this key is unknown, or a key in one of its tables is",
     "correct its spelling; the server's own keys come before the first [[",
@@ -244,6 +246,7 @@ FAULTS = {
     "a hidden name that isn't UTF-8": (put(b".\xff"), "26", report(26, "ROOT/", NOT_UTF8)),
     "a link to itself": (put_link("a", "a"), "26", report(26, "ROOT/a", LOOP)),
     "a root that isn't there": (say(HEAD + 'root = "ROOT/x"\n'), "26", report(26, "ROOT/x/", MISSING)),
+    "a root with a tilde": (say(HEAD + 'root = "~/x"\n'), "26", report(26, "~/x/", MISSING) + HINT),
     "a root that is a file": (
         lambda site: [site.add(b"x"), say(HEAD + 'root = "ROOT/x"\n')(site)], "26", report(26, "ROOT/x/", NOT_FOLDER)
     ),
@@ -256,9 +259,9 @@ FAULTS = {
     "a port that is a text": (say(HEAD + 'port = "70"\nroot = "ROOT"\n'), "32 port", report(32, "FILE", WRONG_KIND, "key: port")),
     "seeds that are a table": (more('[seeds]\nhost = "a"\n'), "32 seeds", report(32, "FILE", WRONG_KIND, "key: seeds")),
     "a port out of range": (
-        say(HEAD + 'port = 65536\nroot = "ROOT"\n'), "33 port", report(33, "FILE", OUT_OF_RANGE, "key: port")
+        say(HEAD + 'port = 65536\nroot = "ROOT"\n'), "33 port", report(33, "FILE", (OUT_OF_RANGE, "use a number from 1 to 65535"), "key: port")
     ),
-    "no workers": (more("workers = 0\n"), "33 workers", report(33, "FILE", OUT_OF_RANGE, "key: workers")),
+    "no workers": (more("workers = 0\n"), "33 workers", report(33, "FILE", (OUT_OF_RANGE, "use a number from 1 to 16"), "key: workers")),
     "a key that isn't known": (more("prot = 70\n"), "34", report(34, "FILE", UNKNOWN, "key: prot")),
     "two keys that aren't known, one with a TAB": (
         more('zebra = 1\n"a\\tb" = 2\n[[deny]]\nhosts = 1\n'), "34", report(34, "FILE", UNKNOWN, "key: a\\tb")
@@ -408,7 +411,7 @@ def check_sound(tally, program):
     """Checks sites without a fault."""
     with tempfile.TemporaryDirectory() as place:
         site = Checked(pathlib.Path(place), program)
-        empty = f"settings: {site.settings}\naddress: LocalHost 70\nroot: {site.root}\nfiles: 0\nmenu files: 0\nbytes: 0\nsound\n"
+        empty = f"settings: {site.settings}\naddress: LocalHost 70\nroot: {site.root}\nfiles: 0\nmenu files: 0\nbytes: 0\n{NO_SEEDS}sound\n"
         say('host = "LocalHost"\nroot = "ROOT"\n')(site)
         tally.expect("an empty site", site.check(), (empty.encode(), b"", 0))
         for name, text, lines in (("worked", WORKED, WORKED_REPORT), ("stated", STATED, STATED_REPORT)):

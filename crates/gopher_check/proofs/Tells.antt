@@ -7,7 +7,7 @@ use Rattle.gopher_scope.specs.declared.fault.SettingsFault.TheVariants as settin
 use Rattle.gopher_tree.specs.Load.{LoadsTo}
 use Rattle.gopher_tree.specs.declared.fault.TreeFault.{TreeFault}
 use Rattle.gopher_check.specs.declared.obstacle.Obstacle.{Obstacle}
-use Rattle.gopher_check.specs.Report.{fault_report, path_below, line_of_fault, HasKey, HasLine, TellsSite, TellsText, TellsTwice}
+use Rattle.gopher_check.specs.Report.{fault_report, folder_report, HasKey, HasLine, TellsSite, TellsText, TellsTwice}
 use Rattle.gopher_check.specs.declared.fault.SiteFault.{SiteFault}
 use Rattle.gopher_check.specs.declared.fault.SiteFault.TheVariants as fault
 
@@ -22,7 +22,7 @@ tells_text path text words settings (Some fault.KeyTwice) is tells = absurd tell
 
 -- the report on a folder that doesn't make a tree
 pub tells_folder : (path : List ℕ) (settings : SettingsData) (words below : List ℕ) (why : TreeFault) (how : Obstacle)
-    → LoadsTo below (Err why) → words ≡ fault_report (fault.Tree why how) (path_below settings.root below) (line_of_fault why) []
+    → LoadsTo below (Err why) → words ≡ folder_report why how settings.root below
     → TellsSite path settings words (Some (fault.Tree why how))
 tells_folder path settings words below why how loads is = (below, loads, is)
 

@@ -5,6 +5,8 @@ use Rattle.std.specs.declared.io.ErrorKind.TheVariants as kind
 use Rattle.gopher_scope.specs.Settings.{settings_fault_code}
 use Rattle.gopher_scope.specs.declared.fault.SettingsFault.{SettingsFault}
 use Rattle.gopher_scope.specs.declared.fault.SettingsFault.TheVariants as settings_fault
+use Rattle.gopher_scope.specs.declared.settings.key.Key.{Key}
+use Rattle.gopher_scope.specs.declared.settings.key.Key.TheVariants as key
 use Rattle.gopher_tree.specs.Fault.{tree_fault_code}
 use Rattle.gopher_tree.specs.declared.fault.TreeFault.{TreeFault}
 use Rattle.gopher_tree.specs.declared.fault.TreeFault.TheVariants as tree_fault
@@ -85,12 +87,29 @@ settings_cause settings_fault.UnknownKey =
     codes "this key is unknown, or a key in one of its tables is"
 settings_cause settings_fault.NoMemory = codes "out of memory"
 
+-- what the value of a key may be
+abbrev pub range_remedy : Key → List ℕ
+range_remedy key.Host =
+    codes "give the name or the address of the server, without spaces or control characters"
+range_remedy key.Port = codes "use a number from 1 to 65535"
+range_remedy key.Root = codes "give the path of a folder"
+range_remedy key.Seeds =
+    codes "use at most 256 tables, with type 0 or 1, a host, a port from 1 to 65535, and a selector of at most 255 bytes"
+range_remedy key.Allow =
+    codes "use at most 256 tables, with a host, a port from 1 to 65535, and a prefix of at most 255 bytes"
+range_remedy key.Deny =
+    codes "use at most 256 tables, with a host, a port from 1 to 65535, and a prefix of at most 255 bytes"
+range_remedy key.Places = codes "use a number from 1 to 65536"
+range_remedy key.Workers = codes "use a number from 1 to 16"
+range_remedy key.Threads = codes "use a number from 1 to 8"
+range_remedy key.Tries = codes "use a number from 1 to 5"
+
 abbrev pub settings_remedy : SettingsFault → List ℕ
 settings_remedy settings_fault.NotToml = codes "correct this line; strings need quotation marks"
 settings_remedy (settings_fault.Missing key) = codes "add it; hole.toml(5) describes the keys"
 settings_remedy (settings_fault.WrongKind key) =
     codes "put strings in quotation marks, write integers without, and begin tables with [[seeds]], [[allow]] or [[deny]]"
-settings_remedy (settings_fault.OutOfRange key) = codes "use a value that hole.toml(5) allows"
+settings_remedy (settings_fault.OutOfRange key) = range_remedy key
 settings_remedy settings_fault.UnknownKey =
     codes "correct its spelling; the server's own keys come before the first [["
 settings_remedy settings_fault.NoMemory = codes "give the program more memory"

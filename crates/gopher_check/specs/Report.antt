@@ -1,5 +1,5 @@
 -- The reports of a check: of a fault, and of a site without one.
-use Rattle.std.specs.Prelude.{◌≡◌, ℕ, List, [], ◌∷◌, ◌++◌, codes, length, count_by, Option, None, Some, IsSomeAnd, Ok, Err}
+use Rattle.std.specs.Prelude.{◌≡◌, ℕ, List, [], ◌∷◌, ◌++◌, codes, length, count_by, Option, None, Some, IsSomeAnd, Ok, Err, ◌==◌, if◌then◌else◌}
 use Rattle.std.specs.List.{flat_map}
 use Rattle.toml.specs.Parse.{parse_document}
 use Rattle.toml.specs.declared.de.error.Error.{Error}
@@ -21,6 +21,8 @@ use Rattle.gopher_check.specs.Lines.{words_line, number_line, server_words, plac
 use Rattle.gopher_check.specs.Text.{toml_fault_line, IsTomlFault, IsLineOf, IsKeyOf}
 use Rattle.gopher_check.specs.Unknown.{unknown_name}
 use Rattle.gopher_check.specs.declared.checking.Report.{Report}
+use Rattle.gopher_check.specs.declared.obstacle.Obstacle.{Obstacle}
+use Rattle.gopher_check.specs.declared.obstacle.Obstacle.TheVariants as obstacle
 use Rattle.gopher_check.specs.declared.fault.SiteFault.{SiteFault}
 use Rattle.gopher_check.specs.declared.fault.SiteFault.TheVariants as fault
 
@@ -69,6 +71,23 @@ line_of_fault why = None
 abbrev pub path_below : List ℕ → List ℕ → List ℕ
 path_below root path = root ++ 47 ∷ path
 
+-- the line that says why a root that begins with `~` isn't there
+abbrev pub hint_line : List ℕ → Obstacle → List ℕ
+hint_line (byte ∷ more) obstacle.Missing =
+    if byte == 126 then codes "hint: ~ isn't expanded in root; write the whole path\n" else []
+hint_line root how = []
+
+-- the report of a fault of a folder
+abbrev pub folder_report : TreeFault → Obstacle → List ℕ → List ℕ → List ℕ
+folder_report why how root below =
+    fault_report (fault.Tree why how) (path_below root below) (line_of_fault why) []
+    ++ hint_line root how
+
+-- the line that says that searches find nothing, because the crawl has no seeds
+abbrev pub seeds_warning : List PlaceData → List ℕ
+seeds_warning [] = codes "warning: searches find nothing, because the settings have no [[seeds]]\n"
+seeds_warning (seed ∷ seeds) = []
+
 abbrev pub address_lines : HomeData → List ℕ → List ℕ
 address_lines home root =
     codes "address: " ++ server_words home.host home.port ++ 10 ∷ words_line (codes "root: ") root
@@ -97,7 +116,8 @@ site_report path settings files =
     ++ size_lines files
     ++ flat_map seed_line settings.seeds
     ++ rule_lines (codes "may visit: ") settings.scope.allow
-    ++ rule_lines (codes "may not visit: ") settings.scope.deny ++ codes "sound\n"
+    ++ rule_lines (codes "may not visit: ") settings.scope.deny
+    ++ seeds_warning settings.seeds ++ codes "sound\n"
 
 -- the report on settings and a folder
 abbrev pub TellsSite : List ℕ → SettingsData → List ℕ → Option SiteFault → Type 0
@@ -107,8 +127,7 @@ TellsSite path settings words None =
     × (words ≡ site_report path settings files)
 TellsSite path settings words (Some (fault.Tree why how)) =
     (below : List ℕ) × LoadsTo below (Err why)
-    × (words ≡ fault_report (fault.Tree why how) (path_below settings.root below)
-    (line_of_fault why) [])
+    × (words ≡ folder_report why how settings.root below)
 TellsSite path settings words (Some (fault.SeedOutOfScope seed)) =
     (first_outside settings.scope settings.seeds ≡ Some seed)
     × (words ≡ fault_report (fault.SeedOutOfScope seed) path None [])

@@ -1,25 +1,25 @@
 //! Checking a site (`check`): its settings, its folder and its seeds; and which line or key a
 //! report names.
 
-ghost use Rattle.std.specs.Prelude.{◌≡◌, ◌≤◌, length, None, Some, Err, IfOk, IfSome};
+ghost use Rattle.std.specs.Prelude.{◌≡◌, ◌≤◌, ◌++◌, length, None, Some, Err, IfOk, IfSome, OnOk};
 ghost use Rattle.toml.specs.Parse.{parse_document};
 ghost use Rattle.gopher_item.specs.Scope.{first_outside};
 ghost use Rattle.gopher_scope.specs.Settings.{settings_data, settings_of, IsFaultOf};
 ghost use Rattle.gopher_scope.specs.declared.fault.SettingsFault.TheVariants as settings_fault;
 ghost use Rattle.gopher_tree.specs.Fault.{files_fault};
 ghost use Rattle.gopher_check.specs.declared.fault.SiteFault.TheVariants.{SettingsUnreadable};
-ghost use Rattle.gopher_check.specs.Report.{unreadable_report, line_of_fault, path_below, HasKey, HasLine, IsReportOnSite, IsReportOnText, IsReportOnTwice};
+ghost use Rattle.gopher_check.specs.Report.{folder_report, hint_line, unreadable_report, line_of_fault, path_below, HasKey, HasLine, IsReportOnSite, IsReportOnText, IsReportOnTwice};
 ghost use Rattle.gopher_check.specs.Text.{line_at, key_of, toml_fault_line, IsKeyOf, IsTomlFault};
 
 use crate::fault::SiteFault;
 use crate::fault_report::fault_report;
-use crate::obstacle::obstacle_at;
+use crate::obstacle::{Obstacle, obstacle_at};
 use crate::site_report::site_report;
 use crate::unknown::unknown_key;
 use gopher_item::{NoMemory, Place, split_once, trim_spaces};
 use gopher_scope::{Scope, Settings, SettingsFault};
 use gopher_tree::{Tree, TreeFault};
-use std::alloc::Global;
+use std::alloc::{AllocError, Global};
 use std::fs::Files;
 use toml::de::Error as TomlFault;
 
@@ -124,6 +124,40 @@ fn tree_report(
     Ok(Report { words, fault: None })
 }
 
+// Appends the line that says why a root that begins with `~` isn't there.
+fn push_hint(root: &str, how: Obstacle, out: &mut Vec<u8>) -> Result<(), AllocError>
+    ensures { OnOk result (out.new.items ≡ out.old.items ++ hint_line root.now how) }
+{
+    match (root.as_bytes(), how) {
+        ([byte, ..], Obstacle::Missing) => {
+            if *byte == b'~' {
+                out.extend_from_slice(b"hint: ~ isn't expanded in root; write the whole path\n")
+            } else {
+                Ok(())
+            }
+        }
+        _ => Ok(()),
+    }
+}
+
+// The report of a fault of the folder `root`, at the path `below` it, with the system's reason.
+fn folder_report(
+    alloc: Global,
+    root: &str,
+    below: &[u8],
+    why: TreeFault,
+    how: Obstacle,
+    place: &[u8],
+) -> Result<Vec<u8>, NoMemory>
+    requires { place.now ≡ path_below root.now below.now }
+    ensures { IfOk result (λ words. words.items ≡ folder_report why how root.now below.now) }
+{
+    let fault = SiteFault::Tree(why, how);
+    let mut words = fault_report(alloc, fault, place, line_of_fault(why), b"")?;
+    push_hint(root, how, &mut words)?;
+    Ok(words)
+}
+
 // The report on settings and their folder.
 #[tactic(auto, using(crate::proofs::Tells::tells_folder))]
 fn settings_report<R: Files>(
@@ -138,11 +172,12 @@ fn settings_report<R: Files>(
         Ok(tree) => tree_report(alloc, path, settings, &tree),
         Err(refused) => {
             let place = path_below(alloc, settings.root.as_str(), &refused.path)?;
-            let fault = SiteFault::Tree(refused.fault, obstacle_at(rt, alloc, &place));
-            let words = fault_report(alloc, fault, &place, line_of_fault(refused.fault), b"")?;
+            let how = obstacle_at(rt, alloc, &place);
+            let root = settings.root.as_str();
+            let words = folder_report(alloc, root, &refused.path, refused.fault, how, &place)?;
             Ok(Report {
                 words,
-                fault: Some(fault),
+                fault: Some(SiteFault::Tree(refused.fault, how)),
             })
         }
     }

@@ -1,11 +1,11 @@
 //! `SiteFault`: the faults of a site, with the number, the cause and the remedy of each.
 
 ghost use Rattle.std.specs.Prelude.{◌≡◌};
-ghost use Rattle.gopher_check.specs.Fault.{site_fault_code, cause, remedy};
+ghost use Rattle.gopher_check.specs.Fault.{site_fault_code, cause, range_remedy, remedy};
 ghost use Rattle.gopher_check.specs.Fault.{tree_cause, tree_remedy, settings_cause, settings_remedy};
 
 use crate::obstacle::Obstacle;
-use gopher_scope::SettingsFault;
+use gopher_scope::{Key, SettingsFault};
 use gopher_tree::TreeFault;
 
 /// A fault of a site.
@@ -79,6 +79,26 @@ fn settings_cause(fault: SettingsFault) -> &'static str
     }
 }
 
+// What the value of a key may be.
+fn range_remedy(key: Key) -> &'static str
+    ensures { result.now ≡ range_remedy key }
+{
+    match key {
+        Key::Host =>
+            "give the name or the address of the server, without spaces or control characters",
+        Key::Port => "use a number from 1 to 65535",
+        Key::Root => "give the path of a folder",
+        Key::Seeds =>
+            "use at most 256 tables, with type 0 or 1, a host, a port from 1 to 65535, and a selector of at most 255 bytes",
+        Key::Allow | Key::Deny =>
+            "use at most 256 tables, with a host, a port from 1 to 65535, and a prefix of at most 255 bytes",
+        Key::Places => "use a number from 1 to 65536",
+        Key::Workers => "use a number from 1 to 16",
+        Key::Threads => "use a number from 1 to 8",
+        Key::Tries => "use a number from 1 to 5",
+    }
+}
+
 fn settings_remedy(fault: SettingsFault) -> &'static str
     ensures { result.now ≡ settings_remedy fault }
 {
@@ -88,7 +108,7 @@ fn settings_remedy(fault: SettingsFault) -> &'static str
         SettingsFault::WrongKind(_) => {
             "put strings in quotation marks, write integers without, and begin tables with [[seeds]], [[allow]] or [[deny]]"
         }
-        SettingsFault::OutOfRange(_) => "use a value that hole.toml(5) allows",
+        SettingsFault::OutOfRange(key) => range_remedy(key),
         SettingsFault::UnknownKey => {
             "correct its spelling; the server's own keys come before the first [["
         }

@@ -3,7 +3,7 @@
 ghost use Rattle.std.specs.Prelude.{◌≡◌, ◌++◌, IfOk, OnOk};
 ghost use Rattle.std.specs.List.{flat_map};
 ghost use Rattle.gopher_scope.specs.Settings.{settings_data};
-ghost use Rattle.gopher_check.specs.Report.{address_lines, size_lines, seed_line, rule_line, rule_lines, site_report};
+ghost use Rattle.gopher_check.specs.Report.{address_lines, size_lines, seed_line, rule_line, rule_lines, seeds_warning, site_report};
 
 use crate::lines::{push_address, push_number, push_server, push_words};
 use gopher_item::{Home, NoMemory, Place};
@@ -64,9 +64,21 @@ fn push_rules(front: &[u8], rules: &[Rule], out: &mut Vec<u8>) -> Result<(), All
     Ok(())
 }
 
+// Appends the line that says that searches find nothing, if there are no seeds.
+fn push_warning(seeds: &[Place], out: &mut Vec<u8>) -> Result<(), AllocError>
+    ensures { OnOk result (out.new.items ≡ out.old.items ++ seeds_warning seeds.now) }
+{
+    match seeds {
+        [] => out.extend_from_slice(
+            b"warning: searches find nothing, because the settings have no [[seeds]]\n",
+        ),
+        [_, ..] => Ok(()),
+    }
+}
+
 /// Makes the report of a site without a fault. It names the settings file, the address, the root,
 /// the numbers of files, menu files and bytes, the seeds and the rules of its crawl, each on its
-/// own line.
+/// own line, and a warning if there are no seeds.
 pub(crate) fn site_report(
     alloc: Global,
     path: &[u8],
@@ -90,6 +102,7 @@ pub(crate) fn site_report(
     push_seeds(&seeds, &mut report)?;
     push_rules(b"may visit: ", &allow, &mut report)?;
     push_rules(b"may not visit: ", &deny, &mut report)?;
+    push_warning(&seeds, &mut report)?;
     report.extend_from_slice(b"sound\n")?;
     Ok(report)
 }
