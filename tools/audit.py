@@ -39,9 +39,9 @@ PROMISES = {
         ("gopher_catalogue", "laws::known_places_are_distinct", ""),
     ],
     "one-catalogue": [
-        ("gopher_crew", "Kept::claim", ""),
-        ("gopher_crew", "Kept::found", ""),
-        ("gopher_crew", "Kept::fail", ""),
+        ("gopher_crew", "Desk::claim", ""),
+        ("gopher_crew", "Desk::found", ""),
+        ("gopher_crew", "Desk::fail", ""),
         ("gopher_crew", "Pass::begin", ""),
     ],
     "requests": [

@@ -15,10 +15,12 @@ pub record PassData : Type 0 where
   pub seen : List EventData
   pub told : List EventData
 
--- the number of events that a share counts, and the number of its parts of the ledger
+-- the number of events that a share counts, the number of its parts of the ledger, and the record
+-- that the last reply to its holder was on
 pub record ShareData : Type 0 where
   pub events : ℕ
   pub parts : ℕ
+  pub seen : List EventData
 
 -- the record that is published, and the one that the waiting update will publish. If no update
 -- waits, both are the same

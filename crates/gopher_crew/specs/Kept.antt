@@ -1,5 +1,6 @@
 -- What the calls of a desk return, and of which records their notes are.
-use Rattle.std.specs.Prelude.{ℕ, ◌≡◌, ◌≢◌, ◌+◌, Bool, List, [], ◌∷◌, ◌++◌, Option, None, Some, slice_get}
+use Rattle.std.specs.Prelude.{ℕ, ◌≡◌, ◌≢◌, ◌+◌, Bool, List, [], ◌∷◌, ◌++◌, Option, None, Some, true, false, slice_get}
+use mathlib.Core.List.{IsPrefix}
 use Rattle.gopher_page.specs.Page.{PageData}
 use Rattle.gopher_catalogue.specs.declared.event.EventData.{EventData}
 use Rattle.gopher_catalogue.specs.declared.event.EventData.TheVariants.{Opened, Found, Failed}
@@ -34,72 +35,60 @@ rise_of turn = 0
 abbrev pub RisesAt : TurnData → ShareData → ShareData → Type 0
 RisesAt turn old new = new.events ≡ old.events + rise_of turn
 
--- the fault of a page that is refused
-abbrev pub IsFindFault : KeptData → ℕ → PageData → FoundFault → Type 0
-IsFindFault kept number page fault = IsFoundFault (found_fault kept.events number page.place) fault
-
 -- the record begins with this opening
 abbrev pub IsOpeningOf : KeptData → OpeningData → Type 0
 IsOpeningOf kept opening = slice_get kept.events 0 ≡ Some (Opened opening)
 
--- the note of a claim is of a legal record that ends with the claim. On the record before, the
--- claim returns this turn
-pub record NotesTurn (turn : TurnData) (note : List EventData) : Type 0 where
+-- On the record before, a claim returns this turn. That record begins with what the share had seen,
+-- and the share then has seen the legal record after the turn
+pub record Claims (turn : TurnData) (old new : ShareData) : Type 0 where
   pub before : List EventData
+  pub begins : IsPrefix old.seen before
   pub is_turn : turn_of before ≡ turn
-  pub is_after : note ≡ after_turn before turn
-  pub is_legal : IsLegal note
+  pub is_after : new.seen ≡ after_turn before turn
+  pub is_legal : IsLegal new.seen
 
--- the note of a page is of a legal record that ends with the page. On the record before, the page
--- adds `added`
-pub record NotesFind (number : ℕ) (page : PageData) (added : Added) (note : List EventData)
+-- On the record before, the page is accepted and adds `added`. That record begins with what the
+-- share had seen, and the share then has seen the legal record that ends with the page
+pub record Finds (number : ℕ) (page : PageData) (added : Added) (old new : ShareData)
     : Type 0 where
   pub before : List EventData
+  pub begins : IsPrefix old.seen before
+  pub is_right : found_fault before number page.place ≡ None
   pub is_added : added_by before number page ≡ added
-  pub is_after : note ≡ before ++ Found number page ∷ []
-  pub is_legal : IsLegal note
+  pub is_after : new.seen ≡ before ++ Found number page ∷ []
+  pub is_legal : IsLegal new.seen
 
--- the note of a failure is of a legal record that ends with the failure
-pub record NotesFailure (number : ℕ) (why : Why) (note : List EventData) : Type 0 where
+-- On the record before, the number is out. That record begins with what the share had seen, and the
+-- share then has seen the legal record that ends with the failure
+pub record Fails (number : ℕ) (why : Why) (old new : ShareData) : Type 0 where
   pub before : List EventData
-  pub is_after : note ≡ before ++ Failed number why ∷ []
-  pub is_legal : IsLegal note
-
--- on a legal record a claim returns this turn
-pub record AnswersTurn (turn : TurnData) : Type 0 where
-  pub before : List EventData
-  pub is_turn : turn_of before ≡ turn
-  pub is_legal : IsLegal before
+  pub begins : IsPrefix old.seen before
+  pub is_out : is_out_in before number ≡ true
+  pub is_after : new.seen ≡ before ++ Failed number why ∷ []
+  pub is_legal : IsLegal new.seen
 
 -- a turn other than waiting for the outcomes of others
 abbrev pub IsNotIdle : TurnData → Type 0
 IsNotIdle Idle = ⊥
 IsNotIdle turn = Unit {0}
 
--- on a legal record a place waits
-pub record LetsClaim : Type 0 where
-  pub before : List EventData
-  pub is_take : IsTake (turn_of before)
-  pub is_legal : IsLegal before
+-- on the legal record that the share has seen, a claim returns this turn
+abbrev pub TurnsOn : TurnData → ShareData → Type 0
+TurnsOn turn share = (turn_of share.seen ≡ turn) × IsLegal share.seen
 
--- on a legal record the page is accepted, and adds `added`
-pub record AnswersFind (number : ℕ) (page : PageData) (added : Added) : Type 0 where
-  pub before : List EventData
-  pub is_right : found_fault before number page.place ≡ None
-  pub is_added : added_by before number page ≡ added
-  pub is_legal : IsLegal before
+-- on the legal record that the share has seen, a place waits
+abbrev pub LetsClaim : ShareData → Type 0
+LetsClaim share = IsTake (turn_of share.seen) × IsLegal share.seen
 
--- on a legal record the page is refused for this fault
-pub record RefusesFind (number : ℕ) (page : PageData) (fault : FoundFault) : Type 0 where
-  pub before : List EventData
-  pub is_fault : IsFoundFault (found_fault before number page.place) fault
-  pub is_legal : IsLegal before
+-- on the legal record that the share has seen, the page is refused for this fault
+abbrev pub RefusesFind : ℕ → PageData → FoundFault → ShareData → Type 0
+RefusesFind number page fault share =
+    IsFoundFault (found_fault share.seen number page.place) fault × IsLegal share.seen
 
--- on a legal record the number is out, or isn't
-pub record IsOutOn (number : ℕ) (answer : Bool) : Type 0 where
-  pub before : List EventData
-  pub is_answer : is_out_in before number ≡ answer
-  pub is_legal : IsLegal before
+-- on the legal record that the share has seen, the number isn't out
+abbrev pub IsNotOut : ℕ → ShareData → Type 0
+IsNotOut number share = (is_out_in share.seen number ≡ false) × IsLegal share.seen
 
 -- a legal record begins with this opening
 pub record BeginsWith (opening : OpeningData) : Type 0 where

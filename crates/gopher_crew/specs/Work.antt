@@ -15,7 +15,7 @@ use Rattle.gopher_crew.specs.declared.working.Outcome.TheVariants.{Found, Failed
 use Rattle.gopher_crew.specs.declared.working.Stop.{Stop}
 use Rattle.gopher_crew.specs.declared.working.Stop.TheVariants.{Finished, NoMemory as NoMemoryStop}
 use Rattle.gopher_crew.specs.declared.working.WorkEnd.{WorkEnd}
-use Rattle.gopher_crew.specs.Kept.{AnswersTurn, IsOutOn, LetsClaim}
+use Rattle.gopher_crew.specs.Kept.{TurnsOn, IsNotOut, LetsClaim}
 
 -- a fetcher's number of calls after one more
 abbrev pub one_more_call : ℕ → ℕ
@@ -37,10 +37,11 @@ failed_rise Refused = 0
 abbrev pub outcome_rise : Outcome → ℕ
 outcome_rise outcome = found_rise outcome + failed_rise outcome
 
--- a place that was claimed was found or failed, or it isn't out on a legal record
-abbrev pub EndsClaim : Outcome → ℕ → Type 0
-EndsClaim Refused number = IsOutOn number false
-EndsClaim outcome number = Unit {0}
+-- a place that was claimed was found or failed, or it isn't out on the record that the
+-- share has seen
+abbrev pub EndsClaim : Outcome → ℕ → ShareData → Type 0
+EndsClaim Refused number share = IsNotOut number share
+EndsClaim outcome number share = Unit {0}
 
 -- a share rose by at most two for each call of the fetcher, unless the count of its calls is at its
 -- last value
@@ -54,17 +55,17 @@ pub record Earns (before calls after calls' outcomes : ℕ) : Type 0 where
   pub at_least : before + 2 * outcomes ≤ after
   pub at_most : (calls' ≡ 18446744073709551615) ⊎ (after + 2 * calls ≤ before + 2 * calls')
 
--- why a worker stopped: on a legal record nothing waits and nothing is out, or a place waits, whose
--- claim ran out of memory
-abbrev pub IsStop : Stop → Type 0
-IsStop Finished = AnswersTurn FinishedTurn
-IsStop NoMemoryStop = LetsClaim
+-- why a worker stopped: on the record that its share has seen nothing waits and nothing is out, or a
+-- place waits, whose claim ran out of memory
+abbrev pub IsStop : Stop → ShareData → Type 0
+IsStop Finished share = TurnsOn FinishedTurn share
+IsStop NoMemoryStop share = LetsClaim share
 
 -- what a worker did in one round: it called its fetcher once and made at most two events, or it
 -- stopped
 abbrev pub WorksOnce : {F C : Type 0} → (F → ℕ) → WorkEnd F C → WorkEnd F C → Option Stop → Type 0
 WorksOnce called old new (Some stop) =
-    IsStop stop
+    IsStop stop new.share
     × (called new.fetcher ≡ called old.fetcher)
     × (new.share.events ≡ old.share.events)
 WorksOnce called old new None =
@@ -80,7 +81,7 @@ RisesByOutcomes old new =
 -- what a worker did between two states of its share and two counts of its fetcher's calls
 pub record Works (before : ShareData) (calls : ℕ) (after : ShareData) (calls' outcomes : ℕ)
     (stop : Stop) : Type 0 where
-  pub is_stop : IsStop stop
+  pub is_stop : IsStop stop after
   pub at_least : before.events + 2 * outcomes ≤ after.events
   pub is_paid : IsPaid before after calls calls'
   pub same_parts : after.parts ≡ before.parts

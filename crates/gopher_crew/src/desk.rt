@@ -7,7 +7,7 @@ ghost use Rattle.gopher_catalogue.specs.Legal.{IsLegal};
 ghost use Rattle.gopher_catalogue.specs.Turn.{turn_data};
 ghost use Rattle.gopher_crew.specs.Crew.{all_published};
 ghost use Rattle.gopher_crew.specs.Desk.{are_counts, shares_at, events_of, AllHaveSeen, CountTheSame, ComesBack, IsBlankOf, IsDeskFault, HasAll};
-ghost use Rattle.gopher_crew.specs.Kept.{RisesAt, NotesTurn, NotesFind, NotesFailure, AnswersTurn, AnswersFind, RefusesFind, IsOutOn, LetsClaim, BeginsWith, IsNotIdle, IsStatus};
+ghost use Rattle.gopher_crew.specs.Kept.{RisesAt, Claims, Finds, Fails, RefusesFind, IsNotOut, LetsClaim, BeginsWith, IsNotIdle, IsStatus};
 
 use crate::blank::Blank;
 use crate::crew::Crew;
@@ -80,13 +80,30 @@ fn start<C: Crew, R: Wait + Drop>(
     } = blank;
     let (mut book, mut whole) = count.open::<C>();
     book.add(&mut whole, events);
-    cut(whole, events, shares, list);
+    cut(whole, events, shares, &prefix, list);
     let follower = RecordFollower::new(alloc, head, prefix, publisher);
     Desk {
         kept: Mutex::new(Kept::new(catalogue, book, follower)),
         outcomes: Condvar::new(),
         memory: PageMemory::unlimited(),
     }
+}
+
+// Claims the first waiting place, and lets go of the note.
+#[tactic(auto, using(crate::proofs::Keeping::claims_grow))]
+fn claim_at<C: Crew, R: Wait + Drop>(
+    kept: &mut Kept<C, R>,
+    share: &mut Share<C>,
+) -> Result<Turn, NoMemory>
+    ensures answered { IfOk result (λ turn. Claims (turn_data turn) share.old share.new) }
+    ensures share { IfOk result (λ turn. RisesAt (turn_data turn) share.old share.new) }
+    ensures parts { share.new.parts ≡ share.old.parts }
+    ensures waits { OnErr result (LetsClaim share.new) }
+    ensures seen { IsPrefix share.old.seen share.new.seen }
+    ensures err { OnErr result (share.new.events ≡ share.old.events) }
+{
+    let (turn, _note) = kept.claim(share)?;
+    Ok(turn)
 }
 
 impl<C: Crew, R: Wait + Drop> Desk<C, R> {
@@ -146,32 +163,35 @@ impl<C: Crew, R: Wait + Drop> Desk<C, R> {
 impl<C: Crew, R: Wait + Drop> Desk<C, R> {
     /// Claims the first waiting place. The share rises by one if there is one.
     ///
-    /// The turn is what a claim returns on a legal record. The note, if there is one, is of the
-    /// record after it.
+    /// The turn is what a claim returns on a legal record that begins with what the share saw. The
+    /// share then has seen the record after it. The note, if there is one, is of that record.
     ///
     /// # Errors
-    /// `NoMemory` (90), only if a place waits.
+    /// `NoMemory` (90), only if a place waits on the record that the share then has seen.
     pub fn claim<W: Wait>(
         &self,
         rt: &W,
         share: &mut Share<C>,
     ) -> Result<(Turn, Option<Note<C>>), NoMemory>
-        ensures answered { IfOk result (λ reply. AnswersTurn (turn_data reply.0)) }
-        ensures noted { IfOk result (λ reply. IfSome reply.1 (NotesTurn (turn_data reply.0))) }
+        ensures answered { IfOk result (λ reply. Claims (turn_data reply.0) share.old share.new) }
+        ensures noted { IfOk result (λ reply. IfSome reply.1 (λ note. note ≡ share.new.seen)) }
         ensures share { IfOk result (λ reply. RisesAt (turn_data reply.0) share.old share.new) }
         ensures parts { share.new.parts ≡ share.old.parts }
-        ensures waits { OnErr result LetsClaim }
-        ensures err { OnErr result (share.new ≡ share.old) }
+        ensures waits { OnErr result (LetsClaim share.new) }
+        ensures seen { IsPrefix share.old.seen share.new.seen }
+        ensures err { OnErr result (share.new.events ≡ share.old.events) }
     {
         self.kept.lock(rt).claim(share)
     }
 
     /// Adds the page of a place that is out. The share rises by one.
     ///
-    /// The note, if there is one, is of a legal record that ends with the page.
+    /// The share then has seen a legal record that ends with the page. The note, if there is one,
+    /// is of that record.
     ///
     /// # Errors
-    /// The first of these that the page has on a legal record. The error has the page.
+    /// The first of these that the page has on the record that the share then has seen. The error
+    /// has the page.
     /// - `NotOut` (52): the number isn't out.
     /// - `WrongPlace` (53): the page is of another place.
     /// - `NoMemory` (90).
@@ -182,13 +202,14 @@ impl<C: Crew, R: Wait + Drop> Desk<C, R> {
         number: u32,
         page: Page,
     ) -> Result<(Added, Option<Note<C>>), FoundRefused>
-        ensures answered { IfOk result (λ reply. AnswersFind number page reply.0) }
-        ensures noted { IfOk result (λ reply. IfSome reply.1 (NotesFind number page reply.0)) }
+        ensures answered { IfOk result (λ reply. Finds number page reply.0 share.old share.new) }
+        ensures noted { IfOk result (λ reply. IfSome reply.1 (λ note. note ≡ share.new.seen)) }
         ensures share { OnOk result (share.new.events ≡ share.old.events + 1) }
         ensures parts { share.new.parts ≡ share.old.parts }
-        ensures refused { IfErr result (λ refused. RefusesFind number page refused.fault) }
+        ensures refused { IfErr result (λ error. RefusesFind number page error.fault share.new) }
         ensures page_back { IfErr result (λ refused. refused.page ≡ page) }
-        ensures err { OnErr result (share.new ≡ share.old) }
+        ensures seen { IsPrefix share.old.seen share.new.seen }
+        ensures err { OnErr result (share.new.events ≡ share.old.events) }
     {
         let reply = self.kept.lock(rt).found(share, number, page)?;
         self.outcomes.notify_all();
@@ -197,10 +218,11 @@ impl<C: Crew, R: Wait + Drop> Desk<C, R> {
 
     /// Records that a place that is out couldn't be fetched. The share rises by one.
     ///
-    /// The note, if there is one, is of a legal record that ends with the failure.
+    /// The share then has seen a legal record that ends with the failure. The note, if there is
+    /// one, is of that record.
     ///
     /// # Errors
-    /// `FailRefused` (52): the number isn't out on a legal record.
+    /// `FailRefused` (52): the number isn't out on the record that the share then has seen.
     pub fn fail<W: Wait>(
         &self,
         rt: &W,
@@ -208,12 +230,13 @@ impl<C: Crew, R: Wait + Drop> Desk<C, R> {
         number: u32,
         why: Why,
     ) -> Result<Option<Note<C>>, FailRefused>
-        ensures answered { OnOk result (IsOutOn number true) }
-        ensures refused { OnErr result (IsOutOn number false) }
-        ensures noted { IfOk result (λ note. IfSome note (NotesFailure number why)) }
+        ensures answered { OnOk result (Fails number why share.old share.new) }
+        ensures refused { OnErr result (IsNotOut number share.new) }
+        ensures noted { IfOk result (λ note. IfSome note (λ noted. noted ≡ share.new.seen)) }
         ensures share { OnOk result (share.new.events ≡ share.old.events + 1) }
         ensures parts { share.new.parts ≡ share.old.parts }
-        ensures err { OnErr result (share.new ≡ share.old) }
+        ensures seen { IsPrefix share.old.seen share.new.seen }
+        ensures err { OnErr result (share.new.events ≡ share.old.events) }
     {
         let note = self.kept.lock(rt).fail(share, number, why)?;
         self.outcomes.notify_all();
@@ -248,22 +271,24 @@ impl<C: Crew, R: Wait + Drop> Desk<C, R> {
     ///
     /// # Errors
     /// `NoMemory` (90), only if a place waits.
+    #[tactic(auto, using(crate::proofs::Keeping::claims_later, crate::proofs::Prefixes::prefix_self, crate::proofs::Prefixes::prefix_trans))]
     pub(crate) fn next<W: Wait>(
         &self,
         rt: &W,
         alloc: Global,
         share: &mut Share<C>,
     ) -> Result<Turn, NoMemory>
-        ensures answered { IfOk result (λ turn. AnswersTurn (turn_data turn)) }
+        ensures answered { IfOk result (λ turn. Claims (turn_data turn) share.old share.new) }
         ensures not_idle { IfOk result (λ turn. IsNotIdle (turn_data turn)) }
         ensures share { IfOk result (λ turn. RisesAt (turn_data turn) share.old share.new) }
         ensures parts { share.new.parts ≡ share.old.parts }
-        ensures waits { OnErr result LetsClaim }
-        ensures err { OnErr result (share.new ≡ share.old) }
+        ensures waits { OnErr result (LetsClaim share.new) }
+        ensures seen { IsPrefix share.old.seen share.new.seen }
+        ensures err { OnErr result (share.new.events ≡ share.old.events) }
     {
         for _round in rt.forever() {
             let mut kept = self.merge_due(rt, alloc);
-            let (turn, _note) = kept.claim(share)?;
+            let turn = claim_at(&mut *kept, share)?;
             match turn {
                 Turn::Take(claim) => return Ok(Turn::Take(claim)),
                 Turn::Idle => {

@@ -8,6 +8,7 @@ ghost use Rattle.gopher_crew.specs.Crew.{IsWhole};
 use crate::history::Head;
 use crate::record_prefix::RecordPrefix;
 use gopher_catalogue::{Catalogue, Event};
+use std::sync::Wait;
 
 /// Enters the events of a record after a prefix of it. Stops at an event that can't be entered.
 pub fn enter_rest(prefix: &mut RecordPrefix, head: &Head, events: &[Event])
@@ -41,4 +42,20 @@ pub fn enter_all(prefix: &mut RecordPrefix, head: &Head, catalogue: &Catalogue) 
         return false;
     }
     true
+}
+
+/// Enters the rest of a catalogue's record. Only its desk enters events into a history, so each can
+/// be entered. If one couldn't be, which can't be ruled out, it would never return.
+pub fn enter_whole<R: Wait>(rt: &R, prefix: &mut RecordPrefix, head: &Head, catalogue: &Catalogue)
+    requires history { head.now ≡ prefix.old.history }
+    requires begun { IsPrefix prefix.old.events catalogue.now }
+    ensures history { prefix.new.history ≡ prefix.old.history }
+    ensures events { prefix.new.events ≡ catalogue.now }
+{
+    for _round in rt.forever() {
+        if enter_all(prefix, head, catalogue) {
+            return;
+        }
+    }
+    unreachable!()
 }

@@ -6,9 +6,9 @@ ghost use mathlib.Core.List.{IsPrefix};
 ghost use Rattle.gopher_catalogue.specs.declared.event.EventData.TheVariants.{Found, Failed};
 ghost use Rattle.gopher_catalogue.specs.Legal.{IsLegal};
 ghost use Rattle.gopher_catalogue.specs.Step.{turn_of, after_turn, is_out_in, found_fault, added_by, status_of};
-ghost use Rattle.gopher_catalogue.specs.Turn.{turn_data, IsTake};
+ghost use Rattle.gopher_catalogue.specs.Turn.{turn_data};
 ghost use Rattle.gopher_crew.specs.Desk.{events_of, parts_of, HasAll};
-ghost use Rattle.gopher_crew.specs.Kept.{IsNoted, IsTurned, RisesAt, IsFindFault, IsOpeningOf, rise_of, NotesTurn, NotesFind, NotesFailure, AnswersTurn, AnswersFind, RefusesFind, IsOutOn, LetsClaim, BeginsWith};
+ghost use Rattle.gopher_crew.specs.Kept.{IsNoted, IsTurned, RisesAt, IsOpeningOf, rise_of, Claims, Finds, Fails, RefusesFind, IsNotOut, LetsClaim, BeginsWith};
 
 use crate::crew::Crew;
 use crate::gathering::join;
@@ -59,6 +59,7 @@ fn count<C: Crew>(turn: &Turn, share: &mut Share<C>, book: &mut Book<C>)
     requires { book.old.total < 2 ^ 63 }
     ensures events { share.new.events ≡ share.old.events + rise_of (turn_data turn.now) }
     ensures parts { share.new.parts ≡ share.old.parts }
+    ensures seen { share.new.seen ≡ share.old.seen }
     ensures total { book.new.total ≡ book.old.total + rise_of (turn_data turn.now) }
 {
     match turn {
@@ -101,20 +102,22 @@ impl<C: Crew, R: Wait + Drop> Kept<C, R> {
         ensures turn { IfOk result (λ reply. turn_data reply.0 ≡ turn_of self.old.events) }
         ensures after { OnOk result (IsTurned self.old self.new) }
         ensures note { IfOk result (λ reply. IsNoted reply.1 self.new) }
-        ensures noted { IfOk result (λ reply. IfSome reply.1 (NotesTurn (turn_data reply.0))) }
-        ensures answered { IfOk result (λ reply. AnswersTurn (turn_data reply.0)) }
+        ensures noted { IfOk result (λ reply. IfSome reply.1 (λ note. note ≡ share.new.seen)) }
+        ensures answered { IfOk result (λ reply. Claims (turn_data reply.0) share.old share.new) }
         ensures share { IfOk result (λ reply. RisesAt (turn_data reply.0) share.old share.new) }
         ensures parts { share.new.parts ≡ share.old.parts }
-        ensures due { OnErr result (IsTake (turn_of self.old.events)) }
-        ensures waits { OnErr result LetsClaim }
+        ensures waits { OnErr result (LetsClaim share.new) }
+        ensures seen { share.new.seen ≡ self.new.events }
+        ensures begins { IsPrefix share.old.seen self.old.events }
         ensures err { OnErr result (self.new ≡ self.old) }
-        ensures share_err { OnErr result (share.new ≡ share.old) }
+        ensures share_err { OnErr result (share.new.events ≡ share.old.events) }
         ensures grows { IsPrefix self.old.published self.new.published }
         ensures legal { IsLegal self.new.events }
     {
+        self.follower.show(&self.catalogue, share);
         let turn = self.catalogue.claim()?;
         count(&turn, share, &mut self.book);
-        let note = self.follower.follow(&self.catalogue);
+        let note = self.follower.follow_for(&self.catalogue, share);
         Ok((turn, note))
     }
 
@@ -137,21 +140,23 @@ impl<C: Crew, R: Wait + Drop> Kept<C, R> {
         ensures added { IfOk result (λ reply. reply.0 ≡ added_by self.old.events number page) }
         ensures after { OnOk result (self.new.events ≡ self.old.events ++ Found number page ∷ []) }
         ensures note { IfOk result (λ reply. IsNoted reply.1 self.new) }
-        ensures noted { IfOk result (λ reply. IfSome reply.1 (NotesFind number page reply.0)) }
-        ensures answered { IfOk result (λ reply. AnswersFind number page reply.0) }
+        ensures noted { IfOk result (λ reply. IfSome reply.1 (λ note. note ≡ share.new.seen)) }
+        ensures answered { IfOk result (λ reply. Finds number page reply.0 share.old share.new) }
         ensures share { OnOk result (share.new.events ≡ share.old.events + 1) }
         ensures parts { share.new.parts ≡ share.old.parts }
-        ensures fault { IfErr result (λ refused. IsFindFault self.old number page refused.fault) }
-        ensures refused { IfErr result (λ refused. RefusesFind number page refused.fault) }
+        ensures refused { IfErr result (λ error. RefusesFind number page error.fault share.new) }
         ensures page_back { IfErr result (λ refused. refused.page ≡ page) }
+        ensures seen { share.new.seen ≡ self.new.events }
+        ensures begins { IsPrefix share.old.seen self.old.events }
         ensures err { OnErr result (self.new ≡ self.old) }
-        ensures share_err { OnErr result (share.new ≡ share.old) }
+        ensures share_err { OnErr result (share.new.events ≡ share.old.events) }
         ensures grows { IsPrefix self.old.published self.new.published }
         ensures legal { IsLegal self.new.events }
     {
+        self.follower.show(&self.catalogue, share);
         let added = self.catalogue.found(number, page)?;
         share.add(&mut self.book);
-        let note = self.follower.follow(&self.catalogue);
+        let note = self.follower.follow_for(&self.catalogue, share);
         Ok((added, note))
     }
 
@@ -170,20 +175,22 @@ impl<C: Crew, R: Wait + Drop> Kept<C, R> {
         ensures ok { OnOk result (is_out_in self.old.events number ≡ true) }
         ensures after { OnOk result (self.new.events ≡ self.old.events ++ Failed number why ∷ []) }
         ensures note { IfOk result (λ note. IsNoted note self.new) }
-        ensures noted { IfOk result (λ note. IfSome note (NotesFailure number why)) }
-        ensures answered { OnOk result (IsOutOn number true) }
-        ensures refused { OnErr result (IsOutOn number false) }
+        ensures noted { IfOk result (λ note. IfSome note (λ noted. noted ≡ share.new.seen)) }
+        ensures answered { OnOk result (Fails number why share.old share.new) }
+        ensures refused { OnErr result (IsNotOut number share.new) }
+        ensures seen { share.new.seen ≡ self.new.events }
+        ensures begins { IsPrefix share.old.seen self.old.events }
         ensures share { OnOk result (share.new.events ≡ share.old.events + 1) }
         ensures parts { share.new.parts ≡ share.old.parts }
-        ensures not_out { OnErr result (is_out_in self.old.events number ≡ false) }
         ensures err { OnErr result (self.new ≡ self.old) }
-        ensures share_err { OnErr result (share.new ≡ share.old) }
+        ensures share_err { OnErr result (share.new.events ≡ share.old.events) }
         ensures grows { IsPrefix self.old.published self.new.published }
         ensures legal { IsLegal self.new.events }
     {
+        self.follower.show(&self.catalogue, share);
         self.catalogue.fail(number, why)?;
         share.add(&mut self.book);
-        Ok(self.follower.follow(&self.catalogue))
+        Ok(self.follower.follow_for(&self.catalogue, share))
     }
 
     // Returns whether pages may be merged now. While places are out but none waits, merging would

@@ -42,10 +42,11 @@
 //!
 //! # Tokens
 //!
-//! Versions, notes, passes and merge jobs have a `RecordPrefix`. Only its length exists in the
-//! program. Of two prefixes of one history, the shorter is a prefix of the longer. So a pass
-//! compares two numbers to know that a version isn't older than what it saw. The word of the
-//! history, behind the lock, is the history's length (`Head`).
+//! Versions, notes, passes, shares and merge jobs have a `RecordPrefix`. Only its length exists in
+//! the program. Of two prefixes of one history, the shorter is a prefix of the longer. So a pass
+//! compares two numbers to know that a version isn't older than what it saw. A share has the token
+//! of the record that the last reply to its holder was on, so each reply names its record. The
+//! word of the history, behind the lock, is the history's length (`Head`).
 //!
 //! # Files
 //!

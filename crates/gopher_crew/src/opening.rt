@@ -107,20 +107,27 @@ pub fn publisher_with_passes<C: Crew, R: Wait + Drop>(
 }
 
 /// Cuts a ledger of 16 parts into `shares` shares, and appends them to a list that has room. The
-/// first share counts all events so far.
-pub fn cut<C: Crew>(whole: Part<C>, events: u64, shares: u32, list: &mut Vec<Share<C>>)
+/// first share counts all events so far. All have seen this record.
+pub fn cut<C: Crew>(
+    whole: Part<C>,
+    events: u64,
+    shares: u32,
+    prefix: &RecordPrefix,
+    list: &mut Vec<Share<C>>,
+)
+    requires history { prefix.now.history ≡ C.history }
     requires parts { whole.parts ≡ 16 }
     requires events { whole.amount ≡ events }
     requires counts { (1 ≤ shares) × (shares ≤ 16) }
     requires empty { list.old.items ≡ [] }
     requires room { shares ≤ vec_capacity list.old }
-    ensures { list.new.items ≡ opening_shares events shares }
+    ensures { list.new.items ≡ opening_shares prefix.now.events events shares }
 {
     let mut whole = whole;
     let first = whole.split_off(PARTS + 1 - u64::from(shares), events);
-    list.push_reserved(Share::of(events, first));
+    list.push_reserved(Share::of(events, first, prefix.copy()));
     for _index in 1..shares {
         let part = whole.split_off(1, 0);
-        list.push_reserved(Share::of(0, part));
+        list.push_reserved(Share::of(0, part, prefix.copy()));
     }
 }

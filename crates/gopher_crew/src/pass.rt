@@ -15,6 +15,7 @@ use crate::fault::SearchFault;
 use crate::note::Note;
 use crate::publisher::VersionReader;
 use crate::record_prefix::RecordPrefix;
+use crate::share::Share;
 use crate::version::{Sees, Version};
 use core::mem::replace_with;
 use gopher_index::{Begun, Hit};
@@ -126,6 +127,15 @@ impl<C: Crew> Pass<C> {
         ensures or_else { (result ≡ false) → IsPrefix other.now.told self.now.told }
     {
         self.told.begins(&other.told)
+    }
+
+    /// Returns whether what a share of the same desk saw begins with what this pass was told. If
+    /// not, it is the other way round.
+    pub fn begins_share(&self, share: &Share<C>) -> bool
+        ensures begins { IsTrue result → IsPrefix self.now.told share.now.seen }
+        ensures or_else { (result ≡ false) → IsPrefix share.now.seen self.now.told }
+    {
+        self.told.begins(share.seen())
     }
 
     // Takes the published version. Its record begins with what this pass was told.

@@ -149,6 +149,11 @@ impl<C: Crew, R: Wait + Drop> Publisher<C, R> {
         Ok(Publisher { writer, rt })
     }
 
+    /// Returns the runtime by which it waits.
+    pub fn runtime(&self) -> &R {
+        &self.rt
+    }
+
     /// Returns the number of events in the published record.
     pub fn len(&self) -> u32
         ensures len { result ≡ length self.now.published }

@@ -8,11 +8,12 @@ ghost use Rattle.gopher_crew.specs.Crew.{all_published, IsShown};
 ghost use Rattle.gopher_crew.specs.Kept.{IsNotedOn};
 
 use crate::crew::Crew;
-use crate::entering::enter_all;
+use crate::entering::{enter_all, enter_whole};
 use crate::history::Head;
 use crate::note::Note;
 use crate::publisher::Publisher;
 use crate::record_prefix::RecordPrefix;
+use crate::share::Share;
 use gopher_catalogue::Catalogue;
 use gopher_index::Index;
 use std::alloc::Global;
@@ -125,6 +126,38 @@ impl<C: Crew, R: Wait + Drop> RecordFollower<C, R> {
             return None;
         }
         Some(Note::of(&self.prefix))
+    }
+
+    /// Enters the new events of the catalogue. The share then has seen the catalogue's record.
+    #[tactic(auto, using(crate::proofs::Prefixes::grows))]
+    pub fn show(&mut self, catalogue: &Catalogue, share: &mut Share<C>)
+        requires begun { IsPrefix self.old.entered catalogue.now }
+        ensures entered { self.new.entered ≡ catalogue.now }
+        ensures published { self.new.published ≡ self.old.published }
+        ensures seen { share.new.seen ≡ catalogue.now }
+        ensures begins { IsPrefix share.old.seen catalogue.now }
+        ensures events { share.new.events ≡ share.old.events }
+        ensures parts { share.new.parts ≡ share.old.parts }
+    {
+        let rt = self.publisher.runtime();
+        enter_whole(rt, &mut self.prefix, &self.head, catalogue);
+        share.see(rt, &self.prefix);
+    }
+
+    /// Does what `show` and `follow` do.
+    #[tactic(auto, using(crate::proofs::Prefixes::grows))]
+    pub fn follow_for(&mut self, catalogue: &Catalogue, share: &mut Share<C>) -> Option<Note<C>>
+        requires begun { IsPrefix self.old.entered catalogue.now }
+        ensures begun { IsPrefix self.new.entered catalogue.now }
+        ensures published { IsPrefix self.new.published catalogue.now }
+        ensures grows { IsPrefix self.old.published self.new.published }
+        ensures note { IsNotedOn result catalogue.now self.new.published }
+        ensures seen { share.new.seen ≡ catalogue.now }
+        ensures events { share.new.events ≡ share.old.events }
+        ensures parts { share.new.parts ≡ share.old.parts }
+    {
+        self.show(catalogue, share);
+        self.follow(catalogue)
     }
 
     /// Publishes the catalogue's record with the segments that its index has now, even if the

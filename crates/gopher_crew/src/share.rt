@@ -1,16 +1,21 @@
-//! `Share`: how many of a desk's events a worker made.
+//! `Share`: how many of a desk's events a worker made, and which record its last reply was on.
 
-ghost use Rattle.std.specs.Prelude.{◌≡◌, ◌+◌, ◌<◌, ◌≤◌, ◌^◌};
+ghost use Rattle.std.specs.Prelude.{◌≡◌, ◌+◌, ◌<◌, ◌≤◌, ◌^◌, false, IsTrue};
+ghost use mathlib.Core.List.{IsPrefix};
 
 use crate::crew::Crew;
+use crate::record_prefix::RecordPrefix;
 use std::marker::Model;
+use std::sync::Wait;
 use std::sync::ledger::{Book, Share as Part};
 
-/// A share of a desk's ledger. It counts the events that its holder made at the desk.
+/// A share of a desk's ledger. It counts the events that its holder made at the desk, and has the
+/// token of the record that the last reply to its holder was on.
 #[derive(Drop)]
 pub struct Share<C: Crew> {
     count: u64,
     part: Part<C>,
+    seen: RecordPrefix,
 }
 
 impl<C: Crew> Model for Share<C> {
@@ -19,20 +24,40 @@ impl<C: Crew> Model for Share<C> {
 
     ghost Value = { ShareData };
 
-    ghost view = { λ s. record { events = s.part.amount; parts = s.part.parts } };
+    ghost view = { λ s. record {
+      events = s.part.amount;
+      parts = s.part.parts;
+      seen = s.seen.events;
+    } };
 
-    ghost invariant = { λ s. (s.count ≡ s.part.amount) × (0 < s.part.parts) };
+    ghost invariant = { λ s. ((s.count ≡ s.part.amount) × (0 < s.part.parts))
+        × (s.seen.history ≡ C.history) };
+}
+
+// Returns if a prefix of a history begins another one of it, and otherwise never.
+fn until_begins<R: Wait>(rt: &R, prefix: &RecordPrefix, other: &RecordPrefix)
+    requires { other.now.history ≡ prefix.now.history }
+    ensures { IsPrefix prefix.now.events other.now.events }
+{
+    for _round in rt.forever() {
+        if prefix.begins(other) {
+            return;
+        }
+    }
+    unreachable!()
 }
 
 impl<C: Crew> Share<C> {
-    /// A share with these parts, which counts their events.
-    pub(crate) fn of(count: u64, part: Part<C>) -> Share<C>
+    /// A share with these parts, which counts their events and has seen this record.
+    pub(crate) fn of(count: u64, part: Part<C>, seen: RecordPrefix) -> Share<C>
         requires count { count ≡ part.amount }
         requires some { 0 < part.parts }
+        requires history { seen.history ≡ C.history }
         ensures events { result.events ≡ part.amount }
         ensures parts { result.parts ≡ part.parts }
+        ensures seen { result.seen ≡ seen.events }
     {
-        Share { count, part }
+        Share { count, part, seen }
     }
 
     /// Returns the number of events that it counts.
@@ -42,11 +67,29 @@ impl<C: Crew> Share<C> {
         self.count
     }
 
+    /// Returns whether what another share of the same desk saw begins with what this share saw. If
+    /// not, it is the other way round, because all replies of a desk are on one record.
+    pub fn begins(&self, other: &Share<C>) -> bool
+        ensures begins { IsTrue result → IsPrefix self.now.seen other.now.seen }
+        ensures or_else { (result ≡ false) → IsPrefix other.now.seen self.now.seen }
+    {
+        self.seen.begins(&other.seen)
+    }
+
+    /// Returns the token of the record that it saw.
+    pub(crate) fn seen(&self) -> &RecordPrefix
+        ensures history { result.now.history ≡ C.history }
+        ensures events { result.now.events ≡ self.now.seen }
+    {
+        &self.seen
+    }
+
     /// Counts one more event, here and in the book.
     pub(crate) fn add(&mut self, book: &mut Book<C>)
         requires { book.old.total < 2 ^ 63 }
         ensures events { self.new.events ≡ self.old.events + 1 }
         ensures parts { self.new.parts ≡ self.old.parts }
+        ensures seen { self.new.seen ≡ self.old.seen }
         ensures total { book.new.total ≡ book.old.total + 1 }
     {
         book.audit(&mut self.part);
@@ -60,9 +103,23 @@ impl<C: Crew> Share<C> {
         ensures events { self.new.events ≡ self.old.events + other.events }
         ensures parts { self.new.parts ≡ self.old.parts + other.parts }
     {
-        let Share { count, part } = other;
+        let Share { count, part, seen } = other;
         self.part.merge(part);
         self.count += count;
+        self.seen = self.seen.longer(&seen);
+    }
+
+    /// Takes the record of a reply, which begins with what was seen before. If it didn't, which
+    /// happens at no desk but can't be ruled out, it would never return.
+    pub(crate) fn see<R: Wait>(&mut self, rt: &R, prefix: &RecordPrefix)
+        requires { prefix.now.history ≡ C.history }
+        ensures seen { self.new.seen ≡ prefix.now.events }
+        ensures begins { IsPrefix self.old.seen prefix.now.events }
+        ensures events { self.new.events ≡ self.old.events }
+        ensures parts { self.new.parts ≡ self.old.parts }
+    {
+        until_begins(rt, &self.seen, prefix);
+        self.seen = prefix.copy();
     }
 
     /// Proves that the share counts at most the book's total, and exactly that if it has every

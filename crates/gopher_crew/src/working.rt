@@ -57,7 +57,7 @@ fn hand_in_failure<C: Crew, R: Wait + Drop, W: Wait>(
 ) -> Outcome
     ensures events { share.new.events ≡ share.old.events + outcome_rise result }
     ensures parts { share.new.parts ≡ share.old.parts }
-    ensures out { EndsClaim result number }
+    ensures out { EndsClaim result number share.new }
 {
     match desk.fail(rt, share, number, why) {
         Ok(_note) => Outcome::Failed,
@@ -101,7 +101,7 @@ fn hand_in<C: Crew, R: Wait + Drop, W: Wait>(
 ) -> Outcome
     ensures events { share.new.events ≡ share.old.events + outcome_rise result }
     ensures parts { share.new.parts ≡ share.old.parts }
-    ensures out { EndsClaim result number }
+    ensures out { EndsClaim result number share.new }
 {
     let why = match settled {
         Ok(page) => {
@@ -145,7 +145,7 @@ fn fetch_and_report<C: Crew, R: Wait + Drop, W: Wait, F: Fetch<W> + Drop>(
     ensures parts { worker.new.share.parts ≡ worker.old.share.parts }
     ensures found { worker.new.found ≡ worker.old.found }
     ensures failed { worker.new.failed ≡ worker.old.failed }
-    ensures out { EndsClaim result claim.now.number }
+    ensures out { EndsClaim result claim.now.number worker.new.share }
 {
     let fetched = worker.fetcher.fetch(rt, alloc, &claim.place, MAX_REPLY);
     let settled = settle_at(rt, alloc, desk, claim, fetched);
@@ -240,7 +240,7 @@ pub fn work<C: Crew, R: Wait + Drop, W: Wait, F: Fetch<W> + Drop>(
     fetcher: F,
     share: Share<C>,
 ) -> WorkEnd<F, C>
-    ensures stop { IsStop result.stop }
+    ensures stop { IsStop result.stop result.share }
     ensures outcomes { share.events + 2 * (result.found + result.failed) ≤ result.share.events }
     ensures calls { IsPaid share result.share (F.called fetcher) (F.called result.fetcher) }
     ensures parts { result.share.parts ≡ share.parts }

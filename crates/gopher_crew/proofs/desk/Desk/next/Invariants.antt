@@ -1,8 +1,10 @@
 use Rattle.std.proofs.Common.{◌≡◌}
+use mathlib.Core.List.{IsPrefix}
 use Rattle.gopher_crew.proofs.desk.Desk.next.Given as goal
 
 abbrev pub invariant-loop-round : goal.invariant-loop-round
 invariant-loop-round g l = record {
   events : l.share.events ≡ l.initial.share.events;
   parts : l.share.parts ≡ l.initial.share.parts;
+  seen : IsPrefix l.initial.share.seen l.share.seen;
 }
