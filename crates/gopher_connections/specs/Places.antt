@@ -7,7 +7,8 @@ use Rattle.std.specs.Prelude.{ℕ, ◌+◌, ◌*◌, ◌-◌, ◌/◌, Bool, tru
 abbrev pub other_files : ℕ → ℕ → ℕ → ℕ
 other_files listeners threads workers = max (16 + listeners + 3 * threads + 2 * workers) 64
 
--- the most connections of a server whose process may open `files` files, `others` of them for others
+-- the most connections of a server whose process may open `files` files, `others` of them not
+-- connections
 abbrev pub max_places : ℕ → ℕ → ℕ
 max_places files others = min (files - others) 16384
 

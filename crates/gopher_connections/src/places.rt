@@ -19,8 +19,8 @@ const MAX_CONNECTIONS: u64 = 16_384;
 // share.
 const MAX_ABOVE_SHARE: u64 = 16;
 
-/// Returns how many files a server with these numbers of listeners, threads and workers opens beside
-/// its connections: at least 64.
+/// Returns how many files a server opens that aren't its connections, with these numbers of
+/// listeners, threads and workers: at least 64.
 pub fn other_files(listeners: u32, threads: u32, workers: u32) -> u64
     ensures { result ≡ other_files listeners threads workers }
 {

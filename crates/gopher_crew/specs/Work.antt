@@ -55,8 +55,8 @@ pub record Earns (before calls after calls' outcomes : ℕ) : Type 0 where
   pub at_least : before + 2 * outcomes ≤ after
   pub at_most : (calls' ≡ 18446744073709551615) ⊎ (after + 2 * calls ≤ before + 2 * calls')
 
--- why a worker stopped: on the record that its share has seen nothing waits and nothing is out, or a
--- place waits, whose claim ran out of memory
+-- why a worker stopped: on the record that its share has seen, nothing waits and nothing is out, or
+-- a place waits, whose claim ran out of memory
 abbrev pub IsStop : Stop → ShareData → Type 0
 IsStop Finished share = TurnsOn FinishedTurn share
 IsStop NoMemoryStop share = LetsClaim share

@@ -39,8 +39,8 @@ impl PageMemory {
         self.limit.store(bytes, Ordering::SeqCst);
     }
 
-    /// Takes memory for a page of `size` bytes, if it fits, and returns whether it does. A page that
-    /// doesn't fit takes nothing, so it never makes a page of another worker fail.
+    /// Takes memory for a page of `size` bytes, if it fits, and returns whether it does. A page
+    /// that doesn't fit takes nothing, so it never makes a page of another worker fail.
     pub fn take(&self, size: u64) -> bool {
         let limit = self.limit.load(Ordering::SeqCst);
         let taken = self.taken.fetch_update(

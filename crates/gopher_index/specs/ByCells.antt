@@ -8,15 +8,16 @@ use Rattle.gopher_index.specs.Cells.{AreCells}
 use Rattle.gopher_index.specs.Plan.{is_match}
 use Rattle.gopher_index.specs.declared.ties.Ties.{Ties}
 
--- if the verdicts and scores are the cells of the pages for some terms, the pages are taken in, unless it fails
+-- if the verdicts and scores are the cells of the pages for some terms, the pages are taken in,
+-- unless it fails
 abbrev pub TakesCells : {T E : Type 0} → List PageData → List ℕ → List ℕ → BestData → BestData
     → Result T E → Type 0
 TakesCells pages verdicts scores old new result =
     (terms : List TermData) → AreCells terms pages (map is_match verdicts) scores
     → OnOk result (TakesIn terms pages old new)
 
--- if the verdicts and scores are the cells of the pages for some terms, and the pages before the index `start` were
--- taken in, then the pages before `end` are, unless it fails
+-- if the verdicts and scores are the cells of the pages for some terms, and the pages before the
+-- index `start` were taken in, then the pages before `end` are, unless it fails
 abbrev pub TakesBlock : {T E : Type 0} → Ties → List ℕ → List ℕ → ℕ → ℕ → BestData → BestData
     → Result T E → Type 0
 TakesBlock ties verdicts scores start end old new result =

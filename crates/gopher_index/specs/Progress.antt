@@ -57,6 +57,10 @@ pub record IsProgress (progress : Progress) : Type 0 where
   pub best : map kept_hit progress.kept.items
       ≡ answer_from 0 (pages_done progress) progress.terms.items
 
+-- as many steps are left as before
+abbrev pub HasAsManySteps : Progress → Progress → Type 0
+HasAsManySteps old new = steps_left new ≡ steps_left old
+
 -- the same search after some steps
 pub record IsSameSearch (old new : Progress) : Type 0 where
   pub is : IsProgress new

@@ -5,7 +5,7 @@ ghost use Rattle.std.specs.Prelude.{◌≡◌, ◌≤◌, ◌<◌, None, Ok, len
 ghost use Rattle.std.specs.Arc.{arc_value};
 ghost use Rattle.gopher_page.specs.Query.{IsQuery};
 ghost use Rattle.gopher_index.specs.Plan.{wanted_in};
-ghost use Rattle.gopher_index.specs.Progress.{all_pages, steps_left, IsProgress, IsSameSearch, AddsByGroups, AddsCells, search_hits};
+ghost use Rattle.gopher_index.specs.Progress.{all_pages, steps_left, HasAsManySteps, IsProgress, IsSameSearch, AddsByGroups, AddsCells, search_hits};
 ghost use Rattle.gopher_index.specs.Index.{indexed};
 
 use crate::best::{Best, Kept};
@@ -203,7 +203,7 @@ impl Progress {
         requires { IsProgress self.old }
         ensures same { IsSameSearch self.old self.new }
         ensures found { IfOk result (λ it. IfSome it (λ hits. hits.items ≡ search_hits self.old)) }
-        ensures still { IfOk result (λ it. IfSome it (λ _. steps_left self.new ≡ steps_left self.old)) }
+        ensures still { IfOk result (λ it. IfSome it (λ _. HasAsManySteps self.old self.new)) }
         ensures fewer { result ≡ Ok None → steps_left self.new < steps_left self.old }
         ensures refused { OnErr result (steps_left self.new ≡ steps_left self.old) }
     {

@@ -144,8 +144,8 @@ const UNREAD: Option<(u32, Why)> = Some((1, Why::Read));
 const LONG: Option<(u32, Why)> = Some((1, Why::TooLong));
 
 // A circle is a root whose directory leads back to it, and to a file that can't be read. Files that
-// are held are as many as workers, which must all fetch at once: a file is answered only after those
-// behind it were.
+// are held are as many as workers, which must all fetch at once: a file is answered only after
+// those behind it were.
 const ROWS: &[Row] = &[
     ((TWO_FILES, MOON, Fate::Answered, 1, 1), (3, b"ab", 7, None)),
     ((TWO_FILES, MOON, Fate::Answered, 1, 2), (3, b"ab", 7, None)),

@@ -1,6 +1,6 @@
 //! Tests of the crates up to gopher_serve, of what no script and no request can show: streams that
-//! fail, what calls of the catalogue, the book and a desk hand out and give back, crews, merges, and
-//! calls of the library that the program doesn't make. Then calls that are made again after a
+//! fail, what calls of the catalogue, the book and a desk hand out and give back, crews, merges,
+//! and calls of the library that the program doesn't make. Then calls that are made again after a
 //! refused allocation (`refusals`), for `tests/refusals.py`. The rows of `proofs/WorkedRows.antt`
 //! show definitions.
 #![tactic(auto)]
