@@ -41,7 +41,7 @@ IsDeskFault passes shares fault =
 abbrev pub has_seen : List EventData → PassData
 has_seen record_ = record { seen = record_; told = record_ }
 
--- the shares of a desk that opens over a record, which all have seen: the first counts its events so
+-- the shares of a desk that opens over a record. All have seen it. The first counts its events so
 -- far, the others none
 abbrev pub opening_shares : List EventData → ℕ → ℕ → List ShareData
 opening_shares record_ events shares =

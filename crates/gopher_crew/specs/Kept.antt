@@ -87,8 +87,8 @@ RefusesFind number page fault share =
     IsFoundFault (found_fault share.seen number page.place) fault × IsLegal share.seen
 
 -- on the legal record that the share has seen, the number isn't out
-abbrev pub IsNotOut : ℕ → ShareData → Type 0
-IsNotOut number share = (is_out_in share.seen number ≡ false) × IsLegal share.seen
+abbrev pub RefusesFailure : ℕ → ShareData → Type 0
+RefusesFailure number share = (is_out_in share.seen number ≡ false) × IsLegal share.seen
 
 -- a legal record begins with this opening
 pub record BeginsWith (opening : OpeningData) : Type 0 where

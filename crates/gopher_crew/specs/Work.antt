@@ -15,7 +15,7 @@ use Rattle.gopher_crew.specs.declared.working.Outcome.TheVariants.{Found, Failed
 use Rattle.gopher_crew.specs.declared.working.Stop.{Stop}
 use Rattle.gopher_crew.specs.declared.working.Stop.TheVariants.{Finished, NoMemory as NoMemoryStop}
 use Rattle.gopher_crew.specs.declared.working.WorkEnd.{WorkEnd}
-use Rattle.gopher_crew.specs.Kept.{TurnsOn, IsNotOut, LetsClaim}
+use Rattle.gopher_crew.specs.Kept.{TurnsOn, RefusesFailure, LetsClaim}
 
 -- a fetcher's number of calls after one more
 abbrev pub one_more_call : ℕ → ℕ
@@ -40,7 +40,7 @@ outcome_rise outcome = found_rise outcome + failed_rise outcome
 -- a place that was claimed was found or failed, or it isn't out on the record that the
 -- share has seen
 abbrev pub EndsClaim : Outcome → ℕ → ShareData → Type 0
-EndsClaim Refused number share = IsNotOut number share
+EndsClaim Refused number share = RefusesFailure number share
 EndsClaim outcome number share = Unit {0}
 
 -- a share rose by at most two for each call of the fetcher, unless the count of its calls is at its

@@ -7,7 +7,7 @@ ghost use Rattle.gopher_catalogue.specs.Legal.{IsLegal};
 ghost use Rattle.gopher_catalogue.specs.Turn.{turn_data};
 ghost use Rattle.gopher_crew.specs.Crew.{all_published};
 ghost use Rattle.gopher_crew.specs.Desk.{are_counts, shares_at, events_of, AllHaveSeen, CountTheSame, ComesBack, IsBlankOf, IsDeskFault, HasAll};
-ghost use Rattle.gopher_crew.specs.Kept.{RisesAt, Claims, Finds, Fails, RefusesFind, IsNotOut, LetsClaim, BeginsWith, IsNotIdle, IsStatus};
+ghost use Rattle.gopher_crew.specs.Kept.{RisesAt, Claims, Finds, Fails, RefusesFind, RefusesFailure, LetsClaim, BeginsWith, IsNotIdle, IsStatus};
 
 use crate::blank::Blank;
 use crate::crew::Crew;
@@ -231,7 +231,7 @@ impl<C: Crew, R: Wait + Drop> Desk<C, R> {
         why: Why,
     ) -> Result<Option<Note<C>>, FailRefused>
         ensures answered { OnOk result (Fails number why share.old share.new) }
-        ensures refused { OnErr result (IsNotOut number share.new) }
+        ensures refused { OnErr result (RefusesFailure number share.new) }
         ensures noted { IfOk result (λ note. IfSome note (λ noted. noted ≡ share.new.seen)) }
         ensures share { OnOk result (share.new.events ≡ share.old.events + 1) }
         ensures parts { share.new.parts ≡ share.old.parts }

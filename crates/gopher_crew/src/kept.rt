@@ -8,7 +8,7 @@ ghost use Rattle.gopher_catalogue.specs.Legal.{IsLegal};
 ghost use Rattle.gopher_catalogue.specs.Step.{turn_of, after_turn, is_out_in, found_fault, added_by, status_of};
 ghost use Rattle.gopher_catalogue.specs.Turn.{turn_data};
 ghost use Rattle.gopher_crew.specs.Desk.{events_of, parts_of, HasAll};
-ghost use Rattle.gopher_crew.specs.Kept.{IsNoted, IsTurned, RisesAt, IsOpeningOf, rise_of, Claims, Finds, Fails, RefusesFind, IsNotOut, LetsClaim, BeginsWith};
+ghost use Rattle.gopher_crew.specs.Kept.{IsNoted, IsTurned, RisesAt, IsOpeningOf, rise_of, Claims, Finds, Fails, RefusesFind, RefusesFailure, LetsClaim, BeginsWith};
 
 use crate::crew::Crew;
 use crate::gathering::join;
@@ -177,7 +177,7 @@ impl<C: Crew, R: Wait + Drop> Kept<C, R> {
         ensures note { IfOk result (λ note. IsNoted note self.new) }
         ensures noted { IfOk result (λ note. IfSome note (λ noted. noted ≡ share.new.seen)) }
         ensures answered { OnOk result (Fails number why share.old share.new) }
-        ensures refused { OnErr result (IsNotOut number share.new) }
+        ensures refused { OnErr result (RefusesFailure number share.new) }
         ensures seen { share.new.seen ≡ self.new.events }
         ensures begins { IsPrefix share.old.seen self.old.events }
         ensures share { OnOk result (share.new.events ≡ share.old.events + 1) }
