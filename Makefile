@@ -55,12 +55,16 @@ wrong-bodies:
 audit:
 	@tools/audit.py $(PROMISE)
 
-# Writes the parts of the documents that come from the sources: counts, the table of audits, the list of files, pictures.
+# Prints what each source file holds, and the names in it. make files CRATE=gopher_item
+.PHONY: files
+files:
+	@tools/list_files.py $(CRATE)
+
+# Writes the parts of the documents that come from the sources: counts, the table of audits, pictures.
 .PHONY: documents
 documents:
 	tools/numbers_of_code.py --write
 	tools/audit.py --write
-	tools/list_files.py --write
 	tools/draw_crates.py
 	tools/draw_ratios.py
 

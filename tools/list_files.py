@@ -1,8 +1,8 @@
 #!/usr/bin/env python3
 """Lists the source files of the product's crates: what each holds, and the names that it gives to other files.
 
-    tools/list_files.py            prints the list
-    tools/list_files.py --write    puts it into docs/FILES.md, between its marks
+    tools/list_files.py              prints the list of all crates
+    tools/list_files.py CRATE ..     prints that of these crates
 
 What a file holds is the first paragraph of its `//!` lines, and so is what a crate holds, in its src/lib.rt. The names are
 those that are `pub`, in the order of the file: types and traits, each with its functions, then other functions, then
@@ -15,8 +15,6 @@ import sys
 import numbers_of_code
 
 ROOT = pathlib.Path(__file__).resolve().parent.parent
-PAGE = ROOT / "docs/FILES.md"
-MARKS = re.compile(r"(?s)(<!-- files: tools/list_files.py -->\n).*?(<!-- end -->)")
 PUBLIC = r"pub(?:\(\w+\))? "
 TYPE = re.compile(rf"{PUBLIC}(?:struct|enum|type|trait) (\w+)")
 FUNCTION = re.compile(rf"{PUBLIC}(?:const )?fn (\w+)")
@@ -48,7 +46,7 @@ def names(text):
 
 
 def shown(text):
-    """The public names of a file, as a cell of the table."""
+    """The public names of a file, in one line."""
     found = names(text)
     types = [f"`{name}`" + (f": {', '.join(inner)}" if inner else "") for name, inner in found.items() if name]
     return "; ".join(filter(None, [*types, ", ".join(found.get(None, [])), ", ".join(CONSTANT.findall(text))]))
@@ -65,33 +63,27 @@ def sources(crate):
     return [path for path in sorted((crate / "src").rglob("*.r[ts]")) if path.name != "lib.rt"]
 
 
-def row(crate, path):
-    """The row of a file."""
-    text, name = path.read_text(), path.relative_to(crate / "src")
-    return f"| [{name}](../crates/{crate.name}/src/{name}) | {about(text)} | {shown(text)} |"
+def entry(crate, path):
+    """What is listed of a file: its name, what it holds, and its names."""
+    text = path.read_text()
+    return "\n".join(filter(None, [f"  {path.relative_to(crate / 'src')}", f"    {about(text)}", f"    {shown(text)}".rstrip()]))
 
 
 def section(crate):
-    """The heading of a crate, what it holds, and the table of its files."""
+    """The name of a crate, what it holds, and its files."""
     lib = crate / "src/lib.rt"
-    lines = [f"## {crate.name}", "", *([about(lib.read_text()), ""] if lib.is_file() else [])]
-    return "\n".join([*lines, "| file | what it holds | names |", "|---|---|---|", *(row(crate, path) for path in sources(crate)), ""])
-
-
-def listed():
-    return "\n" + "\n".join(section(crate) for crate in crates())
-
-
-def written(page):
-    """The page with the list as the sources give it."""
-    return MARKS.sub(lambda found: f"{found[1]}{listed()}{found[2]}", page)
+    head = [crate.name, *([f"  {about(lib.read_text())}"] if lib.is_file() else [])]
+    return "\n".join([*head, *(entry(crate, path) for path in sources(crate)), ""])
 
 
 def main(words):
-    if words == ["--write"]:
-        PAGE.write_text(written(PAGE.read_text()))
-    else:
-        print(listed())
+    unknown = set(words) - {crate.name for crate in crates()}
+    if unknown:
+        print(f"no crate is named {', '.join(sorted(unknown))}", file=sys.stderr)
+        return 2
+    for crate in crates():
+        if crate.name in words or not words:
+            print(section(crate))
     return 0
 
 
