@@ -81,9 +81,7 @@ def main(words):
     if unknown:
         print(f"no crate is named {', '.join(sorted(unknown))}", file=sys.stderr)
         return 2
-    for crate in crates():
-        if crate.name in words or not words:
-            print(section(crate))
+    print("\n".join(section(crate) for crate in crates() if crate.name in words or not words))
     return 0
 
 
