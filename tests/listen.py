@@ -117,7 +117,11 @@ def check_checks(tally, program, folder, root):
     def run(host, *words):
         settings.write_text(f'host = "{host}"\nport = {port}\nroot = "{root}"\n')
         ran = subprocess.run([str(program), "check", str(settings), *words], capture_output=True, timeout=6 * WAIT)
-        return ran.stdout[ran.stdout.rindex(b"bytes: 6\n") + 9 :].decode(), ran.stderr, ran.returncode
+        lines = ran.stdout[ran.stdout.rindex(b"bytes: 6\n") + 9 :].decode()
+        warning, end, rest = lines.partition("[[seeds]]\n")
+        is_warned = warning == "warning: searches find nothing, because the settings have no " and bool(end)
+        tally.expect(f"a check of {host} {words} without seeds", is_warned, True)
+        return rest, ran.stderr, ran.returncode
 
     tally.expect("a host that is an address", run(HOST), (f"resolves to: {HOST}:{port}\nsound\n", b"", 0))
     both = f"resolves to: {HOST}:{port}\ncan listen at: {HOST}:{port}\nsound\n"
@@ -156,6 +160,7 @@ def check_named(tally, run, port):
     lines, error, status = run(HOST, "--listen", "192.0.2.1")
     found = ("Cannot assign" in lines, "sound" in lines, error, status)
     tally.expect("a named address of another machine", found, (True, False, b"hole: 81\n", 1))
+
 
 def main():
     words = argparse.ArgumentParser()
