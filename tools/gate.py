@@ -50,7 +50,8 @@ ALONE = {"attack", "crawling", "large_texts", "log", "refused_crawls"}
 AFTER_CI = {"refusals"}
 # how many parts run at once, beside these, which take most of the gate
 LONG, AT_ONCE = ("ci", "wrong_bodies"), 2
-PROVED = re.compile(r"rt: (\w+) proved$")
+# what `rt ci` prints of a crate that is proved now, or that an earlier run on this machine proved
+PROVED = re.compile(r"rt: (\w+) (?:proved$|is kept: )")
 COUNTS = re.compile(r"(?m)^(?:.*: )?(\d+) passed, (\d+) failed$")
 OF_UNITTEST = re.compile(r"(?m)^Ran (\d+) tests? in [\d.]+s$")
 FAILED_OF_UNITTEST = re.compile(r"(?m)^FAILED \((.*)\)$")

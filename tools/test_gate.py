@@ -155,6 +155,13 @@ class Beside(unittest.TestCase):
         self.assertIn("statements\nlast\n3 passed", said)
         self.assertIn("the library last isn't set aside", said)
 
+    def test_wrong_bodies_are_told_of_a_library_that_an_earlier_run_proved(self):
+        script = f"echo rt: low is kept: an earlier run on this machine proved the same files\n{self.WAIT}echo 2 passed, 0 failed"
+        beside = self.wrong_bodies("read it; touch seen; cat $0/$it/low.rlib/format; cat; echo 3 passed, 0 failed")
+        rows, said = run_all(part("ci", "proofs", script), beside)
+        self.assertEqual((rows["wrong bodies"].passed, rows["wrong bodies"].failed), (3, 0))
+        self.assertIn("\nstatements\n", said)
+
     def test_what_fails_beside_is_tried_once_more(self):
         fails_once = "[ -e seen ] && { cat; echo 3 passed, 0 failed; exit 0; }; touch seen; exit 1"
         rows, said = run_all(self.ci("low"), self.wrong_bodies(fails_once))
