@@ -219,6 +219,16 @@ adds_term term number index old found new here alike group read at joins is =
       wanted = ap wanted_in is ∙ set_wanted term number here found index group.group group.within group.at joined ∙ ap (λ n. n + wanted_once term.operator) alike.wanted;
     }
 
+-- groups one after another
+pub wanted_both : (a b : List Group) → wanted_in (a ++ b) ≡ wanted_in a + wanted_in b
+wanted_both [] b = omega arith
+wanted_both (g ∷ a) b = omega (arith, wanted_both a b)
+
+pub groups_next : (groups : List Group) (start end : ℕ) → start ≤ end → take end groups ≡ take start groups ++ take (end - start) (drop start groups)
+groups_next groups start end forward =
+    let apart : end ≡ start + (end - start) = omega (arith, forward) in
+    ap (λ n. take n groups) apart ∙ take-add start (end - start) groups
+
 -- the first groups want no more than all
 pub wanted_first : (groups : List Group) (n : ℕ) → wanted_in (take n groups) ≤ wanted_in groups
 wanted_first groups zero = omega arith

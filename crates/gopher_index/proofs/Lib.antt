@@ -4,6 +4,8 @@ pub mod Groups
 pub mod GroupCells
 pub mod Lists
 pub mod Zipping
+pub mod CellLemmas
+pub mod Unwanted
 pub mod Taking
 pub mod TieLemmas
 pub mod LeastLemmas
@@ -14,5 +16,6 @@ pub mod Blocks
 pub mod PostingLemmas
 pub mod NextPages
 pub mod Walking
+pub mod WordSegments
 pub mod Steps
 pub mod EarlyRuns

@@ -3,7 +3,7 @@
 //! The hits don't depend on the guess: if too few pages reach it, the search runs again without
 //! one.
 
-ghost use Rattle.std.specs.Prelude.{◌≡◌, None};
+ghost use Rattle.std.specs.Prelude.{◌≡◌, length};
 
 use crate::best::MOST_HITS;
 use gopher_segment::Postings;
@@ -25,10 +25,12 @@ fn highest_count(counts: &[u8]) -> u8 {
     highest
 }
 
-fn highest_score(verdicts: &[u16], scores: &[u32]) -> u32 {
+fn highest_score(truths: &[bool], scores: &[u32]) -> u32
+    requires { length scores.now ≡ length truths.now }
+{
     let mut highest = 0;
-    for (verdict, score) in verdicts.iter().zip(scores) {
-        highest = highest.max(*score & u32::from(*verdict % 2).wrapping_neg());
+    for (index, truth) in truths.iter().enumerate() {
+        highest = highest.max(scores[index] & u32::from(*truth).wrapping_neg());
     }
     highest
 }
@@ -52,20 +54,20 @@ impl Highest {
     }
 
     /// Adds the blocks of a list of pages. A page that doesn't match counts as score 0.
-    pub fn note_scores(&mut self, verdicts: &[u16], scores: &[u32]) {
-        for (verdicts, scores) in verdicts.chunks(BLOCK).zip(scores.chunks(BLOCK)) {
-            self.note(highest_score(verdicts, scores).min(255) as u8);
+    pub fn note_scores(&mut self, truths: &[bool], scores: &[u32])
+        requires { length scores.now ≡ length truths.now }
+    {
+        let mut start = 0;
+        while start < truths.len() {
+            let end = truths.len().min(start + BLOCK);
+            let highest = highest_score(&truths[start..end], &scores[start..end]);
+            self.note(highest.min(255) as u8);
+            start = end;
         }
     }
 
-    /// Returns the highest score that `wanted` blocks reach, or 0 if there is none or nothing is
-    /// wanted.
-    pub fn reached(&self, wanted: Option<usize>) -> u64
-        ensures { wanted ≡ None → result ≡ 0 }
-    {
-        let Some(wanted) = wanted else {
-            return 0;
-        };
+    /// Returns the highest score that `wanted` blocks reach, or 0 if there is none.
+    pub fn reached(&self, wanted: usize) -> u64 {
         let mut blocks = 0_usize;
         for score in 1..256 {
             let score = 256 - score;
@@ -79,21 +81,29 @@ impl Highest {
 }
 
 /// Guesses how many of the first 50 hits are among `some` of `all` pages: one and a half times
-/// their share. `None` if fewer than an eighth are among them.
-pub(crate) fn likely_hits(some: usize, all: usize) -> Option<usize> {
-    if some < all / 8 {
-        return None;
-    }
+/// their share.
+pub(crate) fn likely_hits(some: usize, all: usize) -> usize {
     let share = some.saturating_mul(MOST_HITS + MOST_HITS / 2) / all.max(1);
-    Some(share.clamp(1, MOST_HITS))
+    share.clamp(1, MOST_HITS)
 }
 
-/// Guesses a score that `wanted` pages reach for a word, from its posting list in a segment; 0 if
-/// nothing is wanted.
-pub(crate) fn likely_score(postings: &Postings, wanted: Option<usize>) -> u64
-    ensures { wanted ≡ None → result ≡ 0 }
-{
+fn postings_len(found: &[Option<Postings>]) -> usize {
+    let mut len = 0_usize;
+    for postings in found.iter().flatten() {
+        len = len.saturating_add(postings.counts.len());
+    }
+    len
+}
+
+/// Guesses a score that 50 pages reach for a word, from its posting lists in those segments that
+/// have one.
+pub(crate) fn likely_score(found: &[Option<Postings>]) -> u64 {
+    if postings_len(found) < MOST_HITS {
+        return 0;
+    }
     let mut highest = Highest::new();
-    highest.note_counts(postings.counts);
-    highest.reached(wanted)
+    for postings in found.iter().flatten() {
+        highest.note_counts(postings.counts);
+    }
+    highest.reached(MOST_HITS)
 }

@@ -14,11 +14,11 @@ use std::alloc::Global;
 // Terms are joined from left to right, so the last term that changes the result decides: an `and`
 // that doesn't hold, or an `or` or `not` that does. Its verdict is 2 * number + 2, plus 1 if the
 // page matches. The verdict of a term that changes nothing is 0. So the highest verdict decides.
-fn verdict_of(operator: Operator, number: usize, holds: bool) -> u16
+fn verdict_of(operator: Operator, number: usize, holds: bool) -> u32
     requires { number < MAX_LINE }
     ensures { result ≡ verdict_of operator number holds }
 {
-    let later = 2 * number as u16 + 2;
+    let later = 2 * number as u32 + 2;
     match operator {
         Operator::And => if holds { 0 } else { later },
         Operator::Or => if holds { later + 1 } else { 0 },
@@ -26,17 +26,9 @@ fn verdict_of(operator: Operator, number: usize, holds: bool) -> u16
     }
 }
 
-/// Returns whether a page with this highest verdict matches.
-#[inline(always)]
-pub(crate) fn is_match(verdict: u16) -> bool
-    ensures { result ≡ is_match verdict }
-{
-    verdict % 2 == 1
-}
-
 /// Returns the higher of two numbers.
 #[inline(always)]
-pub(crate) fn higher(a: u16, b: u16) -> u16
+pub(crate) fn higher(a: u32, b: u32) -> u32
     ensures { result ≡ max a b }
 {
     if a < b { b } else { a }
@@ -50,9 +42,9 @@ pub(crate) struct Group {
     /// The number of these terms without `not`.
     pub wanted: u32,
     /// Their highest verdict on a page that contains their words.
-    pub holds: u16,
+    pub holds: u32,
     /// Their highest verdict on a page that contains none of their words.
-    pub fails: u16,
+    pub fails: u32,
 }
 
 impl Group {
@@ -70,7 +62,7 @@ impl Group {
 
     /// Returns the highest verdict of these terms on a page that contains their words `count`
     /// times.
-    pub fn verdict(&self, count: u32) -> u16
+    pub fn verdict(&self, count: u32) -> u32
         ensures { result ≡ verdict_by self.now count }
     {
         if count > 0 { self.holds } else { self.fails }
@@ -162,5 +154,5 @@ pub(crate) fn weigh_by_groups(groups: &[Group], page: &Page) -> (bool, u64)
         verdict = higher(verdict, group.verdict(count));
         total += u64::from(group.wanted) * u64::from(count);
     }
-    (is_match(verdict), total)
+    (verdict % 2 == 1, total)
 }
