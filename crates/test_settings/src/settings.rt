@@ -1,5 +1,7 @@
 // Settings: what the worked text states. Refused texts, and other values, are shown by
 // tests/check.py.
+ghost use Rattle.std.specs.Prelude.{◌≡◌};
+
 use gopher_item::Place;
 use gopher_scope::{Key, Settings, SettingsFault};
 use std::alloc::{AllocError, Global};
@@ -10,10 +12,16 @@ const WORKED: &str =
 const STATED: &str =
     "host = 'h'\nroot = 'r'\nplaces = 65536\nworkers = 16\nthreads = 8\ntries = 5\nseeds = [{ host = 'a' }, { host = 'B', type = '0', port = 65535, selector = '/x' }]\n";
 
+fn port_of(settings: &Settings) -> u32
+    ensures { result ≡ settings.now.home.port }
+{
+    u32::from(settings.home.port())
+}
+
 // The numbers of a server, each as the settings state it or the value for a missing key.
 fn numbers(settings: &Settings) -> [u32; 5] {
     [
-        u32::from(settings.home.port()),
+        port_of(settings),
         settings.places,
         settings.workers,
         settings.threads,
