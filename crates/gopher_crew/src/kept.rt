@@ -96,7 +96,7 @@ impl<C: Crew, R: Wait + Drop> Kept<C, R> {
     /// published yet. Returns a note exactly if the whole record is published as the call ends.
     ///
     /// # Errors
-    /// `NoMemory` (90), only if a place waits. Nothing changes then.
+    /// `NoMemory` (90), only if a place waits. Only what the share saw changes then.
     #[tactic(auto, using(crate::proofs::Keeping::turn_keeps, crate::proofs::Keeping::turn_counts))]
     pub fn claim(&mut self, share: &mut Share<C>) -> Result<(Turn, Option<Note<C>>), NoMemory>
         ensures turn { IfOk result (λ reply. turn_data reply.0 ≡ turn_of self.old.events) }
@@ -126,7 +126,7 @@ impl<C: Crew, R: Wait + Drop> Kept<C, R> {
     /// ends.
     ///
     /// # Errors
-    /// Those of `Catalogue::found`, with the page. Nothing changes then.
+    /// Those of `Catalogue::found`, with the page. Only what the share saw changes then.
     /// - `NotOut` (52): the number isn't out.
     /// - `WrongPlace` (53): the page is of another place.
     /// - `NoMemory` (90).
@@ -165,7 +165,7 @@ impl<C: Crew, R: Wait + Drop> Kept<C, R> {
     /// published as the call ends.
     ///
     /// # Errors
-    /// `FailRefused` (52): the number isn't out. Nothing changes then.
+    /// `FailRefused` (52): the number isn't out. Only what the share saw changes then.
     pub fn fail(
         &mut self,
         share: &mut Share<C>,
