@@ -51,20 +51,20 @@ wrong-bodies:
 	tools/wrong_bodies.py --reasons $(CRATE)
 
 # Prints what to read to believe a promise: its clauses and the definitions that they reach. make audit PROMISE=search
+# make audit CRATE=gopher_item prints the contracts of a crate.
 .PHONY: audit
 audit:
-	@tools/audit.py $(PROMISE)
+	@tools/audit.py $(if $(CRATE),--crate $(CRATE)) $(PROMISE)
 
-# Prints what each source file holds, and the names in it. make files CRATE=gopher_item
+# Prints what each source file holds. make files CRATE=gopher_item
 .PHONY: files
 files:
 	@tools/list_files.py $(CRATE)
 
-# Writes the parts of the documents that come from the sources: counts, the table of audits, pictures.
+# Writes the parts of the documents that come from the sources: counts and pictures.
 .PHONY: documents
 documents:
 	tools/numbers_of_code.py --write
-	tools/audit.py --write
 	tools/draw_crates.py
 	tools/draw_ratios.py
 

@@ -5,7 +5,7 @@
     bench/table.py --write OUTPUT    puts them into docs/TIMINGS.md, with the day and the machine, and draws docs/ratios.svg anew
 
 OUTPUT is a file. A ratio over 1 means that Hole is faster, or uses less. Searches are the geometric mean over the queries.
-A crawl is one of four workers. The table of other servers keeps the rows of those that weren't measured.
+A crawl is one of four workers. If no other server was measured, their table stays.
 """
 import math
 import os
@@ -18,7 +18,7 @@ import time
 
 ROOT = pathlib.Path(__file__).resolve().parent.parent
 PAGE = ROOT / "docs/TIMINGS.md"
-# how the output names a kind of request, and how the table does; the unit of its rate
+# how the output names a kind of request, and how the table does; the unit of its rate in the output
 SERVED = (
     ("small menu", "small menus", "requests"),
     ("small menu by one client", "small menus, one client", "requests"),
@@ -50,14 +50,14 @@ def served(text):
     for name, shown, unit in SERVED:
         rate = number(text, rf"(?m)^{name}, {unit} a second: .*, quotient ([\d.]+)")
         processor = number(text, rf"(?m)^{name}, processor microseconds a request: .*, quotient ([\d.]+)")
-        yield shown, "bytes a second" if unit == "MB" else "requests a second", rate, 1 / processor
+        yield shown, rate, 1 / processor
 
 
 def idled(text):
     """The rows of small menus while other clients are idle."""
     for count in IDLE:
         rate = number(text, rf"(?m)^small menu beside {count} silent clients, requests a second: .*, quotient ([\d.]+)")
-        yield f"small menus, {count:,} idle clients", "requests a second", rate, None
+        yield f"small menus, {count:,} idle clients", rate, None
 
 
 def searched(text):
@@ -67,33 +67,33 @@ def searched(text):
     times = [(number(plain, rf"(?m)^{re.escape(name)}: (\d+) us, "), float(us)) for name, us in queries]
     # a time below half a microsecond is printed as 0, and has no quotient
     ratios = [plain_us / us for plain_us, us in times if plain_us and us]
-    yield "searches of 65,536 pages", "searches a second", math.exp(sum(map(math.log, ratios)) / len(ratios)), None
+    yield "searches of 65,536 pages", math.exp(sum(map(math.log, ratios)) / len(ratios)), None
     made, added = (number(ours, rf"(?m)^65536 pages: {words}") for words in (r"(\d+) ns", r"\d+ ns a page to make, (\d+) "))
     making, adding, packing = (number(plain, rf"(?m)^{name}: ([\d.]+) us a page") for name in ("making", "adding", "packing"))
-    yield "making pages", "pages a second", 1000 * making / made, None
-    yield "adding pages to the index", "pages a second", 1000 * (adding + packing) / added, None
+    yield "making pages", 1000 * making / made, None
+    yield "adding pages to the index", 1000 * (adding + packing) / added, None
     held = number(ours, r"(?m)^65536 pages: .*, (\d+) bytes a page")
-    yield "memory of a page", "bytes", number(plain, r"(?m)^memory: (\d+) bytes a page") / held, None
+    yield "memory of a page", number(plain, r"(?m)^memory: (\d+) bytes a page") / held, None
 
 
 def crawled(text):
     """The row of a crawl by four workers."""
     ours, plain = number(text, r"(?m)^4 workers: .*, (\d+) pages/s"), number(text, r"(?m)^4 threads of C: .*, (\d+) pages/s")
-    yield "a crawl by four workers", "pages a second", ours / plain, None
+    yield "a crawl by four workers", ours / plain, None
 
 
 def read(text):
     """The rows of menus and texts that are read."""
     for name, file in READ:
         ours, plain = (number(text, rf"(?s)\nthe file {file}:\n.*?{words} (\d+) MB/s") for words in ("read at", "split in plain C:"))
-        yield name, "bytes a second", ours / plain, None
+        yield name, ours / plain, None
 
 
 def table(text):
     """The table of ratios to plain C."""
     rows = [*served(text), *idled(text), *searched(text), *crawled(text), *read(text)]
-    head = ["| measured | unit | rate, Hole / C; memory, C / Hole | processor time, C / Hole |", "|---|---|---|---|"]
-    shown = [f"| {name} | {unit} | {rate:.2f} | {'' if spent is None else f'{spent:.2f} '}|" for name, unit, rate, spent in rows]
+    head = ["| measured | rate, Hole / C; memory, C / Hole | processor time, C / Hole |", "|---|---|---|"]
+    shown = [f"| {name} | {rate:.2f} | {'' if spent is None else f'{spent:.2f} '}|" for name, rate, spent in rows]
     return "\n".join(head + shown) + "\n"
 
 
@@ -111,11 +111,11 @@ def files(text):
     return "\n".join(["| measured | ratio |", "|---|---|", *(f"| {name} | {ratio:.2f} |" for name, ratio in rows)]) + "\n"
 
 
-def peers(text, page):
-    """The table of other servers."""
-    rows = dict(re.findall(r"(?m)^\| (\w+) \| ([\d.]+) \|$", re.search(r"(?s)<!-- peers: .*?<!-- end -->", page)[0]))
-    rows |= {name: f"{float(rate):.3f}" for name, rate in re.findall(r"(?m)^small menus of (?!Hole)(\w+): .*, quotient ([\d.]+)$", text)}
-    return "\n".join(["| server | rate / C |", "|---|---|", *(f"| {name} | {rate} |" for name, rate in rows.items())]) + "\n"
+def peers(text):
+    """The table of other servers; nothing if none was measured."""
+    rows = re.findall(r"(?m)^small menus of (?!Hole)(\w+): .*, quotient ([\d.]+)$", text)
+    shown = [f"| {name} | {float(rate):.3f} |" for name, rate in rows]
+    return "\n".join(["| server | rate / C |", "|---|---|", *shown]) + "\n" if rows else ""
 
 
 def told():
@@ -127,23 +127,23 @@ def told():
 
 
 def written(page, text):
-    """The page with the tables of this output."""
-    mark = lambda name: re.compile(rf"(?s)(<!-- {name}: tools/draw_ratios.py -->\n).*?(<!-- end -->)")
-    page = mark("ratios").sub(lambda found: found[1] + table(text) + found[2], page)
-    page = mark("files").sub(lambda found: found[1] + files(text) + found[2], page)
-    page = mark("peers").sub(lambda found: found[1] + peers(text, page) + found[2], page)
-    return re.sub(r"(?m)(<!-- measured: bench/table.py -->).*$", lambda found: f"{found[1]} {told()}", page)
+    """The page with the tables of this output, each below the day and the machine."""
+    for name, made in (("ratios", table(text)), ("files", files(text)), ("peers", peers(text))):
+        if made:
+            place = re.compile(rf"(?s)(<!-- {name}: bench/table.py -->\n).*?(<!-- end -->)")
+            page = place.sub(lambda found: f"{found[1]}{told()}\n\n{made}{found[2]}", page)
+    return page
 
 
 def main(words):
     if len(words) not in (1, 2) or words[:-1] not in ([], ["--write"]):
         print(__doc__)
         return 2
-    text, page = pathlib.Path(words[-1]).read_text(), PAGE.read_text()
+    text = pathlib.Path(words[-1]).read_text()
     if words[0] == "--write":
-        PAGE.write_text(written(page, text))
+        PAGE.write_text(written(PAGE.read_text(), text))
         return subprocess.run([ROOT / "tools/draw_ratios.py"]).returncode
-    print(f"{told()}\n\n{table(text)}\n{files(text)}\n{peers(text, page)}", end="")
+    print(f"{told()}\n\n{table(text)}\n{files(text)}\n{peers(text)}", end="")
     return 0
 
 

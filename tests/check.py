@@ -29,9 +29,11 @@ LONG = (
     "the path from the root has over 254 bytes",
     "use shorter names, or remove a symbolic link that points to a folder above it",
 )
-TOO_BIG = (
-    "this file has over 16777216 bytes, or the site has over 67108864 bytes or over 4096 files and folders",
-    "serve fewer or smaller files, or remove a symbolic link that points to a folder above it",
+LARGE_FILE = ("this file has over 16777216 bytes", "make it smaller, or remove it")
+LARGE_SITE = ("the files up to this one have over 67108864 bytes together", "serve fewer or smaller files")
+MANY = (
+    "there are over 4096 files and folders up to this one, with the root",
+    "serve fewer files, or remove a symbolic link that points to a folder above it",
 )
 BAD_LINE = (
     "this isn't a valid line of a menu file",
@@ -51,6 +53,7 @@ WRONG_KIND = (
 )
 OUT_OF_RANGE = "this key's value is out of range, or a value in one of its tables is"
 HINT = b"hint: ~ isn't expanded in root; write the whole path\n"
+LEFT = "warning: not served: empty folders {}, links to nothing and devices {}, hidden names {}"
 NO_SEEDS = "warning: searches find nothing, because the settings have no [[seeds]]\n"
 UNKNOWN = (
     "this key is unknown, or a key in one of its tables is",
@@ -225,11 +228,19 @@ FAULTS = {
     "a folder search in the root": (put(b"search/a"), "21 file 0", report(21, "ROOT/search/a", RESERVED)),
     "a path of 255 bytes": (put(b"a" * 127 + b"/" + b"b" * 127), "22 file 0", report(22, f"ROOT/{'a' * 127}/{'b' * 127}", LONG)),
     "a folder's path of 255 bytes": (put_deep, "22 file 0", report(22, f"ROOT/{'a' * 127}/{'b' * 127}", LONG)),
-    "a file that is too large": (put_sparse(1, LARGEST_FILE + 1), "23 file 1", report(23, "ROOT/1.gif", TOO_BIG)),
-    "files that are too large together": (
-        put_sparse(*[LARGEST_FILE] * (MOST_BYTES // LARGEST_FILE), 1), "23 file 4", report(23, "ROOT/4.gif", TOO_BIG)
+    "a file that is too large": (
+        put_sparse(1, LARGEST_FILE + 1), "23 file 1", report(23, "ROOT/1.gif", LARGE_FILE, f"size: {LARGEST_FILE + 1}")
     ),
-    "too many folders": (put_folders(MOST_NODES), "23 file 0", report(23, f"ROOT/{MOST_NODES - 1:04}", TOO_BIG)),
+    "a file that is much too large": (
+        put_sparse(3 * LARGEST_FILE), "23 file 0", report(23, "ROOT/0.gif", LARGE_FILE, f"size: {3 * LARGEST_FILE}")
+    ),
+    "files that are too large together": (
+        put_sparse(*[LARGEST_FILE] * (MOST_BYTES // LARGEST_FILE), 7), "23 file 4",
+        report(23, "ROOT/4.gif", LARGE_SITE, f"size: {MOST_BYTES + 7}"),
+    ),
+    "too many folders": (
+        put_folders(MOST_NODES), "23 file 0", report(23, f"ROOT/{MOST_NODES - 1:04}", MANY, f"size: {MOST_NODES + 1}")
+    ),
     "a bad line": (
         put(b"docs/.menu", b"text\n\n1a\tb\tc\n"), "24 file 0 line 3", report(24, "ROOT/docs/.menu", BAD_LINE, "line: 3")
     ),
@@ -264,10 +275,20 @@ FAULTS = {
     "no workers": (more("workers = 0\n"), "33 workers", report(33, "FILE", (OUT_OF_RANGE, "use a number from 1 to 16"), "key: workers")),
     "a key that isn't known": (more("prot = 70\n"), "34", report(34, "FILE", UNKNOWN, "key: prot")),
     "two keys that aren't known, one with a TAB": (
-        more('zebra = 1\n"a\\tb" = 2\n[[deny]]\nhosts = 1\n'), "34", report(34, "FILE", UNKNOWN, "key: a\\tb")
+        more('zebra = 1\n"a\\tb" = 2\n[[deny]]\nhosts = 1\n'), "34",
+        report(34, "FILE", UNKNOWN, "key: a\\tb") + report(34, "FILE", UNKNOWN, "key: zebra")
+        + report(34, "FILE", UNKNOWN, "key: deny", "unknown: hosts") + report(31, "FILE", NO_KEY, "key: deny"),
     ),
-    "a key behind a seed": (more('[[seeds]]\nhost = "a"\nthreads = 1\n'), "34", report(34, "FILE", UNKNOWN, "key: seeds")),
-    "a key of a rule": (more('[[deny]]\nhost = "a"\nselector = "/"\n'), "34", report(34, "FILE", UNKNOWN, "key: deny")),
+    "a key behind a seed": (more('[[seeds]]\nhost = "a"\nthreads = 1\n'), "34", report(34, "FILE", UNKNOWN, "key: seeds", "unknown: threads")),
+    "a key of a rule": (more('[[deny]]\nhost = "a"\nselector = "/"\n'), "34", report(34, "FILE", UNKNOWN, "key: deny", "unknown: selector")),
+    "all faults of settings": (
+        say('host = "h"\nworkers = 17\nthreads = 0\nsead = 1\n[[seeds]]\nselektor = "/"\n[[allow]]\nhost = "h"\nport = "70"\n'), "34",
+        report(34, "FILE", UNKNOWN, "key: sead") + report(34, "FILE", UNKNOWN, "key: seeds", "unknown: selektor")
+        + report(31, "FILE", NO_KEY, "key: root") + report(31, "FILE", NO_KEY, "key: seeds")
+        + report(32, "FILE", WRONG_KIND, "key: allow")
+        + report(33, "FILE", (OUT_OF_RANGE, "use a number from 1 to 16"), "key: workers")
+        + report(33, "FILE", (OUT_OF_RANGE, "use a number from 1 to 8"), "key: threads"),
+    ),
     "a seed that isn't allowed": (more('[[seeds]]\nhost = "a"\n'), "50 seed 0", report(50, "FILE", OUTSIDE, "seed: 0")),
     "a second seed that is denied": (
         more(RULES + 'port = 7070\n[[deny]]\nhost = "localhost"\nport = 7070\nprefix = "/a"\n'),
@@ -425,10 +446,59 @@ def check_sound(tally, program):
             f"settings: {site.settings}", "address: LocalHost 7070", f"root: {site.root}", "files: 3", "menu files: 2",
             "bytes: 13",
             "seed: 1 localhost 7070 ", "seed: 0 localhost 7070 /a\\\\b", "may visit: localhost 7070 ",
-            "may not visit: localhost 70 /private", "sound",
+            "may not visit: localhost 70 /private", LEFT.format(0, 0, 1), "sound",
         ]
         tally.expect("a site with rules", site.check(), ("".join(line + "\n" for line in lines).encode(), b"", 0))
         tally.expect("the same again", site.check()[2], 0)
+
+
+# A menu file of a server `LocalHost` at port 7070: each line, and the selector of its warning, if it has one.
+LINKS = [
+    ("Welcome", None), ("0About\t/about.txt", None), ("0Gone\t/gone.txt", "/gone.txt"), ("1Notes\t/notes/", "/notes/"),
+    ("1Notes\t/notes", None), ("1Top\t", None), ("1Top\t/", None), ("9Old\tabout.txt", "about.txt"),
+    ("1Menu\t/notes/.menu", "/notes/.menu"), ("hWeb\tURL:http://a.example/", None), ("hPage\t/page.html", "/page.html"),
+    ("0Gone\t/gone.txt\tlocalhost\t7070", "/gone.txt"), ("0Gone\t/gone.txt\tLOCALHOST\t7070", "/gone.txt"),
+    ("0Far\t/gone.txt\tlocalhost\t70", None), ("0Far\t/gone.txt\tfar.example\t7070", None), ("8Session\t/gone", None),
+    ("iText\t/gone", None), ("3Error\t/gone", None), ("ITab\t/a\\b.png", "/a\\\\b.png"), ("7Search\t/find", "/find"),
+]
+
+
+def check_warnings(tally, program):
+    """Checks the warnings of sites without a fault."""
+    with tempfile.TemporaryDirectory() as place:
+        site = Checked(pathlib.Path(place), program)
+        say('host = "LocalHost"\nport = 7070\nroot = "ROOT"\n')(site)
+
+        def warnings():
+            output, error, status = site.check()
+            return [line for line in output.decode().splitlines() if line.startswith("warning: ")], error, status
+
+        menu = "\n".join(line for line, _ in LINKS) + "\n"
+        for path, content in {b"about.txt": b"", b"notes/a.txt": b"", b"notes/.menu": menu.encode(), b".menu": b"0A\t/a"}.items():
+            site.add(path, content)
+        dead = [f"warning: line 1 of {site.root}/.menu leads nowhere: /a"]
+        dead += [
+            f"warning: line {number} of {site.root}/notes/.menu leads nowhere: {selector}"
+            for number, (_, selector) in enumerate(LINKS, 1) if selector
+        ]
+        tally.expect("lines that lead nowhere, and no search", warnings(), (dead, b"", 0))
+        for line, wanted in {
+            "7Find\t/search": [NO_SEEDS.strip()], "7Find\t/search\tLOCALHOST\t7070": [NO_SEEDS.strip()],
+            "7Find\t/search\tlocalhost\t70": [], "0Find\t/search": [], "Welcome": [],
+        }.items():
+            site.add(b"notes/.menu", b"text\n" + line.encode())
+            site.add(b".menu")
+            tally.expect(f"{line}, and no seeds", warnings(), (wanted, b"", 0))
+        more('[[seeds]]\nhost = "a"\n[[allow]]\nhost = "a"\n')(site)
+        site.add(b".menu", b"7Find\t/search")
+        tally.expect("a search and a seed", warnings(), ([], b"", 0))
+        for folder in ("empty", "outer/inner", ".hidden/a"):
+            (site.root / folder).mkdir(parents=True)
+        put_link("gone", "nowhere")(site)
+        put_link("null", "/dev/null")(site)
+        put_link("through", "about.txt/a")(site)
+        site.add(b"notes/.gitignore")
+        tally.expect("what isn't served", warnings(), ([LEFT.format(3, 3, 2)], b"", 0))
 
 
 def check_arguments(tally, program):
@@ -466,6 +536,7 @@ def main():
     program = pathlib.Path(words.parse_args().program).resolve()
     tally = Tally("check")
     check_sound(tally, program)
+    check_warnings(tally, program)
     check_faults(tally, program, FAULTS)
     check_lines(tally, program)
     check_limits(tally, program)

@@ -13,24 +13,13 @@ import sys
 import tempfile
 import time
 
-from running.server import HOST, PROGRAM, Server, Tally, ask
+from running.crawled import seeded
+from running.server import HOST, PROGRAM, Server, Tally, ask, free_port
 
 TEXTS, WORDS = 20, 100
 # As many searches as the crawl may need to its end, at half a second each. The server ends after them.
 SEARCHES = 50
 NAMES = [f"text{number:02}.txt" for number in range(TEXTS)]
-MORE = f"""tries = 1
-workers = 1
-threads = 1
-
-[[seeds]]
-host = "{HOST}"
-port = PORT
-
-[[allow]]
-host = "{HOST}"
-port = PORT
-"""
 REACHED = b"hole: the crawl reached --crawl-memory: it leaves pages out\n"
 # The words of a large page have more bytes than this, and words of 65,536 bytes have longer ends.
 LARGE, LONG = 131_072, 65_536
@@ -85,7 +74,9 @@ def check_limit(tally, program, folder, root, limit, found, told, words=(), text
     given = () if limit is None else ("--crawl-memory", limit)
     ends = ("--requests", str(texts + 1 + SEARCHES))
     end = f"known {texts + 1} waiting 0 out 0 done {texts + 1} dropped 0\n".encode()
-    with Server(program, folder, root, more=MORE, words=(*given, *words, *ends)) as server:
+    port = free_port()
+    settings = seeded(port, "tries = 1\nworkers = 1\nthreads = 1")
+    with Server(program, folder, root, settings, (*given, *words, *ends), port) as server:
         server.started()
         tally.expect(f"{limit}: texts found", hits(server.port, found), found)
         output, error, status = server.end()

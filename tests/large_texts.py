@@ -14,12 +14,10 @@ import pathlib
 import random
 import string
 import sys
-import tempfile
-import threading
 import time
 
-from crawling import Pages, Replying
-from running.server import HOST, PROGRAM, Server, Tally, ask
+from running.crawled import Host, crawling, searched, seeded, until_true
+from running.server import PROGRAM, Tally
 
 WORDS, WORDS_A_LINE = 171_000, 12
 # Every 69th word of five letters: so many that 171,000 are left.
@@ -45,26 +43,9 @@ def texts_of(count):
         yield b"only%d\r\n%s.\r\n" % (number, text.translate(bytes.maketrans(string.ascii_lowercase.encode(), letters.encode())))
 
 
-def host_of(texts):
-    """A host of a menu of these texts."""
-    host = Pages((HOST, 0), Replying)
-    port = host.server_address[1]
-    host.replies = {b"/%d" % number: text for number, text in enumerate(texts)}
-    lines = (b"0%s\t%s\t%s\t%d\r\n" % (name, name, HOST.encode(), port) for name in host.replies)
-    host.replies[b""] = b"".join(lines) + b".\r\n"
-    threading.Thread(target=host.serve_forever, daemon=True).start()
-    return host
-
-
-def settings_of(host, texts):
-    where = f'host = "{HOST}"\nport = {host.server_address[1]}\n'
-    return f"places = {texts + 1}\nworkers = 4\nthreads = 1\n[[seeds]]\n{where}[[allow]]\n{where}"
-
-
 def is_found(server, number):
     """Whether a search finds a text by the word that it alone has."""
-    reply = ask(server.port, b"/search\tonly%d\r\n" % number)
-    return [line.split(b"\t")[1] for line in reply.splitlines()[:-1]] == [b"/%d" % number]
+    return searched(server, b"only%d" % number) == [b"/%d" % number]
 
 
 def count_found(server, texts):
@@ -80,10 +61,8 @@ def count_found(server, texts):
 
 def memory_at_last(server, most):
     """The MiB that the server holds, once that is at most so much or the time is over."""
-    until = time.monotonic() + SECONDS_TO_GIVE_BACK
-    while (held := server.memory() / 1024) > most and time.monotonic() < until:
-        time.sleep(0.1)
-    return held
+    until_true(lambda: server.memory() / 1024 <= most, SECONDS_TO_GIVE_BACK)
+    return server.memory() / 1024
 
 
 def main():
@@ -91,21 +70,17 @@ def main():
     parser.add_argument("--texts", type=int, default=320)
     parser.add_argument("program", nargs="?", type=pathlib.Path, default=PROGRAM)
     given = parser.parse_args()
-    tally, host = Tally("large texts"), host_of(texts_of(given.texts))
-    size = sum(map(len, host.replies.values())) / MEBIBYTE
-    with tempfile.TemporaryDirectory() as folder:
-        folder = pathlib.Path(folder)
-        (folder / "site").mkdir()
-        settings = settings_of(host, given.texts)
-        with Server(given.program.resolve(), folder, folder / "site", more=settings, seconds=2 * MOST_SECONDS) as server:
-            server.started()
+    tally, texts = Tally("large texts"), {b"/%d" % number: text for number, text in enumerate(texts_of(given.texts))}
+    size = sum(map(len, texts.values())) / MEBIBYTE
+    with Host(lambda line: texts.get(line) or host.menu(b"0", texts)) as host:
+        settings = seeded(host.port, f"places = {given.texts + 1}\nworkers = 4\nthreads = 1")
+        with crawling(given.program.resolve(), settings, seconds=2 * MOST_SECONDS) as server:
             tally.expect("texts found", count_found(server, given.texts), given.texts)
             now, most = memory_at_last(server, 2 * size), server.most_memory() / 1024
     taken, peak = now / given.texts, most / given.texts
     print(f"large texts: {size / given.texts:.2f} MiB of text take {taken:.2f} MiB, and {peak:.2f} at the peak")
     tally.expect(f"{most:.0f} MiB at the peak are at most three times {size:.0f}", most <= 3 * size, True)
     tally.expect(f"{now:.0f} MiB are at most twice {size:.0f}", now <= 2 * size, True)
-    host.shutdown()
     return tally.status()
 
 

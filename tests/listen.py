@@ -1,5 +1,6 @@
 #!/usr/bin/env python3
-"""Has the built program listen at addresses that its command line names, and check those of its host.
+"""Has the built program listen at the addresses of its host, at those that its command line names, and at sockets that it is
+handed, and check them.
 
     tests/listen.py [PROGRAM]
 
@@ -74,6 +75,65 @@ def check_ports(tally, program, folder, root):
         server.started()
         for host in ("::1", HOST):
             tally.expect(f"[::] is served at {host}", ask(server.port, b"/a.txt\r\n", host), REPLY)
+
+
+def hand_over(sockets):
+    """What starts a program with these sockets as those of socket activation, sd_listen_fds(3)."""
+    numbers = [str(each.fileno()) for each in sockets]
+    code = (
+        "import fcntl, os, sys\n"
+        "kept = [fcntl.fcntl(int(number), fcntl.F_DUPFD, 100) for number in sys.argv[1].split(',')]\n"
+        "for place, number in enumerate(kept):\n    os.dup2(number, 3 + place)\n"
+        "os.environ.update(LISTEN_PID=str(os.getpid()), LISTEN_FDS=str(len(kept)))\n"
+        "os.execv(sys.argv[2], sys.argv[2:])\n"
+    )
+    return (sys.executable, "-c", code, ",".join(numbers))
+
+
+def check_addresses(tally, program, folder, root):
+    """Each address of a host is served, and one that can be bound is enough."""
+    found = {info[4][0] for info in socket.getaddrinfo("localhost", None, type=socket.SOCK_STREAM)}
+    with Server(program, folder, root, host="localhost", words=("--requests", str(len(found)))) as server:
+        tally.expect("the line of a host", server.started(), f"listening localhost {server.port}\n".encode())
+        for address in sorted(found):
+            tally.expect(f"a text at {address}", ask(server.port, b"/a.txt\r\n", address), b"hello\r\n.\r\n")
+        tally.expect("the end of a host", server.end()[1:], (b"", 0))
+    if len(found) < 2:
+        print(f"listen: localhost has one address here: {found}")
+        return
+    with socket.socket() as taken:
+        taken.bind(("127.0.0.1", 0))
+        taken.listen()
+        for words in (), ("--progress",):
+            with Server(program, folder, root, host="localhost", port=taken.getsockname()[1], words=("--requests", "1", *words)) as server:
+                tally.expect("the line of half a host", server.started(), f"listening localhost {server.port}\n".encode())
+                tally.expect("a text at ::1", ask(server.port, b"/a.txt\r\n", "::1"), b"hello\r\n.\r\n")
+                told = f"hole: can't listen at 127.0.0.1:{server.port}: ".encode() in server.end()[1]
+                tally.expect(f"whether the other is told with {words}", told, bool(words))
+
+
+def check_activation(tally, program, folder, root):
+    """Sockets that are handed over are served in place of the settings' address; one that is no listener ends the threads."""
+    with socket.socket() as first, socket.socket() as second, socket.socket() as other:
+        for each in (first, second):
+            each.bind((HOST, 0))
+            each.listen()
+        ports = [each.getsockname()[1] for each in (first, second)]
+        for each in (first, second, other):
+            each.set_inheritable(True)
+        server = Server(program, folder, root, before=hand_over((first, second)), words=("--requests", "2"), fds=(first, second))
+        with server:
+            server.started()
+            for port in ports:
+                tally.expect("a text at a socket that was handed over", ask(port, b"/a.txt\r\n"), b"hello\r\n.\r\n")
+            tally.expect("the end of handed over sockets", server.end()[1:], (b"", 0))
+        other.bind((HOST, 0))
+        with Server(program, folder, root, before=hand_over((other,)), fds=(other,)) as server:
+            tally.expect("a socket that doesn't listen", server.end()[1:], (b"hole: 81\n", 1))
+        with Server(program, folder, root, before=hand_over((other,)), fds=(other,), words=("--progress",)) as server:
+            output, error, status = server.end()
+            tally.expect("the same with --progress", (error.splitlines()[-1], status), (b"hole: 81", 1))
+            tally.expect("what is told of it", b"hole: connections can't be accepted: " in error, True)
 
 
 def check_refusals(tally, program, folder, root):
@@ -172,7 +232,7 @@ def main():
         root = folder / "root"
         root.mkdir()
         (root / "a.txt").write_text("hello\n")
-        for check in (check_two, check_ports, check_refusals, check_checks):
+        for check in (check_two, check_ports, check_addresses, check_activation, check_refusals, check_checks):
             check(tally, program, folder, root)
     check_usage(tally, program)
     return tally.status()

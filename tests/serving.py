@@ -17,7 +17,8 @@ import threading
 import time
 
 from running import server as serving
-from running.server import HOST, ROOT, WAIT, ask, connect, read_all
+from running.crawled import seeded, until_true
+from running.server import HOST, ROOT, WAIT, ask, connect, free_port, read_all
 
 PROGRAM = sys.argv[1] if len(sys.argv) > 1 else str(serving.PROGRAM)
 Server = functools.partial(serving.Server, PROGRAM)
@@ -186,10 +187,9 @@ def check_silent(folder, root, silent=300, asked=100):
 
 def check_crawl(folder, root):
     """A server crawls itself, and answers searches of what it found."""
-    rules = f'seeds = [{{ host = "{HOST}", port = PORT }}]\nallow = [{{ host = "{HOST}", port = PORT }}]\n'
-    with Server(folder, root, more=rules, words=("--progress", "--requests", "8")) as server:
+    port = free_port()
+    with Server(folder, root, more=seeded(port), words=("--progress", "--requests", "8"), port=port) as server:
         server.started()
-        port = server.port
         hit = f"0hello\t/a.txt\t{HOST}\t{port}\r\n.\r\n".encode()
         reply, until = b"", time.monotonic() + WAIT
         asked = 0
@@ -213,96 +213,26 @@ def check_hits(folder, _root):
     root.mkdir()
     for number in range(60):
         (root / f"m{number:02}.txt").write_text(f"moon {number:02}\n")
-    rules = f'places = 100\nseeds = [{{ host = "{HOST}", port = PORT }}]\nallow = [{{ host = "{HOST}", port = PORT }}]\n'
-    with Server(folder, root, more=rules) as server:
+    port = free_port()
+    with Server(folder, root, more=seeded(port, "places = 100"), port=port) as server:
         server.started()
-        where = f"\t{HOST}\t{server.port}\r\n"
+        where = f"\t{HOST}\t{port}\r\n"
         wanted = "".join(f"0moon {number:02}\t/m{number:02}.txt{where}" for number in range(50)).encode() + b".\r\n"
-        reply, until = b"", time.monotonic() + WAIT
-        while reply != wanted and time.monotonic() < until:
-            time.sleep(0.3)
-            reply = ask(server.port, b"/search\tmoon\r\n")
-        expect("a search with 50 hits", reply, wanted)
+        is_shown = until_true(lambda: ask(server.port, b"/search\tmoon\r\n") == wanted)
+        expect("a search with 50 hits", is_shown, True)
 
 
 def check_example(folder, _root):
     """The site of examples/, as its settings have it, but for the host and the port."""
-    rules = f'''places = 1000
-tries = 2
-workers = 4
-seeds = [{{ host = "{HOST}", port = PORT }}]
-allow = [{{ host = "{HOST}", port = PORT }}]
-'''
-    with Server(folder, ROOT / "examples/site", more=rules) as server:
+    port = free_port()
+    rules = seeded(port, "places = 1000\ntries = 2\nworkers = 4")
+    with Server(folder, ROOT / "examples/site", more=rules, port=port) as server:
         server.started()
-        port = server.port
-        reply, until = b"", time.monotonic() + WAIT
-        while b"common-frog.txt" not in reply and time.monotonic() < until:
-            time.sleep(0.3)
-            reply = ask(port, b"/search\tfrog\r\n")
-        where = f"\t{HOST}\t{port}\r\n".encode()
-        expect("the first hit of the example", reply.startswith(b"0The common frog\t/frogs/common-frog.txt" + where), True)
+        hit = f"0The common frog\t/frogs/common-frog.txt\t{HOST}\t{port}\r\n".encode()
+        is_first = until_true(lambda: ask(port, b"/search\tfrog\r\n").startswith(hit))
+        expect("the first hit of the example", is_first, True)
         text = (ROOT / "examples/site/frogs/common-frog.txt").read_bytes().replace(b"\n", b"\r\n") + b".\r\n"
         expect("a text of the example", ask(port, b"/frogs/common-frog.txt\r\n"), text)
-
-
-def hand_over(sockets):
-    """What starts a program with these sockets as those of socket activation, sd_listen_fds(3)."""
-    numbers = [str(each.fileno()) for each in sockets]
-    code = (
-        "import fcntl, os, sys\n"
-        "kept = [fcntl.fcntl(int(number), fcntl.F_DUPFD, 100) for number in sys.argv[1].split(',')]\n"
-        "for place, number in enumerate(kept):\n    os.dup2(number, 3 + place)\n"
-        "os.environ.update(LISTEN_PID=str(os.getpid()), LISTEN_FDS=str(len(kept)))\n"
-        "os.execv(sys.argv[2], sys.argv[2:])\n"
-    )
-    return (sys.executable, "-c", code, ",".join(numbers))
-
-
-def check_addresses(folder, root):
-    """Each address of a host is served, and one that can be bound is enough."""
-    found = {info[4][0] for info in socket.getaddrinfo("localhost", None, type=socket.SOCK_STREAM)}
-    with Server(folder, root, host="localhost", words=("--requests", str(len(found)))) as server:
-        expect("the line of a host", server.started(), f"listening localhost {server.port}\n".encode())
-        for address in sorted(found):
-            expect(f"a text at {address}", ask(server.port, b"/a.txt\r\n", address), b"hello\r\n.\r\n")
-        expect("the end of a host", server.end()[1:], (b"", 0))
-    if len(found) < 2:
-        print(f"serving: localhost has one address here: {found}")
-        return
-    with socket.socket() as taken:
-        taken.bind(("127.0.0.1", 0))
-        taken.listen()
-        for words in (), ("--progress",):
-            with Server(folder, root, host="localhost", port=taken.getsockname()[1], words=("--requests", "1", *words)) as server:
-                expect("the line of half a host", server.started(), f"listening localhost {server.port}\n".encode())
-                expect("a text at ::1", ask(server.port, b"/a.txt\r\n", "::1"), b"hello\r\n.\r\n")
-                told = f"hole: can't listen at 127.0.0.1:{server.port}: ".encode() in server.end()[1]
-                expect(f"whether the other is told with {words}", told, bool(words))
-
-
-def check_activation(folder, root):
-    """Sockets that are handed over are served in place of the settings' address; one that is no listener ends the threads."""
-    with socket.socket() as first, socket.socket() as second, socket.socket() as other:
-        for each in (first, second):
-            each.bind((HOST, 0))
-            each.listen()
-        ports = [each.getsockname()[1] for each in (first, second)]
-        for each in (first, second, other):
-            each.set_inheritable(True)
-        server = Server(folder, root, before=hand_over((first, second)), words=("--requests", "2"), fds=(first, second))
-        with server:
-            server.started()
-            for port in ports:
-                expect("a text at a socket that was handed over", ask(port, b"/a.txt\r\n"), b"hello\r\n.\r\n")
-            expect("the end of handed over sockets", server.end()[1:], (b"", 0))
-        other.bind((HOST, 0))
-        with Server(folder, root, before=hand_over((other,)), fds=(other,)) as server:
-            expect("a socket that doesn't listen", server.end()[1:], (b"hole: 81\n", 1))
-        with Server(folder, root, before=hand_over((other,)), fds=(other,), words=("--progress",)) as server:
-            output, error, status = server.end()
-            expect("the same with --progress", (error.splitlines()[-1], status), (b"hole: 81", 1))
-            expect("what is told of it", b"hole: connections can't be accepted: " in error, True)
 
 
 def check_refused_threads(folder, root):
@@ -351,13 +281,17 @@ def check_faults(folder, root):
     expect("no settings", (missing.stdout, missing.stderr, missing.returncode), (b"", b"hole: 80\n", 1))
 
 
+CHECKS = (
+    check_replies, check_worked, check_lines, check_large, check_silent, check_crawl, check_hits, check_example, check_refused_threads,
+    check_faults,
+)
+
+
 def main():
     with tempfile.TemporaryDirectory() as name:
         folder = pathlib.Path(name)
         root = site(folder)
-        checks = (check_replies, check_worked, check_lines, check_large, check_silent, check_crawl, check_hits, check_example, check_addresses, check_activation)
-        checks += (check_refused_threads, check_faults)
-        for check in checks:
+        for check in CHECKS:
             check(folder, root)
     return tally.status()
 

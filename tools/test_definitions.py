@@ -8,15 +8,14 @@ import sys
 import unittest
 
 sys.path.insert(0, str(pathlib.Path(__file__).resolve().parent))
-import list_files
+import numbers_of_code
 
 ROOT = pathlib.Path(__file__).resolve().parent.parent
+SPECS = sorted(ROOT.glob("crates/*/specs/**/*.antt"))
 DEFINITION = re.compile(r"(?m)^(?:(?:pub|abbrev|unfoldable|opaque) )*(?:(?:record|data) (\w\S*)|(\w\S*) (?::|[({][^=\n]*[)}] :))")
-COMMENT = re.compile(r"(?m)^ *(?://|--).*$")
-CLAUSE = re.compile(r"(?m)^ *(?:requires|ensures)\b.*$")
-# what stands in definitions and isn't a list of names or a text
-DEFINED = re.compile(r'(?m)^(?!(?:pub )?use )[^"\n]*$')
 LEMMAS = re.compile(r"(?m)^use Rattle\.(?!std\b)\w+\.proofs\..*$")
+# comments and clauses of sources; of definitions also what isn't a list of names or a text
+SHORT = {"src/**/*.rt": r"(?m)^ *(?://|requires\b|ensures\b).*$", "specs/**/*.antt": r'(?m)^(?: *--.*|(?!(?:pub )?use )[^"\n]*)$'}
 
 
 def names(text):
@@ -26,38 +25,23 @@ def names(text):
 
 class Definitions(unittest.TestCase):
     def test_each_name_has_one_meaning(self):
-        where = collections.defaultdict(list)
-        for path in sorted(ROOT.glob("crates/*/specs/**/*.antt")):
-            for name in names(path.read_text()):
-                where[name].append(str(path.relative_to(ROOT)))
-        self.assertEqual({name: paths for name, paths in where.items() if len(paths) > 1}, {})
+        counts = collections.Counter(name for path in SPECS for name in names(path.read_text()))
+        self.assertEqual([name for name, count in counts.items() if count > 1], [])
 
     def test_definitions_cite_no_lemma(self):
-        for path in sorted(ROOT.glob("crates/*/specs/**/*.antt")):
+        for path in SPECS:
             self.assertEqual(LEMMAS.findall(path.read_text()), [], str(path))
 
-    def test_comments_are_short(self):
-        for folder in list_files.crates():
-            for path in sorted([*folder.glob("src/**/*.rt"), *folder.glob("specs/**/*.antt")]):
-                long = [line for line in COMMENT.findall(path.read_text()) if len(line) > 100]
-                self.assertEqual(long, [], str(path))
-
-    def test_clauses_and_definitions_are_short(self):
-        for folder in list_files.crates():
-            for pattern, kind in ((CLAUSE, "src/**/*.rt"), (DEFINED, "specs/**/*.antt")):
-                for path in sorted(folder.glob(kind)):
-                    long = [line for line in pattern.findall(path.read_text()) if len(line) > 100]
-                    self.assertEqual(long, [], str(path))
+    def test_comments_clauses_and_definitions_are_short(self):
+        for kind, pattern in SHORT.items():
+            for path in sorted(path for folder in numbers_of_code.crates() for path in folder.glob(kind)):
+                self.assertEqual([line for line in re.findall(pattern, path.read_text()) if len(line) > 100], [], str(path))
 
     def test_names_are_found(self):
-        text = "\n".join(
-            [
-                "use Rattle.std.specs.Prelude.{◌≡◌, ℕ}", "-- one more", "abbrev pub one_more : ℕ → ℕ", "one_more n = n + 1",
-                "unfoldable pub both_of : {A : Type 0} → A → A", "pub record IsLong (length : ℕ)", "    (bytes : List ℕ) : Type 0 where",
-                "  pub is : 9 < length", "parted (first : ℕ) (rest : ℕ) : ℕ", "parted first rest = (other : ℕ) × first",
-            ]
-        )
-        self.assertEqual(names(text), ["one_more", "both_of", "IsLong", "parted"])
+        text = "use Rattle.std.specs.Prelude.{ℕ}\n-- one more\nabbrev pub one_more : ℕ → ℕ\none_more n = n + 1\n"
+        text += "pub record IsLong (length : ℕ)\n    (bytes : List ℕ) : Type 0 where\n  pub is : 9 < length\n"
+        text += "parted (first : ℕ) (rest : ℕ) : ℕ\nparted first rest = (other : ℕ) × first\n"
+        self.assertEqual(names(text), ["one_more", "IsLong", "parted"])
 
 
 if __name__ == "__main__":

@@ -1,6 +1,6 @@
 #!/usr/bin/env python3
-"""Tests the documents: each command of make and each crate that they name exists, the pictures and the list of files are
-current, and words that readers stumbled over stay away.
+"""Tests the documents: what they name exists, what README counts and quotes is in the tree, the pictures are current, and words
+that readers stumbled over stay away.
 
 tools/check_links.py looks after links, pictures and paths.
 """
@@ -15,27 +15,57 @@ import dist
 import draw_crates
 import draw_ratios
 import list_files
+import numbers_of_code
 
 ROOT = pathlib.Path(__file__).resolve().parent.parent
+README = (ROOT / "README.md").read_text()
 PAGES = [*sorted(ROOT.glob("*.md")), *sorted(ROOT.glob("docs/*.md"))]
+RECIPES = "\n".join(path.read_text() for path in [ROOT / "Makefile", *ROOT.glob("*/*.mk")])
 # words of an older dialect; plain ones are: out of memory, if, as many, fails with 90
 AVOIDED = re.compile(r"(?i)\b(?:want of memory|whoever|so many|answers 90|refused only where|memory is refused)\b")
 COMMENT = re.compile(r"(?m)^ *(?://[/!]?|--) (.*)$")
+OFF_BY = 0.02  # a count over 1,000 moves with every commit and may differ by so much
+
+
+class ReadmeAndPromises(unittest.TestCase):
+    def test_counts_and_version_are_those_of_the_tree(self):
+        stated, counted = numbers_of_code.stated(README), numbers_of_code.counted()
+        self.assertEqual(list(stated), list(counted))
+        for name, count in counted.items():
+            self.assertAlmostEqual(stated[name], count, delta=OFF_BY * count if count > 1000 else 0, msg=f"{name}: run make documents")
+        self.assertIn(f"This is version {numbers_of_code.version()}.", README)
+
+    def test_quoted_code_is_in_the_file_that_is_named_last(self):
+        for page in (README, (ROOT / "docs/PROMISES.md").read_text()):
+            for found in re.finditer(r"(?ms)^```(?:rust)?\n(.*?)^```", page):
+                named = re.findall(r"\]\((?:\.\./)?(crates/[\w/.]+)\)", page[: found.start()])[-1]
+                for line in found[1].splitlines():
+                    if not line.startswith("+"):
+                        self.assertIn(line.removeprefix("-").strip(), (ROOT / named).read_text(), named)
+
+    def test_the_wrong_body_is_one_that_the_gate_tries(self):
+        edit = (ROOT / re.search(r"wrong body \[`\w+`\]\((\S+)\)", README)[1]).read_text()
+        for line in re.findall(r"(?m)^[-+] {4,}(.*)$", README):
+            self.assertIn(line, edit)
+
+    def test_unsafe_calls_are_those_that_are_named_and_there_is_no_axiom(self):
+        unsafe = set()
+        for path in ROOT.glob("crates/*/*/**/*.*"):
+            if path.suffix in (".rt", ".antt") and "/out/" not in str(path):
+                code = "\n".join(numbers_of_code.lines_of(path.read_text()))
+                unsafe |= {str(path.relative_to(ROOT))} if re.search(r"\bunsafe\b", code) else set()
+                self.assertNotRegex(code, r"(?m)^(?:pub )?axiom\b", str(path))
+        named = re.search(r"(?m)^.*`unsafe`.*$", (ROOT / "docs/PROMISES.md").read_text())[0]
+        self.assertEqual(sorted(unsafe), sorted(re.findall(r"`(crates/[\w/.]+)`", named)))
 
 
 class Documents(unittest.TestCase):
-    def test_named_make_commands_exist(self):
-        recipes = [ROOT / "Makefile", *ROOT.glob("*/*.mk")]
-        targets = [name for path in recipes for name in re.findall(r"(?m)^([a-z-]+):", path.read_text())]
-        for page in PAGES:
-            for name in re.findall(r"`make ([a-z-]+)", page.read_text()):
-                self.assertIn(name, targets, page.name)
-
-    def test_make_alone_lists_each_command_with_its_comment(self):
+    def test_named_make_commands_exist_and_make_alone_lists_each_with_its_comment(self):
         shown = subprocess.run(["make", "-s"], cwd=ROOT, capture_output=True, text=True, check=True).stdout
-        recipes = [ROOT / "Makefile", *ROOT.glob("*/*.mk")]
-        targets = [name for path in recipes for name in re.findall(r"(?m)^\.PHONY: (\S+)", path.read_text())]
+        targets = re.findall(r"(?m)^\.PHONY: (\S+)", RECIPES)
         self.assertEqual(re.findall(r"(?m)^make (\S+)\n {4}[A-Z]", shown), targets)
+        for page in PAGES:
+            self.assertLessEqual(set(re.findall(r"`make ([a-z-]+)", page.read_text())), set(targets), page.name)
 
     def test_named_crates_exist(self):
         for page in PAGES:
@@ -46,8 +76,7 @@ class Documents(unittest.TestCase):
     def test_installed_documents_name_none_that_stays_here(self):
         installed = {pathlib.Path(name).name: ROOT / name for name in dist.DOCUMENTS}
         for path in installed.values():
-            named = set(re.findall(r"\b[\w-]+\.md\b", path.read_text()))
-            self.assertEqual(named - set(installed), set(), path.name)
+            self.assertLessEqual(set(re.findall(r"\b[\w-]+\.md\b", path.read_text())), set(installed), path.name)
 
     def test_avoided_words_stay_away(self):
         for page in [*PAGES, *sorted(ROOT.glob("man/*")), *sorted(ROOT.glob("packaging/*.md"))]:
@@ -56,46 +85,18 @@ class Documents(unittest.TestCase):
             self.assertEqual(AVOIDED.findall("\n".join(COMMENT.findall(path.read_text()))), [], str(path))
 
     def test_the_pictures_are_current(self):
-        for name, draw in draw_crates.PICTURES.items():
-            self.assertEqual((ROOT / name).read_text(), draw(), f"run tools/draw_crates.py for {name}")
-        self.assertEqual(draw_ratios.PICTURE.read_text(), draw_ratios.picture(draw_ratios.ratios(), draw_ratios.measured()), "run tools/draw_ratios.py")
-
-    def test_no_line_crosses_a_crate(self):
-        drawn = draw_crates.crates_picture()
-        boxes = [tuple(map(float, box)) for box in re.findall(r'<rect x="([\d.]+)" y="([\d.]+)" width="([\d.]+)" height="([\d.]+)"', drawn)]
-        for path in re.findall(r'<path d="M([\d.C -]+)" marker', drawn):
-            points = [tuple(map(float, curve.split()[-2:])) for curve in path.split("C")]
-            for (x, y), (to_x, to_y) in zip(points, points[1:]):
-                beside = [box for box in boxes if y < box[1] + box[3] and box[1] < to_y]
-                crossed = [box for box in beside if box[0] <= max(x, to_x) and min(x, to_x) <= box[0] + box[2]]
-                self.assertEqual(crossed, [], path)
+        for name, draw in (draw_crates.PICTURES | draw_ratios.PICTURES).items():
+            self.assertEqual((ROOT / name).read_text(), draw(), f"{name}: run make documents")
 
     def test_each_folder_of_the_first_sites_has_a_menu_with_a_heading(self):
         for site in (ROOT / "examples/site", ROOT / "packaging/site"):
             for folder in [site, *(path for path in site.rglob("*") if path.is_dir())]:
                 self.assertRegex((folder / ".menu").read_text(), r"\A[^\t\n]+\n\n", str(folder))
 
-    def test_the_list_of_files_names_each_file_of_a_crate(self):
-        for crate in list_files.crates():
-            listed = list_files.section(crate).splitlines()
-            for path in (crate / "src").rglob("*.rt"):
-                self.assertEqual(f"  {path.relative_to(crate / 'src')}" in listed, path.name != "lib.rt", str(path))
-
     def test_each_file_says_what_it_holds(self):
-        for crate in list_files.crates():
-            for path in list_files.sources(crate):
+        for path in (path for crate in numbers_of_code.crates() for path in crate.glob("src/**/*.r[ts]")):
+            if path.name != "lib.rt":
                 self.assertRegex(list_files.about(path.read_text()), r"^[A-Z`].*\.$", str(path))
-
-    def test_public_names_are_listed_with_their_types(self):
-        text = "\n".join(
-            [
-                "pub struct Queue<T> {", "    items: Vec<T>,", "}", "impl<T> Queue<T> {", "    pub fn push(&mut self, item: T) {", "    }",
-                "    fn hidden(&self) {", "    }", "}", "impl<T> Clone for Queue<T> {", "    fn clone(&self) -> Self {", "    }", "}",
-                "pub trait Answers<'a> {", "    fn answer(&mut self);", "}", "pub(crate) fn merged() {", "}", "fn private() {", "}",
-                "pub const MAX_LINE: usize = 1_024;",
-            ]
-        )
-        self.assertEqual(list_files.shown(text), "`Queue`: push; `Answers`: answer; merged; MAX_LINE")
 
 
 if __name__ == "__main__":

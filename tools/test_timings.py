@@ -1,5 +1,5 @@
 #!/usr/bin/env python3
-"""Tests bench/table.py: the tables that it makes of what `make bench` prints, and that the programs of bench/ still print so."""
+"""Tests bench/table.py: the tables that it makes of what `make bench` prints."""
 import pathlib
 import re
 import sys
@@ -48,8 +48,8 @@ small menus of gophernicus: 400 a second (C 10,000), quotient 0.0400
 
 
 class Timings(unittest.TestCase):
-    def test_the_table_has_what_was_printed(self):
-        rows = dict(re.findall(r"(?m)^\| ([^|]+) \| [^|]+ \| ([\d.]+ \|(?: [\d.]+)? \|)$", table.table(OUTPUT)))
+    def test_the_tables_have_what_was_printed(self):
+        rows = dict(re.findall(r"(?m)^\| ([^|]+) \| ([\d.]+ \|(?: [\d.]+)? \|)$", table.table(OUTPUT)))
         self.assertEqual(rows["small menus"], "2.00 | 2.00 |")
         self.assertEqual(rows["small menus, 1,000 idle clients"], "0.90 | |")
         self.assertEqual(rows["searches of 65,536 pages"], "1.00 | |")
@@ -58,50 +58,24 @@ class Timings(unittest.TestCase):
         self.assertEqual(rows["a crawl by four workers"], "0.75 | |")
         for name, _ in table.READ:
             self.assertEqual(rows[name], "0.50 | |")
+        files = re.findall(r"(?m)^\| (.+) \| ([\d.]+) \|$", table.files(OUTPUT))
+        self.assertEqual([ratio for _, ratio in files], ["2.00", "2.00", "0.40"])
+        self.assertIn("the pages of 100 real texts", files[2][0])
 
-    def test_the_table_of_files_has_what_was_printed(self):
-        rows = re.findall(r"(?m)^\| (.+) \| ([\d.]+) \|$", table.files(OUTPUT))
-        self.assertEqual([ratio for _, ratio in rows], ["2.00", "2.00", "0.40"])
-        self.assertIn("the pages of 100 real texts", rows[2][0])
-
-    def test_the_page_has_rows_of_the_same_names(self):
-        page = table.PAGE.read_text()
-        names = lambda text: re.findall(r"(?m)^\| ([^|]+) \| [^|]+ \| [\d.]+ \|", text)
-        stated = re.search(r"(?s)<!-- ratios: .*?<!-- end -->", page)[0]
-        self.assertEqual(names(stated), names(table.table(OUTPUT)))
-        self.assertIn("<!-- measured: bench/table.py -->", page)
-
-    def test_writing_puts_the_tables_and_the_day_into_the_page(self):
+    def test_writing_puts_each_table_below_its_day(self):
         page = table.written(table.PAGE.read_text(), OUTPUT)
-        self.assertIn("| small menus | requests a second | 2.00 | 2.00 |\n", page)
-        self.assertIn("| gophernicus | 0.040 |\n| pygopherd | ", page)
-        self.assertRegex(page, r"<!-- measured: bench/table.py --> \d+ \w+ \d{4}, .*, commit \w+")
+        self.assertIn("| small menus | 2.00 | 2.00 |\n", page)
+        self.assertIn("| gophernicus | 0.040 |\n<!-- end -->", page)
+        days = re.findall(r"<!-- \w+: bench/table.py -->\n(.*)\n\n\|", page)
+        self.assertEqual(days, [table.told()] * 3)
+        self.assertRegex(days[0], r"^\d+ \w+ \d{4}, .*, commit \w+")
+        alone = table.written(page, re.sub(r"(?m)^small menus of .*\n", "", OUTPUT.replace("quotient 2.00, goal", "quotient 3.00, goal")))
+        self.assertIn("| small menus | 3.00 |", alone)
+        self.assertIn("| gophernicus | 0.040 |\n<!-- end -->", alone)
 
     def test_a_missing_line_is_told(self):
         with self.assertRaisesRegex(SystemExit, "the output has no line like"):
             table.table(OUTPUT.replace("menu of 200 lines", "menu of 100 lines"))
-
-    def test_the_programs_print_such_lines(self):
-        printed = {
-            "bench/timings/timed_formats.rattle": ['"{what}: read at {read} MB/s, written at {written} MB/s"'],
-            "bench/timings/timed_searches.rattle": [
-                '"{pages} pages: {made} ns a page to make, {added} to claim and add, ', '"{text}: {} us, {hits} hits, {scores} the sum of their scores"',
-            ],
-            "bench/splits.c": ['"split in plain C: %.0f MB/s'],
-            "bench/postings.c": ["making: %.1f us a page", "adding: %.1f us a page", "packing: %.1f us a page", "memory: %.0f bytes a page", '"%s: %.0f us, %zu hits'],
-            "bench/timings/timed_crawls.rattle": ['"{workers} workers: {done} places done, {each} bytes a page, {speed} pages/s"'],
-            "bench/crew.c": ['"%d threads of C: %u pages, %.0f pages/s'],
-            "bench/speeds.py": [
-                *(f'"{name}, requests a second"' for name, _, unit in table.SERVED if "one client" in name),
-                '"small menu beside {silent} silent clients, requests a second"',
-            ],
-            "bench/start.py": ['nodes: {1000 * took:.0f} ms (find and cat {1000 * plain:.0f}), quotient {', "memory at start: {held} bytes, of {size} bytes of files, quotient {"],
-            "bench/texts.py": ['"{count} real texts, {size} bytes"'],
-            "bench/peers.py": ['"small menus of {name}: {rate:,.0f} a second (C '],
-        }
-        for file, formats in printed.items():
-            for words in formats:
-                self.assertIn(words, (ROOT / file).read_text(), file)
 
 
 if __name__ == "__main__":

@@ -7,8 +7,8 @@ import threading
 import time
 from collections import Counter
 
-from crawling import TEXTS_OF_A_MENU, Pages, Replying, seeded
 from models.model import Page, terms_of
+from running.crawled import Host, seeded
 from running.server import HOST, ask
 
 LETTERS = "abcdefghijklmnopqrstuvwxyz"
@@ -68,26 +68,16 @@ class Heavy:
     """A host of so many texts, and what searches of them have to give."""
 
     def __init__(self, count):
-        self.host = Pages((HOST, 0), Replying)
-        self.port = self.host.server_address[1]
-        draw = random.Random(1436)
+        draw, self.host = random.Random(1436), Host()
         texts = {b"/t%d" % number: text_of(draw) for number in range(count)}
-        self.pages = [Counted(None, (HOST.encode(), self.port, name, b"0"), text) for name, text in texts.items()]
-        self.host.replies = texts | self.menus(list(texts))
-        self.known = len(self.host.replies)
-        threading.Thread(target=self.host.serve_forever, daemon=True).start()
-
-    def menus(self, names):
-        """A menu of menus, of which each leads to some of the texts. No letter stands in them."""
-        def menu(kind, names):
-            return b"".join(b"%s%d\t%s\t%s\t%d\r\n" % (kind, at, name, HOST.encode(), self.port) for at, name in enumerate(names)) + b".\r\n"
-
-        parts = [names[start:start + TEXTS_OF_A_MENU] for start in range(0, len(names), TEXTS_OF_A_MENU)]
-        menus = {b"/m%d" % at: menu(b"0", part) for at, part in enumerate(parts)}
-        return menus | {b"": menu(b"1", list(menus))}
+        place = (HOST.encode(), self.host.port)
+        self.pages = [Counted(None, (*place, name, b"0"), text) for name, text in texts.items()]
+        replies = self.host.menus(texts)
+        self.host.answer = lambda line: replies.get(line, b"")
+        self.known = len(replies)
 
     def settings(self):
-        return "threads = 2\n" + seeded(HOST, self.port, self.known)
+        return seeded(self.host.port, f"threads = 2\nplaces = {min(2 * self.known, 65_536)}\nworkers = 16")
 
     def reply(self, text):
         """The hits of a search as a menu, by the plain model."""
@@ -102,9 +92,8 @@ class Heavy:
     def __enter__(self):
         return self
 
-    def __exit__(self, *_):
-        self.host.shutdown()
-        self.host.server_close()
+    def __exit__(self, *how):
+        self.host.__exit__(*how)
 
 
 def keep_asking(port, wanted, until, counts):

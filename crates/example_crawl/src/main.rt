@@ -1,5 +1,5 @@
 //! How a program of your own uses the library: it opens a desk, crawls three replies in memory by
-//! two workers, searches them, and closes the desk.
+//! two workers, searches them by two passes, and closes the desk.
 //!
 //! What a desk is opened with:
 //!
@@ -12,7 +12,9 @@
 //!   picks the names of the blank as those of `Brand`.
 #![tactic(auto)]
 
-ghost use Rattle.std.specs.Prelude.{◌≡◌, [], ◌≤◌, length};
+ghost use Rattle.std.specs.Prelude.{◌≡◌, [], IfOk};
+ghost use mathlib.Core.List.{IsPrefix};
+ghost use Rattle.gopher_crew.specs.Crew.{hits_of};
 ghost use Rattle.gopher_crew.specs.Desk.{IsBlankOf};
 
 mod burrow;
@@ -21,7 +23,7 @@ mod failed;
 use burrow::Burrow;
 use failed::Failed;
 use gopher_catalogue::Catalogue;
-use gopher_crew::{Blank, Crew, Desk, Pass, Share, crawl};
+use gopher_crew::{Answer, Blank, Crew, Desk, Pass, Share, crawl};
 use gopher_item::{Place, Rule, Scope};
 use gopher_page::Query;
 use std::alloc::Global;
@@ -35,7 +37,7 @@ const PLACES: u32 = 100;
 // A place whose fetch failed isn't claimed again.
 const TRIES: u32 = 1;
 
-const PASSES: u32 = 1;
+const PASSES: u32 = 2;
 
 const WORKERS: u32 = 2;
 
@@ -67,28 +69,6 @@ fn pairs<C: Crew>(alloc: Global, shares: Vec<Share<C>>) -> Result<Vec<(Burrow, S
     Ok(pairs)
 }
 
-// A search takes no lock: it could as well run in another thread, while the workers crawl. The text
-// of a query has at most 1,024 bytes.
-fn print_hits<C: Crew, R: Print + AllocGlobal>(
-    rt: &R,
-    pass: &mut Pass<C>,
-    text: &[u8],
-) -> Result<(), Failed>
-    requires { length text.now ≤ 1024 }
-{
-    let Ok(query) = Query::read(rt.alloc(), text) else {
-        return Err(Failed::Refused);
-    };
-    let Ok(answer) = pass.search(&query) else {
-        return Err(Failed::Refused);
-    };
-    for hit in &answer.hits {
-        let title = str::from_utf8(hit.title.as_slice()).unwrap_or("?");
-        println!(rt; "{} {title}", hit.score)?;
-    }
-    Ok(())
-}
-
 // Crawls by all workers, side by side, and gives their shares back.
 fn crawled<C: Crew + Send + Sync, R: AllocGlobal + Threads + Wait + Sync>(
     rt: &R,
@@ -106,8 +86,61 @@ fn crawled<C: Crew + Send + Sync, R: AllocGlobal + Threads + Wait + Sync>(
     Ok(shares)
 }
 
-// Crawls, searches and closes the desk. It is closed with all its shares: they show that no event
-// is missing. Gives the catalogue with its whole record.
+// What two searches found, and the catalogue of the desk that was closed after them.
+#[derive(Drop)]
+struct Ending {
+    first: Answer,
+    second: Answer,
+    catalogue: Catalogue,
+}
+
+// Searches by two passes, then closes the desk with all its shares, which show that no event is
+// missing. Both answers and the catalogue are of one record: that of the catalogue begins with the
+// record of each answer. A pass tells a share of its record, and `close` returns a catalogue whose
+// record begins with all that the shares know of.
+//
+// A search takes no lock: it could as well run in another thread, while the workers crawl.
+fn search_and_close<C: Crew, R: Wait + Drop>(
+    desk: Desk<C, R>,
+    shares: Vec<Share<C>>,
+    first: &mut Pass<C>,
+    second: &mut Pass<C>,
+    query: &Query,
+) -> Result<Ending, Failed>
+    ensures first { IfOk result (λ it. it.first.hits.items ≡ hits_of first.new.seen query.now) }
+    ensures second { IfOk result (λ it. it.second.hits.items ≡ hits_of second.new.seen query.now) }
+    ensures first_begins { IfOk result (λ it. IsPrefix first.new.seen it.catalogue) }
+    ensures second_begins { IfOk result (λ it. IsPrefix second.new.seen it.catalogue) }
+{
+    let (Ok(found), Ok(found_too)) = (first.search(query), second.search(query)) else {
+        return Err(Failed::Refused);
+    };
+    let mut shares = shares;
+    let Some(mut share) = shares.pop() else {
+        return Err(Failed::Refused);
+    };
+    first.tell(&mut share);
+    second.tell(&mut share);
+    shares.push_reserved(share);
+    let Ok(catalogue) = desk.close(shares) else {
+        return Err(Failed::Refused);
+    };
+    Ok(Ending {
+        first: found,
+        second: found_too,
+        catalogue,
+    })
+}
+
+fn print_hits<R: Print>(rt: &R, answer: &Answer) -> Result<(), Failed> {
+    for hit in &answer.hits {
+        let title = str::from_utf8(hit.title.as_slice()).unwrap_or("?");
+        println!(rt; "{} {title}", hit.score)?;
+    }
+    Ok(())
+}
+
+// Crawls, searches and closes the desk. Gives the catalogue with its whole record.
 fn closed<C: Crew + Send + Sync, R: Print + AllocGlobal + Threads + Wait + Sync>(
     rt: &R,
     desk: Desk<C, &R>,
@@ -116,13 +149,16 @@ fn closed<C: Crew + Send + Sync, R: Print + AllocGlobal + Threads + Wait + Sync>
 ) -> Result<Catalogue, Failed> {
     let shares = crawled(rt, &desk, shares)?;
     let mut passes = passes;
-    if let Some(pass) = passes.last_mut() {
-        print_hits(rt, pass, b"moon")?;
-    }
-    match desk.close(shares) {
-        Ok(catalogue) => Ok(catalogue),
-        Err(_refused) => Err(Failed::Refused),
-    }
+    let (Some(mut first), Some(mut second)) = (passes.pop(), passes.pop()) else {
+        return Err(Failed::Refused);
+    };
+    let Ok(query) = Query::read(rt.alloc(), b"moon") else {
+        return Err(Failed::Refused);
+    };
+    let end = search_and_close(desk, shares, &mut first, &mut second, &query)?;
+    print_hits(rt, &end.first)?;
+    println!(rt; "{} in both answers", end.second.hits.len())?;
+    Ok(end.catalogue)
 }
 
 // Opens a desk, and works at it.

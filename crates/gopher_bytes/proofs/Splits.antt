@@ -96,13 +96,6 @@ lines_of_cut bs line rest e =
     let whole : slice_split (is_cut 10) bs ≡ line ∷ s.0 ∷ s.1 = e ∙ ap (λ (l : List (List ℕ)). line ∷ l) s.2 in
     ap lines_of_parts whole ∙ ap (λ (l : List (List ℕ)). strip_carriage_return line ∷ lines_of_parts l) (sym s.2)
 
--- bytes without LF are one line, unless there are no bytes
-pub lines_of_one : (bs : List ℕ) → 0 < length bs → slice_split (is_cut 10) bs ≡ bs ∷ [] → lines_of bs ≡ bs ∷ []
-lines_of_one [] some e = absurd (omega arith)
-lines_of_one (b ∷ bs) some e =
-    let one : eqb (length (b ∷ bs)) 0 ≡ false = grind (arith, nat_tests) in
-    ap lines_of_parts e ∙ ap (λ t. cond t [] ((b ∷ bs) ∷ [])) one
-
 -- the bytes after a cut, as the code slices them
 pub after_cut : (bytes : List ℕ) (end : ℕ) → take (length bytes - (end + 1)) (drop (end + 1) bytes) ≡ drop (suc end) bytes
 after_cut bytes end = take_all _ _ (omega (arith, length-drop (end + 1) bytes)) ∙ ap (λ k. drop k bytes) (add-one end)

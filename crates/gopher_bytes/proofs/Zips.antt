@@ -1,5 +1,5 @@
 -- Two lists side by side, of equal length.
-use Rattle.std.proofs.Common.{◌≡◌, ℕ, zero, suc, ◌<◌, List, [], ◌∷◌, ◌++◌, length, take, drop, get_or, slice_get, Some, refl, ap, arith}
+use Rattle.std.proofs.Common.{◌≡◌, ℕ, zero, suc, ◌<◌, List, [], ◌∷◌, ◌++◌, length, map, take, drop, get_or, slice_get, Some, refl, ap, arith}
 use Rattle.std.specs.List.{zip}
 
 pub length-zip : {A B : Type 0} (a : List A) (b : List B) → length b ≡ length a → length (zip a b) ≡ length a
@@ -7,6 +7,17 @@ length-zip [] [] same = refl
 length-zip [] (y ∷ b) same = refl
 length-zip (x ∷ a) [] same = absurd (omega arith)
 length-zip (x ∷ a) (y ∷ b) same = ap suc (length-zip a b (omega arith))
+
+pub firsts : {A B : Type 0} (a : List A) (b : List B) → length b ≡ length a → map (λ entry. entry.0) (zip a b) ≡ a
+firsts [] b same = refl
+firsts (x ∷ a) [] same = absurd (omega arith)
+firsts (x ∷ a) (y ∷ b) same = ap (λ l. x ∷ l) (firsts a b (omega arith))
+
+pub seconds : {A B : Type 0} (a : List A) (b : List B) → length b ≡ length a → map (λ entry. entry.1) (zip a b) ≡ b
+seconds [] [] same = refl
+seconds [] (y ∷ b) same = absurd (omega arith)
+seconds (x ∷ a) [] same = refl
+seconds (x ∷ a) (y ∷ b) same = ap (λ l. y ∷ l) (seconds a b (omega arith))
 
 pub get_or-zip : {A B : Type 0} (a : List A) (b : List B) (i : ℕ) (d : A) (e : B) → length b ≡ length a → i < length a → get_or (zip a b) i (d, e) ≡ (get_or a i d, get_or b i e)
 get_or-zip [] b i d e same within = absurd (omega arith)

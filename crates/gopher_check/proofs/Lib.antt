@@ -1,2 +1,2 @@
-mod Names
+mod Joined
 mod Tells

@@ -1,5 +1,5 @@
 -- The faults of a site: the number, the cause and the remedy of each.
-use Rattle.std.specs.Prelude.{ℕ, List, codes}
+use Rattle.std.specs.Prelude.{◌≡◌, ℕ, ◌+◌, min, nat_lt, List, codes, length, if◌then◌else◌}
 use Rattle.std.specs.declared.io.ErrorKind.{ErrorKind}
 use Rattle.std.specs.declared.io.ErrorKind.TheVariants as kind
 use Rattle.gopher_scope.specs.Settings.{settings_fault_code}
@@ -10,6 +10,7 @@ use Rattle.gopher_scope.specs.declared.settings.key.Key.TheVariants as key
 use Rattle.gopher_tree.specs.Fault.{tree_fault_code}
 use Rattle.gopher_tree.specs.declared.fault.TreeFault.{TreeFault}
 use Rattle.gopher_tree.specs.declared.fault.TreeFault.TheVariants as tree_fault
+use Rattle.gopher_tree.specs.declared.load.trail.Trail.{Trail}
 use Rattle.gopher_check.specs.declared.obstacle.Obstacle.{Obstacle}
 use Rattle.gopher_check.specs.declared.obstacle.Obstacle.TheVariants as obstacle
 use Rattle.gopher_check.specs.declared.fault.SiteFault.{SiteFault}
@@ -21,6 +22,14 @@ site_fault_code (fault.Tree why how) = tree_fault_code why
 site_fault_code (fault.SeedOutOfScope seed) = 50
 site_fault_code fault.SettingsUnreadable = 80
 site_fault_code fault.KeyTwice = settings_fault_code settings_fault.NotToml
+
+-- the limit that a tree passes at the end of a trail, after `number` files, and by how much
+abbrev pub excess : ℕ → Trail → Obstacle
+excess number trail =
+    if nat_lt 16777216 trail.size then obstacle.LargeFile trail.size
+    else (if nat_lt 67108864 (trail.bytes + trail.size)
+    then obstacle.LargeSite (min (trail.bytes + trail.size) 18446744073709551615)
+    else obstacle.ManyNodes (min (length trail.folders.items + number + 2) 18446744073709551615))
 
 -- the reason why a file or folder can't be read, by the kind of the system's error
 abbrev pub obstacle_of : ErrorKind → Obstacle
@@ -38,6 +47,11 @@ obstacle_cause obstacle.Missing = codes "no file or folder exists at this path"
 obstacle_cause obstacle.NotFolder = codes "this isn't a folder"
 obstacle_cause obstacle.Loop = codes "symbolic links form a loop"
 obstacle_cause obstacle.Other = codes "the system couldn't read this"
+obstacle_cause (obstacle.LargeFile size) = codes "this file has over 16777216 bytes"
+obstacle_cause (obstacle.LargeSite size) =
+    codes "the files up to this one have over 67108864 bytes together"
+obstacle_cause (obstacle.ManyNodes size) =
+    codes "there are over 4096 files and folders up to this one, with the root"
 
 abbrev pub obstacle_remedy : Obstacle → List ℕ
 obstacle_remedy obstacle.NotUtf8 = codes "rename it; ls -b shows its bytes"
@@ -47,6 +61,10 @@ obstacle_remedy obstacle.Missing = codes "create the folder, or correct root in 
 obstacle_remedy obstacle.NotFolder = codes "correct root in the settings"
 obstacle_remedy obstacle.Loop = codes "remove the link"
 obstacle_remedy obstacle.Other = codes "read it as the server's user to see the reason"
+obstacle_remedy (obstacle.LargeFile size) = codes "make it smaller, or remove it"
+obstacle_remedy (obstacle.LargeSite size) = codes "serve fewer or smaller files"
+obstacle_remedy (obstacle.ManyNodes size) =
+    codes "serve fewer files, or remove a symbolic link that points to a folder above it"
 
 abbrev pub tree_cause : TreeFault → Obstacle → List ℕ
 tree_cause (tree_fault.BadName file) how =
@@ -54,8 +72,7 @@ tree_cause (tree_fault.BadName file) how =
 tree_cause (tree_fault.Reserved file) how =
     codes "the name search is reserved in the root, because /search is the server's search"
 tree_cause (tree_fault.LongSelector file) how = codes "the path from the root has over 254 bytes"
-tree_cause (tree_fault.TooBig file) how =
-    codes "this file has over 16777216 bytes, or the site has over 67108864 bytes or over 4096 files and folders"
+tree_cause (tree_fault.TooBig file) how = obstacle_cause how
 tree_cause (tree_fault.BadMenuLine file line) how = codes "this isn't a valid line of a menu file"
 tree_cause (tree_fault.Twice file) how = codes "another file has the same path"
 tree_cause (tree_fault.Unreadable file) how = obstacle_cause how
@@ -66,8 +83,7 @@ tree_remedy (tree_fault.BadName file) how = codes "rename the file or folder"
 tree_remedy (tree_fault.Reserved file) how = codes "rename the file or folder"
 tree_remedy (tree_fault.LongSelector file) how =
     codes "use shorter names, or remove a symbolic link that points to a folder above it"
-tree_remedy (tree_fault.TooBig file) how =
-    codes "serve fewer or smaller files, or remove a symbolic link that points to a folder above it"
+tree_remedy (tree_fault.TooBig file) how = obstacle_remedy how
 tree_remedy (tree_fault.BadMenuLine file line) how =
     codes "write text without TABs, or type and name, TAB, selector, and for another server TAB, host, TAB, port"
 tree_remedy (tree_fault.Twice file) how = codes "remove one of the two"
@@ -113,6 +129,12 @@ settings_remedy (settings_fault.OutOfRange key) = range_remedy key
 settings_remedy settings_fault.UnknownKey =
     codes "correct its spelling; the server's own keys come before the first [["
 settings_remedy settings_fault.NoMemory = codes "give the program more memory"
+
+-- the reason why a walk stops at the end of its trail, as far as values decide it
+abbrev pub IsReason : TreeFault → Trail → Obstacle → Type 0
+IsReason (tree_fault.TooBig number) trail how = how ≡ excess number trail
+IsReason (tree_fault.Unreadable number) trail how = Unit {0}
+IsReason why trail how = how ≡ obstacle.Other
 
 -- the cause in words
 abbrev pub cause : SiteFault → List ℕ

@@ -21,9 +21,13 @@ shown bytes = flat_map shown_byte bytes
 abbrev pub words_line : List ℕ → List ℕ → List ℕ
 words_line front words = front ++ shown words ++ 10 ∷ []
 
+-- a text and a number
+abbrev pub count_words : List ℕ → ℕ → List ℕ
+count_words front number = front ++ decimal number
+
 -- a line with the name and the number of a value
 abbrev pub number_line : List ℕ → ℕ → List ℕ
-number_line front number = front ++ decimal number ++ 10 ∷ []
+number_line front number = count_words front number ++ 10 ∷ []
 
 -- a host and a port
 abbrev pub server_words : List ℕ → ℕ → List ℕ

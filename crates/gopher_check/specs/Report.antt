@@ -1,66 +1,79 @@
--- The reports of a check: of a fault, and of a site without one.
-use Rattle.std.specs.Prelude.{◌≡◌, ℕ, List, [], ◌∷◌, ◌++◌, codes, length, count_by, Option, None, Some, IsSomeAnd, Ok, Err, ◌==◌, if◌then◌else◌}
+-- The words of a check: of a fault, and of a site without one.
+use Rattle.std.specs.Prelude.{ℕ, Bool, true, List, [], ◌∷◌, ◌++◌, codes, length, count_by, Option, None, Some, ◌==◌, ◌&&◌, if◌then◌else◌}
 use Rattle.std.specs.List.{flat_map}
-use Rattle.toml.specs.Parse.{parse_document}
-use Rattle.toml.specs.declared.de.error.Error.{Error}
 use Rattle.gopher_item.specs.Place.{PlaceData, HomeData}
 use Rattle.gopher_item.specs.Rule.{RuleData}
-use Rattle.gopher_item.specs.Scope.{first_outside}
 use Rattle.gopher_scope.specs.Rows.{key_name}
-use Rattle.gopher_scope.specs.Settings.{SettingsData, settings_of, IsFaultOf}
+use Rattle.gopher_scope.specs.Settings.{SettingsData}
 use Rattle.gopher_scope.specs.declared.fault.SettingsFault.{SettingsFault}
 use Rattle.gopher_scope.specs.declared.fault.SettingsFault.TheVariants as settings_fault
-use Rattle.gopher_tree.specs.Files.{File, total_bytes}
+use Rattle.gopher_scope.specs.declared.settings.key.Key.{Key}
+use Rattle.gopher_tree.specs.Files.{File, is_missing, total_bytes}
 use Rattle.gopher_tree.specs.Path.{is_menu_path}
-use Rattle.gopher_tree.specs.Fault.{files_fault}
-use Rattle.gopher_tree.specs.Load.{LoadsTo}
+use Rattle.gopher_tree.specs.declared.load.trail.Trail.{Trail}
 use Rattle.gopher_tree.specs.declared.fault.TreeFault.{TreeFault}
 use Rattle.gopher_tree.specs.declared.fault.TreeFault.TheVariants as tree_fault
 use Rattle.gopher_check.specs.Fault.{site_fault_code, cause, remedy}
-use Rattle.gopher_check.specs.Lines.{words_line, number_line, server_words, place_rest}
-use Rattle.gopher_check.specs.Text.{toml_fault_line, IsTomlFault, IsLineOf, IsKeyOf}
-use Rattle.gopher_check.specs.Unknown.{unknown_name}
-use Rattle.gopher_check.specs.declared.checking.Report.{Report}
+use Rattle.gopher_check.specs.Lines.{words_line, count_words, number_line, server_words, place_rest}
+use Rattle.gopher_check.specs.Links.{dead_lines, offers_search, site_warnings}
+use Rattle.gopher_check.specs.declared.links.Site.{Site}
 use Rattle.gopher_check.specs.declared.obstacle.Obstacle.{Obstacle}
 use Rattle.gopher_check.specs.declared.obstacle.Obstacle.TheVariants as obstacle
 use Rattle.gopher_check.specs.declared.fault.SiteFault.{SiteFault}
 use Rattle.gopher_check.specs.declared.fault.SiteFault.TheVariants as fault
 
--- the line of an unknown key, unless its name is empty
-abbrev pub unknown_detail : List ℕ → List ℕ
-unknown_detail [] = []
-unknown_detail (byte ∷ key) = words_line (codes "key: ") (byte ∷ key)
+-- the line of a name, unless it is empty
+abbrev pub named_line : List ℕ → List ℕ → List ℕ
+named_line front [] = []
+named_line front (byte ∷ name) = words_line front (byte ∷ name)
 
-abbrev pub settings_words : SettingsFault → List ℕ → List ℕ
-settings_words (settings_fault.Missing key) unknown = words_line (codes "key: ") (key_name key)
-settings_words (settings_fault.WrongKind key) unknown = words_line (codes "key: ") (key_name key)
-settings_words (settings_fault.OutOfRange key) unknown = words_line (codes "key: ") (key_name key)
-settings_words settings_fault.UnknownKey unknown = unknown_detail unknown
-settings_words why unknown = []
+-- the lines of an unknown key, after the key of its array if it is in one
+abbrev pub unknown_detail : Option Key → List ℕ → List ℕ
+unknown_detail None name = named_line (codes "key: ") name
+unknown_detail (Some array) name =
+    words_line (codes "key: ") (key_name array) ++ named_line (codes "unknown: ") name
 
--- the line of the key or the seed that a fault names; `unknown` is a key that isn't known, or is
--- given twice
-abbrev pub detail : SiteFault → List ℕ → List ℕ
-detail (fault.Settings why) unknown = settings_words why unknown
-detail (fault.SeedOutOfScope seed) unknown = number_line (codes "seed: ") seed
-detail fault.KeyTwice unknown = unknown_detail unknown
-detail why unknown = []
+abbrev pub settings_words : SettingsFault → Option Key → List ℕ → List ℕ
+settings_words (settings_fault.Missing key) array unknown =
+    words_line (codes "key: ") (key_name key)
+settings_words (settings_fault.WrongKind key) array unknown =
+    words_line (codes "key: ") (key_name key)
+settings_words (settings_fault.OutOfRange key) array unknown =
+    words_line (codes "key: ") (key_name key)
+settings_words settings_fault.UnknownKey array unknown = unknown_detail array unknown
+settings_words why array unknown = []
+
+-- the line of the number that is over a limit
+abbrev pub size_detail : Obstacle → List ℕ
+size_detail (obstacle.LargeFile size) = number_line (codes "size: ") size
+size_detail (obstacle.LargeSite size) = number_line (codes "size: ") size
+size_detail (obstacle.ManyNodes size) = number_line (codes "size: ") size
+size_detail how = []
+
+-- the line of the key, the seed or the number that a fault names; `unknown` is a key that isn't
+-- known, or is given twice
+abbrev pub detail : SiteFault → Option Key → List ℕ → List ℕ
+detail (fault.Settings why) array unknown = settings_words why array unknown
+detail (fault.SeedOutOfScope seed) array unknown = number_line (codes "seed: ") seed
+detail fault.KeyTwice array unknown = unknown_detail array unknown
+detail (fault.Tree why how) array unknown = size_detail how
+detail fault.SettingsUnreadable array unknown = []
 
 abbrev pub line_detail : Option ℕ → List ℕ
 line_detail None = []
 line_detail (Some line) = number_line (codes "line: ") line
 
 -- the report of a fault of the file or folder at a path, or of a line in it; `unknown` is a key
--- that isn't known, or is given twice
-abbrev pub fault_report : SiteFault → List ℕ → Option ℕ → List ℕ → List ℕ
-fault_report why path line unknown =
+-- that isn't known, or is given twice, and `array` the key of the array that it is in
+abbrev pub fault_report : SiteFault → List ℕ → Option ℕ → Option Key → List ℕ → List ℕ
+fault_report why path line array unknown =
     number_line (codes "fault: ") (site_fault_code why) ++ words_line (codes "path: ") path
-    ++ line_detail line ++ detail why unknown
+    ++ line_detail line ++ detail why array unknown
     ++ words_line (codes "cause: ") (cause why) ++ words_line (codes "remedy: ") (remedy why)
 
 -- the report of a settings file that can't be read
 abbrev pub unreadable_report : List ℕ → List ℕ
-unreadable_report path = fault_report fault.SettingsUnreadable path None []
+unreadable_report path = fault_report fault.SettingsUnreadable path None None []
 
 -- the line of a menu file that a fault names
 abbrev pub line_of_fault : TreeFault → Option ℕ
@@ -80,13 +93,33 @@ hint_line root how = []
 -- the report of a fault of a folder
 abbrev pub folder_report : TreeFault → Obstacle → List ℕ → List ℕ → List ℕ
 folder_report why how root below =
-    fault_report (fault.Tree why how) (path_below root below) (line_of_fault why) []
+    fault_report (fault.Tree why how) (path_below root below) (line_of_fault why) None []
     ++ hint_line root how
 
+abbrev pub leaves_nothing_out : ℕ → ℕ → ℕ → Bool
+leaves_nothing_out empty nowhere hidden = (empty == 0) && (nowhere == 0) && (hidden == 0)
+
+-- the line that counts what isn't in the tree
+abbrev pub counts_line : ℕ → ℕ → ℕ → List ℕ
+counts_line empty nowhere hidden =
+    count_words (codes "warning: not served: empty folders ") empty
+    ++ count_words (codes ", links to nothing and devices ") nowhere
+    ++ number_line (codes ", hidden names ") hidden
+
+abbrev pub left_line : ℕ → ℕ → ℕ → List ℕ
+left_line empty nowhere hidden =
+    if leaves_nothing_out empty nowhere hidden then [] else counts_line empty nowhere hidden
+
+abbrev pub left_out : List File → Trail → List ℕ
+left_out files trail =
+    left_line (count_by (λ path. is_missing files path.items) trail.folders.items) trail.nowhere
+    trail.hidden
+
 -- the line that says that searches find nothing, because the crawl has no seeds
-abbrev pub seeds_warning : List PlaceData → List ℕ
-seeds_warning [] = codes "warning: searches find nothing, because the settings have no [[seeds]]\n"
-seeds_warning (seed ∷ seeds) = []
+abbrev pub seeds_warning : List PlaceData → Bool → List ℕ
+seeds_warning [] true =
+    codes "warning: searches find nothing, because the settings have no [[seeds]]\n"
+seeds_warning seeds offered = []
 
 abbrev pub address_lines : HomeData → List ℕ → List ℕ
 address_lines home root =
@@ -108,72 +141,21 @@ rule_line front rule = front ++ place_rest rule.host rule.port rule.prefix
 abbrev pub rule_lines : List ℕ → List RuleData → List ℕ
 rule_lines front rules = flat_map (rule_line front) rules
 
--- the report of a site without a fault: the settings file, its address, its sizes, and the seeds
--- and rules of its crawl
-abbrev pub site_report : List ℕ → SettingsData → List File → List ℕ
-site_report path settings files =
+-- the lines of menus that lead nowhere, what isn't served, and a search without seeds
+abbrev pub warnings : Site → List PlaceData → Trail → List ℕ
+warnings site seeds trail =
+    site_warnings site ++ left_out site.tree.now trail
+    ++ seeds_warning seeds (offers_search site.home.now site.tree.now)
+
+-- the report of a site without a fault: the settings file, its address, its sizes, the seeds and
+-- rules of its crawl, and warnings
+abbrev pub site_report : List ℕ → SettingsData → List File → Trail → List ℕ
+site_report path settings files trail =
     words_line (codes "settings: ") path ++ address_lines settings.home settings.root
     ++ size_lines files
     ++ flat_map seed_line settings.seeds
     ++ rule_lines (codes "may visit: ") settings.scope.allow
     ++ rule_lines (codes "may not visit: ") settings.scope.deny
-    ++ seeds_warning settings.seeds ++ codes "sound\n"
-
--- the report on settings and a folder
-abbrev pub TellsSite : List ℕ → SettingsData → List ℕ → Option SiteFault → Type 0
-TellsSite path settings words None =
-    (files : List File) × (files_fault files ≡ None)
-    × (first_outside settings.scope settings.seeds ≡ None)
-    × (words ≡ site_report path settings files)
-TellsSite path settings words (Some (fault.Tree why how)) =
-    (below : List ℕ) × LoadsTo below (Err why)
-    × (words ≡ folder_report why how settings.root below)
-TellsSite path settings words (Some (fault.SeedOutOfScope seed)) =
-    (first_outside settings.scope settings.seeds ≡ Some seed)
-    × (words ≡ fault_report (fault.SeedOutOfScope seed) path None [])
-TellsSite path settings words (Some other) = ⊥
-
--- the report, with its fault, is the one on settings and a folder
-abbrev pub IsReportOnSite : List ℕ → SettingsData → Report → Type 0
-IsReportOnSite path settings report = TellsSite path settings report.words.items report.fault
-
--- settings that aren't TOML have a line: that of the parser's fault; other faults have none
-abbrev pub HasLine : List ℕ → SettingsFault → Option ℕ → Type 0
-HasLine text settings_fault.NotToml line = IsSomeAnd line (IsLineOf text)
-HasLine text why line = line ≡ None
-
--- the unknown key, if that is the fault
-abbrev pub HasKey : List ℕ → SettingsFault → List ℕ → Type 0
-HasKey text settings_fault.UnknownKey unknown = unknown ≡ unknown_name (parse_document text)
-HasKey text why unknown = unknown ≡ []
-
--- the report on settings with a fault
-abbrev pub TellsRefused : List ℕ → List ℕ → List ℕ → SettingsFault → Type 0
-TellsRefused path text words why =
-    (line : Option ℕ) × (unknown : List ℕ) × HasLine text why line × HasKey text why unknown
-    × (words ≡ fault_report (fault.Settings why) path line unknown)
-
--- the report on settings that give a key twice: the line and the key of one fault of the parser
-abbrev pub TellsTwice : List ℕ → List ℕ → List ℕ → Type 0
-TellsTwice path text words =
-    (broken : Error) × (key : List ℕ) × IsTomlFault text broken × IsKeyOf text broken key
-    × (words ≡ fault_report fault.KeyTwice path (Some (toml_fault_line text broken)) key)
-
--- the report, with its fault, is the one on settings that give a key twice
-abbrev pub IsReportOnTwice : List ℕ → List ℕ → Report → Type 0
-IsReportOnTwice path text report =
-    (report.fault ≡ Some fault.KeyTwice) × TellsTwice path text report.words.items
-
--- the report on a text of settings: their fault, or the report on the site that they describe
-abbrev pub TellsText : List ℕ → List ℕ → List ℕ → Option SiteFault → Type 0
-TellsText path text words (Some (fault.Settings why)) =
-    IsFaultOf text why × TellsRefused path text words why
-TellsText path text words (Some fault.KeyTwice) =
-    (settings_of (parse_document text) ≡ Err settings_fault.NotToml) × TellsTwice path text words
-TellsText path text words found =
-    (settings : SettingsData) × (settings_of (parse_document text) ≡ Ok settings)
-    × TellsSite path settings words found
-
--- the report, with its fault, is the one on a text of settings
-abbrev pub IsReportOnText : List ℕ → List ℕ → Report → Type 0
-IsReportOnText path text report = TellsText path text report.words.items report.fault
+    ++ dead_lines settings.home settings.root files
+    ++ left_out files trail
+    ++ seeds_warning settings.seeds (offers_search settings.home files) ++ codes "sound\n"

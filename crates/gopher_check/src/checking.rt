@@ -8,17 +8,18 @@ ghost use Rattle.gopher_scope.specs.Settings.{settings_data, settings_of, IsFaul
 ghost use Rattle.gopher_scope.specs.declared.fault.SettingsFault.TheVariants as settings_fault;
 ghost use Rattle.gopher_tree.specs.Fault.{files_fault};
 ghost use Rattle.gopher_check.specs.declared.fault.SiteFault.TheVariants.{SettingsUnreadable};
-ghost use Rattle.gopher_check.specs.Report.{folder_report, hint_line, unreadable_report, line_of_fault, path_below, HasKey, HasLine, IsReportOnSite, IsReportOnText, IsReportOnTwice};
+ghost use Rattle.gopher_check.specs.Report.{folder_report, hint_line, unreadable_report, line_of_fault, path_below};
+ghost use Rattle.gopher_check.specs.Tells.{IsOfTable, IsReportOnSite, IsReportOnText, IsReportOnTwice};
 ghost use Rattle.gopher_check.specs.Text.{line_at, key_of, toml_fault_line, IsKeyOf, IsTomlFault};
 
 use crate::fault::SiteFault;
 use crate::fault_report::fault_report;
-use crate::obstacle::{Obstacle, obstacle_at};
+use crate::obstacle::{Obstacle, reason};
 use crate::site_report::site_report;
-use crate::unknown::unknown_key;
+use crate::table_report::table_report;
 use gopher_item::{NoMemory, Place, split_once, trim_spaces};
 use gopher_scope::{Scope, Settings, SettingsFault};
-use gopher_tree::{Tree, TreeFault};
+use gopher_tree::{Trail, Tree, TreeFault};
 use std::alloc::{AllocError, Global};
 use std::fs::Files;
 use toml::de::Error as TomlFault;
@@ -108,6 +109,7 @@ fn tree_report(
     path: &str,
     settings: Settings,
     tree: &Tree,
+    trail: &Trail,
 ) -> Result<Report, NoMemory>
     requires { files_fault tree.now ≡ None }
     ensures { IfOk result (IsReportOnSite path.now (settings_data settings)) }
@@ -120,7 +122,7 @@ fn tree_report(
             fault: Some(fault),
         });
     }
-    let words = site_report(alloc, path.as_bytes(), settings, tree)?;
+    let words = site_report(alloc, path.as_bytes(), settings, tree, trail)?;
     Ok(Report { words, fault: None })
 }
 
@@ -159,7 +161,6 @@ fn folder_report(
 }
 
 // The report on settings and their folder.
-#[tactic(auto, using(crate::proofs::Tells::tells_folder))]
 fn settings_report<R: Files>(
     rt: &R,
     alloc: Global,
@@ -168,16 +169,17 @@ fn settings_report<R: Files>(
 ) -> Result<Report, NoMemory>
     ensures { IfOk result (IsReportOnSite path.now (settings_data settings)) }
 {
-    match Tree::load_at(rt, alloc, settings.root.as_str()) {
-        Ok(tree) => tree_report(alloc, path, settings, &tree),
-        Err(refused) => {
-            let place = path_below(alloc, settings.root.as_str(), &refused.path)?;
-            let how = obstacle_at(rt, alloc, &place);
+    let mut trail = Trail::new(alloc);
+    match Tree::load_along(rt, alloc, settings.root.as_str(), &mut trail) {
+        Ok(tree) => tree_report(alloc, path, settings, &tree, &trail),
+        Err(fault) => {
+            let place = path_below(alloc, settings.root.as_str(), &trail.path)?;
+            let how = reason(rt, alloc, fault, &trail, &place);
             let root = settings.root.as_str();
-            let words = folder_report(alloc, root, &refused.path, refused.fault, how, &place)?;
+            let words = folder_report(alloc, root, &trail.path, fault, how, &place)?;
             Ok(Report {
                 words,
-                fault: Some(SiteFault::Tree(refused.fault, how)),
+                fault: Some(SiteFault::Tree(fault, how)),
             })
         }
     }
@@ -229,39 +231,62 @@ fn twice_report(
     })
 }
 
-// The unknown key of the settings, if that is the fault.
-fn settings_key(alloc: Global, text: &str, fault: SettingsFault) -> Result<Vec<u8>, NoMemory>
-    ensures { IfOk result (λ key. HasKey text.now fault key.items) }
-{
-    match fault {
-        SettingsFault::UnknownKey => unknown_key(alloc, text),
-        _ => Ok(Vec::new(alloc)),
-    }
-}
-
-// The report of settings that are refused.
-#[tactic(auto, using(crate::proofs::Tells::tells_refused))]
-fn refused_report(
-    alloc: Global,
-    path: &str,
-    text: &str,
-    refused: SettingsFault,
-    line: Option<usize>,
-) -> Result<Report, NoMemory>
-    requires fault { IsFaultOf text.now refused }
-    requires line { HasLine text.now refused line }
+// The report of settings for which memory runs out.
+#[tactic(auto, using(crate::proofs::Tells::tells_memory))]
+fn memory_report(alloc: Global, path: &str, text: &str) -> Result<Report, NoMemory>
     ensures { IfOk result (IsReportOnText path.now text.now) }
 {
-    let fault = SiteFault::Settings(refused);
-    let key = settings_key(alloc, text, refused)?;
-    let words = fault_report(alloc, fault, path.as_bytes(), line, &key)?;
+    let fault = SiteFault::Settings(SettingsFault::NoMemory);
+    let words = fault_report(alloc, fault, path.as_bytes(), None, b"")?;
     Ok(Report {
         words,
         fault: Some(fault),
     })
 }
 
-// The report of settings that aren't TOML.
+// The report of a table of settings with a fault.
+#[tactic(auto, using(crate::proofs::Tells::tells_refused))]
+fn refused_report(
+    alloc: Global,
+    path: &str,
+    text: &str,
+    refused: SettingsFault,
+) -> Result<Report, NoMemory>
+    requires fault { IsFaultOf text.now refused }
+    requires table { IsOfTable refused }
+    ensures { IfOk result (IsReportOnText path.now text.now) }
+{
+    let Ok(table) = toml::table_from_str(alloc, text) else {
+        return Err(NoMemory);
+    };
+    let words = table_report(alloc, path.as_bytes(), &table)?;
+    Ok(Report {
+        words,
+        fault: Some(SiteFault::Settings(refused)),
+    })
+}
+
+// The report of settings that aren't TOML, with the line of the parser's fault.
+fn broken_report(
+    alloc: Global,
+    path: &str,
+    text: &str,
+    broken: &TomlFault,
+) -> Result<Report, NoMemory>
+    requires text { settings_of (parse_document text.now) ≡ Err settings_fault.NotToml }
+    requires broken { IsTomlFault text.now broken.now }
+    ensures { IfOk result (IsReportOnText path.now text.now) }
+{
+    let fault = SiteFault::Settings(SettingsFault::NotToml);
+    let number = broken_line(text, broken);
+    let words = fault_report(alloc, fault, path.as_bytes(), number, b"")?;
+    Ok(Report {
+        words,
+        fault: Some(fault),
+    })
+}
+
+// The report of settings that aren't TOML, or give a key twice.
 #[tactic(auto, using(crate::proofs::Tells::tells_twice))]
 fn not_toml_report(alloc: Global, path: &str, text: &str) -> Result<Report, NoMemory>
     requires { settings_of (parse_document text.now) ≡ Err settings_fault.NotToml }
@@ -270,10 +295,7 @@ fn not_toml_report(alloc: Global, path: &str, text: &str) -> Result<Report, NoMe
     let broken = toml_fault(alloc, text)?;
     match key_twice(text, &broken) {
         Some(key) => twice_report(alloc, path, text, &broken, key),
-        None => {
-            let line = broken_line(text, &broken);
-            refused_report(alloc, path, text, SettingsFault::NotToml, line)
-        }
+        None => broken_report(alloc, path, text, &broken),
     }
 }
 
@@ -282,8 +304,9 @@ fn not_toml_report(alloc: Global, path: &str, text: &str) -> Result<Report, NoMe
 ///
 /// The report names the first fault in this order: of the settings (30 to 34), of the folder (20 to
 /// 26), of the seeds (50). For 30 it also names the line at which the TOML parser's fault begins,
-/// and the key there if it is given twice, for 34 the key. For 26 it reads the file or folder once
-/// more and names the system's reason.
+/// and the key there if it is given twice. After the first of 31 to 34 it names the others. For 23
+/// it names the limit, and the number that is over it. For 26 it reads the file or folder once more
+/// and names the system's reason.
 #[tactic(auto, using(crate::proofs::Tells::tells_text))]
 pub fn check<R: Files>(rt: &R, alloc: Global, path: &str, text: &str) -> Result<Report, NoMemory>
     ensures { IfOk result (IsReportOnText path.now text.now) }
@@ -294,6 +317,7 @@ pub fn check<R: Files>(rt: &R, alloc: Global, path: &str, text: &str) -> Result<
             Ok(report)
         }
         Err(SettingsFault::NotToml) => not_toml_report(alloc, path, text),
-        Err(refused) => refused_report(alloc, path, text, refused, None),
+        Err(SettingsFault::NoMemory) => memory_report(alloc, path, text),
+        Err(refused) => refused_report(alloc, path, text, refused),
     }
 }

@@ -13,7 +13,7 @@ use gopher_tree::TreeFault;
 pub enum SiteFault {
     /// 30 to 34, or 90: the settings are invalid.
     Settings(SettingsFault),
-    /// 20 to 26, or 90: the folder doesn't make a tree. For 26 it contains the reason.
+    /// 20 to 26, or 90: the folder doesn't make a tree. For 23 and 26 it contains the reason.
     Tree(TreeFault, Obstacle),
     /// 50: the scope doesn't allow the seed at this index.
     SeedOutOfScope(usize),
@@ -33,9 +33,7 @@ fn tree_cause(fault: TreeFault, obstacle: Obstacle) -> &'static str
         TreeFault::Reserved { .. } =>
             "the name search is reserved in the root, because /search is the server's search",
         TreeFault::LongSelector { .. } => "the path from the root has over 254 bytes",
-        TreeFault::TooBig { .. } => {
-            "this file has over 16777216 bytes, or the site has over 67108864 bytes or over 4096 files and folders"
-        }
+        TreeFault::TooBig { .. } => obstacle.cause(),
         TreeFault::BadMenuLine { .. } => "this isn't a valid line of a menu file",
         TreeFault::Twice { .. } => "another file has the same path",
         TreeFault::Unreadable { .. } => obstacle.cause(),
@@ -52,8 +50,7 @@ fn tree_remedy(fault: TreeFault, obstacle: Obstacle) -> &'static str
         TreeFault::LongSelector { .. } => {
             "use shorter names, or remove a symbolic link that points to a folder above it"
         }
-        TreeFault::TooBig { .. } =>
-            "serve fewer or smaller files, or remove a symbolic link that points to a folder above it",
+        TreeFault::TooBig { .. } => obstacle.remedy(),
         TreeFault::BadMenuLine { .. } => {
             "write text without TABs, or type and name, TAB, selector, and for another server TAB, host, TAB, port"
         }

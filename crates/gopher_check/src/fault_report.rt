@@ -1,50 +1,83 @@
-//! The report of a fault: number, path, line, key or seed, cause and remedy.
+//! The report of a fault: number, path, line, key, seed or size, cause and remedy.
 
-ghost use Rattle.std.specs.Prelude.{◌≡◌, ◌++◌, IfOk, OnOk};
-ghost use Rattle.gopher_check.specs.Report.{unknown_detail, settings_words, detail, line_detail, fault_report};
+ghost use Rattle.std.specs.Prelude.{◌≡◌, ◌++◌, [], None, IfOk, OnOk};
+ghost use Rattle.gopher_check.specs.Report.{named_line, unknown_detail, settings_words, size_detail, detail, line_detail, fault_report};
 
 use crate::fault::SiteFault;
 use crate::lines::{push_number, push_words};
+use crate::obstacle::Obstacle;
 use gopher_item::NoMemory;
-use gopher_scope::SettingsFault;
+use gopher_scope::{Key, SettingsFault};
 use std::alloc::{AllocError, Global};
 
-// Appends the unknown key, unless its name is empty.
-fn push_unknown(key: &[u8], out: &mut Vec<u8>) -> Result<(), AllocError>
-    ensures { OnOk result (out.new.items ≡ out.old.items ++ unknown_detail key.now) }
+// Appends the line of a name, unless it is empty.
+fn push_name(front: &[u8], name: &[u8], out: &mut Vec<u8>) -> Result<(), AllocError>
+    ensures { OnOk result (out.new.items ≡ out.old.items ++ named_line front.now name.now) }
 {
-    match key {
+    match name {
         [] => Ok(()),
-        [_, ..] => push_words(b"key: ", key, out),
+        [_, ..] => push_words(front, name, out),
+    }
+}
+
+// Appends an unknown key, after the key of its array if it is in one.
+fn push_unknown(array: Option<Key>, key: &[u8], out: &mut Vec<u8>) -> Result<(), AllocError>
+    ensures { OnOk result (out.new.items ≡ out.old.items ++ unknown_detail array key.now) }
+{
+    match array {
+        None => push_name(b"key: ", key, out),
+        Some(array) => {
+            push_words(b"key: ", array.name().as_bytes(), out)?;
+            push_name(b"unknown: ", key, out)
+        }
     }
 }
 
 // Appends the key that a fault of the settings names, or the unknown key.
 fn push_settings_detail(
     fault: SettingsFault,
-    unknown: &[u8],
+    array: Option<Key>,
+    key: &[u8],
     out: &mut Vec<u8>,
 ) -> Result<(), AllocError>
-    ensures { OnOk result (out.new.items ≡ out.old.items ++ settings_words fault unknown.now) }
+    ensures { OnOk result (out.new.items ≡ out.old.items ++ settings_words fault array key.now) }
 {
     match fault {
         SettingsFault::Missing(key)
         | SettingsFault::WrongKind(key)
         | SettingsFault::OutOfRange(key) => push_words(b"key: ", key.name().as_bytes(), out),
-        SettingsFault::UnknownKey => push_unknown(unknown, out),
+        SettingsFault::UnknownKey => push_unknown(array, key, out),
         SettingsFault::NotToml | SettingsFault::NoMemory => Ok(()),
     }
 }
 
-// Appends the key or the seed that a fault names.
-fn push_detail(fault: SiteFault, unknown: &[u8], out: &mut Vec<u8>) -> Result<(), AllocError>
-    ensures { OnOk result (out.new.items ≡ out.old.items ++ detail fault unknown.now) }
+// Appends the number that is over a limit.
+fn push_size(how: Obstacle, out: &mut Vec<u8>) -> Result<(), AllocError>
+    ensures { OnOk result (out.new.items ≡ out.old.items ++ size_detail how) }
+{
+    match how {
+        Obstacle::LargeFile(size) | Obstacle::LargeSite(size) | Obstacle::ManyNodes(size) => {
+            push_number(b"size: ", size, out)
+        }
+        _ => Ok(()),
+    }
+}
+
+// Appends the key, the seed or the number that a fault names.
+fn push_detail(
+    fault: SiteFault,
+    array: Option<Key>,
+    key: &[u8],
+    out: &mut Vec<u8>,
+) -> Result<(), AllocError>
+    ensures { OnOk result (out.new.items ≡ out.old.items ++ detail fault array key.now) }
 {
     match fault {
-        SiteFault::Settings(fault) => push_settings_detail(fault, unknown, out),
+        SiteFault::Settings(fault) => push_settings_detail(fault, array, key, out),
         SiteFault::SeedOutOfScope(seed) => push_number(b"seed: ", seed, out),
-        SiteFault::KeyTwice => push_unknown(unknown, out),
-        SiteFault::Tree(..) | SiteFault::SettingsUnreadable => Ok(()),
+        SiteFault::KeyTwice => push_unknown(array, key, out),
+        SiteFault::Tree(_, how) => push_size(how, out),
+        SiteFault::SettingsUnreadable => Ok(()),
     }
 }
 
@@ -58,24 +91,40 @@ fn push_line(line: Option<usize>, out: &mut Vec<u8>) -> Result<(), AllocError>
     }
 }
 
-/// Makes the report of a fault of the file or folder at `path`, or of a line in it. It names the
-/// fault's number, the path, the line, the key or seed, the cause and the remedy, each on its own
-/// line. `unknown` is a key that isn't known, or is given twice, or empty.
+/// Appends the report of a fault of the file or folder at `path`, or of a line in it. It names the
+/// fault's number, the path, the line, the key, seed or number, the cause and the remedy, each on
+/// its own line. `key` is a key that isn't known, or is given twice, or empty; `array` is the key
+/// of the array that it is in.
+pub(crate) fn push_fault(
+    fault: SiteFault,
+    path: &[u8],
+    line: Option<usize>,
+    array: Option<Key>,
+    key: &[u8],
+    out: &mut Vec<u8>,
+) -> Result<(), AllocError>
+    ensures { OnOk result (out.new.items
+        ≡ out.old.items ++ fault_report fault path.now line array key.now) }
+{
+    push_number(b"fault: ", usize::from(fault.code()), out)?;
+    push_words(b"path: ", path, out)?;
+    push_line(line, out)?;
+    push_detail(fault, array, key, out)?;
+    push_words(b"cause: ", fault.cause().as_bytes(), out)?;
+    push_words(b"remedy: ", fault.remedy().as_bytes(), out)
+}
+
+/// Makes the report of a fault that names no key in an array.
 pub(crate) fn fault_report(
     alloc: Global,
     fault: SiteFault,
     path: &[u8],
     line: Option<usize>,
-    unknown: &[u8],
+    key: &[u8],
 ) -> Result<Vec<u8>, NoMemory>
-    ensures { IfOk result (λ report. report.items ≡ fault_report fault path.now line unknown.now) }
+    ensures { IfOk result (λ words. words.items ≡ fault_report fault path.now line None key.now) }
 {
     let mut report = Vec::new(alloc);
-    push_number(b"fault: ", usize::from(fault.code()), &mut report)?;
-    push_words(b"path: ", path, &mut report)?;
-    push_line(line, &mut report)?;
-    push_detail(fault, unknown, &mut report)?;
-    push_words(b"cause: ", fault.cause().as_bytes(), &mut report)?;
-    push_words(b"remedy: ", fault.remedy().as_bytes(), &mut report)?;
+    push_fault(fault, path, line, None, key, &mut report)?;
     Ok(report)
 }

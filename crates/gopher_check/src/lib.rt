@@ -1,7 +1,7 @@
 //! The check of a site, its settings and the folder that it serves, and its report.
 //!
 //! The crate above uses one contract: `check` reports the first fault of the settings, the folder
-//! or the seeds, or a site without a fault, as `TellsText` defines (`specs/Report.antt`).
+//! or the seeds, or a site without a fault, as `TellsText` defines (`specs/Tells.antt`).
 //!
 //! Error 90 (`NoMemory`) means out of memory; no argument has changed. RFC 1436 doesn't define
 //! settings or reports: this profile defines both.
@@ -11,9 +11,10 @@ mod checking;
 mod fault;
 mod fault_report;
 mod lines;
+mod links;
 mod obstacle;
 mod site_report;
-mod unknown;
+mod table_report;
 
 pub use checking::{Report, check, unreadable};
 pub use fault::SiteFault;

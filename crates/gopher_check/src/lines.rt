@@ -1,7 +1,7 @@
 //! Appending one line to a report: texts in their shown form, numbers, addresses.
 
 ghost use Rattle.std.specs.Prelude.{◌≡◌, ◌++◌, OnOk};
-ghost use Rattle.gopher_check.specs.Lines.{shown_byte, shown, words_line, number_line, server_words, place_rest};
+ghost use Rattle.gopher_check.specs.Lines.{shown_byte, shown, words_line, count_words, number_line, server_words, place_rest};
 
 use gopher_item::is_control;
 use itoa::Buffer;
@@ -47,13 +47,20 @@ pub(crate) fn push_words(front: &[u8], words: &[u8], out: &mut Vec<u8>) -> Resul
     out.extend_from_slice(b"\n")
 }
 
+/// Appends a text and a number.
+pub(crate) fn push_count(front: &[u8], number: usize, out: &mut Vec<u8>) -> Result<(), AllocError>
+    ensures { OnOk result (out.new.items ≡ out.old.items ++ count_words front.now number) }
+{
+    let mut digits = Buffer::new();
+    out.extend_from_slice(front)?;
+    out.extend_from_slice(digits.format(number).as_bytes())
+}
+
 /// Appends a line: the name of a value, and its number.
 pub(crate) fn push_number(front: &[u8], number: usize, out: &mut Vec<u8>) -> Result<(), AllocError>
     ensures { OnOk result (out.new.items ≡ out.old.items ++ number_line front.now number) }
 {
-    let mut digits = Buffer::new();
-    out.extend_from_slice(front)?;
-    out.extend_from_slice(digits.format(number).as_bytes())?;
+    push_count(front, number, out)?;
     out.extend_from_slice(b"\n")
 }
 

@@ -1,15 +1,17 @@
-//! `Obstacle`: the system's reason why a file or folder can't be read, with its cause and remedy.
+//! `Obstacle`: why a file or folder can't be read, or is too much, with the cause and the remedy.
 
-ghost use Rattle.std.specs.Prelude.{◌≡◌};
-ghost use Rattle.gopher_check.specs.Fault.{obstacle_cause, obstacle_of, obstacle_remedy};
+ghost use Rattle.std.specs.Prelude.{◌≡◌, IfErr, IfOk};
+ghost use Rattle.std.specs.IoError.{error_kind};
+ghost use Rattle.gopher_check.specs.Fault.{excess, obstacle_cause, obstacle_of, obstacle_remedy, IsReason};
 
+use gopher_tree::{MAX_BYTES, MAX_FILE, Trail, TreeFault};
 use std::alloc::{AllocGlobal, Global};
 use std::fs::{self, Files};
 use std::io::{self, ErrorKind};
 use std::path::Path;
 use std::str;
 
-/// Why a file or folder can't be read.
+/// Why a file or folder can't be read, or is too much.
 #[derive(Clone, Copy, Debug, PartialEq, Eq)]
 pub enum Obstacle {
     /// A name in the folder isn't UTF-8.
@@ -24,6 +26,12 @@ pub enum Obstacle {
     Loop,
     /// The system gives another reason, or reading succeeds now.
     Other,
+    /// The file has too many bytes; with their number.
+    LargeFile(usize),
+    /// The files up to this one have too many bytes together; with their number.
+    LargeSite(usize),
+    /// There are too many files and folders up to this one; with their number, and the root.
+    ManyNodes(usize),
 }
 
 impl Obstacle {
@@ -38,6 +46,10 @@ impl Obstacle {
             Obstacle::NotFolder => "this isn't a folder",
             Obstacle::Loop => "symbolic links form a loop",
             Obstacle::Other => "the system couldn't read this",
+            Obstacle::LargeFile(_) => "this file has over 16777216 bytes",
+            Obstacle::LargeSite(_) => "the files up to this one have over 67108864 bytes together",
+            Obstacle::ManyNodes(_) =>
+                "there are over 4096 files and folders up to this one, with the root",
         }
     }
 
@@ -53,6 +65,10 @@ impl Obstacle {
             Obstacle::NotFolder => "correct root in the settings",
             Obstacle::Loop => "remove the link",
             Obstacle::Other => "read it as the server's user to see the reason",
+            Obstacle::LargeFile(_) => "make it smaller, or remove it",
+            Obstacle::LargeSite(_) => "serve fewer or smaller files",
+            Obstacle::ManyNodes(_) =>
+                "serve fewer files, or remove a symbolic link that points to a folder above it",
         }
     }
 }
@@ -89,13 +105,53 @@ fn read_at<R: Files>(rt: &R, alloc: Global, path: Path<'_>) -> io::Result<()> {
     Ok(())
 }
 
-/// Reads the file or folder at `path` once more. Returns the system's reason why that fails.
-pub(crate) fn obstacle_at<R: Files>(rt: &R, alloc: Global, path: &[u8]) -> Obstacle {
-    let Ok(path) = str::from_utf8(path) else {
-        return Obstacle::Other;
-    };
-    match read_at(rt, alloc, Path::new(path)) {
+// The reason why a read failed.
+fn obstacle_of_read(read: io::Result<()>) -> Obstacle
+    ensures well { IfOk read (λ done. result ≡ Obstacle.Other) }
+    ensures failed { IfErr read (λ error. result ≡ obstacle_of (error_kind error)) }
+{
+    match read {
         Ok(()) => Obstacle::Other,
         Err(error) => obstacle_of(error.kind()),
+    }
+}
+
+// Reads the file or folder at `path` once more. Returns the system's reason why that fails.
+fn obstacle_at<R: Files>(rt: &R, alloc: Global, path: &[u8]) -> Obstacle {
+    match str::from_utf8(path) {
+        Ok(path) => obstacle_of_read(read_at(rt, alloc, Path::new(path))),
+        Err(_) => Obstacle::Other,
+    }
+}
+
+// The limit that a tree passes at the end of a trail, after `number` files.
+fn excess(number: usize, trail: &Trail) -> Obstacle
+    ensures { result ≡ excess number trail.now }
+{
+    let bytes = trail.bytes.saturating_add(trail.size);
+    if trail.size > MAX_FILE {
+        Obstacle::LargeFile(trail.size)
+    } else if bytes > MAX_BYTES {
+        Obstacle::LargeSite(bytes)
+    } else {
+        Obstacle::ManyNodes(trail.folders.len().saturating_add(number).saturating_add(2))
+    }
+}
+
+/// Returns why a walk stopped with a fault at the end of its trail, at `place`. If something
+/// couldn't be read, it is read once more.
+pub(crate) fn reason<R: Files>(
+    rt: &R,
+    alloc: Global,
+    fault: TreeFault,
+    trail: &Trail,
+    place: &[u8],
+) -> Obstacle
+    ensures { IsReason fault trail.now result }
+{
+    match fault {
+        TreeFault::TooBig { file } => excess(file, trail),
+        TreeFault::Unreadable { .. } => obstacle_at(rt, alloc, place),
+        _ => Obstacle::Other,
     }
 }

@@ -1,14 +1,15 @@
-//! The report of a site without a fault: address, sizes, seeds and rules.
+//! The report of a site without a fault: address, sizes, seeds, rules and warnings.
 
 ghost use Rattle.std.specs.Prelude.{◌≡◌, ◌++◌, IfOk, OnOk};
 ghost use Rattle.std.specs.List.{flat_map};
 ghost use Rattle.gopher_scope.specs.Settings.{settings_data};
-ghost use Rattle.gopher_check.specs.Report.{address_lines, size_lines, seed_line, rule_line, rule_lines, seeds_warning, site_report};
+ghost use Rattle.gopher_check.specs.Report.{address_lines, size_lines, seed_line, rule_line, rule_lines, seeds_warning, leaves_nothing_out, counts_line, left_line, left_out, warnings, site_report};
 
-use crate::lines::{push_address, push_number, push_server, push_words};
+use crate::lines::{push_address, push_count, push_number, push_server, push_words};
+use crate::links::{Site, offers_search, push_dead_lines};
 use gopher_item::{Home, NoMemory, Place};
 use gopher_scope::{Rule, Settings};
-use gopher_tree::Tree;
+use gopher_tree::{Trail, Tree};
 use std::alloc::{AllocError, Global};
 
 // Appends the server's address and the folder.
@@ -64,28 +65,94 @@ fn push_rules(front: &[u8], rules: &[Rule], out: &mut Vec<u8>) -> Result<(), All
     Ok(())
 }
 
-// Appends the line that says that searches find nothing, if there are no seeds.
-fn push_warning(seeds: &[Place], out: &mut Vec<u8>) -> Result<(), AllocError>
-    ensures { OnOk result (out.new.items ≡ out.old.items ++ seeds_warning seeds.now) }
+// Appends the line that says that searches find nothing, if there are no seeds and a menu offers a
+// search.
+fn push_seeds_warning(seeds: &[Place], offered: bool, out: &mut Vec<u8>) -> Result<(), AllocError>
+    ensures { OnOk result (out.new.items ≡ out.old.items ++ seeds_warning seeds.now offered) }
 {
-    match seeds {
-        [] => out.extend_from_slice(
+    if seeds.is_empty() && offered {
+        return out.extend_from_slice(
             b"warning: searches find nothing, because the settings have no [[seeds]]\n",
-        ),
-        [_, ..] => Ok(()),
+        );
     }
+    Ok(())
+}
+
+// Whether nothing was left out.
+fn leaves_nothing_out(empty: usize, nowhere: usize, hidden: usize) -> bool
+    ensures { result ≡ leaves_nothing_out empty nowhere hidden }
+{
+    empty == 0 && nowhere == 0 && hidden == 0
+}
+
+// Appends the line with these numbers.
+fn push_counts(
+    empty: usize,
+    nowhere: usize,
+    hidden: usize,
+    out: &mut Vec<u8>,
+) -> Result<(), AllocError>
+    ensures { OnOk result (out.new.items ≡ out.old.items ++ counts_line empty nowhere hidden) }
+{
+    push_count(b"warning: not served: empty folders ", empty, out)?;
+    push_count(b", links to nothing and devices ", nowhere, out)?;
+    push_number(b", hidden names ", hidden, out)
+}
+
+// Appends the line with these numbers, unless all are 0.
+fn push_left(
+    empty: usize,
+    nowhere: usize,
+    hidden: usize,
+    out: &mut Vec<u8>,
+) -> Result<(), AllocError>
+    ensures { OnOk result (out.new.items ≡ out.old.items ++ left_line empty nowhere hidden) }
+{
+    if leaves_nothing_out(empty, nowhere, hidden) {
+        return Ok(());
+    }
+    push_counts(empty, nowhere, hidden, out)
+}
+
+// Appends the line that counts what isn't served, if there is something.
+fn push_left_out(tree: &Tree, trail: &Trail, out: &mut Vec<u8>) -> Result<(), AllocError>
+    ensures { OnOk result (out.new.items ≡ out.old.items ++ left_out tree.now trail.now) }
+{
+    let empty = tree.number_of_missing(&trail.folders);
+    push_left(empty, trail.nowhere, trail.hidden, out)
+}
+
+// Appends the warnings of a site.
+fn push_warnings(
+    alloc: Global,
+    site: &Site<'_>,
+    seeds: &[Place],
+    trail: &Trail,
+    out: &mut Vec<u8>,
+) -> Result<(), NoMemory>
+    ensures { OnOk result (out.new.items ≡ out.old.items ++ warnings site.now seeds.now trail.now) }
+{
+    let menus = site.tree.menu_files(alloc)?;
+    let offered = offers_search(alloc, site, &menus)?;
+    push_dead_lines(site, &menus, out)?;
+    push_left_out(site.tree, trail, out)?;
+    push_seeds_warning(seeds, offered, out)?;
+    Ok(())
 }
 
 /// Makes the report of a site without a fault. It names the settings file, the address, the root,
 /// the numbers of files, menu files and bytes, the seeds and the rules of its crawl, each on its
-/// own line, and a warning if there are no seeds.
+/// own line, and warnings: lines of menus that lead nowhere, what isn't served, and a search
+/// without seeds.
 pub(crate) fn site_report(
     alloc: Global,
     path: &[u8],
     settings: Settings,
     tree: &Tree,
+    trail: &Trail,
 ) -> Result<Vec<u8>, NoMemory>
-    ensures { IfOk result (λ r. r.items ≡ site_report path.now (settings_data settings) tree.now) }
+    ensures { IfOk result (λ words. words.items
+        ≡ site_report path.now (settings_data settings) tree.now trail.now) }
 {
     let Settings {
         home,
@@ -102,7 +169,12 @@ pub(crate) fn site_report(
     push_seeds(&seeds, &mut report)?;
     push_rules(b"may visit: ", &allow, &mut report)?;
     push_rules(b"may not visit: ", &deny, &mut report)?;
-    push_warning(&seeds, &mut report)?;
+    let site = Site {
+        home: &home,
+        root: root.as_str(),
+        tree,
+    };
+    push_warnings(alloc, &site, &seeds, trail, &mut report)?;
     report.extend_from_slice(b"sound\n")?;
     Ok(report)
 }

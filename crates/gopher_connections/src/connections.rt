@@ -47,6 +47,13 @@ impl<T: Drop> Connections<T> {
         self.held.is_empty()
     }
 
+    /// Returns whether there is a connection at a key.
+    pub fn contains(&self, key: usize) -> bool
+        ensures { result ≡ is_some (connection_at self.now key) }
+    {
+        self.held.contains(&key)
+    }
+
     /// Adds a connection at a new key and returns the key. The connection is then the most recently
     /// used.
     ///

@@ -1,7 +1,7 @@
 //! A queue of keys, first in, first out: whose search is next.
 
-ghost use Rattle.std.specs.Prelude.{◌≡◌, ◌∷◌, ◌++◌, [], OnOk, OnErr};
-ghost use Rattle.gopher_connections.specs.WorkQueue.{first_key, without_key};
+ghost use Rattle.std.specs.Prelude.{◌≡◌, [], length, OnOk, OnErr};
+ghost use Rattle.gopher_connections.specs.WorkQueue.{first_key, has_key, with_key, without_key};
 
 use std::alloc::{AllocError, Global};
 use std::collections::VecDeque;
@@ -24,11 +24,28 @@ impl WorkQueue {
         }
     }
 
-    /// Appends a key.
-    pub fn push(&mut self, key: usize) -> Result<(), AllocError>
-        ensures last { OnOk result (self.new.keys.items ≡ self.old.keys.items ++ key ∷ []) }
+    /// Returns the number of keys.
+    pub fn len(&self) -> usize
+        ensures { result ≡ length self.now.keys.items }
+    {
+        self.keys.len()
+    }
+
+    /// Returns whether a key is there.
+    pub fn contains(&self, key: usize) -> bool
+        ensures { result ≡ has_key key self.now.keys.items }
+    {
+        self.keys.contains(&key)
+    }
+
+    /// Appends a key, unless it is there.
+    pub fn add(&mut self, key: usize) -> Result<(), AllocError>
+        ensures added { OnOk result (self.new.keys.items ≡ with_key key self.old.keys.items) }
         ensures refused { OnErr result (self.new.keys.items ≡ self.old.keys.items) }
     {
+        if self.contains(key) {
+            return Ok(());
+        }
         self.keys.push_back(key)?;
         Ok(())
     }

@@ -201,7 +201,7 @@ spoken given first left w0 line reply steps count next before after Paused (inr 
 spoken given first left w0 line reply steps count next before after Works (silent, fewer) so_far = said_none given first left w0 line reply steps count next before after silent so_far
 spoken given first left w0 line reply steps count next before after Waits still so_far = said_still given first left w0 (Responds line reply steps count) next before after still so_far
 spoken given first left w0 line reply steps count next before after (Failed fault) (inl (why, still)) so_far = said_still given first left w0 (Responds line reply steps count) next before after still so_far
-spoken given first left w0 line reply steps count next before after (Failed fault) (inr (why, silent)) so_far = said_none given first left w0 line reply steps count next before after silent so_far
+spoken given first left w0 line reply steps count next before after (Failed fault) (inr (why, silent, kept)) so_far = said_none given first left w0 line reply steps count next before after silent so_far
 
 -- ---- answers
 

@@ -41,7 +41,7 @@ says_count talk next before after Paused (inr still) = counted _ _ still.count
 says_count talk next before after Works (silent, fewer) = same_count before after silent.same
 says_count talk next before after Waits still = counted _ _ still.count
 says_count talk next before after (Failed fault) (inl (why, still)) = counted _ _ still.count
-says_count talk next before after (Failed fault) (inr (why, silent)) = same_count before after silent.same
+says_count talk next before after (Failed fault) (inr (why, silent, kept)) = same_count before after silent.same
 
 pub steps_count : {A : Type 0} (gives : A → A → List ℕ → List ℕ → Type 0) (talk next : Talk) (a b : A) (had left before after : StreamData) (turn : Progress)
     → StepsOverStreams gives talk next a b had left before after turn → (had.failures ≤ left.failures) × (before.failures ≤ after.failures)
@@ -81,7 +81,7 @@ says_stop line reply steps count next r0 r1 before after Works (silent, fewer) e
 says_stop line reply steps count next r0 r1 before after Waits still ends = inr (has_failed _ _ still.count)
 says_stop line reply steps count next r0 r1 before after (Failed fault) (inl (why, still)) ends =
     subst (λ (f : ServeFault). StopsWithCounts next r0 r1 before.failures after.failures (Failed f)) (sym why) (has_failed _ _ still.count)
-says_stop line reply steps count next r0 r1 before after (Failed fault) (inr (why, silent)) ends =
+says_stop line reply steps count next r0 r1 before after (Failed fault) (inr (why, silent, kept)) ends =
     subst (λ (f : ServeFault). StopsWithCounts next r0 r1 before.failures after.failures (Failed f)) (sym why) tt
 
 pub steps_stop : {A : Type 0} (gives : A → A → List ℕ → List ℕ → Type 0) (talk next : Talk) (a b : A) (had left before after : StreamData) (turn : Progress)

@@ -111,11 +111,12 @@ abbrev pub GoesOnSearching : Talk → Talk → StreamData → StreamData → Typ
 GoesOnSearching old new before after =
     IsSilent old new before after × (steps_of new < steps_of old)
 
--- the reply fails because a write failed, or because a step of the search ran out of memory
+-- the reply fails because a write failed, or because a step of the search ran out of memory. Then
+-- as many steps are left as before
 abbrev pub FailsToSay : Talk → Talk → StreamData → StreamData → ServeFault → Type 0
 FailsToSay old new before after fault =
     ((fault ≡ WriteFailed) × IsStill old new before after)
-    ⊎ ((fault ≡ NoMemory) × IsSilent old new before after)
+    ⊎ ((fault ≡ NoMemory) × IsSilent old new before after × (steps_of new ≡ steps_of old))
 
 -- the effect of one write, or of one step of the search for the reply, by its progress
 abbrev pub Says : Talk → Talk → StreamData → StreamData → Progress → Type 0

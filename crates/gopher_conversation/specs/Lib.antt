@@ -1,5 +1,4 @@
 pub mod Fault
-pub mod Answers
 pub mod Leads
 pub mod Serve
 pub mod Talk

@@ -3,7 +3,7 @@
 ghost use Rattle.std.specs.Prelude.{◌≡◌, ◌<◌, ◌≤◌, ◌+◌, ◌^◌, ◌⊎◌, length, IfOk, OnErr};
 ghost use Rattle.gopher_conversation.specs.Advance.{FailsIfRefused, GoesOn, HearsOutcome, IsProgressAfter, ReadsIfGathering, ReadsOnce, Records, Replies, RepliesIfAsked, WritesIfAnswered, WritesOnce, progress_after};
 ghost use Rattle.gopher_conversation.specs.Leads.{Leads};
-ghost use Rattle.gopher_conversation.specs.Talk.{NearsReply, OnlySearches, sent_of, unsent_of};
+ghost use Rattle.gopher_conversation.specs.Talk.{NearsReply, OnlySearches, sent_of, steps_of, unsent_of};
 ghost use Rattle.gopher_conversation.specs.declared.advancing.Progress.TheVariants.{Failed, Works};
 ghost use Rattle.gopher_conversation.specs.declared.fault.ServeFault.TheVariants.{NoMemory, ReadFailed, WriteFailed};
 
@@ -137,6 +137,8 @@ fn ask<'a, A: Answers<'a>>(
 fn search(alloc: Global, conversation: &mut Conversation<'_>) -> Progress
     ensures same { OnlySearches conversation.old conversation.new }
     ensures nears { result ≡ Works → NearsReply conversation.old conversation.new }
+    ensures refused { result ≡ Failed NoMemory
+        → steps_of conversation.new ≡ steps_of conversation.old }
     ensures ends { (result ≡ Works) ⊎ (result ≡ Failed NoMemory) }
 {
     match conversation.search(alloc) {

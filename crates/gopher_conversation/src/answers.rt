@@ -11,7 +11,7 @@ use std::alloc::Global;
 /// before and the state after, also if the call fails.
 pub trait Answers<'a> {
     ghost use Rattle.std.specs.Prelude.{ℕ, List, IfOk};
-    ghost use Rattle.gopher_conversation.specs.Answers.{HasBytes};
+    ghost use Rattle.gopher_replies.specs.Answer.{answer_bytes};
 
     ghost gives: { Self → Self → List ℕ → List ℕ → Type 0 };
 
@@ -23,6 +23,7 @@ pub trait Answers<'a> {
     ///
     /// Out of memory (90).
     fn answer(&mut self, alloc: Global, line: &[u8]) -> Result<Answer<'a>, NoMemory>
-        ensures gives { IfOk result (HasBytes (gives self.old self.new line.now)) }
+        ensures gives { IfOk result (λ answer. gives self.old self.new line.now
+            (answer_bytes answer)) }
         ensures leads { leads_to self.old self.new };
 }

@@ -1,10 +1,10 @@
 //! A conversation with one client, as a value without streams (`Conversation`).
 
-ghost use Rattle.std.specs.Prelude.{◌≡◌, ◌<◌, ◌≤◌, ◌+◌, ◌^◌, [], length, false, true, IfSome, OnOk};
+ghost use Rattle.std.specs.Prelude.{◌≡◌, ◌<◌, ◌≤◌, ◌+◌, ◌^◌, [], length, false, true, IfSome, OnErr, OnOk};
 ghost use Rattle.std.specs.Option.{option_map};
 ghost use Rattle.std.specs.Io.BufRead.{first_line, strip_last};
 ghost use Rattle.gopher_text.specs.Line.{has_feed};
-ghost use Rattle.gopher_conversation.specs.Talk.{Hears, IsAskedLine, NearsReply, OnlySearches, asked_of, heard, is_known, said, sendable_of, sent_of, stage_of, unsent_of};
+ghost use Rattle.gopher_conversation.specs.Talk.{Hears, IsAskedLine, NearsReply, OnlySearches, asked_of, heard, is_known, said, sendable_of, sent_of, stage_of, steps_of, unsent_of};
 ghost use Rattle.gopher_conversation.specs.Talk.{Gathers};
 ghost use Rattle.gopher_conversation.specs.TalkOf.{IsAnswered, IsPhaseAt, reply_in};
 
@@ -201,10 +201,11 @@ impl<'a> Conversation<'a> {
     }
 
     // Takes the next step of the search that makes its reply, if there is one. Then the reply is
-    // there, or fewer steps are left.
+    // there, or fewer steps are left. If it fails, as many are left as before.
     pub(crate) fn search(&mut self, alloc: Global) -> Result<(), NoMemory>
         ensures same { OnlySearches self.old self.new }
         ensures nears { OnOk result (NearsReply self.old self.new) }
+        ensures refused { OnErr result (steps_of self.new ≡ steps_of self.old) }
     {
         let Phase::Answering(answer) = &mut self.phase else {
             return Ok(());

@@ -16,11 +16,9 @@ mod answers;
 mod conversation;
 mod conversing;
 mod fault;
-mod serving;
 
 pub use advancing::{Progress, advance};
 pub use answers::Answers;
 pub use conversation::Conversation;
 pub use conversing::converse;
 pub use fault::ServeFault;
-pub use serving::serve_with;

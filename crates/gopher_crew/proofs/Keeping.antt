@@ -6,7 +6,7 @@ use Rattle.gopher_catalogue.specs.declared.event.EventData.TheVariants.{Claimed}
 use Rattle.gopher_catalogue.specs.Step.{TurnData, Take, Idle, Finished, after_turn}
 use Rattle.gopher_catalogue.proofs.LegalSizes.{length-record_fits}
 use Rattle.gopher_crew.specs.Crew.{FollowerData, KeepsRecord, ShareData}
-use Rattle.gopher_crew.specs.Kept.{rise_of, Claims}
+use Rattle.gopher_crew.specs.Kept.{rise_of, Later, Claims}
 use Rattle.gopher_crew.proofs.Prefixes.{prefix_self, prefix_push, prefix_trans}
 
 -- a record begins with the record before a turn
@@ -28,16 +28,14 @@ few_events record_ follower count kept = omega (arith, length-record_fits record
 pub turn_keeps : (prefix record_ : List EventData) (turn : TurnData) → IsPrefix prefix record_ → IsPrefix prefix (after_turn record_ turn)
 turn_keeps prefix record_ turn begun = prefix_trans prefix record_ (after_turn record_ turn) begun (turn_grows record_ turn)
 
--- a claim after a record that begins with an earlier one
-pub claims_later : (turn : TurnData) (old between new : ShareData) → IsPrefix old.seen between.seen → Claims turn between new → Claims turn old new
-claims_later turn old between new seen claims = record {
-  before = claims.before;
-  begins = prefix_trans old.seen between.seen claims.before seen claims.begins;
-  is_turn = claims.is_turn;
-  is_after = claims.is_after;
-  is_legal = claims.is_legal;
+-- what holds on a record after a later one
+pub later_holds : (HoldsOn : List EventData → Type 0) (old between : ShareData) → IsPrefix old.seen between.seen → Later between HoldsOn → Later old HoldsOn
+later_holds HoldsOn old between seen later = record {
+  before = later.before;
+  begins = prefix_trans old.seen between.seen later.before seen later.begins;
+  holds = later.holds;
 }
 
--- what a share has seen after a claim begins with what it had seen
-pub claims_grow : (turn : TurnData) (old new : ShareData) → Claims turn old new → IsPrefix old.seen new.seen
-claims_grow turn old new claims = subst (λ (seen : List EventData). IsPrefix old.seen seen) (sym claims.is_after) (turn_keeps old.seen claims.before turn claims.begins)
+-- what a share has seen after a claim begins with what the record before began with
+pub claims_grow : (turn : TurnData) (share : ShareData) (seen before : List EventData) → IsPrefix seen before → Claims turn share before → IsPrefix seen share.seen
+claims_grow turn share seen before begins claims = subst (λ (now : List EventData). IsPrefix seen now) (sym claims.is_after) (turn_keeps seen before turn begins)

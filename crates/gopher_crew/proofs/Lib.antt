@@ -3,6 +3,7 @@ pub mod Adding
 pub mod Publishing
 pub mod Records
 pub mod Keeping
+pub mod Joining
 pub mod MergeJobs
 pub mod Versions
 pub mod Pairing

@@ -1,6 +1,6 @@
 -- Two lists, place by place.
-use Rattle.std.proofs.Common.{◌≡◌, ℕ, suc, zero, ◌+◌, ◌<◌, List, [], ◌∷◌, ◌++◌, length, get_or, reverse, refl, sym, ap, subst, ◌∙◌, arith, append_assoc}
-use Rattle.std.proofs.lemmas.List.{append-nil, reverse-append, reverse-reverse}
+use Rattle.std.proofs.Common.{◌≡◌, ℕ, suc, ◌+◌, ◌<◌, List, [], ◌∷◌, ◌++◌, length, get_or, reverse, refl, sym, ap, subst, ◌∙◌, arith, append_assoc}
+use Rattle.std.proofs.lemmas.List.{reverse-append}
 use Rattle.std.proofs.lemmas.List.Sums.{sum_by-cons}
 use Rattle.std.proofs.lemmas.Slice.Zip.{all_zipped_more}
 use Rattle.std.specs.List.{AllZip, sum_by}
@@ -15,13 +15,6 @@ pub record Paired {A B : Type 0} (R : A → B → Type 0) (all rest : List A) (y
   pub all_is : done ++ reverse rest ≡ all
   pub zipped : AllZip R done ys
 
-pub none_paired : {A B : Type 0} (R : A → B → Type 0) (all rest : List A) (ys : List B) → rest ≡ reverse all → ys ≡ [] → Paired R all rest ys
-none_paired R all rest ys is none = record {
-  done = [];
-  all_is = ap reverse is ∙ reverse-reverse all;
-  zipped = subst (AllZip R []) (sym none) tt;
-}
-
 pub one_more_paired : {A B : Type 0} (R : A → B → Type 0) (all rest less : List A) (x : A) (ys ys' : List B) (y : B)
     → rest ≡ less ++ x ∷ [] → ys' ≡ ys ++ y ∷ [] → R x y → Paired R all rest ys → Paired R all less ys'
 one_more_paired R all rest less x ys ys' y is more holds paired =
@@ -31,10 +24,6 @@ one_more_paired R all rest less x ys ys' y is more holds paired =
       all_is = append_assoc paired.done (x ∷ []) (reverse less) ∙ ap (λ l. paired.done ++ l) (sym turned) ∙ paired.all_is;
       zipped = subst (AllZip R (paired.done ++ x ∷ [])) (sym more) (all_zipped_more R paired.done ys x y paired.zipped holds);
     }
-
-pub all_paired : {A B : Type 0} (R : A → B → Type 0) (all rest : List A) (ys : List B) → rest ≡ [] → Paired R all rest ys → AllZip R all ys
-all_paired R all [] ys is paired = subst (λ xs. AllZip R xs ys) (sym (append-nil paired.done) ∙ paired.all_is) paired.zipped
-all_paired R all (x ∷ rest) ys is paired = absurd cc
 
 -- from each place to the lists
 pub zip_from_each : {X : Type 0} (R : X → X → Type 0) (xs ys : List X) → length ys ≡ length xs

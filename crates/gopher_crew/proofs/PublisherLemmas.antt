@@ -2,7 +2,6 @@
 use Rattle.std.proofs.Common.{◌≡◌, Bool, true, false, List, [], sym, ap, subst, ◌∙◌}
 use mathlib.Core.List.{IsPrefix}
 use Rattle.logbook.specs.Pages.{Book}
-use Rattle.gopher_catalogue.specs.declared.event.EventData.{EventData}
 use Rattle.gopher_crew.specs.Crew.{all_published}
 use Rattle.gopher_crew.specs.declared.update.Update.{Update}
 use Rattle.gopher_crew.specs.Version.{VersionData, IsVersion, IsPublisher, CatchesUp, Follows, publisher_data, last_of}

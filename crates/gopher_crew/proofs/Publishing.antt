@@ -1,5 +1,5 @@
 -- Entries, publications and new readers keep the rule of what is published.
-use Rattle.std.proofs.Common.{◌≡◌, ◌≢◌, ℕ, List, [], ◌∷◌, ◌++◌, refl, subst, ⊎_elim}
+use Rattle.std.proofs.Common.{◌≡◌, ◌≢◌, ℕ, List, [], refl, subst, ⊎_elim}
 use mathlib.Core.Option.{some}
 use mathlib.Core.List.{IsPrefix}
 use lib.ListN.{get_elem?}
@@ -7,8 +7,7 @@ use Rattle.left_right.specs.Register.{Admits, Turns, TurnsAt}
 use Rattle.atomic_table.proofs.Lists.{at_set, at_snoc}
 use Rattle.logbook.specs.Pages.{Book}
 use Rattle.gopher_catalogue.specs.declared.event.EventData.{EventData}
-use Rattle.gopher_crew.specs.declared.update.Update.{Update}
-use Rattle.gopher_crew.specs.Version.{VersionData, IsVersion, IsPublished, Sees, after_update, last_of, FollowsVersion}
+use Rattle.gopher_crew.specs.Version.{VersionData, IsPublished, Sees, FollowsVersion}
 use Rattle.gopher_crew.proofs.Prefixes.{prefix_self, prefix_none, prefix_trans}
 
 -- a reader that has seen nothing may come at any time
@@ -33,15 +32,3 @@ shows history seat v x y on views h at = (
 -- an entry changes nothing that is published
 pub looks : (history : Book) (seat : ℕ) (v : List EventData) → Turns (IsPublished history) seat v (λ x. x) (Sees history)
 looks history seat v x views h at = shows history seat v x x (h.is_version, prefix_self x.prefix.events) views h at
-
--- at first there is one view, which has seen nothing
-pub shown_first : (history : Book) (x : VersionData) → IsVersion history x → IsPublished history x ([] ∷ [])
-shown_first history x is = record {
-  is_version = is;
-  begins = λ seat v at. ⊎_elim (λ (none : get_elem? [] seat ≡ some v). absurd cc) (λ (e : [] ≡ v). subst (λ (z : List EventData). IsPrefix z x.prefix.events) e (prefix_none x.prefix.events)) (at_snoc [] [] v seat at);
-}
-
--- the update that was appended last is applied to the version that those before it make
-pub last_appended : (before : VersionData) (updates : List Update) (update : Update) → last_of before (updates ++ update ∷ []) ≡ after_update (last_of before updates) update
-last_appended before [] update = refl
-last_appended before (earlier ∷ updates) update = last_appended (after_update before earlier) updates update

@@ -1,5 +1,5 @@
 -- What contracts see of a desk, its passes and its shares.
-use Rattle.std.specs.Prelude.{ℕ, ◌≡◌, ◌+◌, ◌<◌, Bool, true, false, List, length}
+use Rattle.std.specs.Prelude.{ℕ, ◌≡◌, ◌+◌, ◌<◌, Bool, true, false, List, length, Result, Ok, Err}
 use mathlib.Core.List.{IsPrefix}
 use Rattle.gopher_catalogue.specs.declared.event.EventData.{EventData}
 use Rattle.gopher_catalogue.specs.Legal.{IsLegal}
@@ -7,16 +7,27 @@ use Rattle.gopher_catalogue.specs.Pages.{pages_found}
 use Rattle.gopher_page.specs.Query.{TermData}
 use Rattle.gopher_index.specs.Answer.{answer_of}
 use Rattle.gopher_index.specs.declared.hit.Hit.{Hit}
+use Rattle.gopher_text.specs.Watched.{CountsFailure}
+use Rattle.gopher_crew.specs.declared.fault.SearchFault.{SearchFault}
+use Rattle.gopher_crew.specs.declared.fault.SearchFault.TheVariants.{NoEntry, NoMemory}
 
 -- `seen`: the published record that a pass took last. `told`: the longest of the notes that it
 -- heard and of the records that it searched; its next answer's record begins with it. After a
--- search that failed, it may be shorter than what the pass has seen
+-- search that failed, it may be shorter than what the pass has seen. `failed_entries`: how many of
+-- its searches couldn't enter the published version, counted up to 2^64 - 1
 pub record PassData : Type 0 where
   pub seen : List EventData
   pub told : List EventData
+  pub failed_entries : ℕ
 
--- the number of events that a share counts, the number of its parts of the ledger, and the record
--- that the last reply to its holder was on
+-- the failed entries of a pass before and after a search: one more if it fails with 61
+abbrev pub CountsEntry : {T : Type 0} → ℕ → ℕ → Result T SearchFault → Type 0
+CountsEntry before after (Ok found) = after ≡ before
+CountsEntry before after (Err NoEntry) = CountsFailure before after
+CountsEntry before after (Err NoMemory) = after ≡ before
+
+-- the number of events that a share counts, the number of its parts of the ledger, and the longer
+-- of the record that the last reply to its holder was on and of what passes told it
 pub record ShareData : Type 0 where
   pub events : ℕ
   pub parts : ℕ

@@ -1,9 +1,10 @@
 -- Opening and closing a desk.
-use Rattle.std.specs.Prelude.{ℕ, ◌≡◌, ◌≢◌, ◌<◌, ◌-◌, Bool, ◌&&◌, nat_le, MatchBool, List, ◌∷◌, length, replicate}
-use Rattle.std.specs.List.{sum_by}
+use Rattle.std.specs.Prelude.{ℕ, ◌≡◌, ◌≢◌, ◌<◌, ◌+◌, ◌-◌, Bool, ◌&&◌, nat_le, MatchBool, List, ◌∷◌, length, replicate}
+use Rattle.std.specs.List.{All, sum_by}
 use mathlib.Core.List.{IsPrefix}
 use Rattle.logbook.specs.Pages.{Book}
 use Rattle.gopher_catalogue.specs.declared.event.EventData.{EventData}
+use Rattle.gopher_catalogue.specs.Legal.{IsLegal}
 use Rattle.gopher_crew.specs.declared.fault.DeskFault.{DeskFault}
 use Rattle.gopher_crew.specs.declared.fault.DeskFault.TheVariants.{BadCount}
 use Rattle.gopher_crew.specs.Crew.{PassData, ShareData}
@@ -39,7 +40,7 @@ IsDeskFault passes shares fault =
 
 -- a pass that has seen the record, and was told nothing else
 abbrev pub has_seen : List EventData → PassData
-has_seen record_ = record { seen = record_; told = record_ }
+has_seen record_ = record { seen = record_; told = record_; failed_entries = 0 }
 
 -- the shares of a desk that opens over a record. All have seen it. The first counts its events so
 -- far, the others none
@@ -76,7 +77,30 @@ pub record HasAll (parts : ℕ) (shares : List ShareData) : Type 0 where
   pub some : 0 < length shares
   pub whole : parts_of shares ≡ parts
 
--- other shares that count the same number of events, and have the same number of parts
+-- the record begins with what each of these shares saw
+abbrev pub HasAllSeen : List EventData → List ShareData → Type 0
+HasAllSeen record_ shares = All (λ share. IsPrefix share.seen record_) shares
+
+-- other shares that count the same number of events, have the same number of parts, and saw as much
 pub record CountTheSame (old new : List ShareData) : Type 0 where
   pub events : events_of new ≡ events_of old
   pub parts : parts_of new ≡ parts_of old
+  pub seen : (record_ : List EventData) → HasAllSeen record_ new → HasAllSeen record_ old
+
+-- a share after others were merged into it: it counts their events, has their parts, and saw what
+-- each of them saw
+pub record JoinsAll (share : ShareData) (others : List ShareData) (all : ShareData) : Type 0 where
+  pub events : all.events ≡ share.events + events_of others
+  pub parts : all.parts ≡ share.parts + parts_of others
+  pub seen : (record_ : List EventData) → IsPrefix all.seen record_
+      → IsPrefix share.seen record_ × HasAllSeen record_ others
+
+-- The record of a desk that is closed with these shares. It is legal, and begins with the record
+-- that the desk was opened with and with what each share saw. The shares count its events after the
+-- first
+pub record Closes (opened : List EventData) (shares : List ShareData) (record_ : List EventData)
+    : Type 0 where
+  pub legal : IsLegal record_
+  pub goes_on : IsPrefix opened record_
+  pub seen : HasAllSeen record_ shares
+  pub counted : length record_ ≡ events_of shares + 1

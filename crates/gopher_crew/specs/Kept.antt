@@ -1,5 +1,5 @@
 -- What the calls of a desk return, and of which records their notes are.
-use Rattle.std.specs.Prelude.{ℕ, ◌≡◌, ◌≢◌, ◌+◌, Bool, List, [], ◌∷◌, ◌++◌, Option, None, Some, true, false, slice_get}
+use Rattle.std.specs.Prelude.{ℕ, ◌≡◌, ◌≢◌, ◌+◌, List, [], ◌∷◌, ◌++◌, Option, None, Some, true, false, slice_get}
 use mathlib.Core.List.{IsPrefix}
 use Rattle.gopher_page.specs.Page.{PageData}
 use Rattle.gopher_catalogue.specs.declared.event.EventData.{EventData}
@@ -22,10 +22,6 @@ IsNotedOn None record_ published = published ≢ record_
 abbrev pub IsNoted : Option (List EventData) → KeptData → Type 0
 IsNoted note kept = IsNotedOn note kept.events kept.published
 
--- the record after a claim
-abbrev pub IsTurned : KeptData → KeptData → Type 0
-IsTurned old new = new.events ≡ after_turn old.events (turn_of old.events)
-
 -- by how much a share rises at a turn
 abbrev pub rise_of : TurnData → ℕ
 rise_of (Take number place) = 1
@@ -36,37 +32,38 @@ abbrev pub RisesAt : TurnData → ShareData → ShareData → Type 0
 RisesAt turn old new = new.events ≡ old.events + rise_of turn
 
 -- the record begins with this opening
-abbrev pub IsOpeningOf : KeptData → OpeningData → Type 0
-IsOpeningOf kept opening = slice_get kept.events 0 ≡ Some (Opened opening)
+abbrev pub IsOpeningOf : List EventData → OpeningData → Type 0
+IsOpeningOf record_ opening = slice_get record_ 0 ≡ Some (Opened opening)
 
--- On the record before, a claim returns this turn. That record begins with what the share had seen,
--- and the share then has seen the legal record after the turn
-pub record Claims (turn : TurnData) (old new : ShareData) : Type 0 where
+-- on some record that begins with what the share had seen
+pub record Later (share : ShareData) (HoldsOn : List EventData → Type 0) : Type 0 where
   pub before : List EventData
-  pub begins : IsPrefix old.seen before
+  pub begins : IsPrefix share.seen before
+  pub holds : HoldsOn before
+
+-- on the record before, a claim returns this turn. The share then has seen the legal record after
+-- the turn
+pub record Claims (turn : TurnData) (share : ShareData) (before : List EventData) : Type 0 where
   pub is_turn : turn_of before ≡ turn
-  pub is_after : new.seen ≡ after_turn before turn
-  pub is_legal : IsLegal new.seen
+  pub is_after : share.seen ≡ after_turn before turn
+  pub is_legal : IsLegal share.seen
 
--- On the record before, the page is accepted and adds `added`. That record begins with what the
--- share had seen, and the share then has seen the legal record that ends with the page
-pub record Finds (number : ℕ) (page : PageData) (added : Added) (old new : ShareData)
-    : Type 0 where
-  pub before : List EventData
-  pub begins : IsPrefix old.seen before
+-- on the record before, the page is accepted and adds `added`. The share then has seen the legal
+-- record that ends with the page
+pub record Finds (number : ℕ) (page : PageData) (added : Added) (share : ShareData)
+    (before : List EventData) : Type 0 where
   pub is_right : found_fault before number page.place ≡ None
   pub is_added : added_by before number page ≡ added
-  pub is_after : new.seen ≡ before ++ Found number page ∷ []
-  pub is_legal : IsLegal new.seen
+  pub is_after : share.seen ≡ before ++ Found number page ∷ []
+  pub is_legal : IsLegal share.seen
 
--- On the record before, the number is out. That record begins with what the share had seen, and the
--- share then has seen the legal record that ends with the failure
-pub record Fails (number : ℕ) (why : Why) (old new : ShareData) : Type 0 where
-  pub before : List EventData
-  pub begins : IsPrefix old.seen before
+-- on the record before, the number is out. The share then has seen the legal record that ends with
+-- the failure
+pub record Fails (number : ℕ) (why : Why) (share : ShareData) (before : List EventData)
+    : Type 0 where
   pub is_out : is_out_in before number ≡ true
-  pub is_after : new.seen ≡ before ++ Failed number why ∷ []
-  pub is_legal : IsLegal new.seen
+  pub is_after : share.seen ≡ before ++ Failed number why ∷ []
+  pub is_legal : IsLegal share.seen
 
 -- a turn other than waiting for the outcomes of others
 abbrev pub IsNotIdle : TurnData → Type 0
@@ -90,14 +87,13 @@ RefusesFind number page fault share =
 abbrev pub RefusesFailure : ℕ → ShareData → Type 0
 RefusesFailure number share = (is_out_in share.seen number ≡ false) × IsLegal share.seen
 
--- a legal record begins with this opening
-pub record BeginsWith (opening : OpeningData) : Type 0 where
+-- the status of a legal record that begins with the one that a desk was opened with
+pub record IsStatusAfter (opened : List EventData) (status : Status) : Type 0 where
   pub record_ : List EventData
-  pub is_opening : slice_get record_ 0 ≡ Some (Opened opening)
-  pub is_legal : IsLegal record_
-
--- the status of a legal record
-pub record IsStatus (status : Status) : Type 0 where
-  pub record_ : List EventData
+  pub begins : IsPrefix opened record_
   pub is_legal : IsLegal record_
   pub is_status : status ≡ status_of record_
+
+-- this is the status of the legal record that the share has seen
+abbrev pub IsStatusOn : ShareData → Status → Type 0
+IsStatusOn share status = (status ≡ status_of share.seen) × IsLegal share.seen

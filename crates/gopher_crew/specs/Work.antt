@@ -1,7 +1,8 @@
 -- What a worker does.
-use Rattle.std.specs.Prelude.{ℕ, ◌≡◌, ◌+◌, ◌*◌, ◌≤◌, ◌⊎◌, false, min, List, Option, Some, None, Result, Ok, Err}
+use Rattle.std.specs.Prelude.{ℕ, ◌≡◌, ◌+◌, ◌*◌, ◌≤◌, ◌⊎◌, min, List, Option, Some, None, Result, Ok, Err}
 use Rattle.std.specs.List.{sum_by}
 use Rattle.std.specs.Arc.{arc_value}
+use mathlib.Core.List.{IsPrefix}
 use Rattle.std.specs.declared.sync.Arc.{Arc}
 use Rattle.gopher_item.specs.Place.{PlaceData}
 use Rattle.gopher_item.specs.Scope.{ScopeData}
@@ -82,6 +83,7 @@ RisesByOutcomes old new =
 pub record Works (before : ShareData) (calls : ℕ) (after : ShareData) (calls' outcomes : ℕ)
     (stop : Stop) : Type 0 where
   pub is_stop : IsStop stop after
+  pub begins : IsPrefix before.seen after.seen
   pub at_least : before.events + 2 * outcomes ≤ after.events
   pub is_paid : IsPaid before after calls calls'
   pub same_parts : after.parts ≡ before.parts

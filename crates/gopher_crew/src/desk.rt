@@ -1,13 +1,12 @@
 //! `Desk`: the lock at which a crew's workers share one catalogue.
 
 ghost use Rattle.std.specs.Arc.{arc_value};
-ghost use Rattle.std.specs.Prelude.{◌≡◌, ◌≢◌, ◌+◌, ◌≤◌, [], length, true, false, vec_capacity, IfOk, IfErr, IfSome, IsOk, OnOk, OnErr};
+ghost use Rattle.std.specs.Prelude.{◌≡◌, ◌+◌, ◌≤◌, [], true, vec_capacity, IfOk, IfErr, IfSome, OnOk, OnErr};
 ghost use mathlib.Core.List.{IsPrefix};
-ghost use Rattle.gopher_catalogue.specs.Legal.{IsLegal};
 ghost use Rattle.gopher_catalogue.specs.Turn.{turn_data};
 ghost use Rattle.gopher_crew.specs.Crew.{all_published};
-ghost use Rattle.gopher_crew.specs.Desk.{are_counts, shares_at, events_of, AllHaveSeen, CountTheSame, ComesBack, IsBlankOf, IsDeskFault, HasAll};
-ghost use Rattle.gopher_crew.specs.Kept.{RisesAt, Claims, Finds, Fails, RefusesFind, RefusesFailure, LetsClaim, BeginsWith, IsNotIdle, IsStatus};
+ghost use Rattle.gopher_crew.specs.Desk.{are_counts, shares_at, AllHaveSeen, ComesBack, IsBlankOf, IsDeskFault, HasAll};
+ghost use Rattle.gopher_crew.specs.Kept.{RisesAt, Later, Claims, Finds, Fails, RefusesFind, RefusesFailure, LetsClaim, IsNotIdle, IsOpeningOf, IsStatusAfter, IsStatusOn};
 
 use crate::blank::Blank;
 use crate::crew::Crew;
@@ -19,20 +18,39 @@ use crate::opening::{cut, publisher_with_passes};
 use crate::pass::Pass;
 use crate::publisher::Publisher;
 use crate::record_follower::RecordFollower;
-use crate::refusals::{CloseRefused, DeskRefused};
+use crate::record_prefix::RecordPrefix;
+use crate::refusals::DeskRefused;
 use crate::share::Share;
 use gopher_catalogue::{Added, Catalogue, FailRefused, FoundRefused, Opening, Status, Turn, Why};
 use gopher_item::NoMemory;
 use gopher_page::Page;
 use std::alloc::Global;
+use std::marker::Model;
 use std::sync::{Arc, Condvar, Mutex, MutexGuard, Wait};
 
-/// One catalogue that several workers crawl together while passes search its snapshots.
+/// One catalogue that several workers crawl together while passes search its snapshots. Contracts
+/// see the record with which it was opened.
 #[derive(Drop)]
 pub struct Desk<C: Crew, R: Wait + Drop> {
-    kept: Mutex<Kept<C, R>>,
-    outcomes: Condvar,
-    memory: PageMemory,
+    pub(crate) opened: RecordPrefix,
+    pub(crate) opening: Arc<Opening>,
+    pub(crate) kept: Mutex<Kept<C, R>>,
+    pub(crate) outcomes: Condvar,
+    pub(crate) memory: PageMemory,
+}
+
+impl<C: Crew, R: Wait + Drop> Model for Desk<C, R> {
+    ghost use Rattle.std.specs.Arc.{arc_value};
+    ghost use Rattle.std.specs.Prelude.{◌≡◌, List};
+    ghost use Rattle.gopher_catalogue.specs.declared.event.EventData.{EventData};
+    ghost use Rattle.gopher_crew.specs.Kept.{IsOpeningOf};
+
+    ghost Value = { List EventData };
+
+    ghost view = { λ d. d.opened.events };
+
+    ghost invariant = { λ d. (d.opened.history ≡ C.history)
+        × IsOpeningOf d.opened.events (arc_value d.opening) };
 }
 
 fn are_counts(passes: u32, shares: u32) -> bool
@@ -58,6 +76,7 @@ fn refused(fault: DeskFault, catalogue: Catalogue, blank: Blank) -> DeskRefused
 fn start<C: Crew, R: Wait + Drop>(
     alloc: Global,
     catalogue: Catalogue,
+    opening: Arc<Opening>,
     blank: Blank,
     publisher: Publisher<C, R>,
     shares: u32,
@@ -65,10 +84,12 @@ fn start<C: Crew, R: Wait + Drop>(
 ) -> Desk<C, R>
     requires blank { IsBlankOf C.name C.parts C.history blank }
     requires begun { blank.begun ≡ catalogue }
+    requires opening { IsOpeningOf catalogue (arc_value opening) }
     requires shown { publisher ≡ all_published catalogue }
     requires counts { (1 ≤ shares) × (shares ≤ 16) }
     requires empty { list.old.items ≡ [] }
     requires room { shares ≤ vec_capacity list.old }
+    ensures desk { result ≡ catalogue }
     ensures shares { list.new.items ≡ shares_at catalogue shares }
     ensures whole { HasAll C.parts list.new.items }
 {
@@ -81,8 +102,11 @@ fn start<C: Crew, R: Wait + Drop>(
     let (mut book, mut whole) = count.open::<C>();
     book.add(&mut whole, events);
     cut(whole, events, shares, &prefix, list);
+    let opened = prefix.copy();
     let follower = RecordFollower::new(alloc, head, prefix, publisher);
     Desk {
+        opened,
+        opening,
         kept: Mutex::new(Kept::new(catalogue, book, follower)),
         outcomes: Condvar::new(),
         memory: PageMemory::unlimited(),
@@ -90,12 +114,11 @@ fn start<C: Crew, R: Wait + Drop>(
 }
 
 // Claims the first waiting place, and lets go of the note.
-#[tactic(auto, using(crate::proofs::Keeping::claims_grow))]
 fn claim_at<C: Crew, R: Wait + Drop>(
     kept: &mut Kept<C, R>,
     share: &mut Share<C>,
 ) -> Result<Turn, NoMemory>
-    ensures answered { IfOk result (λ turn. Claims (turn_data turn) share.old share.new) }
+    ensures answered { IfOk result (λ it. Later share.old (Claims (turn_data it) share.new)) }
     ensures share { IfOk result (λ turn. RisesAt (turn_data turn) share.old share.new) }
     ensures parts { share.new.parts ≡ share.old.parts }
     ensures waits { OnErr result (LetsClaim share.new) }
@@ -133,6 +156,7 @@ impl<C: Crew, R: Wait + Drop> Desk<C, R> {
         requires blank { IsBlankOf C.name C.parts C.history blank }
         requires begun { IsPrefix blank.begun catalogue }
         ensures ok { OnOk result (are_counts passes shares ≡ true) }
+        ensures desk { IfOk result (λ opened. opened.0 ≡ catalogue) }
         ensures passes { IfOk result (λ opened. AllHaveSeen catalogue passes opened.1.items) }
         ensures shares { IfOk result (λ opened. opened.2.items ≡ shares_at catalogue shares) }
         ensures whole { IfOk result (λ opened. HasAll C.parts opened.2.items) }
@@ -150,9 +174,14 @@ impl<C: Crew, R: Wait + Drop> Desk<C, R> {
         let Ok(mut list) = Vec::with_capacity(alloc, shares as usize) else {
             return Err(refused(DeskFault::NoMemory, catalogue, blank));
         };
+        let Ok(opening) = catalogue.opening().clone() else {
+            return Err(refused(DeskFault::NoMemory, catalogue, blank));
+        };
         match publisher_with_passes(alloc, rt, catalogue.index(), blank.prefix(), passes) {
             Ok((publisher, passes)) => {
-                let desk = start(alloc, catalogue, blank, publisher, shares, &mut list);
+                let desk = start(
+                    alloc, catalogue, opening, blank, publisher, shares, &mut list,
+                );
                 Ok((desk, passes, list))
             }
             Err(fault) => Err(refused(fault, catalogue, blank)),
@@ -173,7 +202,7 @@ impl<C: Crew, R: Wait + Drop> Desk<C, R> {
         rt: &W,
         share: &mut Share<C>,
     ) -> Result<(Turn, Option<Note<C>>), NoMemory>
-        ensures answered { IfOk result (λ reply. Claims (turn_data reply.0) share.old share.new) }
+        ensures answered { IfOk result (λ it. Later share.old (Claims (turn_data it.0) share.new)) }
         ensures noted { IfOk result (λ reply. IfSome reply.1 (λ note. note ≡ share.new.seen)) }
         ensures share { IfOk result (λ reply. RisesAt (turn_data reply.0) share.old share.new) }
         ensures parts { share.new.parts ≡ share.old.parts }
@@ -202,7 +231,7 @@ impl<C: Crew, R: Wait + Drop> Desk<C, R> {
         number: u32,
         page: Page,
     ) -> Result<(Added, Option<Note<C>>), FoundRefused>
-        ensures answered { IfOk result (λ reply. Finds number page reply.0 share.old share.new) }
+        ensures answered { IfOk result (λ it. Later share.old (Finds number page it.0 share.new)) }
         ensures noted { IfOk result (λ reply. IfSome reply.1 (λ note. note ≡ share.new.seen)) }
         ensures share { OnOk result (share.new.events ≡ share.old.events + 1) }
         ensures parts { share.new.parts ≡ share.old.parts }
@@ -230,7 +259,7 @@ impl<C: Crew, R: Wait + Drop> Desk<C, R> {
         number: u32,
         why: Why,
     ) -> Result<Option<Note<C>>, FailRefused>
-        ensures answered { OnOk result (Fails number why share.old share.new) }
+        ensures answered { OnOk result (Later share.old (Fails number why share.new)) }
         ensures refused { OnErr result (RefusesFailure number share.new) }
         ensures noted { IfOk result (λ note. IfSome note (λ noted. noted ≡ share.new.seen)) }
         ensures share { OnOk result (share.new.events ≡ share.old.events + 1) }
@@ -243,11 +272,11 @@ impl<C: Crew, R: Wait + Drop> Desk<C, R> {
         Ok(note)
     }
 
-    /// Returns a shared handle of the crawl's opening.
-    pub(crate) fn opening<W: Wait>(&self, rt: &W) -> Result<Arc<Opening>, NoMemory>
-        ensures { IfOk result (λ opening. BeginsWith (arc_value opening)) }
+    /// Returns the crawl's opening.
+    pub(crate) fn opening(&self) -> &Opening
+        ensures { IsOpeningOf self.now result.now }
     {
-        self.kept.lock(rt).opening()
+        &self.opening
     }
 
     // Merges one run of pages while it holds no lock, if one is due, and puts the segment in their
@@ -271,14 +300,14 @@ impl<C: Crew, R: Wait + Drop> Desk<C, R> {
     ///
     /// # Errors
     /// `NoMemory` (90), only if a place waits.
-    #[tactic(auto, using(crate::proofs::Keeping::claims_later, crate::proofs::Prefixes::prefix_self, crate::proofs::Prefixes::prefix_trans))]
+    #[tactic(auto, using(crate::proofs::Keeping::later_holds, crate::proofs::Prefixes::prefix_self, crate::proofs::Prefixes::prefix_trans))]
     pub(crate) fn next<W: Wait>(
         &self,
         rt: &W,
         alloc: Global,
         share: &mut Share<C>,
     ) -> Result<Turn, NoMemory>
-        ensures answered { IfOk result (λ turn. Claims (turn_data turn) share.old share.new) }
+        ensures answered { IfOk result (λ it. Later share.old (Claims (turn_data it) share.new)) }
         ensures not_idle { IfOk result (λ turn. IsNotIdle (turn_data turn)) }
         ensures share { IfOk result (λ turn. RisesAt (turn_data turn) share.old share.new) }
         ensures parts { share.new.parts ≡ share.old.parts }
@@ -320,74 +349,22 @@ impl<C: Crew, R: Wait + Drop> Desk<C, R> {
         &self.memory
     }
 
-    /// Returns the number of places in each state. They are those of a legal record.
+    /// Returns the number of places in each state. They are those of a legal record, which begins
+    /// with the one that the desk was opened with.
     pub fn status<W: Wait>(&self, rt: &W) -> Status
-        ensures { IsStatus result }
+        ensures { IsStatusAfter self.now result }
     {
-        self.kept.lock(rt).status()
+        self.kept.lock(rt).status_after(&self.opened)
     }
 
-    // Returns what the desk keeps, if the shares count all events of the record after the first.
-    fn gathered(self, shares: Vec<Share<C>>) -> Result<Kept<C, R>, CloseRefused<C, R>>
-        ensures counted { IfOk result (λ kept. length kept.events ≡ events_of shares.items + 1) }
-        ensures events { IfErr result (λ refused. refused.events ≢ events_of shares.items) }
-        ensures joined { IfErr result (λ refused. CountTheSame shares.items refused.shares.items) }
-        ensures whole { HasAll C.parts shares.items → IsOk result }
+    /// Returns the number of places in each state. They are those of the record that the share then
+    /// has seen.
+    pub fn status_for<W: Wait>(&self, rt: &W, share: &mut Share<C>) -> Status
+        ensures status { IsStatusOn share.new result }
+        ensures seen { IsPrefix share.old.seen share.new.seen }
+        ensures events { share.new.events ≡ share.old.events }
+        ensures parts { share.new.parts ≡ share.old.parts }
     {
-        let Desk {
-            kept,
-            outcomes,
-            memory,
-        } = self;
-        let mut kept = kept.into_inner();
-        let mut shares = shares;
-        let sum = kept.gather(&mut shares);
-        let events = kept.events();
-        if sum != events {
-            let kept = Mutex::new(kept);
-            let desk = Desk {
-                kept,
-                outcomes,
-                memory,
-            };
-            return Err(CloseRefused {
-                desk,
-                shares,
-                events,
-            });
-        }
-        Ok(kept)
-    }
-
-    /// Closes the desk and returns its catalogue. With all shares that `open` returned, it never
-    /// fails.
-    ///
-    /// # Errors
-    /// `CloseRefused` (62): the shares don't count all events of the record after the first. The
-    /// error has the desk, and the shares merged into one.
-    pub fn close(self, shares: Vec<Share<C>>) -> Result<Catalogue, CloseRefused<C, R>>
-        ensures counted { IfOk result (λ catalogue. length catalogue ≡ events_of shares.items + 1) }
-        ensures legal { IfOk result (λ catalogue. IsLegal catalogue) }
-        ensures events { IfErr result (λ refused. refused.events ≢ events_of shares.items) }
-        ensures joined { IfErr result (λ refused. CountTheSame shares.items refused.shares.items) }
-        ensures whole { HasAll C.parts shares.items → IsOk result }
-    {
-        Ok(self.gathered(shares)?.end())
-    }
-
-    /// Closes the desk as `close` does, and returns a note of the catalogue's record with it. There
-    /// is none if the last publication runs out of memory.
-    pub fn close_with_note(
-        self,
-        shares: Vec<Share<C>>,
-    ) -> Result<(Catalogue, Option<Note<C>>), CloseRefused<C, R>>
-        ensures counted { IfOk result (λ closed. length closed.0 ≡ events_of shares.items + 1) }
-        ensures legal { IfOk result (λ closed. IsLegal closed.0) }
-        ensures noted { IfOk result (λ closed. IfSome closed.1 (λ note. note ≡ closed.0)) }
-        ensures events { IfErr result (λ refused. refused.events ≢ events_of shares.items) }
-        ensures joined { IfErr result (λ refused. CountTheSame shares.items refused.shares.items) }
-        ensures whole { HasAll C.parts shares.items → IsOk result }
-    {
-        Ok(self.gathered(shares)?.end_with_note())
+        self.kept.lock(rt).status_for(share)
     }
 }

@@ -1,27 +1,26 @@
 //! `Kept`: what a desk keeps behind its lock. Its calls are the steps of a crawl.
 
 ghost use Rattle.std.specs.Prelude.{◌≡◌, ◌+◌, ◌<◌, ◌^◌, true, false, None, [], ◌∷◌, ◌++◌, length, IfOk, IfErr, IfSome, OnOk, OnErr};
-ghost use Rattle.std.specs.Arc.{arc_value};
 ghost use mathlib.Core.List.{IsPrefix};
-ghost use Rattle.gopher_catalogue.specs.declared.event.EventData.TheVariants.{Found, Failed};
 ghost use Rattle.gopher_catalogue.specs.Legal.{IsLegal};
-ghost use Rattle.gopher_catalogue.specs.Step.{turn_of, after_turn, is_out_in, found_fault, added_by, status_of};
+ghost use Rattle.gopher_catalogue.specs.Step.{status_of};
 ghost use Rattle.gopher_catalogue.specs.Turn.{turn_data};
-ghost use Rattle.gopher_crew.specs.Desk.{events_of, parts_of, HasAll};
-ghost use Rattle.gopher_crew.specs.Kept.{IsNoted, IsTurned, RisesAt, IsOpeningOf, rise_of, Claims, Finds, Fails, RefusesFind, RefusesFailure, LetsClaim, BeginsWith};
+ghost use Rattle.gopher_crew.specs.Desk.{events_of, CountTheSame, HasAll, HasAllSeen};
+ghost use Rattle.gopher_crew.specs.Kept.{IsNoted, RisesAt, rise_of, Claims, Finds, Fails, RefusesFind, RefusesFailure, LetsClaim, IsStatusOn, IsStatusAfter};
 
+use crate::closing::join;
 use crate::crew::Crew;
-use crate::gathering::join;
 use crate::merge_job::MergeJob;
 use crate::note::Note;
 use crate::record_follower::RecordFollower;
+use crate::record_prefix::RecordPrefix;
 use crate::share::Share;
-use gopher_catalogue::{Added, Catalogue, FailRefused, FoundRefused, Opening, Status, Turn, Why};
+use gopher_catalogue::{Added, Catalogue, FailRefused, FoundRefused, Status, Turn, Why};
 use gopher_item::NoMemory;
 use gopher_page::Page;
 use std::marker::Model;
+use std::sync::Wait;
 use std::sync::ledger::Book;
-use std::sync::{Arc, Wait};
 
 // After a merge runs out of memory, merging is tried again when this number of pages was found.
 const PAGES_UNTIL_RETRY: usize = 64;
@@ -99,11 +98,8 @@ impl<C: Crew, R: Wait + Drop> Kept<C, R> {
     /// `NoMemory` (90), only if a place waits. Only what the share saw changes then.
     #[tactic(auto, using(crate::proofs::Keeping::turn_keeps, crate::proofs::Keeping::turn_counts))]
     pub fn claim(&mut self, share: &mut Share<C>) -> Result<(Turn, Option<Note<C>>), NoMemory>
-        ensures turn { IfOk result (λ reply. turn_data reply.0 ≡ turn_of self.old.events) }
-        ensures after { OnOk result (IsTurned self.old self.new) }
+        ensures turn { IfOk result (λ reply. Claims (turn_data reply.0) share.new self.old.events) }
         ensures note { IfOk result (λ reply. IsNoted reply.1 self.new) }
-        ensures noted { IfOk result (λ reply. IfSome reply.1 (λ note. note ≡ share.new.seen)) }
-        ensures answered { IfOk result (λ reply. Claims (turn_data reply.0) share.old share.new) }
         ensures share { IfOk result (λ reply. RisesAt (turn_data reply.0) share.old share.new) }
         ensures parts { share.new.parts ≡ share.old.parts }
         ensures waits { OnErr result (LetsClaim share.new) }
@@ -136,12 +132,8 @@ impl<C: Crew, R: Wait + Drop> Kept<C, R> {
         number: u32,
         page: Page,
     ) -> Result<(Added, Option<Note<C>>), FoundRefused>
-        ensures ok { OnOk result (found_fault self.old.events number page.place ≡ None) }
-        ensures added { IfOk result (λ reply. reply.0 ≡ added_by self.old.events number page) }
-        ensures after { OnOk result (self.new.events ≡ self.old.events ++ Found number page ∷ []) }
+        ensures found { IfOk result (λ reply. Finds number page reply.0 share.new self.old.events) }
         ensures note { IfOk result (λ reply. IsNoted reply.1 self.new) }
-        ensures noted { IfOk result (λ reply. IfSome reply.1 (λ note. note ≡ share.new.seen)) }
-        ensures answered { IfOk result (λ reply. Finds number page reply.0 share.old share.new) }
         ensures share { OnOk result (share.new.events ≡ share.old.events + 1) }
         ensures parts { share.new.parts ≡ share.old.parts }
         ensures refused { IfErr result (λ error. RefusesFind number page error.fault share.new) }
@@ -172,11 +164,8 @@ impl<C: Crew, R: Wait + Drop> Kept<C, R> {
         number: u32,
         why: Why,
     ) -> Result<Option<Note<C>>, FailRefused>
-        ensures ok { OnOk result (is_out_in self.old.events number ≡ true) }
-        ensures after { OnOk result (self.new.events ≡ self.old.events ++ Failed number why ∷ []) }
+        ensures failed { OnOk result (Fails number why share.new self.old.events) }
         ensures note { IfOk result (λ note. IsNoted note self.new) }
-        ensures noted { IfOk result (λ note. IfSome note (λ noted. noted ≡ share.new.seen)) }
-        ensures answered { OnOk result (Fails number why share.old share.new) }
         ensures refused { OnErr result (RefusesFailure number share.new) }
         ensures seen { share.new.seen ≡ self.new.events }
         ensures begins { IsPrefix share.old.seen self.old.events }
@@ -262,24 +251,31 @@ impl<C: Crew, R: Wait + Drop> Kept<C, R> {
     }
 
     /// Merges shares into one. Returns how many events they count: all of the record after the
-    /// first, if they have all parts of the ledger.
+    /// first, if they have all parts of the ledger. The record begins with what each of them saw.
     pub(crate) fn gather(&mut self, shares: &mut Vec<Share<C>>) -> u64
         ensures same { self.new ≡ self.old }
         ensures sum { result ≡ events_of shares.old.items }
-        ensures events { events_of shares.new.items ≡ events_of shares.old.items }
-        ensures parts { parts_of shares.new.items ≡ parts_of shares.old.items }
+        ensures joined { CountTheSame shares.old.items shares.new.items }
+        ensures seen { HasAllSeen self.old.events shares.old.items }
         ensures whole { HasAll C.parts shares.old.items → length self.old.events ≡ result + 1 }
     {
-        join(&mut self.book, shares)
+        let Some(mut all) = shares.pop() else {
+            return 0;
+        };
+        join(&mut self.book, &mut all, shares);
+        self.follower.show(&self.catalogue, &mut all);
+        let sum = all.events();
+        shares.push_reserved(all);
+        sum
     }
 
-    /// Returns the opening of the record, shared.
-    pub fn opening(&self) -> Result<Arc<Opening>, NoMemory>
-        ensures first { IfOk result (λ opening. IsOpeningOf self.now (arc_value opening)) }
-        ensures begins { IfOk result (λ opening. BeginsWith (arc_value opening)) }
+    /// Returns if the record begins with the events of this token, and otherwise never.
+    pub(crate) fn until_begins(&self, opened: &RecordPrefix)
+        requires { opened.now.history ≡ C.history }
+        ensures begins { IsPrefix opened.now.events self.now.events }
         ensures legal { IsLegal self.now.events }
     {
-        Ok(self.catalogue.opening().clone()?)
+        self.follower.until_begins(opened);
     }
 
     /// Returns the number of places in each state.
@@ -288,6 +284,28 @@ impl<C: Crew, R: Wait + Drop> Kept<C, R> {
         ensures legal { IsLegal self.now.events }
     {
         self.catalogue.status()
+    }
+
+    /// Returns the number of places in each state. The share then has seen the record.
+    pub(crate) fn status_for(&mut self, share: &mut Share<C>) -> Status
+        ensures same { self.new ≡ self.old }
+        ensures status { IsStatusOn share.new result }
+        ensures seen { IsPrefix share.old.seen share.new.seen }
+        ensures events { share.new.events ≡ share.old.events }
+        ensures parts { share.new.parts ≡ share.old.parts }
+    {
+        self.follower.show(&self.catalogue, share);
+        self.status()
+    }
+
+    /// Returns the number of places in each state, on a record that begins with the events of this
+    /// token.
+    pub(crate) fn status_after(&self, opened: &RecordPrefix) -> Status
+        requires { opened.now.history ≡ C.history }
+        ensures { IsStatusAfter opened.now.events result }
+    {
+        self.until_begins(opened);
+        self.status()
     }
 
     /// Returns the catalogue, and drops what is published.

@@ -42,17 +42,25 @@
 //!
 //! # Tokens
 //!
-//! Versions, notes, passes, shares and merge jobs have a `RecordPrefix`. Only its length exists in
-//! the program. Of two prefixes of one history, the shorter is a prefix of the longer. So a pass
-//! compares two numbers to know that a version isn't older than what it saw. A share has the token
-//! of the record that the last reply to its holder was on, so each reply names its record. The
-//! word of the history, behind the lock, is the history's length (`Head`).
+//! Desks, versions, notes, passes, shares and merge jobs have a `RecordPrefix`. Only its length
+//! exists in the program. Of two prefixes of one history, the shorter is a prefix of the longer. So
+//! a pass compares two numbers to know that a version isn't older than what it saw. A share has the
+//! token of the record that the last reply to its holder was on, so each reply names its record. A
+//! desk has that of the record it was opened with. The word of the history, behind the lock, is the
+//! history's length (`Head`).
+//!
+//! # One record
+//!
+//! `Desk::close` returns a catalogue whose record begins with what each share saw. `Pass::tell`
+//! tells a share what a pass was told. So the record of a closed catalogue begins with that of each
+//! reply and of each search. `search_and_close` of the crate `example_crawl` proves this for two
+//! searches, from public contracts.
 //!
 //! # Files
 //!
 //! | subject | files |
 //! |---|---|
-//! | opening and closing a desk | `desk`, `blank`, `opening`, `gathering` |
+//! | opening and closing a desk | `desk`, `blank`, `opening`, `closing` |
 //! | calls of a desk, behind its lock | `desk`, `kept`, `share`, `note` |
 //! | workers | `working`, `crawling`, `fetch`, `settling`, `memory` |
 //! | merging | `merge_job`, `Kept::merge_job` and `install`, `Desk::merge_due` |
@@ -77,13 +85,13 @@
 #![tactic(auto)]
 
 mod blank;
+mod closing;
 mod crawling;
 mod crew;
 mod desk;
 mod entering;
 mod fault;
 mod fetch;
-mod gathering;
 mod history;
 mod kept;
 pub mod laws;

@@ -7,7 +7,7 @@ ghost use Rattle.gopher_catalogue.specs.Legal.{IsLegal};
 ghost use Rattle.gopher_catalogue.specs.Pages.{pages_found};
 ghost use Rattle.gopher_index.specs.Begun.{begun_hits};
 ghost use Rattle.gopher_crew.specs.Desk.{has_seen};
-ghost use Rattle.gopher_crew.specs.Crew.{hits_of};
+ghost use Rattle.gopher_crew.specs.Crew.{CountsEntry, hits_of};
 ghost use Rattle.gopher_crew.specs.Version.{IsSeen, IsSeenVersion};
 
 use crate::crew::Crew;
@@ -42,6 +42,7 @@ pub struct Pass<C: Crew> {
     alloc: Global,
     reader: VersionReader<C>,
     told: RecordPrefix,
+    failed_entries: u64,
 }
 
 impl<C: Crew> Model for Pass<C> {
@@ -51,7 +52,11 @@ impl<C: Crew> Model for Pass<C> {
 
     ghost Value = { PassData };
 
-    ghost view = { λ p. record { seen = view_of p.reader.place; told = p.told.events } };
+    ghost view = { λ p. record {
+      seen = view_of p.reader.place;
+      told = p.told.events;
+      failed_entries = p.failed_entries;
+    } };
 
     ghost invariant = { λ p. p.told.history ≡ C.history };
 }
@@ -106,6 +111,7 @@ impl<C: Crew> Pass<C> {
             alloc,
             reader,
             told,
+            failed_entries: 0,
         })
     }
 
@@ -116,6 +122,7 @@ impl<C: Crew> Pass<C> {
         ensures told { IsPrefix self.old.told self.new.told }
         ensures heard { IsPrefix note self.new.told }
         ensures one { (self.new.told ≡ self.old.told) ⊎ (self.new.told ≡ note) }
+        ensures entries { self.new.failed_entries ≡ self.old.failed_entries }
     {
         self.told = self.told.longer(note.prefix());
     }
@@ -138,6 +145,17 @@ impl<C: Crew> Pass<C> {
         self.told.begins(share.seen())
     }
 
+    /// Tells a share of the same desk what this pass was told. If the desk is closed with that
+    /// share, the record of its catalogue begins with it.
+    pub fn tell(&self, share: &mut Share<C>)
+        ensures told { IsPrefix self.now.told share.new.seen }
+        ensures seen { IsPrefix share.old.seen share.new.seen }
+        ensures events { share.new.events ≡ share.old.events }
+        ensures parts { share.new.parts ≡ share.old.parts }
+    {
+        share.hear(&self.told);
+    }
+
     // Takes the published version. Its record begins with what this pass was told.
     fn take(&mut self) -> Result<Version, SearchFault>
         ensures legal { OnOk result (IsLegal self.new.seen) }
@@ -147,13 +165,19 @@ impl<C: Crew> Pass<C> {
         ensures none_told { OnOk result (self.new.told ≡ self.new.seen) }
         ensures after_seen { IsPrefix self.old.seen self.new.seen }
         ensures told { IsPrefix self.old.told self.new.told }
+        ensures entries { CountsEntry self.old.failed_entries self.new.failed_entries result }
     {
-        let version = replace_with(&mut self.reader, (), take_version)?;
-        if !self.told.begins(version.prefix()) {
-            return Err(SearchFault::NoEntry);
+        match replace_with(&mut self.reader, (), take_version) {
+            Ok(version) if self.told.begins(version.prefix()) => {
+                self.told = version.prefix().copy();
+                Ok(version)
+            }
+            Err(SearchFault::NoMemory) => Err(SearchFault::NoMemory),
+            _ => {
+                self.failed_entries = self.failed_entries.saturating_add(1);
+                Err(SearchFault::NoEntry)
+            }
         }
-        self.told = version.prefix().copy();
-        Ok(version)
     }
 
     /// Begins a search over the pages of the published record. Returns its hits if the search is
@@ -175,6 +199,7 @@ impl<C: Crew> Pass<C> {
         ensures none_told { OnOk result (self.new.told ≡ self.new.seen) }
         ensures after_seen { IsPrefix self.old.seen self.new.seen }
         ensures told { IsPrefix self.old.told self.new.told }
+        ensures entries { CountsEntry self.old.failed_entries self.new.failed_entries result }
     {
         let version = self.take()?;
         let Ok(begun) = version.begin(self.alloc, query) else {
@@ -195,6 +220,7 @@ impl<C: Crew> Pass<C> {
         ensures none_told { OnOk result (self.new.told ≡ self.new.seen) }
         ensures after_seen { IsPrefix self.old.seen self.new.seen }
         ensures told { IsPrefix self.old.told self.new.told }
+        ensures entries { CountsEntry self.old.failed_entries self.new.failed_entries result }
     {
         let version = self.take()?;
         let Ok(hits) = version.search(self.alloc, query) else {

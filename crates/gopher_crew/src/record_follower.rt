@@ -175,6 +175,14 @@ impl<C: Crew, R: Wait + Drop> RecordFollower<C, R> {
         self.publish_again(catalogue.index(), true)
     }
 
+    /// Returns if the events that were entered begin with those of this token, and otherwise never.
+    pub fn until_begins(&self, opened: &RecordPrefix)
+        requires { opened.now.history ≡ C.history }
+        ensures { IsPrefix opened.now.events self.now.entered }
+    {
+        opened.until_begins(self.publisher.runtime(), &self.prefix);
+    }
+
     /// Enters the new events of the catalogue. Returns the token of its record, or `None` if an
     /// event can't be entered.
     #[tactic(auto, using(crate::proofs::Prefixes::grows))]

@@ -9,6 +9,7 @@ use crate::history::{Head, Law, exchange};
 use gopher_catalogue::{Event, EventData};
 use logbook::Seen;
 use std::marker::Model;
+use std::sync::Wait;
 
 /// A token that the crew's record begins with certain events. The program keeps only their number.
 /// Contracts see the events, and which history has them.
@@ -69,6 +70,19 @@ impl RecordPrefix {
             return false;
         }
         true
+    }
+
+    /// Returns if another prefix of the same history begins with this one, and otherwise never.
+    pub fn until_begins<R: Wait>(&self, rt: &R, other: &RecordPrefix)
+        requires { other.now.history ≡ self.now.history }
+        ensures { IsPrefix self.now.events other.now.events }
+    {
+        for _round in rt.forever() {
+            if self.begins(other) {
+                return;
+            }
+        }
+        unreachable!()
     }
 
     /// Returns whether another prefix of the same history has the same events. It compares their

@@ -10,7 +10,8 @@ use std::sync::Wait;
 use std::sync::ledger::{Book, Share as Part};
 
 /// A share of a desk's ledger. It counts the events that its holder made at the desk, and has the
-/// token of the record that the last reply to its holder was on.
+/// token of what it saw: the record that the last reply to its holder was on, or a longer one that
+/// a pass told it of.
 #[derive(Drop)]
 pub struct Share<C: Crew> {
     count: u64,
@@ -32,19 +33,6 @@ impl<C: Crew> Model for Share<C> {
 
     ghost invariant = { λ s. ((s.count ≡ s.part.amount) × (0 < s.part.parts))
         × (s.seen.history ≡ C.history) };
-}
-
-// Returns if a prefix of a history begins another one of it, and otherwise never.
-fn until_begins<R: Wait>(rt: &R, prefix: &RecordPrefix, other: &RecordPrefix)
-    requires { other.now.history ≡ prefix.now.history }
-    ensures { IsPrefix prefix.now.events other.now.events }
-{
-    for _round in rt.forever() {
-        if prefix.begins(other) {
-            return;
-        }
-    }
-    unreachable!()
 }
 
 impl<C: Crew> Share<C> {
@@ -97,16 +85,30 @@ impl<C: Crew> Share<C> {
         self.count += 1;
     }
 
-    /// Adds the events and the parts of another share.
+    /// Adds the events and the parts of another share, and takes the longer record of what they
+    /// saw.
     pub(crate) fn merge(&mut self, other: Share<C>)
         requires { self.old.events + other.events < 2 ^ 64 }
         ensures events { self.new.events ≡ self.old.events + other.events }
         ensures parts { self.new.parts ≡ self.old.parts + other.parts }
+        ensures seen { IsPrefix self.old.seen self.new.seen }
+        ensures other { IsPrefix other.seen self.new.seen }
     {
         let Share { count, part, seen } = other;
         self.part.merge(part);
         self.count += count;
-        self.seen = self.seen.longer(&seen);
+        self.hear(&seen);
+    }
+
+    /// Takes a record of the same history, unless it saw more.
+    pub(crate) fn hear(&mut self, prefix: &RecordPrefix)
+        requires { prefix.now.history ≡ C.history }
+        ensures heard { IsPrefix prefix.now.events self.new.seen }
+        ensures seen { IsPrefix self.old.seen self.new.seen }
+        ensures events { self.new.events ≡ self.old.events }
+        ensures parts { self.new.parts ≡ self.old.parts }
+    {
+        self.seen = self.seen.longer(prefix);
     }
 
     /// Takes the record of a reply, which begins with what was seen before. If it didn't, which
@@ -118,7 +120,7 @@ impl<C: Crew> Share<C> {
         ensures events { self.new.events ≡ self.old.events }
         ensures parts { self.new.parts ≡ self.old.parts }
     {
-        until_begins(rt, &self.seen, prefix);
+        self.seen.until_begins(rt, prefix);
         self.seen = prefix.copy();
     }
 

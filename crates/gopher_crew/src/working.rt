@@ -1,6 +1,7 @@
 //! `work`: one worker, which claims places, fetches them and hands in their pages.
 
-ghost use Rattle.std.specs.Prelude.{◌≡◌, ◌+◌, ◌*◌, ◌≤◌, true, false, vec_len, IfOk};
+ghost use Rattle.std.specs.Prelude.{◌≡◌, ◌+◌, ◌*◌, ◌≤◌, true, false};
+ghost use mathlib.Core.List.{IsPrefix};
 ghost use Rattle.gopher_crew.specs.Work.{one_more_call, found_rise, failed_rise, outcome_rise, IsPaid, IsStop, EndsClaim, WorksOnce, WorksOn, RisesByOutcomes};
 
 use crate::crew::Crew;
@@ -9,7 +10,6 @@ use crate::fetch::Fetch;
 use crate::settling::settle_shared;
 use crate::share::Share;
 use gopher_catalogue::{Claim, Turn, Why};
-use gopher_item::Scope;
 use gopher_page::Page;
 use gopher_text::MAX_REPLY;
 use std::alloc::Global;
@@ -57,6 +57,7 @@ fn hand_in_failure<C: Crew, R: Wait + Drop, W: Wait>(
 ) -> Outcome
     ensures events { share.new.events ≡ share.old.events + outcome_rise result }
     ensures parts { share.new.parts ≡ share.old.parts }
+    ensures seen { IsPrefix share.old.seen share.new.seen }
     ensures out { EndsClaim result number share.new }
 {
     match desk.fail(rt, share, number, why) {
@@ -76,6 +77,7 @@ fn hand_in_page<C: Crew, R: Wait + Drop, W: Wait>(
     ensures found { result ≡ true → share.new.events ≡ share.old.events + 1 }
     ensures refused { result ≡ false → share.new.events ≡ share.old.events }
     ensures parts { share.new.parts ≡ share.old.parts }
+    ensures seen { IsPrefix share.old.seen share.new.seen }
 {
     let size = page.size() as u64;
     if !desk.memory().take(size) {
@@ -101,6 +103,7 @@ fn hand_in<C: Crew, R: Wait + Drop, W: Wait>(
 ) -> Outcome
     ensures events { share.new.events ≡ share.old.events + outcome_rise result }
     ensures parts { share.new.parts ≡ share.old.parts }
+    ensures seen { IsPrefix share.old.seen share.new.seen }
     ensures out { EndsClaim result number share.new }
 {
     let why = match settled {
@@ -115,22 +118,6 @@ fn hand_in<C: Crew, R: Wait + Drop, W: Wait>(
     hand_in_failure(rt, desk, share, number, why)
 }
 
-// Makes the page of a fetched reply, by the scope of the desk's opening.
-fn settle_at<C: Crew, R: Wait + Drop, W: Wait>(
-    rt: &W,
-    alloc: Global,
-    desk: &Desk<C, R>,
-    claim: &Claim,
-    fetched: Result<Vec<u8>, Why>,
-) -> Result<Page, Why>
-    requires { IfOk fetched (λ bytes. vec_len bytes ≤ MAX_REPLY) }
-{
-    let Ok(opening) = desk.opening(rt) else {
-        return Err(Why::NoMemory);
-    };
-    settle_shared(alloc, opening.scope(), &claim.place, fetched)
-}
-
 // Fetches a place that was claimed, makes its page, and hands it in or fails the place.
 fn fetch_and_report<C: Crew, R: Wait + Drop, W: Wait, F: Fetch<W> + Drop>(
     rt: &W,
@@ -143,12 +130,13 @@ fn fetch_and_report<C: Crew, R: Wait + Drop, W: Wait, F: Fetch<W> + Drop>(
     ensures at_most { worker.new.share.events ≤ worker.old.share.events + 1 }
     ensures called { F.called worker.new.fetcher ≡ one_more_call (F.called worker.old.fetcher) }
     ensures parts { worker.new.share.parts ≡ worker.old.share.parts }
+    ensures seen { IsPrefix worker.old.share.seen worker.new.share.seen }
     ensures found { worker.new.found ≡ worker.old.found }
     ensures failed { worker.new.failed ≡ worker.old.failed }
     ensures out { EndsClaim result claim.now.number worker.new.share }
 {
     let fetched = worker.fetcher.fetch(rt, alloc, &claim.place, MAX_REPLY);
-    let settled = settle_at(rt, alloc, desk, claim, fetched);
+    let settled = settle_shared(alloc, desk.opening().scope(), &claim.place, fetched);
     hand_in(rt, desk, &mut worker.share, claim.number, settled)
 }
 
@@ -193,6 +181,7 @@ fn work_once<C: Crew, R: Wait + Drop, W: Wait, F: Fetch<W> + Drop>(
     ensures calls { WorksOnce F.called worker.old worker.new result }
     ensures outcomes { RisesByOutcomes worker.old worker.new }
     ensures parts { worker.new.share.parts ≡ worker.old.share.parts }
+    ensures seen { IsPrefix worker.old.share.seen worker.new.share.seen }
 {
     match desk.next(rt, alloc, &mut worker.share) {
         Ok(Turn::Take(claim)) => {
@@ -244,6 +233,7 @@ pub fn work<C: Crew, R: Wait + Drop, W: Wait, F: Fetch<W> + Drop>(
     ensures outcomes { share.events + 2 * (result.found + result.failed) ≤ result.share.events }
     ensures calls { IsPaid share result.share (F.called fetcher) (F.called result.fetcher) }
     ensures parts { result.share.parts ≡ share.parts }
+    ensures seen { IsPrefix share.seen result.share.seen }
 {
     let mut worker = WorkEnd::idle(fetcher, share);
     run(rt, alloc, desk, &mut worker);

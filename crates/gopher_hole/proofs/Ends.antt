@@ -1,25 +1,30 @@
 -- How a server and a check end.
-use Rattle.std.proofs.Common.{ℕ, ◌++◌, List, Option, Result, Ok, Err}
+use Rattle.std.proofs.Common.{◌≡◌, ℕ, ◌++◌, List, Option, Result, Ok, Err, subst}
 use Rattle.std.specs.Prelude.{OnOk, codes}
 use Rattle.std.specs.Io.KnownBytes.{Appends, Keeps}
 use Rattle.std.proofs.KnownBytes.{Appends-trans, Appends-kept}
 use Rattle.gopher_item.specs.Place.{HomeData}
+use Rattle.gopher_scope.specs.declared.settings.Settings.{Settings}
 use Rattle.gopher_text.specs.Watched.{WatchedData}
 use Rattle.gopher_catalogue.specs.Step.{Status}
 use Rattle.gopher_script.specs.Answer.{status_line}
-use Rattle.gopher_hole.specs.Ending.{FoundSound, HasServed, HasWritten, listening_line}
+use Rattle.gopher_hole.specs.Ending.{AreSettings, FoundSound, HasServed, HasWritten, IsStatus, listening_line}
 use Rattle.gopher_hole.specs.Sending.{HasSent}
 
 -- bytes were sent, and then the writer was flushed
 pub sends_kept : (old mid new : Option (List ℕ)) (bytes : List ℕ) → Appends old mid bytes → Keeps mid new → Appends old new bytes
 sends_kept old mid new bytes sent kept = Appends-kept old mid new bytes sent kept
 
--- a server wrote its two lines
-pub serves : {D : Type 0} (contents : D → Option (List ℕ)) (home : HomeData) (status : Status) (old mid new : WatchedData D)
-    → HasSent contents old mid (listening_line home) → HasSent contents mid new (status_line status) → HasServed contents old new
+-- a server wrote its two lines, unless the last one failed
+pub serves : {D T E : Type 0} (contents : D → Option (List ℕ)) (end : Result T E) (home : HomeData) (settings : Settings) (status : Status) (old mid new : WatchedData D)
+    → home ≡ settings.home → AreSettings settings → IsStatus status → HasSent contents old mid (listening_line home)
+    → OnOk end (HasSent contents mid new (status_line status)) → OnOk end (HasServed contents old new)
 unfolding HasServed
-serves contents home status old mid new listens ends =
-    (home, status, Appends-trans (contents old.device) (contents mid.device) (contents new.device) _ _ listens ends)
+serves contents (Ok value) home settings status old mid new same read legal listens ends =
+    let held : WatchedData _ → Option (List ℕ) = λ writer. contents writer.device in
+    let listened : HasSent contents old mid (listening_line settings.home) = subst (λ place. HasSent contents old mid (listening_line place)) same listens in
+    (settings, read, status, legal, Appends-trans (held old) (held mid) (held new) _ _ listened ends)
+serves contents (Err why) home settings status old mid new same read legal listens ends = tt
 
 -- so bytes were written
 pub writes_some : {D : Type 0} (contents : D → Option (List ℕ)) (old new : WatchedData D) (bytes : List ℕ) → HasSent contents old new bytes → HasWritten contents old new

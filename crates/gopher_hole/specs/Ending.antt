@@ -2,11 +2,16 @@
 -- written then.
 use Rattle.std.specs.Prelude.{◌≡◌, ℕ, Bool, true, false, List, [], ◌∷◌, ◌++◌, length, vec_len, codes, Option, None, Some, Result, is_ok, if◌then◌else◌}
 use Rattle.std.specs.Fmt.{decimal}
+use Rattle.std.specs.Global.{Vec}
 use Rattle.std.specs.PromisedHandle.{KeepsEach}
 use Rattle.std.specs.declared.thread.Promise as Promise
 use Rattle.gopher_item.specs.Place.{HomeData}
 use Rattle.gopher_text.specs.Watched.{WatchedData}
-use Rattle.gopher_catalogue.specs.Step.{Status}
+use Rattle.gopher_scope.specs.Settings.{AreSettingsOf}
+use Rattle.gopher_scope.specs.declared.settings.Settings.{Settings}
+use Rattle.gopher_catalogue.specs.Legal.{IsLegal}
+use Rattle.gopher_catalogue.specs.Step.{Status, opened_record, status_of}
+use Rattle.gopher_catalogue.specs.declared.event.EventData.{EventData}
 use Rattle.gopher_script.specs.Answer.{status_line}
 use Rattle.gopher_server.specs.declared.thread_end.ThreadEnd.{ThreadEnd}
 use Rattle.gopher_server.specs.declared.thread_end.ThreadEnd.TheVariants as thread
@@ -26,6 +31,10 @@ after_thread end thread.LacksMemory = record { failed = end.failed; is_short = t
 unfoldable pub after_threads : ThreadsEnd → List ThreadEnd → ThreadsEnd
 after_threads end [] = end
 after_threads end (thread ∷ threads) = after_threads (after_thread end thread) threads
+
+-- there is a thread for each pass, unless one couldn't be started
+abbrev pub StartsAll : {P T : Type 0} → Vec T → Started P → Type 0
+StartsAll passes started = started.is_short ≡ false → vec_len started.threads ≡ vec_len passes
 
 -- server threads came to this end: the end of each of them counts, and so does one that couldn't be
 -- started
@@ -50,17 +59,34 @@ abbrev pub ServerEnds : {P T E : Type 0} → Promise.Ghosts P ThreadEnd → Star
 ServerEnds promise started crawled fault =
     (end : ThreadsEnd) × EndAs promise started end × (fault_at_end end (is_ok crawled) ≡ fault)
 
+-- these are the settings in some text
+abbrev pub AreSettings : Settings → Type 0
+AreSettings settings = (text : List ℕ) × AreSettingsOf text settings
+
+-- the status of a legal record
+pub record IsStatus (status : Status) : Type 0 where
+  pub record_ : List EventData
+  pub is_legal : IsLegal record_
+  pub is_status : status ≡ status_of record_
+
+-- the record with which the crawl of a server begins
+abbrev pub opening_record : Settings → List EventData
+opening_record settings =
+    opened_record settings.scope settings.seeds.items settings.places settings.tries
+
 -- the line that says where a server listens
 abbrev pub listening_line : HomeData → List ℕ
 listening_line home =
     codes "listening " ++ home.host ++ codes " " ++ decimal home.port ++ codes "\n"
 
--- a server that ended without a fault wrote where it listened, and then the sizes of its crawl
+-- a server that ended without a fault wrote where it listened, the home of the settings that it
+-- read, and then the sizes of its crawl, those of a legal record
 unfoldable pub HasServed : {D : Type 0} → (D → Option (List ℕ)) → WatchedData D → WatchedData D
     → Type 0
 HasServed contents old new =
-    (home : HomeData) × (status : Status)
-    × HasSent contents old new (listening_line home ++ status_line status)
+    (settings : Settings) × AreSettings settings
+    × (status : Status) × IsStatus status
+    × HasSent contents old new (listening_line settings.home ++ status_line status)
 
 -- bytes were written
 unfoldable pub HasWritten : {D : Type 0} → (D → Option (List ℕ)) → WatchedData D → WatchedData D

@@ -7,7 +7,7 @@ use std::alloc::{AllocError, Global};
 use std::net::{IpAddr, Ipv6Addr, SocketAddr};
 
 // The version. Nothing else in the repository states it but CHANGELOG.md.
-const VERSION: &str = "0.1.0";
+const VERSION: &str = "0.2.0";
 
 // The greatest number of connections after which a server may end.
 const MAX_REQUESTS: u64 = 1_000_000;

@@ -50,7 +50,7 @@ impl<'a, R: Net<Listener = TcpListener, Stream = TcpStream> + Wait + Eprint> Fet
     ) -> Result<Vec<u8>, Why> {
         let fetched = self.fetcher.fetch(rt, alloc, place, limit);
         if let (Some(failures), Err(why)) = (self.failures, &fetched) {
-            failures.add(rt, alloc, place, *why);
+            failures.add(rt, place, *why);
         }
         fetched
     }

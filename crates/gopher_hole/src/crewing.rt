@@ -1,7 +1,7 @@
 //! A server with its crew, from its settings to its end.
 
-ghost use Rattle.std.specs.Prelude.{◌≡◌, [], None, Some, Ok, IfErr, IfOk, OnOk};
-ghost use Rattle.gopher_hole.specs.Ending.{HasServed, ServerEnds, fault_at_end, listening_line};
+ghost use Rattle.std.specs.Prelude.{◌≡◌, [], None, Some, Ok, IfErr, IfOk, OnOk, vec_len};
+ghost use Rattle.gopher_hole.specs.Ending.{HasServed, IsStatus, ServerEnds, StartsAll, fault_at_end, listening_line};
 ghost use Rattle.gopher_hole.specs.Sending.{HasSent};
 ghost use Rattle.gopher_crew.specs.Desk.{IsBlankOf};
 
@@ -45,7 +45,9 @@ fn crawling_of<'a, C: Crew>(
     alloc: Global,
     shares: Vec<Share<C>>,
     failures: Option<&'a Failures>,
-) -> Result<Crawling<'a, C>, ProgramFault> {
+) -> Result<Crawling<'a, C>, ProgramFault>
+    ensures { IfOk result (λ crawling. vec_len crawling.pairs ≡ vec_len shares) }
+{
     let Ok(mut pairs) = Vec::with_capacity(alloc, shares.len()) else {
         return Err(ProgramFault::NoMemory);
     };
@@ -115,7 +117,9 @@ fn start<
     alloc: Global,
     service: Service,
     passes: Vec<Pass<C>>,
-) -> Result<Started<AnyEnd>, ProgramFault> {
+) -> Result<Started<AnyEnd>, ProgramFault>
+    ensures { IfOk result (λ started. StartsAll passes started) }
+{
     let Service {
         listeners,
         replies,
@@ -190,7 +194,9 @@ fn close<C: Crew, R: Wait + Drop>(
     alloc: Global,
     desk: Desk<C, R>,
     ends: Vec<WorkEnd<CrawlFetch<'_>, C>>,
-) -> Result<Status, ProgramFault> {
+) -> Result<Status, ProgramFault>
+    ensures { IfOk result IsStatus }
+{
     match desk.close(shares_of(alloc, ends)?) {
         Ok(catalogue) => Ok(catalogue.status()),
         Err(_refused) => Err(ProgramFault::StrangeShare),
@@ -316,7 +322,6 @@ fn listen_and_serve<
 /// - `StrangeShare` (62): the workers' shares don't count the events of the crawl
 /// - `WriteFailed` (13): a line couldn't be written or flushed
 /// - `NoMemory` (90)
-#[tactic(auto, using(crate::proofs::Ends::serves))]
 pub fn serve<
     C: Crew + Send + Sync + 'static,
     R: Files<File = File>
@@ -341,13 +346,14 @@ pub fn serve<
 {
     let alloc = rt.alloc();
     let settings = read_settings(rt, alloc, serving.settings)?;
+    let opened = open::<C, R>(rt, alloc, settings, blank)?;
     let Opened {
         replies,
         desk,
         passes,
         shares,
         tries,
-    } = open::<C, R>(rt, alloc, settings, blank)?;
+    } = opened;
     if let Some(bytes) = serving.crawl_memory {
         desk.limit_memory(bytes);
     }

@@ -6,7 +6,7 @@ ghost use Rattle.gopher_hole.specs.Failing.{is_last_try, reason_name};
 use gopher_catalogue::Why;
 use gopher_item::Place;
 use indexmap::IndexMap;
-use std::alloc::{AllocError, Global};
+use std::alloc::Global;
 use std::io::Eprint;
 use std::sync::atomic::{AtomicU64, Ordering};
 use std::sync::{Mutex, Wait};
@@ -45,8 +45,9 @@ fn reason_name(why: Why) -> &'static str
     }
 }
 
-// The line of a place that failed. No byte of the place reaches a terminal unless it is printable.
-fn failure_line(alloc: Global, place: &Place, why: Why) -> Result<String, AllocError> {
+// Prints the line of a place that failed. No byte of the place reaches a terminal unless it is
+// printable.
+fn print_failure(rt: &impl Eprint, place: &Place, why: Why) {
     let (name, code) = (reason_name(why), why.code());
     let (kind, host) = ([place.kind()], place.host());
     let (port, selector) = (place.port(), place.selector());
@@ -55,14 +56,7 @@ fn failure_line(alloc: Global, place: &Place, why: Why) -> Result<String, AllocE
         host.escape_ascii(),
         selector.escape_ascii(),
     );
-    format!(in alloc; "hole: failed: {name} {code}: {kind} {host} {port} {selector}\n")
-}
-
-// Prints the line of a place that failed, or nothing if memory runs out.
-fn print_failure(rt: &impl Eprint, alloc: Global, place: &Place, why: Why) {
-    if let Ok(line) = failure_line(alloc, place, why) {
-        let _ = rt.eprint(line);
-    }
+    let _ = eprintln!(rt; "hole: failed: {name} {code}: {kind} {host} {port} {selector}");
 }
 
 impl Failures {
@@ -97,10 +91,10 @@ impl Failures {
 
     /// Adds a failed fetch of a place. If the place isn't tried again, counts it, and prints it
     /// with the reason on the error stream, unless 1,000 places were printed before.
-    pub fn add<R: Wait + Eprint>(&self, rt: &R, alloc: Global, place: &Place, why: Why) {
+    pub fn add<R: Wait + Eprint>(&self, rt: &R, place: &Place, why: Why) {
         let is_last = is_last_try(0, self.tries) || self.count_try(rt, place);
         if is_last && self.failed.fetch_add(1, Ordering::SeqCst) < MAX_PRINTED {
-            print_failure(rt, alloc, place, why);
+            print_failure(rt, place, why);
         }
     }
 

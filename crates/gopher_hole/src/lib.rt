@@ -38,5 +38,5 @@ pub use gopher_scope::{Key, Rule, Scope, SettingsFault};
 pub use gopher_script::{ReplayFault, replay};
 pub use gopher_serve::{ServeFault, answer, fetch_over, serve_one};
 pub use gopher_text::{MAX_REPLY, Watched};
-pub use gopher_tree::{LoadRefused, Tree, TreeFault};
+pub use gopher_tree::{Trail, Tree, TreeFault};
 pub use program::run;

@@ -1,7 +1,10 @@
 //! Opening a server: its settings, its folder and its desk.
 
-ghost use Rattle.std.specs.Prelude.{◌≡◌, []};
-ghost use Rattle.gopher_crew.specs.Desk.{IsBlankOf};
+ghost use Rattle.std.specs.Prelude.{◌≡◌, [], IfOk};
+ghost use mathlib.Core.List.{IsPrefix};
+ghost use Rattle.gopher_catalogue.specs.Step.{IsOpenedRecord};
+ghost use Rattle.gopher_crew.specs.Desk.{IsBlankOf, AllHaveSeen, shares_at};
+ghost use Rattle.gopher_hole.specs.Ending.{AreSettings, opening_record};
 
 use crate::fault::ProgramFault;
 use gopher_catalogue::Catalogue;
@@ -18,17 +21,6 @@ use std::sync::Wait;
 
 // The most bytes of a settings file.
 const MAX_SETTINGS: usize = 1_048_576;
-
-// What settings say of a crawl and its desk.
-#[derive(Drop)]
-struct CrawlSettings {
-    scope: Scope,
-    seeds: Vec<Place>,
-    places: u32,
-    tries: u32,
-    threads: u32,
-    workers: u32,
-}
 
 // A desk, with a pass for each server thread and a share for each worker.
 type DeskParts<C, R> = (Desk<C, R>, Vec<Pass<C>>, Vec<Share<C>>);
@@ -77,11 +69,9 @@ pub fn settings_bytes<R: Files>(
 /// - `SettingsUnreadable` (80): the file can't be read, has over 1,048,576 bytes, or isn't UTF-8
 /// - `Settings` (30 to 34, 90): as `Settings::read` fails
 /// - `NoMemory` (90)
-pub fn read_settings<R: Files>(
-    rt: &R,
-    alloc: Global,
-    path: &str,
-) -> Result<Settings, ProgramFault> {
+pub fn read_settings<R: Files>(rt: &R, alloc: Global, path: &str) -> Result<Settings, ProgramFault>
+    ensures { IfOk result AreSettings }
+{
     let bytes = settings_bytes(rt, alloc, path)?;
     let Ok(text) = str::from_utf8(&bytes) else {
         return Err(ProgramFault::SettingsUnreadable);
@@ -98,7 +88,9 @@ fn open_replies<R: Files>(
     alloc: Global,
     root: &str,
     home: Home,
-) -> Result<Replies, ProgramFault> {
+) -> Result<Replies, ProgramFault>
+    ensures { IfOk result (λ replies. replies.home ≡ home) }
+{
     let tree = match Tree::load(rt, alloc, root) {
         Ok(tree) => tree,
         Err(fault) => return Err(ProgramFault::Tree(fault)),
@@ -116,32 +108,29 @@ fn open_catalogue(
     seeds: Vec<Place>,
     places: u32,
     tries: u32,
-) -> Result<Catalogue, ProgramFault> {
+) -> Result<Catalogue, ProgramFault>
+    ensures { IfOk result (IsOpenedRecord scope seeds.items places tries) }
+{
     match Catalogue::open(alloc, scope, seeds, places, tries) {
         Ok(catalogue) => Ok(catalogue),
         Err(refused) => Err(ProgramFault::Open(refused.fault)),
     }
 }
 
-// Opens the catalogue of a crawl, and its desk.
+// Opens the desk of a catalogue.
 fn open_desk<'r, C: Crew, R: Wait>(
     rt: &'r R,
     alloc: Global,
-    crawl: CrawlSettings,
+    catalogue: Catalogue,
+    threads: u32,
+    workers: u32,
     blank: Blank,
 ) -> Result<DeskParts<C, &'r R>, ProgramFault>
     requires blank { IsBlankOf C.name C.parts C.history blank }
-    requires begun { blank.begun ≡ [] }
+    requires begun { IsPrefix blank.begun catalogue }
+    ensures passes { IfOk result (λ parts. AllHaveSeen catalogue threads parts.1.items) }
+    ensures shares { IfOk result (λ parts. parts.2.items ≡ shares_at catalogue workers) }
 {
-    let CrawlSettings {
-        scope,
-        seeds,
-        places,
-        tries,
-        threads,
-        workers,
-    } = crawl;
-    let catalogue = open_catalogue(alloc, scope, seeds, places, tries)?;
     match Desk::<C, &'r R>::open(rt, alloc, catalogue, threads, workers, blank) {
         Ok(opened) => Ok(opened),
         Err(refused) => Err(ProgramFault::Desk(refused.fault)),
@@ -149,7 +138,8 @@ fn open_desk<'r, C: Crew, R: Wait>(
 }
 
 /// Loads the folder and opens the desk of the crawl, with one pass for each server thread and one
-/// share for each worker.
+/// share for each worker. All of them have seen the opening of the crawl, with the settings' scope,
+/// seeds, `places` and `tries`.
 ///
 /// # Errors
 ///
@@ -167,6 +157,12 @@ pub fn open<'r, C: Crew, R: Files + Wait>(
 ) -> Result<Opened<C, &'r R>, ProgramFault>
     requires blank { IsBlankOf C.name C.parts C.history blank }
     requires begun { blank.begun ≡ [] }
+    ensures home { IfOk result (λ opened. opened.replies.home ≡ settings.home) }
+    ensures passes { IfOk result (λ opened.
+        AllHaveSeen (opening_record settings) settings.threads opened.passes.items) }
+    ensures shares { IfOk result (λ opened.
+        opened.shares.items ≡ shares_at (opening_record settings) settings.workers) }
+    ensures tries { IfOk result (λ opened. opened.tries ≡ settings.tries) }
 {
     let Settings {
         home,
@@ -178,16 +174,9 @@ pub fn open<'r, C: Crew, R: Files + Wait>(
         threads,
         tries,
     } = settings;
-    let crawl = CrawlSettings {
-        scope,
-        seeds,
-        places,
-        tries,
-        threads,
-        workers,
-    };
     let replies = open_replies(rt, alloc, root.as_str(), home)?;
-    match open_desk(rt, alloc, crawl, blank) {
+    let catalogue = open_catalogue(alloc, scope, seeds, places, tries)?;
+    match open_desk(rt, alloc, catalogue, threads, workers, blank) {
         Ok((desk, passes, shares)) => Ok(Opened {
             replies,
             desk,

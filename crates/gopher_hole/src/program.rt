@@ -1,6 +1,6 @@
 //! `run`: the whole program, from its arguments to its exit status.
 
-ghost use Rattle.std.specs.Prelude.{◌≡◌, ◌≢◌, ◌≤◌, map, string_bytes};
+ghost use Rattle.std.specs.Prelude.{◌≡◌, ◌≢◌, ◌≤◌, map, string_bytes, IfErr, OnOk};
 ghost use Rattle.std.specs.Bool.{OnTrue};
 ghost use Rattle.std.specs.Io.KnownBytes.{Keeps};
 ghost use Rattle.gopher_hole.specs.Ending.{FoundSound, HasServed};
@@ -85,9 +85,8 @@ fn tell_fault<E: Write>(error: &mut Watched<E>, fault: ProgramFault) -> u8
 // Writes the line of the fault, if there is one. Returns the exit status.
 fn tell_end<E: Write>(error: &mut Watched<E>, end: Result<(), ProgramFault>) -> u8
     ensures exit { result ≡ exit_status end }
-    ensures well { result ≡ 0 → error.new ≡ error.old }
-    ensures told { result ≢ 0 → SaysFault E.contents error.old error.new }
-    ensures status { result ≤ 1 }
+    ensures well { OnOk end (error.new ≡ error.old) }
+    ensures told { IfErr end (λ why. SaysOnError E.contents error.old error.new (fault_line why)) }
 {
     match end {
         Ok(()) => 0,

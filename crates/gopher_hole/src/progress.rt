@@ -4,12 +4,9 @@ use crate::crawl_fetch::CrawlFetch;
 use crate::failures::Failures;
 use gopher_catalogue::Status;
 use gopher_crew::{CrawlRefused, Crew, Desk, Share, Stop, WorkEnd, crawl};
-use gopher_item::NoMemory;
-use gopher_script::status_line;
 use std::alloc::Global;
 use std::io::Eprint;
 use std::net::{Net, TcpListener, TcpStream};
-use std::str;
 use std::sync::Wait;
 use std::sync::atomic::{AtomicBool, Ordering};
 use std::thread::{self, Threads};
@@ -21,23 +18,19 @@ const RESTS: u32 = 100;
 // The milliseconds of a rest.
 const REST: u64 = 100;
 
-// The line of the sizes of a frontier and the number of failed places.
-fn progress_line(alloc: Global, status: Status, failed: u64) -> Result<Vec<u8>, NoMemory> {
-    let mut line = status_line(alloc, status)?;
-    line.pop();
-    line.extend_from_slice(format!(in alloc; " failed {failed}\n")?.as_bytes())?;
-    Ok(line)
-}
-
-// Prints the sizes of a frontier and the number of failed places on the error stream, or nothing if
-// memory runs out.
-fn tell(rt: &impl Eprint, alloc: Global, status: Status, failed: u64) {
-    let Ok(line) = progress_line(alloc, status, failed) else {
-        return;
-    };
-    if let Ok(text) = str::from_utf8(&line) {
-        let _ = rt.eprint(text);
-    }
+// Prints the sizes of a frontier and the number of failed places on the error stream. Takes no
+// memory, so that a crawl is seen to end when memory is gone.
+fn tell(rt: &impl Eprint, status: Status, failed: u64) {
+    let Status {
+        known,
+        waiting,
+        out,
+        done,
+        dropped,
+    } = status;
+    let _ = eprintln!(rt;
+        "known {known} waiting {waiting} out {out} done {done} dropped {dropped} failed {failed}"
+    );
 }
 
 /// Prints on the error stream that the crawl reached its limit of memory, if it did, and returns
@@ -95,7 +88,6 @@ fn wait_for_end(clock: &impl Clock, is_over: &AtomicBool) -> bool {
 // the crawl is over. Prints once if the crawl reaches its limit of memory.
 fn tell_until_over<C: Crew, R: Wait + Drop, W: Wait + Clock + Eprint>(
     rt: &W,
-    alloc: Global,
     desk: &Desk<C, R>,
     failures: &Failures,
     is_over: &AtomicBool,
@@ -106,7 +98,7 @@ fn tell_until_over<C: Crew, R: Wait + Drop, W: Wait + Clock + Eprint>(
         let was_over = wait_for_end(rt, is_over);
         let (status, failed) = (desk.status(rt), failures.count());
         if told != Some((status, failed)) {
-            tell(rt, alloc, status, failed);
+            tell(rt, status, failed);
             told = Some((status, failed));
         }
         if !is_limit_told {
@@ -157,7 +149,7 @@ pub fn crawl_and_tell<
     let is_over = &over;
     let (_told, crawled) = thread::join(
         rt,
-        move || tell_until_over(rt, alloc, desk, failures, is_over),
+        move || tell_until_over(rt, desk, failures, is_over),
         move || crawl_until_over(rt, alloc, desk, pairs, is_over),
     );
     tell_memory(rt, &crawled);

@@ -1,7 +1,7 @@
 //! Starting server threads, and waiting for their end.
 
 ghost use Rattle.std.specs.Prelude.{◌≡◌};
-ghost use Rattle.gopher_hole.specs.Ending.{EndAs, after_thread};
+ghost use Rattle.gopher_hole.specs.Ending.{EndAs, StartsAll, after_thread};
 
 use gopher_crew::{Crew, Pass};
 use gopher_replies::Replies;
@@ -72,7 +72,9 @@ pub fn start_threads<
     setups: Vec<ThreadSetup>,
     passes: Vec<Pass<C>>,
     tells: bool,
-) -> Started<AnyEnd> {
+) -> Started<AnyEnd>
+    ensures { StartsAll passes result }
+{
     let mut is_short = false;
     let mut setups = setups;
     let mut threads = Vec::new(alloc);

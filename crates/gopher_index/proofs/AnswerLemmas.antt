@@ -29,11 +29,6 @@ take-cons zero y ys = refl
 take-cons (suc n) y [] = refl
 take-cons (suc n) y (z ∷ ys) = ap (λ zs. y ∷ zs) (take-cons n z ys)
 
-pub map-take : {A B : Type 0} (f : A → B) (n : ℕ) (xs : List A) → map f (take n xs) ≡ take n (map f xs)
-map-take f zero xs = refl
-map-take f (suc n) [] = refl
-map-take f (suc n) (x ∷ xs) = ap (λ ys. f x ∷ ys) (map-take f n xs)
-
 -- ---- one more key
 
 module _ {A B : Type 0} (f : A → B) (cmp : B → B → Ordering) where

@@ -1,5 +1,5 @@
 -- What groups of terms say of the pages of a segment.
-use Rattle.std.proofs.Common.{◌≡◌, ℕ, zero, suc, ◌+◌, ◌*◌, ◌≤◌, Bool, List, [], ◌∷◌, ◌++◌, length, map, max, replicate, take, refl, sym, ap, subst, ◌∙◌, arith}
+use Rattle.std.proofs.Common.{◌≡◌, ℕ, zero, suc, ◌+◌, ◌*◌, ◌<◌, ◌≤◌, Bool, List, [], ◌∷◌, ◌++◌, length, map, max, replicate, get_or, take, refl, sym, ap, subst, ◌∙◌, arith}
 use Rattle.std.specs.List.{All, length_refill}
 use Rattle.std.specs.Vec.{with_items}
 use Rattle.std.proofs.lemmas.List.{length-map, with_items_is}
@@ -11,7 +11,7 @@ use Rattle.gopher_index.specs.Joined.{AreJoined}
 use Rattle.gopher_index.specs.Plan.{is_match, verdict_by, verdict, total, wanted_in, AreTermGroups, AreGroupCells}
 use Rattle.gopher_index.specs.declared.joined.Joined.{Joined}
 use Rattle.gopher_index.specs.declared.plan.Group.{Group}
-use Rattle.gopher_index.proofs.Groups.{verdict_push, total_push, times_few}
+use Rattle.gopher_index.proofs.Groups.{next_group, verdict_push, total_push, times_few}
 use Rattle.gopher_index.proofs.Lists.{map-constant}
 use Rattle.gopher_index.proofs.Zipping.{zipped_map}
 
@@ -20,14 +20,6 @@ no_group pages verdicts scores ones zeros = record {
   deciding = ones ∙ map-constant (λ (page : PageData). verdict [] page.counts) 1 pages (λ page. refl);
   scoring = zeros ∙ map-constant (λ (page : PageData). total [] page.counts) 0 pages (λ page. refl);
 }
-
-pub zeros_few : (n : ℕ) → All (λ (score : ℕ). score ≤ 0) (replicate n 0)
-zeros_few zero = λ k d less. absurd (omega (arith, less))
-zeros_few (suc n) = by (zeros_few n)
-  where
-    by : All (λ (score : ℕ). score ≤ 0) (replicate n 0) → All (λ (score : ℕ). score ≤ 0) (0 ∷ replicate n 0)
-    by rest zero d less = omega arith
-    by rest (suc k) d less = rest k d (omega arith)
 
 module _ (groups : List Group) (group : Group) (pages : List PageData) (counts : List ℕ) (counted : counts ≡ term_counts group.term pages) where
   pub one_group : (verdicts verdicts_new scores scores_new : List ℕ) → verdicts_new ≡ zipped (λ before count. max before (verdict_by group count)) verdicts counts → scores_new ≡ zipped (λ score count. score + group.wanted * count) scores counts
@@ -55,24 +47,43 @@ group_few times (score ∷ scores) (count ∷ counts) bound few small =
     by rest (suc k) d less = rest k d (omega arith)
 
 -- what the groups of terms say is what the terms say
-pub groups_cells : (terms : List TermData) (groups : List Group) (pages : List PageData) (truths : List Bool) (verdicts scores : List ℕ) → AreTermGroups terms groups → truths ≡ map is_match verdicts
-    → AreGroupCells groups pages verdicts scores → AreCells terms pages truths scores
-groups_cells terms groups pages truths verdicts scores are settled cells = record {
+pub groups_cells : (terms : List TermData) (groups : List Group) (pages : List PageData) (verdicts scores : List ℕ) → AreTermGroups terms groups → AreGroupCells groups pages verdicts scores → AreCells terms pages (map is_match verdicts) scores
+groups_cells terms groups pages verdicts scores are cells = record {
   matching =
-      settled ∙ ap (map is_match) cells.deciding ∙ map-map is_match (λ (page : PageData). verdict groups page.counts) pages
+      ap (map is_match) cells.deciding ∙ map-map is_match (λ (page : PageData). verdict groups page.counts) pages
       ∙ (λ i. map (λ (page : PageData). sym (are.matching page.counts) i) pages);
   scoring = cells.scoring ∙ (λ i. map (λ (page : PageData). sym (are.scoring page.counts) i) pages);
 }
 
--- cells that say nothing yet, of the pages of a segment
-pub cleared : (groups : List Group) (pages : List PageData) (size : ℕ) (joined : Joined) → joined.groups ≡ 0 → size ≡ length pages → length joined.counts.items ≡ size → joined.verdicts.items ≡ replicate size 1 → joined.scores.items ≡ replicate size 0 → AreJoined groups pages joined
-cleared groups pages size joined none is counts verdicts scores = record {
-  within = omega (arith, none);
-  counts = counts ∙ is;
-  cells = subst (λ n. AreGroupCells (take n groups) pages joined.verdicts.items joined.scores.items) (sym none)
-      (no_group pages joined.verdicts.items joined.scores.items (verdicts ∙ ap (λ n. replicate n 1) is) (scores ∙ ap (λ n. replicate n 0) is));
-  few = subst (λ l. All (λ score. score ≤ 1048576 * wanted_in (take joined.groups groups)) l) (sym scores) (λ k d less. omega (arith, zeros_few size k d less));
-}
+-- scores that are multiples of counts
+pub times_all : (times : ℕ) (counts : List ℕ) → All (λ count. count ≤ 1048576) counts → All (λ score. score ≤ 1048576 * times) (map (λ count. times * count) counts)
+times_all times [] small = λ k d less. absurd (omega (arith, less))
+times_all times (count ∷ counts) small = by (times_all times counts (λ k d less. small (suc k) d (omega arith)))
+  where
+    by : All (λ score. score ≤ 1048576 * times) (map (λ count. times * count) counts) → All (λ score. score ≤ 1048576 * times) (times * count ∷ map (λ count. times * count) counts)
+    by rest zero d less = times_few times count 1048576 (small 0 d (omega arith))
+    by rest (suc k) d less = rest k d (omega arith)
+
+-- the cells after the first group was joined
+pub joined_first : (groups : List Group) (group : Group) (pages : List PageData) (old : Joined) (verdicts scores : List ℕ) → 0 < length groups → group ≡ get_or groups 0 group → length old.counts.items ≡ length pages → length old.verdicts.items ≡ length pages → length old.scores.items ≡ length pages
+    → AreGroupCells (group ∷ []) pages verdicts scores → All (λ score. score ≤ 1048576 * group.wanted) scores
+    → AreJoined groups pages (record { counts = old.counts; verdicts = with_items old.verdicts verdicts; scores = with_items old.scores scores; groups = 1 })
+joined_first groups group pages old verdicts scores some is counts verdicts_long scores_long cells few =
+    let first : take 1 groups ≡ group ∷ [] = next_group groups 0 group some is in
+    let verdicts_are : (with_items old.verdicts verdicts).items ≡ verdicts =
+    with_items_is old.verdicts verdicts (ap length cells.deciding ∙ length-map pages (λ (page : PageData). verdict (group ∷ []) page.counts) ∙ sym verdicts_long ∙ sym old.verdicts.ok.0) in
+    let scores_are : (with_items old.scores scores).items ≡ scores =
+    with_items_is old.scores scores (ap length cells.scoring ∙ length-map pages (λ (page : PageData). total (group ∷ []) page.counts) ∙ sym scores_long ∙ sym old.scores.ok.0) in
+    let wanted : wanted_in (take 1 groups) ≡ group.wanted = ap wanted_in first ∙ plain group.wanted in
+    record {
+      within = omega (arith, some);
+      counts = counts;
+      cells = subst (λ l. AreGroupCells l pages (with_items old.verdicts verdicts).items (with_items old.scores scores).items) (sym first) (record { deciding = verdicts_are ∙ cells.deciding; scoring = scores_are ∙ cells.scoring });
+      few = subst (λ l. All (λ score. score ≤ 1048576 * wanted_in (take 1 groups)) l) (sym scores_are) (subst (λ n. All (λ score. score ≤ 1048576 * n) scores) (sym wanted) few);
+    }
+  where
+    plain : (n : ℕ) → n + 0 ≡ n
+    plain n = omega arith
 
 -- cells are those of the same pages
 pub same_cells : (terms : List TermData) (pages other : List PageData) (truths truths_other : List Bool) (scores scores_other : List ℕ) → pages ≡ other → truths ≡ truths_other → scores ≡ scores_other → AreCells terms pages truths scores → AreCells terms other truths_other scores_other
@@ -82,10 +93,10 @@ same_cells terms pages other truths truths_other scores scores_other is truth sc
 }
 
 -- the cells after more groups were joined
-pub joined_more : (groups : List Group) (pages : List PageData) (old : Joined) (words end : ℕ) (counts verdicts scores : List ℕ) → AreJoined groups pages old → end ≤ length groups → AreGroupCells (take end groups) pages verdicts scores
+pub joined_more : (groups : List Group) (pages : List PageData) (old : Joined) (end : ℕ) (counts verdicts scores : List ℕ) → AreJoined groups pages old → end ≤ length groups → AreGroupCells (take end groups) pages verdicts scores
     → All (λ score. score ≤ 1048576 * wanted_in (take end groups)) scores
-    → AreJoined groups pages (record { counts = with_items old.counts counts; verdicts = with_items old.verdicts verdicts; scores = with_items old.scores scores; words = words; groups = end })
-joined_more groups pages old words end counts verdicts scores base within cells few =
+    → AreJoined groups pages (record { counts = with_items old.counts counts; verdicts = with_items old.verdicts verdicts; scores = with_items old.scores scores; groups = end })
+joined_more groups pages old end counts verdicts scores base within cells few =
     let verdicts_are : (with_items old.verdicts verdicts).items ≡ verdicts =
     with_items_is old.verdicts verdicts
     (ap length cells.deciding ∙ length-map pages (λ (page : PageData). verdict (take end groups) page.counts)

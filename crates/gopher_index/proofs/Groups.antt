@@ -1,7 +1,6 @@
 -- Terms of a query in groups of equal ones.
-use Rattle.std.proofs.Common.{◌≡◌, ℕ, zero, suc, ◌+◌, ◌-◌, ◌*◌, ◌%◌, ◌≤◌, ◌<◌, Bool, true, false, cond, List, [], ◌∷◌, ◌++◌, length, max, take, drop, get_or, set, refl, sym, ap, subst, ◌∙◌, arith, length-append, mul-le-mul_left}
+use Rattle.std.proofs.Common.{◌≡◌, ℕ, zero, suc, ◌+◌, ◌*◌, ◌%◌, ◌≤◌, ◌<◌, Bool, true, false, cond, List, [], ◌∷◌, ◌++◌, length, max, take, get_or, set, refl, sym, ap, subst, ◌∙◌, arith, length-append, mul-le-mul_left}
 use Rattle.std.specs.Prelude.{◌==◌, nat_lt}
-use Rattle.std.proofs.Math.Seq.{take-add}
 use Rattle.std.proofs.lemmas.List.{take_more}
 use Rattle.gopher_page.specs.Counts.{count_meant}
 use Rattle.gopher_page.specs.Query.{TermData, count_of_term, is_not, joined}
@@ -218,16 +217,6 @@ adds_term term number index old found new here alike group read at joins is =
       totals = λ counts. ap (λ l. total l counts) is ∙ set_total term number here found index group.group counts group.within group.at (same counts) joined ∙ ap (λ n. n + wanted_once term.operator * count_of_term counts term) (alike.totals counts);
       wanted = ap wanted_in is ∙ set_wanted term number here found index group.group group.within group.at joined ∙ ap (λ n. n + wanted_once term.operator) alike.wanted;
     }
-
--- groups one after another
-pub wanted_both : (a b : List Group) → wanted_in (a ++ b) ≡ wanted_in a + wanted_in b
-wanted_both [] b = omega arith
-wanted_both (g ∷ a) b = omega (arith, wanted_both a b)
-
-pub groups_next : (groups : List Group) (start end : ℕ) → start ≤ end → take end groups ≡ take start groups ++ take (end - start) (drop start groups)
-groups_next groups start end forward =
-    let apart : end ≡ start + (end - start) = omega (arith, forward) in
-    ap (λ n. take n groups) apart ∙ take-add start (end - start) groups
 
 -- the first groups want no more than all
 pub wanted_first : (groups : List Group) (n : ℕ) → wanted_in (take n groups) ≤ wanted_in groups

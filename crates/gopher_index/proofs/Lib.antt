@@ -4,8 +4,6 @@ pub mod Groups
 pub mod GroupCells
 pub mod Lists
 pub mod Zipping
-pub mod CellLemmas
-pub mod Unwanted
 pub mod Taking
 pub mod TieLemmas
 pub mod LeastLemmas
@@ -16,6 +14,6 @@ pub mod Blocks
 pub mod PostingLemmas
 pub mod NextPages
 pub mod Walking
-pub mod WordSegments
 pub mod Steps
+pub mod Unwanted
 pub mod EarlyRuns

@@ -1,5 +1,4 @@
--- What the steps of a search do to the pages that it went through, and to the number of those that
--- are left.
+-- What the steps of a search do to the pages that it went through.
 use Rattle.std.proofs.Common.{◌≡◌, ℕ, zero, suc, ◌+◌, ◌-◌, ◌*◌, ◌<◌, ◌≤◌, List, ◌++◌, length, map, take, drop, get_or, refl, sym, ap, ◌∙◌, arith}
 use Rattle.std.proofs.lemmas.List.{append-nil, append_assoc, take_all}
 use Rattle.gopher_page.specs.Page.{PageData}
@@ -10,18 +9,6 @@ use Rattle.gopher_index.specs.declared.best.Kept.{Kept}
 use Rattle.gopher_segment.specs.Segment.{SegmentData, pages_of}
 use Rattle.gopher_index.proofs.Blocks.{block_next}
 use Rattle.gopher_index.proofs.Segments.{pages-next}
-
--- ---- the number of steps
-
-times_more : (n m : ℕ) → (n + 1) * m ≡ n * m + m
-times_more n m = grind arith
-
--- `groups` is the most groups that there can be
-module _ (segments done groups : ℕ) (ahead : done < segments) where
-  one_less : (segments - done) * (groups + 1) ≡ (segments - (done + 1)) * (groups + 1) + (groups + 1)
-  one_less =
-      let apart : segments - done ≡ (segments - (done + 1)) + 1 = omega (arith, ahead) in
-      ap (λ n. n * (groups + 1)) apart ∙ times_more (segments - (done + 1)) (groups + 1)
 
 -- no loose page is taken in before the last segment
 pub none_loose : (loose done segments : ℕ) → (0 < loose → done ≡ segments) → done < segments → loose ≡ 0

@@ -8,12 +8,15 @@ use Rattle.std.specs.declared.cmp.Ordering.{Ordering}
 use Rattle.std.specs.declared.cmp.Ordering.TheVariants.{Less, Equal, Greater}
 use Rattle.std.proofs.lemmas.Bool.{both_ways}
 use Rattle.std.proofs.lemmas.Option.{get_or_from_slice_get, slice_get-map, slice_get_cases, slice_get_read, slice_get_within}
-use Rattle.std.proofs.lemmas.List.{take_more}
+use Rattle.std.proofs.lemmas.List.{take_more, length-map, get_or-map}
 use Rattle.gopher_item.specs.Place.{place_cmp}
 use Rattle.gopher_page.specs.Page.{PageData}
+use Rattle.gopher_page.specs.Query.{TermData, matches}
 use Rattle.gopher_segment.specs.Ranks.{AreRanks}
 use Rattle.gopher_index.specs.Answer.{rank_cmp, ranked}
 use Rattle.gopher_index.specs.Best.{BestData, hit_with, is_beyond, reaches, TakesHit}
+use Rattle.gopher_index.specs.Cells.{truths_of}
+use Rattle.gopher_index.specs.Plan.{is_match}
 use Rattle.gopher_index.specs.declared.hit.Hit.{Hit}
 use Rattle.gopher_index.proofs.AnswerLemmas.{best_beyond, rank_cmp_total}
 use Rattle.gopher_index.proofs.Taking.{filter_kept, filter_left_out}
@@ -109,3 +112,9 @@ page_here pages index within = by (slice_get_cases pages index).1
 pub read_at : {Y : Type 0} (f : PageData → Y) (pages : List PageData) (zs : List Y) (index : ℕ) (page : PageData) (d : Y) → slice_get pages index ≡ Some page → zs ≡ map f pages → get_or zs index d ≡ f page
 read_at f pages zs index page d there made =
     ap (λ l. get_or l index d) made ∙ get_or_from_slice_get (map f pages) index (f page) d (slice_get-map f pages index ∙ ap (option_map f) there)
+
+-- whether a page matches, by its verdict
+pub truth_at : (terms : List TermData) (pages : List PageData) (verdicts : List ℕ) (index : ℕ) (page : PageData) → slice_get pages index ≡ Some page → map is_match verdicts ≡ truths_of terms pages → is_match (get_or verdicts index 0) ≡ matches terms page.counts
+truth_at terms pages verdicts index page there made =
+    let within : index < length verdicts = omega (arith, slice_get_within pages index page there, length-map verdicts is_match, ap length made, length-map pages (λ (p : PageData). matches terms p.counts)) in
+    sym (get_or-map is_match verdicts index 0 false within) ∙ read_at (λ (p : PageData). matches terms p.counts) pages (map is_match verdicts) index page false there made

@@ -1,5 +1,5 @@
 -- Elements that a loop takes on by the counts at their places.
-use Rattle.std.proofs.Common.{◌≡◌, ℕ, zero, suc, ◌+◌, ◌<◌, List, [], ◌∷◌, length, map, take, get_or, set, refl, sym, ap, ◌∙◌, arith}
+use Rattle.std.proofs.Common.{◌≡◌, ℕ, zero, suc, ◌+◌, ◌*◌, ◌<◌, List, [], ◌∷◌, length, map, replicate, take, get_or, set, refl, sym, ap, ◌∙◌, arith}
 use Rattle.gopher_index.specs.Cells.{zipped}
 
 module _ {X : Type 0} (step : X → ℕ → X) where
@@ -48,3 +48,26 @@ module _ {X : Type 0} (step : X → ℕ → X) where
 pub zipped_map : {X Y : Type 0} (step : X → ℕ → X) (f : Y → X) (g : Y → ℕ) (ys : List Y) → zipped step (map f ys) (map g ys) ≡ map (λ y. step (f y) (g y)) ys
 zipped_map step f g [] = refl
 zipped_map step f g (y ∷ ys) = ap (λ l. step (f y) (g y) ∷ l) (zipped_map step f g ys)
+
+-- where the elements are counts too
+pub zipped_own : (f : ℕ → ℕ) (xs : List ℕ) → zipped (λ x count. f x) xs xs ≡ map f xs
+zipped_own f [] = refl
+zipped_own f (x ∷ xs) = ap (λ l. f x ∷ l) (zipped_own f xs)
+
+-- a step that changes nothing
+pub zipped_idle : (step : ℕ → ℕ → ℕ) (xs counts : List ℕ) → ((x count : ℕ) → x ≡ step x count) → xs ≡ zipped step xs counts
+zipped_idle step [] counts idle = refl
+zipped_idle step (x ∷ xs) [] idle = refl
+zipped_idle step (x ∷ xs) (count ∷ counts) idle = (λ i. idle x count i ∷ zipped_idle step xs counts idle i)
+
+pub mapped_idle : (f : ℕ → ℕ) (xs : List ℕ) → ((x : ℕ) → x ≡ f x) → xs ≡ map f xs
+mapped_idle f [] idle = refl
+mapped_idle f (x ∷ xs) idle = (λ i. idle x i ∷ mapped_idle f xs idle i)
+
+-- counts are added to none
+pub zipped_zeros : (times : ℕ) (counts : List ℕ) → map (λ count. times * count) counts ≡ zipped (λ score count. score + times * count) (replicate (length counts) 0) counts
+zipped_zeros times [] = refl
+zipped_zeros times (count ∷ counts) = (λ i. plain (times * count) i ∷ zipped_zeros times counts i)
+  where
+    plain : (n : ℕ) → n ≡ 0 + n
+    plain n = omega arith

@@ -1,13 +1,14 @@
 -- The postings of one term.
-use Rattle.std.specs.Prelude.{◌≡◌, ◌⊎◌, ℕ, zero, suc, ◌+◌, ◌-◌, ◌<◌, Bool, false, ◌==◌, List, [], ◌∷◌, ◌++◌, Option, Some, length, map, min, drop, slice_get, slice_index, Result, IfSome, OnOk}
+use Rattle.std.specs.Prelude.{◌≡◌, ◌⊎◌, ℕ, zero, suc, ◌+◌, ◌-◌, ◌<◌, Bool, false, ◌==◌, List, [], ◌∷◌, ◌++◌, Some, length, map, min, drop, slice_get, slice_index, Result, OnOk}
 use Rattle.std.specs.Arc.{arc_value}
 use Rattle.std.specs.List.{AllByRecursion, zip}
 use Rattle.gopher_page.specs.Page.{PageData}
 use Rattle.gopher_page.specs.Query.{TermData, count_of_term}
+use Rattle.gopher_page.specs.declared.query.Operator.TheVariants.{And}
 use Rattle.gopher_index.specs.Best.{BestData, TakesIn}
 use Rattle.gopher_index.specs.Cells.{term_counts}
 use Rattle.gopher_segment.specs.Postings.{run_of}
-use Rattle.gopher_segment.specs.Segment.{SegmentData, meant_counts}
+use Rattle.gopher_segment.specs.Segment.{SegmentData}
 use Rattle.gopher_segment.specs.declared.postings.Postings.{Postings}
 use Rattle.gopher_index.specs.declared.ties.Ties.{Ties}
 
@@ -64,21 +65,11 @@ abbrev pub ArePostingsOf : TermData → List PageData → Postings → Type 0
 ArePostingsOf term pages postings =
     zip postings.numbers.now postings.counts.now ≡ run_of postings.first (term_counts term pages)
 
--- the postings of a word in a segment
-pub record ArePostingsIn (word : List ℕ) (segment : SegmentData) (postings : Postings)
+-- these are the postings of a query's only term, in a segment
+pub record IsListOf (terms : List TermData) (segment : SegmentData) (postings : Postings)
     : Type 0 where
-  pub run : zip postings.numbers.now postings.counts.now
-      ≡ run_of postings.first (meant_counts false word segment.pages)
+  pub term : TermData
+  pub alone : terms ≡ term ∷ []
+  pub and : term.operator ≡ And
+  pub run : ArePostingsOf term segment.pages postings
   pub beside : length postings.counts.now ≡ length postings.numbers.now
-
--- a list, if there is one, has the postings of a word in a segment
-abbrev pub IsListIn : List ℕ → SegmentData → Option Postings → Type 0
-IsListIn word segment list = IfSome list (ArePostingsIn word segment)
-
--- the posting lists of a word in those of several segments that have one
-abbrev pub ArePostings : List ℕ → List SegmentData → List (Option Postings) → Type 0
-ArePostings word [] [] = Unit {0}
-ArePostings word [] (list ∷ found) = ⊥
-ArePostings word (segment ∷ segments) [] = ⊥
-ArePostings word (segment ∷ segments) (list ∷ found) =
-    IsListIn word segment list × ArePostings word segments found

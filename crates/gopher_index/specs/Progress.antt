@@ -1,5 +1,5 @@
 -- The state of a search that is done in steps.
-use Rattle.std.specs.Prelude.{ℕ, ◌≡◌, ◌<◌, ◌≤◌, ◌+◌, ◌-◌, ◌*◌, Bool, List, ◌++◌, length, map, take, slice_index_or, Result, IfOk}
+use Rattle.std.specs.Prelude.{ℕ, ◌≡◌, ◌<◌, ◌≤◌, ◌+◌, ◌-◌, ◌*◌, List, ◌++◌, length, map, take, slice_index_or, Result, IfOk}
 use Rattle.std.specs.Arc.{arc_value}
 use Rattle.std.specs.Global.{Global, Vec}
 use Rattle.std.specs.declared.sync.Arc.{Arc}
@@ -10,7 +10,7 @@ use Rattle.gopher_index.specs.Best.{answer_from, kept_hit}
 use Rattle.gopher_index.specs.Cells.{AreCells}
 use Rattle.gopher_index.specs.Index.{indexed}
 use Rattle.gopher_index.specs.Joined.{AreBegun}
-use Rattle.gopher_index.specs.Plan.{AreTermGroups, IsPlan}
+use Rattle.gopher_index.specs.Plan.{AreTermGroups, IsPlan, is_match}
 use Rattle.gopher_index.specs.declared.best.Kept.{Kept}
 use Rattle.gopher_index.specs.declared.hit.Hit.{Hit}
 use Rattle.gopher_index.specs.declared.plan.Group.{Group}
@@ -75,10 +75,10 @@ AddsPages terms pages old new =
 
 -- if these are the cells of the pages for some terms, the pages are added to the best so far,
 -- unless it fails
-abbrev pub AddsCells : {E : Type 0} → List PageData → List Bool → List ℕ → List Kept
+abbrev pub AddsCells : {E : Type 0} → List PageData → List ℕ → List ℕ → List Kept
     → Result (Vec Kept) E → Type 0
-AddsCells pages truths scores old result =
-    (terms : List TermData) → AreCells terms pages truths scores
+AddsCells pages verdicts scores old result =
+    (terms : List TermData) → AreCells terms pages (map is_match verdicts) scores
     → IfOk result (λ new. AddsPages terms pages old new.items)
 
 -- if these are the groups of some terms, the pages are added to the best so far, unless it fails

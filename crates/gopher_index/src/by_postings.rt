@@ -1,25 +1,18 @@
-//! Searching segments for a single word, through its posting list in each segment that has one.
+//! Searching a segment for a single word, through its posting list.
 
-ghost use Rattle.std.specs.Prelude.{◌≡◌, ◌<◌, ◌≤◌, ◌∷◌, [], false, length, map, min, nat_le, IfOk, OnOk};
+ghost use Rattle.std.specs.Prelude.{◌≡◌, ◌<◌, ◌≤◌, ◌∷◌, [], length, map, min, nat_le, OnOk};
 ghost use Rattle.std.specs.Arc.{arc_value};
 ghost use Rattle.std.specs.List.{list_any};
 ghost use Rattle.gopher_page.specs.declared.query.Operator.TheVariants.{And};
-ghost use Rattle.gopher_index.specs.Best.{IsBestOf, TakesIn, lowest_score};
-ghost use Rattle.gopher_index.specs.ByPostings.{is_again, ArePostings, ArePostingsOf, IsListIn, IsWholeCount, TakesPosting, WalksBetween};
+ghost use Rattle.gopher_index.specs.Best.{TakesIn, lowest_score};
+ghost use Rattle.gopher_index.specs.ByPostings.{is_again, ArePostingsOf, IsWholeCount, TakesPosting, WalksBetween};
 ghost use Rattle.gopher_index.specs.Ties.{AreTies};
-ghost use Rattle.gopher_index.specs.Index.{pages_in};
 
 use crate::best::Best;
-use crate::by_cells::{best_of_terms, rank_segment};
-use crate::cells::Cells;
-use crate::likely::likely_score;
 use crate::ties::Ties;
 use gopher_item::NoMemory;
 use gopher_page::{Page, Term};
 use gopher_segment::{Postings, Segment};
-use std::alloc::Global;
-use std::slice::from_ref;
-use std::sync::Arc;
 
 // The number of postings that are skipped at once if none of them can get among the best.
 const BLOCK: usize = 64;
@@ -113,9 +106,9 @@ fn insert_postings<'a>(
     Ok(())
 }
 
-// Inserts the pages of a posting list into the best. Skips blocks without a count that is high
-// enough.
-fn rank_postings<'a>(
+/// Inserts the pages of a posting list into the best. Skips blocks without a count that is high
+/// enough.
+pub(crate) fn rank_postings<'a>(
     segment: &'a Segment,
     term: &Term,
     postings: &Postings,
@@ -136,83 +129,4 @@ fn rank_postings<'a>(
         start = end;
     }
     Ok(())
-}
-
-// Returns the posting list of a word in each segment, or `None` if the segment has no lists.
-fn postings_of<'a>(
-    alloc: Global,
-    segments: &'a [Arc<Segment>],
-    word: &[u8],
-) -> Result<Vec<Option<Postings<'a>>>, NoMemory>
-    ensures { IfOk result (λ found. ArePostings word.now (map arc_value segments.now) found.items) }
-{
-    let mut found = Vec::with_capacity(alloc, segments.len())?;
-    for segment in segments {
-        found.push(segment.postings(word))?;
-    }
-    Ok(found)
-}
-
-// Inserts the pages of a segment that contain a word, the query's only term, into the best.
-// Overwrites the cells if the segment has no posting list of the word.
-fn rank_word_in_segment<'a>(
-    segment: &'a Segment,
-    term: &Term,
-    list: &Option<Postings>,
-    cells: &mut Cells,
-    best: &mut Best<'a>,
-) -> Result<(), NoMemory>
-    requires and { term.now.operator ≡ And }
-    requires word { term.now.is_prefix ≡ false }
-    requires list { IsListIn term.now.word segment.now list.now }
-    ensures { OnOk result (TakesIn (term.now ∷ []) segment.now.pages best.old best.new) }
-{
-    match list {
-        Some(postings) => rank_postings(segment, term, postings, best),
-        None => rank_segment(segment, from_ref(term), cells, best),
-    }
-}
-
-// Inserts the pages of segments that contain a word, the query's only term, into the best.
-fn rank_word<'a>(
-    segments: &'a [Arc<Segment>],
-    term: &Term,
-    found: &[Option<Postings>],
-    cells: &mut Cells,
-    best: &mut Best<'a>,
-) -> Result<(), NoMemory>
-    requires and { term.now.operator ≡ And }
-    requires word { term.now.is_prefix ≡ false }
-    requires found { ArePostings term.now.word (map arc_value segments.now) found.now }
-    ensures { OnOk result (TakesIn (term.now ∷ []) (pages_in segments.now) best.old best.new) }
-{
-    for (index, segment) in segments.iter().enumerate() {
-        rank_word_in_segment(segment, term, &found[index], cells, best)?;
-    }
-    Ok(())
-}
-
-/// Returns the best of segments through the posting lists of a word, the query's only term. A
-/// segment without a list is searched through cells; if none has one, all are searched as for
-/// several terms, with a guess from the first.
-pub(crate) fn best_of_word<'a>(
-    alloc: Global,
-    segments: &'a [Arc<Segment>],
-    term: &Term,
-    is_guessed: bool,
-) -> Result<Best<'a>, NoMemory>
-    requires and { term.now.operator ≡ And }
-    requires word { term.now.is_prefix ≡ false }
-    ensures best { IfOk result (λ best. IsBestOf (term.now ∷ []) (pages_in segments.now) best) }
-    ensures plain { is_guessed ≡ false → IfOk result (λ best. best.least ≡ 0) }
-{
-    let found = postings_of(alloc, segments, term.word())?;
-    if found.iter().all(|list| list.is_none()) {
-        return best_of_terms(alloc, segments, from_ref(term), is_guessed);
-    }
-    let least = if is_guessed { likely_score(&found) } else { 0 };
-    let mut best = Best::new(alloc, least)?;
-    let mut cells = Cells::new(alloc);
-    rank_word(segments, term, &found, &mut cells, &mut best)?;
-    Ok(best)
 }

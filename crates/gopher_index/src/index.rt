@@ -10,7 +10,6 @@ use crate::begun::Begun;
 use crate::due::Due;
 use crate::hit::Hit;
 use crate::installing::{put_for_loose, put_for_segments, ready};
-use crate::joined::LARGE_SEARCH;
 use crate::occurrences::occurrences;
 use crate::picking::{due_loose, due_span};
 use crate::search::search;
@@ -31,6 +30,10 @@ const MOST_RUNS: usize = 64;
 
 // The most terms of a search that runs to its end in `begin`.
 const FEW_TERMS: usize = 4;
+
+// The number of postings that a search in a large page counts as, rounded up: such a search took
+// 1.3 us, and a posting 0.8 ns (a C program, 27 November). A large page has more words.
+const LARGE_SEARCH: usize = 2_048;
 
 // The most postings of such a search. Each prefix counts as all postings, and each search in a
 // large page as `LARGE_SEARCH`.

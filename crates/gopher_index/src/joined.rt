@@ -1,28 +1,18 @@
 //! The verdicts and scores of a segment's pages, joined group by group of a query's terms.
 
-ghost use Rattle.std.specs.Prelude.{◌≡◌, ◌+◌, ◌*◌, ◌^◌, ◌≤◌, ◌<◌, length, map, replicate, IfOk, OnOk};
+ghost use Rattle.std.specs.Prelude.{None, ◌≡◌, ◌+◌, ◌*◌, ◌^◌, ◌≤◌, ◌<◌, ◌==◌, ◌∷◌, [], length, map, replicate, if◌then◌else◌, IfSome, OnOk};
 ghost use Rattle.std.specs.List.{All};
-ghost use Rattle.gopher_index.specs.Cells.{zipped, RisesAtMost};
-ghost use Rattle.gopher_index.specs.Joined.{AreBegun, AreJoined, AddsAll, AddsOne, BeginsSegment, JoinsMore, raised_verdicts};
-ghost use Rattle.gopher_index.specs.Plan.{is_match, wanted_in};
+ghost use Rattle.gopher_index.specs.Cells.{RisesAtMost, term_counts, zipped};
+ghost use Rattle.gopher_index.specs.Joined.{AreBegun, AreJoined, AddsOne, HasCells, IsUnwantedList, JoinsOne, RaisesEach, posted, posted_count, raised_verdicts};
+ghost use Rattle.gopher_segment.specs.Postings.{AreWithin};
+ghost use Rattle.gopher_index.specs.Plan.{AreGroupCells, wanted_in};
 
-use crate::cells::spread_term;
-use crate::plan::{Group, higher};
+use crate::likely::Highest;
+use crate::plan::{Group, higher, verdict_for};
 use gopher_item::{MAX_LINE, NoMemory};
-use gopher_segment::{Segment, words_len};
+use gopher_page::Term;
+use gopher_segment::{Postings, Segment};
 use std::alloc::Global;
-
-// The most cells and postings that a step goes through, unless one group alone has more. A word of
-// a large page counts as a posting.
-const STEP: usize = 262_144;
-
-/// The number of postings that a search in a large page counts as, rounded up: such a search took
-/// 1.3 us, and a posting 0.8 ns (a C program, 27 November). A large page has more words.
-pub(crate) const LARGE_SEARCH: usize = 2_048;
-
-// The words of a segment with at least this many pages aren't counted, because a step joins at most
-// one prefix then anyway.
-const MANY_PAGES: usize = 4_096;
 
 /// The verdicts and scores of a segment's pages by the first groups of a query's terms.
 ///
@@ -30,20 +20,34 @@ const MANY_PAGES: usize = 4_096;
 #[derive(Debug, Drop)]
 pub(crate) struct Joined {
     counts: Vec<u32>,
-    pub verdicts: Vec<u32>,
+    pub verdicts: Vec<u16>,
     pub scores: Vec<u32>,
-    words: usize,
     /// The number of groups that were joined. At 0, the cells belong to no segment.
     pub groups: usize,
 }
 
 // Raises the verdict of each page to that of a group, from how often the page contains its words.
-fn raise_verdicts(group: &Group, verdicts: &mut [u32], counts: &[u32])
+fn raise_verdicts(group: &Group, verdicts: &mut [u16], counts: &[u32])
     requires { length verdicts.old ≡ length counts.now }
     ensures { verdicts.new ≡ raised_verdicts group.now verdicts.old counts.now }
 {
+    // Read once: in the loop, the compiler can't rule out that the verdicts overlap the group.
+    let holds = group.holds;
+    let fails = group.fails;
     for (index, count) in counts.iter().enumerate() {
-        verdicts[index] = higher(verdicts[index], group.verdict(*count));
+        verdicts[index] = higher(verdicts[index], verdict_for(holds, fails, *count));
+    }
+}
+
+// Adds each count once.
+fn add_counts(scores: &mut [u32], counts: &[u32])
+    requires same { length scores.old ≡ length counts.now }
+    requires room { All (λ score. score ≤ 2 ^ 31) scores.old }
+    requires few { All (λ count. count ≤ 1048576) counts.now }
+    ensures { scores.new ≡ zipped (λ score count. score + count) scores.old counts.now }
+{
+    for (index, count) in counts.iter().enumerate() {
+        scores[index] += *count;
     }
 }
 
@@ -60,12 +64,103 @@ fn add_times(times: u32, scores: &mut [u32], counts: &[u32])
     }
 }
 
-// Joins a group to the groups before it. Overwrites `counts`.
+// Adds the counts of a group, once for each of its terms that counts for the score.
+fn add_wanted(times: u32, scores: &mut [u32], counts: &[u32])
+    requires same { length scores.old ≡ length counts.now }
+    requires times { times ≤ MAX_LINE }
+    requires room { All (λ score. score ≤ 2 ^ 31) scores.old }
+    requires few { All (λ count. count ≤ 1048576) counts.now }
+    ensures { scores.new ≡ zipped (λ score count. score + times * count) scores.old counts.now }
+{
+    match times {
+        0 => {}
+        1 => add_counts(scores, counts),
+        _ => add_times(times, scores, counts),
+    }
+}
+
+/// Writes how often the words that a term matches occur in each page.
+fn spread_term(segment: &Segment, term: &Term, counts: &mut [u32])
+    requires { length counts.old ≡ length segment.now.pages }
+    ensures counts { counts.new ≡ term_counts term.now segment.now.pages }
+    ensures few { All (λ count. count ≤ 1048576) counts.new }
+{
+    counts.fill(0);
+    segment.spread(term.is_prefix(), term.word(), counts);
+}
+
+// Multiplies each score.
+fn multiply(times: u32, scores: &mut [u32])
+    requires times { times ≤ MAX_LINE }
+    requires few { All (λ score. score ≤ 1048576) scores.old }
+    ensures { scores.new ≡ map (λ score. times * score) scores.old }
+{
+    if times == 1 {
+        return;
+    }
+    for index in 0..scores.len() {
+        scores[index] = times * scores[index];
+    }
+}
+
+// Joins the first group. Its counts are written to the scores directly.
+fn join_first(segment: &Segment, group: &Group, verdicts: &mut [u16], scores: &mut [u32])
+    requires times { group.now.wanted ≤ MAX_LINE }
+    requires verdicts { verdicts.old ≡ replicate (length segment.now.pages) 1 }
+    requires scores { scores.old ≡ replicate (length segment.now.pages) 0 }
+    ensures cells { AreGroupCells (group.now ∷ []) segment.now.pages verdicts.new scores.new }
+    ensures few { All (λ score. score ≤ 1048576 * group.now.wanted) scores.new }
+{
+    segment.spread(group.term.is_prefix(), group.term.word(), scores);
+    raise_verdicts(group, verdicts, scores);
+    multiply(group.wanted, scores);
+}
+
+// Returns the posting list of a group of `not` and one word, if the segment has lists. No page
+// changes that the list doesn't have.
+fn unwanted_list<'a>(segment: &'a Segment, group: &Group) -> Option<Postings<'a>>
+    ensures { IfSome result (IsUnwantedList group.now segment.now.pages) }
+{
+    if group.wanted > 0 || group.fails > 0 || group.term.is_prefix() {
+        return None;
+    }
+    segment.postings(group.term.word())
+}
+
+// Raises the verdict of a page for one of its postings. The first verdict is that of page `first`.
+fn raise_page(holds: u16, verdicts: &mut [u16], first: usize, page: usize, count: u8)
+    requires from { first ≤ page }
+    requires within { page < first + length verdicts.old }
+    ensures { RaisesEach holds (λ k. if page == first + k then count else 0) verdicts.old
+        verdicts.new }
+{
+    let index = page - first;
+    verdicts[index] = higher(verdicts[index], verdict_for(holds, 0, u32::from(count)));
+}
+
+// Raises the verdicts of the pages of postings. The first verdict is that of the first page.
+fn raise_listed(postings: &Postings, holds: u16, verdicts: &mut [u16])
+    requires beside { length postings.now.counts.now ≡ length postings.now.numbers.now }
+    requires within { AreWithin postings.now.first (length verdicts.old) (posted postings.now) }
+    ensures { RaisesEach holds (posted_count postings.now) verdicts.old verdicts.new }
+{
+    for (index, number) in postings.numbers.iter().enumerate() {
+        raise_page(
+            holds,
+            verdicts,
+            postings.first,
+            usize::from(*number),
+            postings.counts[index],
+        );
+    }
+}
+
+// Joins a group to the groups before it. May overwrite `counts`.
 fn join_group(
     segment: &Segment,
     group: &Group,
     counts: &mut [u32],
-    verdicts: &mut [u32],
+    verdicts: &mut [u16],
     scores: &mut [u32],
 )
     requires times { group.now.wanted ≤ MAX_LINE }
@@ -76,70 +171,13 @@ fn join_group(
     ensures cells { AddsOne group.now segment.now verdicts.old scores.old verdicts.new scores.new }
     ensures few { RisesAtMost (1048576 * group.now.wanted) scores.old scores.new }
 {
+    if let Some(postings) = unwanted_list(segment, group) {
+        raise_listed(&postings, group.holds, verdicts);
+        return;
+    }
     spread_term(segment, &group.term, counts);
     raise_verdicts(group, verdicts, counts);
-    add_times(group.wanted, scores, counts);
-}
-
-// Joins several groups to the groups before them. Overwrites `counts`.
-fn join_groups(
-    segment: &Segment,
-    groups: &[Group],
-    counts: &mut [u32],
-    verdicts: &mut [u32],
-    scores: &mut [u32],
-)
-    requires few { wanted_in groups.now ≤ MAX_LINE }
-    requires counts { length counts.old ≡ length segment.now.pages }
-    requires verdicts { length verdicts.old ≡ length segment.now.pages }
-    requires scores { length scores.old ≡ length segment.now.pages }
-    requires room { All (λ score. score ≤ 2 ^ 30) scores.old }
-    ensures cells { AddsAll groups.now segment.now verdicts.old scores.old verdicts.new scores.new }
-    ensures few { RisesAtMost (1048576 * wanted_in groups.now) scores.old scores.new }
-{
-    for group in groups {
-        join_group(segment, group, counts, verdicts, scores);
-    }
-}
-
-// The most cells and postings that a group goes through in a segment of `pages` pages with `words`
-// words. Each of the `large` large pages is searched.
-fn work_of(group: &Group, pages: usize, words: usize, large: usize) -> usize {
-    let searches = large.saturating_mul(LARGE_SEARCH);
-    if group.term.is_prefix() {
-        searches.saturating_add(pages).saturating_add(words)
-    } else {
-        searches.saturating_add(pages.saturating_mul(2))
-    }
-}
-
-// The first group that isn't joined in the same step as the one at `start`.
-fn step_end(groups: &[Group], start: usize, pages: usize, words: usize, large: usize) -> usize
-    requires { start < length groups.now }
-    ensures forward { start < result }
-    ensures within { result ≤ length groups.now }
-{
-    let mut work = work_of(&groups[start], pages, words, large);
-    let mut end = start + 1;
-    while end < groups.len() {
-        work = work.saturating_add(work_of(&groups[end], pages, words, large));
-        if work > STEP {
-            break;
-        }
-        end += 1;
-    }
-    end
-}
-
-/// Returns whether each page matches, by its verdict from all groups.
-pub(crate) fn truths_of(alloc: Global, verdicts: &[u32]) -> Result<Vec<bool>, NoMemory>
-    ensures { IfOk result (λ truths. truths.items ≡ map is_match verdicts.now) }
-{
-    let mut truths = Vec::with_capacity(alloc, verdicts.len())?;
-    for verdict in verdicts {
-        truths.push(*verdict % 2 == 1)?;
-    }
-    Ok(truths)
+    add_wanted(group.wanted, scores, counts);
 }
 
 impl Joined {
@@ -151,7 +189,6 @@ impl Joined {
             counts: Vec::new(alloc),
             verdicts: Vec::new(alloc),
             scores: Vec::new(alloc),
-            words: 0,
             groups: 0,
         }
     }
@@ -171,46 +208,80 @@ impl Joined {
         Ok(())
     }
 
-    // Begins a segment, unless some groups are joined in it.
-    fn begin(&mut self, segment: &Segment) -> Result<(), NoMemory>
-        ensures groups { self.new.groups ≡ self.old.groups }
-        ensures cells { BeginsSegment segment.now.pages self.old self.new result }
+    // Joins the first group of a segment. After an error no group is joined.
+    fn start(&mut self, segment: &Segment, groups: &[Group]) -> Result<(), NoMemory>
+        requires few { wanted_in groups.now ≤ MAX_LINE }
+        requires some { 0 < length groups.now }
+        requires none { self.old.groups ≡ 0 }
+        ensures cells { OnOk result (AreJoined groups.now segment.now.pages self.new) }
+        ensures one { JoinsOne self.old self.new result }
     {
-        if self.groups > 0 {
-            return Ok(());
-        }
-        let pages = segment.pages();
-        self.clear(pages.len())?;
-        self.words = if pages.len() < MANY_PAGES {
-            words_len(pages)
-        } else {
-            STEP
-        };
+        self.clear(segment.pages().len())?;
+        let Joined {
+            verdicts,
+            scores,
+            ..
+        } = self;
+        join_first(segment, &groups[0], verdicts, scores);
+        self.groups = 1;
         Ok(())
     }
 
-    /// Joins the next groups: at least one, and otherwise as many as one step may go through.
-    ///
-    /// After an error no group is joined.
-    pub fn advance(&mut self, segment: &Segment, groups: &[Group]) -> Result<(), NoMemory>
+    // Joins the next group.
+    fn join(&mut self, segment: &Segment, groups: &[Group])
         requires few { wanted_in groups.now ≤ MAX_LINE }
         requires ahead { self.old.groups < length groups.now }
-        requires begun { AreBegun groups.now segment.now.pages self.old }
-        ensures cells { OnOk result (AreJoined groups.now segment.now.pages self.new) }
-        ensures groups { JoinsMore self.old self.new result }
+        requires joined { AreJoined groups.now segment.now.pages self.old }
+        ensures cells { AreJoined groups.now segment.now.pages self.new }
+        ensures one { self.new.groups ≡ self.old.groups + 1 }
     {
-        self.begin(segment)?;
-        let start = self.groups;
-        let pages = segment.pages().len();
-        let end = step_end(groups, start, pages, self.words, segment.large_len());
+        let next = self.groups;
         let Joined {
             counts,
             verdicts,
             scores,
             ..
         } = self;
-        join_groups(segment, &groups[start..end], counts, verdicts, scores);
-        self.groups = end;
+        join_group(segment, &groups[next], counts, verdicts, scores);
+        self.groups = next + 1;
+    }
+
+    /// Joins the next group. After an error no group is joined.
+    pub fn advance(&mut self, segment: &Segment, groups: &[Group]) -> Result<(), NoMemory>
+        requires few { wanted_in groups.now ≤ MAX_LINE }
+        requires ahead { self.old.groups < length groups.now }
+        requires begun { AreBegun groups.now segment.now.pages self.old }
+        ensures cells { OnOk result (AreJoined groups.now segment.now.pages self.new) }
+        ensures one { JoinsOne self.old self.new result }
+    {
+        if self.groups == 0 {
+            return self.start(segment, groups);
+        }
+        self.join(segment, groups);
         Ok(())
+    }
+
+    /// Joins all groups.
+    pub fn fill(&mut self, segment: &Segment, groups: &[Group]) -> Result<(), NoMemory>
+        requires few { wanted_in groups.now ≤ MAX_LINE }
+        requires some { 0 < length groups.now }
+        ensures { OnOk result (HasCells groups.now segment.now.pages self.new) }
+    {
+        self.groups = 0;
+        self.start(segment, groups)?;
+        while self.groups < groups.len() {
+            self.join(segment, groups);
+        }
+        Ok(())
+    }
+
+    /// Guesses a score that `wanted` pages of the segment reach; 0 if nothing is wanted.
+    pub fn likely_score(&self, wanted: Option<usize>) -> u64
+        requires { length self.now.scores.items ≡ length self.now.verdicts.items }
+        ensures { wanted ≡ None → result ≡ 0 }
+    {
+        let mut highest = Highest::new();
+        highest.note_scores(&self.verdicts, &self.scores);
+        highest.reached(wanted)
     }
 }

@@ -18,30 +18,30 @@
 //!
 //! `Index::begin` runs a short search to its end (`search`): one of at most four terms that go
 //! through at most 16,777,216 postings together. For this limit a prefix goes through all postings,
-//! and a large page counts as 2,048 for each term. It goes through the segments in order. For
-//! several terms it spreads the counts of each term over an array with one element for each page,
-//! joins them to the matches so far, and adds them to the scores (`cells`, `by_cells`). A word
-//! after `not` only removes pages. For a single word it goes through the posting list and skips
-//! blocks of 64 postings that can't reach the best 50, and such postings in other blocks
-//! (`by_postings`). A segment with large pages has no lists, so its counts are spread for a single
-//! word too. Pages that reach the lowest of the best scores are inserted among them (`best`). If a
-//! page of that score isn't among them, no page of the segment with that score and a later place
-//! is, and the ranks of places in the segment show which these are (`ties`). So most pages of one
-//! score are never read. Loose pages are searched by their own counts (`loose`).
+//! and a large page counts as 2,048 for each term. A search groups equal terms (`plan`) and goes
+//! through the segments in order. In each it spreads the counts of one group after another over an
+//! array with one element for each page, and joins them to the matches and the scores so far
+//! (`joined`). A group of `not` and a word goes through the word's posting list, since it changes
+//! no other page. For a single word it goes through the posting list instead, and skips blocks of
+//! 64 postings that can't reach the best 50, and such postings in other blocks (`by_postings`). A
+//! segment with large pages has no lists, so its counts are spread for a single word too. Pages
+//! that reach the lowest of the best scores are inserted among them (`by_cells`, `best`). If a page
+//! of that score isn't among them, no page of the segment with that score and a later place is, and
+//! the ranks of places in the segment show which these are (`ties`). So most pages of one score are
+//! never read. Loose pages are searched by their own counts (`loose`).
 //!
 //! A query has at most as many terms as its line has bytes, 1,024 (`MAX_LINE`). So scores fit in a
-//! `u32`.
+//! `u32`, and verdicts in a `u16`.
 //!
-//! To skip more, a short search first guesses a score that 50 pages reach (`likely`). If fewer than
-//! 50 hits reach it, the search runs again without a guess. No contract depends on the guess.
+//! To skip more, a short search first guesses a score that 50 pages reach, from the first segment
+//! (`likely`). If fewer than 50 hits reach it, the search runs again without a guess. No contract
+//! depends on the guess.
 //!
 //! Any other search becomes a `Search`, which shares the pages and goes on in steps (`progress`).
-//! Its first step groups equal terms (`plan`). Each further step does one of three things. It joins
-//! groups to the matches and scores of one segment's pages, spreading the counts of each group once
-//! (`joined`). Or it inserts the pages of a segment that match among the best. Or it inserts up to
-//! eight loose pages. A step that joins groups goes through at most 262,144 cells and postings, or
-//! those of one group if that has more: at most all postings of one segment, and 2,048 for each of
-//! its large pages. A word of a large page counts as a posting.
+//! Its first step groups the terms. Each further step does one of three things. It joins one group
+//! in one segment: it goes through at most all postings of the segment, and 2,048 for each of its
+//! large pages. A word of a large page counts as a posting. Or it inserts the pages of a segment
+//! that match among the best. Or it inserts up to eight loose pages.
 //!
 //! # Errors
 //!
@@ -52,7 +52,6 @@ mod begun;
 mod best;
 mod by_cells;
 mod by_postings;
-mod cells;
 mod due;
 mod hit;
 mod index;

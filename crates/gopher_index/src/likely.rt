@@ -3,13 +3,14 @@
 //! The hits don't depend on the guess: if too few pages reach it, the search runs again without
 //! one.
 
-ghost use Rattle.std.specs.Prelude.{◌≡◌, length};
+ghost use Rattle.std.specs.Prelude.{◌≡◌, None, length};
 
 use crate::best::MOST_HITS;
 use gopher_segment::Postings;
 
-// The number of postings or pages in a block.
-const BLOCK: usize = 64;
+// The number of postings or pages in a block. It is small, so that a first segment of 1,024 pages
+// has more blocks than the 18 that are wanted if it is a quarter of all pages.
+const BLOCK: usize = 16;
 
 /// The number of blocks by their highest score. Scores above 255 count as 255.
 #[derive(Drop)]
@@ -25,12 +26,12 @@ fn highest_count(counts: &[u8]) -> u8 {
     highest
 }
 
-fn highest_score(truths: &[bool], scores: &[u32]) -> u32
-    requires { length scores.now ≡ length truths.now }
+fn highest_score(verdicts: &[u16], scores: &[u32]) -> u32
+    requires { length scores.now ≡ length verdicts.now }
 {
     let mut highest = 0;
-    for (index, truth) in truths.iter().enumerate() {
-        highest = highest.max(scores[index] & u32::from(*truth).wrapping_neg());
+    for (index, verdict) in verdicts.iter().enumerate() {
+        highest = highest.max(scores[index] & u32::from(*verdict % 2).wrapping_neg());
     }
     highest
 }
@@ -54,20 +55,26 @@ impl Highest {
     }
 
     /// Adds the blocks of a list of pages. A page that doesn't match counts as score 0.
-    pub fn note_scores(&mut self, truths: &[bool], scores: &[u32])
-        requires { length scores.now ≡ length truths.now }
+    pub fn note_scores(&mut self, verdicts: &[u16], scores: &[u32])
+        requires { length scores.now ≡ length verdicts.now }
     {
         let mut start = 0;
-        while start < truths.len() {
-            let end = truths.len().min(start + BLOCK);
-            let highest = highest_score(&truths[start..end], &scores[start..end]);
+        while start < verdicts.len() {
+            let end = verdicts.len().min(start + BLOCK);
+            let highest = highest_score(&verdicts[start..end], &scores[start..end]);
             self.note(highest.min(255) as u8);
             start = end;
         }
     }
 
-    /// Returns the highest score that `wanted` blocks reach, or 0 if there is none.
-    pub fn reached(&self, wanted: usize) -> u64 {
+    /// Returns the highest score that `wanted` blocks reach, or 0 if there is none or nothing is
+    /// wanted.
+    pub fn reached(&self, wanted: Option<usize>) -> u64
+        ensures { wanted ≡ None → result ≡ 0 }
+    {
+        let Some(wanted) = wanted else {
+            return 0;
+        };
         let mut blocks = 0_usize;
         for score in 1..256 {
             let score = 256 - score;
@@ -81,29 +88,24 @@ impl Highest {
 }
 
 /// Guesses how many of the first 50 hits are among `some` of `all` pages: one and a half times
-/// their share.
-pub(crate) fn likely_hits(some: usize, all: usize) -> usize {
-    let share = some.saturating_mul(MOST_HITS + MOST_HITS / 2) / all.max(1);
-    share.clamp(1, MOST_HITS)
-}
-
-fn postings_len(found: &[Option<Postings>]) -> usize {
-    let mut len = 0_usize;
-    for postings in found.iter().flatten() {
-        len = len.saturating_add(postings.counts.len());
+/// their share. `None` if fewer than an eighth are among them.
+pub(crate) fn likely_hits(some: usize, all: usize) -> Option<usize> {
+    if some < all / 8 {
+        return None;
     }
-    len
+    let share = some.saturating_mul(MOST_HITS + MOST_HITS / 2) / all.max(1);
+    Some(share.clamp(1, MOST_HITS))
 }
 
-/// Guesses a score that 50 pages reach for a word, from its posting lists in those segments that
-/// have one.
-pub(crate) fn likely_score(found: &[Option<Postings>]) -> u64 {
-    if postings_len(found) < MOST_HITS {
+/// Guesses a score that `wanted` pages reach for a word, from its posting list in a segment; 0 if
+/// nothing is wanted.
+pub(crate) fn likely_score(postings: &Postings, wanted: Option<usize>) -> u64
+    ensures { wanted ≡ None → result ≡ 0 }
+{
+    if postings.counts.len() < MOST_HITS {
         return 0;
     }
     let mut highest = Highest::new();
-    for postings in found.iter().flatten() {
-        highest.note_counts(postings.counts);
-    }
-    highest.reached(MOST_HITS)
+    highest.note_counts(postings.counts);
+    highest.reached(wanted)
 }

@@ -1,8 +1,8 @@
 //! Groups of equal terms, so that a search counts the words of each group once.
 
-ghost use Rattle.std.specs.Prelude.{◌≡◌, ◌+◌, ◌≤◌, ◌<◌, true, max, length, IfOk, IfSome, OnOk};
+ghost use Rattle.std.specs.Prelude.{◌≡◌, ◌+◌, ◌≤◌, ◌<◌, true, max, length, nat_lt, if◌then◌else◌, IfOk, IfSome, OnOk};
 ghost use Rattle.gopher_page.specs.Query.{IsQuery};
-ghost use Rattle.gopher_index.specs.Plan.{verdict_of, verdict_by, verdict, total, is_match, wanted_in, AddsTerm, IsGroupOf, IsPlan, Joins, SayAlike, MatchAlike};
+ghost use Rattle.gopher_index.specs.Plan.{verdict_of, verdict, total, is_match, wanted_in, AddsTerm, IsGroupOf, IsPlan, Joins, SayAlike, MatchAlike};
 
 use gopher_item::{MAX_LINE, NoMemory};
 use gopher_page::{Operator, Page, Term};
@@ -14,11 +14,11 @@ use std::alloc::Global;
 // Terms are joined from left to right, so the last term that changes the result decides: an `and`
 // that doesn't hold, or an `or` or `not` that does. Its verdict is 2 * number + 2, plus 1 if the
 // page matches. The verdict of a term that changes nothing is 0. So the highest verdict decides.
-fn verdict_of(operator: Operator, number: usize, holds: bool) -> u32
+fn verdict_of(operator: Operator, number: usize, holds: bool) -> u16
     requires { number < MAX_LINE }
     ensures { result ≡ verdict_of operator number holds }
 {
-    let later = 2 * number as u32 + 2;
+    let later = 2 * number as u16 + 2;
     match operator {
         Operator::And => if holds { 0 } else { later },
         Operator::Or => if holds { later + 1 } else { 0 },
@@ -26,12 +26,28 @@ fn verdict_of(operator: Operator, number: usize, holds: bool) -> u32
     }
 }
 
+/// Returns whether a page with this highest verdict matches.
+#[inline(always)]
+pub(crate) fn is_match(verdict: u16) -> bool
+    ensures { result ≡ is_match verdict }
+{
+    verdict % 2 == 1
+}
+
 /// Returns the higher of two numbers.
 #[inline(always)]
-pub(crate) fn higher(a: u32, b: u32) -> u32
+pub(crate) fn higher(a: u16, b: u16) -> u16
     ensures { result ≡ max a b }
 {
     if a < b { b } else { a }
+}
+
+/// Returns the verdict of a group on a page that contains its words `count` times.
+#[inline(always)]
+pub(crate) fn verdict_for(holds: u16, fails: u16, count: u32) -> u16
+    ensures { result ≡ if nat_lt 0 count then holds else fails }
+{
+    if count > 0 { holds } else { fails }
 }
 
 /// Equal terms: those of the same word, or of the same prefix.
@@ -42,9 +58,9 @@ pub(crate) struct Group {
     /// The number of these terms without `not`.
     pub wanted: u32,
     /// Their highest verdict on a page that contains their words.
-    pub holds: u32,
+    pub holds: u16,
     /// Their highest verdict on a page that contains none of their words.
-    pub fails: u32,
+    pub fails: u16,
 }
 
 impl Group {
@@ -58,14 +74,6 @@ impl Group {
         self.wanted += u32::from(!operator.is_not());
         self.holds = higher(self.holds, verdict_of(operator, number, true));
         self.fails = higher(self.fails, verdict_of(operator, number, false));
-    }
-
-    /// Returns the highest verdict of these terms on a page that contains their words `count`
-    /// times.
-    pub fn verdict(&self, count: u32) -> u32
-        ensures { result ≡ verdict_by self.now count }
-    {
-        if count > 0 { self.holds } else { self.fails }
     }
 }
 
@@ -151,8 +159,8 @@ pub(crate) fn weigh_by_groups(groups: &[Group], page: &Page) -> (bool, u64)
     let mut total = 0;
     for group in groups {
         let count = group.term.count_in(page);
-        verdict = higher(verdict, group.verdict(count));
+        verdict = higher(verdict, verdict_for(group.holds, group.fails, count));
         total += u64::from(group.wanted) * u64::from(count);
     }
-    (verdict % 2 == 1, total)
+    (is_match(verdict), total)
 }

@@ -11,7 +11,7 @@ ghost use Rattle.gopher_index.specs.Index.{indexed};
 use crate::best::{Best, Kept};
 use crate::by_cells::rank_cells;
 use crate::hit::Hit;
-use crate::joined::{Joined, truths_of};
+use crate::joined::Joined;
 use crate::loose::rank_pages_by_groups;
 use crate::plan::{Group, copied, groups_of};
 use gopher_item::{MAX_LINE, NoMemory};
@@ -50,15 +50,15 @@ fn kept_with_cells(
     alloc: Global,
     kept: &[Kept],
     segment: &Segment,
-    truths: &[bool],
+    verdicts: &[u16],
     scores: &[u32],
 ) -> Result<Vec<Kept>, NoMemory>
-    requires truths { length truths.now ≡ length segment.now.pages }
+    requires verdicts { length verdicts.now ≡ length segment.now.pages }
     requires scores { length scores.now ≡ length segment.now.pages }
-    ensures { AddsCells segment.now.pages truths.now scores.now kept.now result }
+    ensures { AddsCells segment.now.pages verdicts.now scores.now kept.now result }
 {
     let mut best = Best::of(alloc, kept)?;
-    rank_cells(segment, truths, scores, &mut best)?;
+    rank_cells(segment, verdicts, scores, &mut best)?;
     best.kept(alloc)
 }
 
@@ -133,8 +133,8 @@ impl Progress {
         Ok(())
     }
 
-    // Joins the next groups in the current segment.
-    fn join_groups(&mut self) -> Result<(), NoMemory>
+    // Joins the next group in the current segment.
+    fn join_group(&mut self) -> Result<(), NoMemory>
         requires is { IsProgress self.old }
         requires segments { self.old.segments_done < length self.old.segments.items }
         requires groups { self.old.joined.groups < length self.old.groups.items }
@@ -159,9 +159,12 @@ impl Progress {
         ensures refused { OnErr result (steps_left self.new ≡ steps_left self.old) }
     {
         let segment = &self.segments[self.segments_done];
-        let truths = truths_of(self.alloc, &self.joined.verdicts)?;
-        let scores = &self.joined.scores;
-        self.kept = kept_with_cells(self.alloc, &self.kept, segment, &truths, scores)?;
+        let Joined {
+            verdicts,
+            scores,
+            ..
+        } = &self.joined;
+        self.kept = kept_with_cells(self.alloc, &self.kept, segment, verdicts, scores)?;
         self.segments_done += 1;
         self.joined.groups = 0;
         Ok(())
@@ -210,7 +213,7 @@ impl Progress {
         }
         if self.segments_done < self.segments.len() {
             if self.joined.groups < self.groups.len() {
-                self.join_groups()?;
+                self.join_group()?;
             } else {
                 self.rank_joined_segment()?;
             }

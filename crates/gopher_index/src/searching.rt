@@ -55,10 +55,9 @@ impl Search {
 
     /// Does one step. Returns the hits if no step is left, and `None` otherwise.
     ///
-    /// The first step groups equal terms. Each further step goes through at most 262,144 cells and
-    /// postings, or those of one group of terms in one segment if that has more. A large page
-    /// counts as 2,048 postings for each group. Or a step inserts the matching pages of one
-    /// segment, or up to eight loose pages, among the best.
+    /// The first step groups equal terms. Each further step goes through the postings of one group
+    /// of terms in one segment. A large page counts as 2,048 postings. Or a step inserts the
+    /// matching pages of one segment, or up to eight loose pages, among the best.
     ///
     /// # Errors
     ///

@@ -290,27 +290,6 @@ counted_sorted words sorted moved rise =
     sym (counted_in_order sorted sorted rise (λ sought. refl))
     ∙ counted_in_order sorted words rise (λ sought. sum_by-IsPermutation (λ word. cond (same_word sought word) 1 0) words sorted moved)
 
--- ---- the room of runs
-
-abbrev pub bytes_of : List (List ℕ × ℕ) → ℕ
-bytes_of runs = sum_by (λ run. length run.0) runs
-
-bytes-cons : (run : List ℕ × ℕ) (runs : List (List ℕ × ℕ)) → bytes_of (run ∷ runs) ≡ length run.0 + bytes_of runs
-bytes-cons run runs = sum_by-cons {X = List ℕ × ℕ} (λ r. length r.0) run runs
-
-bytes_joined : (word : List ℕ) (n : ℕ) (runs : List (List ℕ × ℕ)) → bytes_of (joined_run word n runs) ≤ length word + bytes_of runs
-bytes_joined word n [] = omega (arith, bytes-cons (word, n) [])
-bytes_joined word n (run ∷ runs) = by (same_word word run.0)
-  where
-    by : (t : Bool) → bytes_of (cond t ((word, n + run.1) ∷ runs) ((word, n) ∷ run ∷ runs)) ≤ length word + bytes_of (run ∷ runs)
-    by true = omega (arith, bytes-cons (word, n + run.1) runs, bytes-cons run runs)
-    by false = omega (arith, bytes-cons (word, n) (run ∷ runs))
-
--- the runs' words have at most as many bytes as all words
-pub bytes_lengths : (words : List (List ℕ)) → bytes_of (run_lengths words) ≤ sum_by length words
-bytes_lengths [] = omega arith
-bytes_lengths (word ∷ words) = omega (arith, bytes_joined word 1 (run_lengths words), bytes_lengths words, sum_by-cons (length {A = ℕ}) word words)
-
 -- ---- runs that were found, and those from an index on
 
 module _ (found : List (Bor (List ℕ) × ℕ)) (i : ℕ) (within : i < length found) where
@@ -325,9 +304,6 @@ module _ (found : List (Bor (List ℕ) × ℕ)) (i : ℕ) (within : i < length f
       let value : Bor (List ℕ) × ℕ → List ℕ × ℕ = λ r. (r.0.now, r.1) in
       let inside : i < length (run_values found) = omega (arith, within, length-map {B = List ℕ × ℕ} found (λ r. (r.0.now, r.1))) in
       drop_more (run_values found) i ([], 0) inside ∙ ap (λ r. r ∷ rest) (get_or-map value found i (record { ref_ptr = (0, 0); now = [] }, 0) ([], 0) within)
-
-  pub next_bytes : bytes_of (drop i (run_values found)) ≡ length run.0.now + bytes_of rest
-  next_bytes = ap bytes_of next_run ∙ bytes-cons (run.0.now, run.1) rest
 
   pub next_count : sum_by (λ r. r.1) (drop i (run_values found)) ≡ run.1 + sum_by (λ r. r.1) rest
   next_count = ap (sum_by (λ r. r.1)) next_run ∙ sum_by-cons {X = List ℕ × ℕ} (λ r. r.1) (run.0.now, run.1) rest

@@ -3,11 +3,10 @@ pub mod Few
 mod Added
 mod Runs
 mod Tokens
-mod Packing
 mod Joining
 pub mod Order
 pub mod Sought
-mod Search
+mod Sums
 pub mod SortedInserts
 mod AddedWords
 mod Lengths

@@ -94,16 +94,6 @@ words_of_lines lines = bare_words-lower (flat_map (λ line. line ++ 10 ∷ []) l
 
 -- ---- sizes
 
-words_size : (bytes : List ℕ) → sum_by length (words_of bytes) ≤ length bytes
-unfolding words_of
-words_size bytes =
-    omega (arith, map_size (map lower_case) (λ line. omega (arith, length-map line lower_case)) (filter is_word (slice_split is_gap bytes)), filter_size is_word (slice_split is_gap bytes), split_size is_gap bytes)
-
-pub lines_words_size : (lines : List (List ℕ)) → sum_by length (flat_map words_of lines) ≤ sum_by length lines
-lines_words_size [] = omega arith
-lines_words_size (line ∷ lines) =
-    omega (arith, words_size line, lines_words_size lines, sum_by-append (length {A = ℕ}) (words_of line) (flat_map words_of lines), sum_by-cons (length {A = ℕ}) line lines)
-
 both_first : (a b : Bool) → (a && b) ≡ true → a ≡ true
 both_first true b e = refl
 both_first false b e = e

@@ -2,6 +2,7 @@
 use Rattle.std.specs.Prelude.{◌≡◌, ℕ, ◌+◌, ◌-◌, ◌<◌, ◌≤◌, Bool, true, false, List, [], ◌∷◌, length, map, drop, nat_eq, slice_index_or, count_by, if◌then◌else◌}
 use Rattle.std.specs.Borrow.{Bor}
 use Rattle.std.specs.List.{fold, sum_by, starts_with}
+use Rattle.std.specs.List.Sorted.{IsStrictlySortedBy}
 use Rattle.std.specs.Ordering.{nat_cmp, is_lt}
 use Rattle.std.specs.BTreeSet.{insert_key}
 use Rattle.std.specs.Cmp.Lexicographic.{slice_cmp}
@@ -53,28 +54,38 @@ count_meant is_prefix sought counts = count_where (is_meant is_prefix sought) co
 abbrev pub is_before : List ℕ → List ℕ → Bool
 is_before a b = is_lt (slice_cmp nat_cmp a b)
 
+-- distinct words in byte order
+abbrev pub AreInOrder : List (List ℕ) → Type 0
+AreInOrder words = IsStrictlySortedBy (slice_cmp nat_cmp) words
+
 -- the word at an index, or no bytes past the end
-abbrev pub word_at : List (List ℕ × ℕ) → ℕ → List ℕ
-word_at counts index = slice_index_or (map (λ entry. entry.0) counts) index []
+abbrev pub word_at : List (List ℕ) → ℕ → List ℕ
+word_at words index = slice_index_or words index []
 
 -- the words before this index come before the sought one
-abbrev pub AreWordsBefore : List (List ℕ × ℕ) → ℕ → List ℕ → Type 0
-AreWordsBefore counts end sought = (k : ℕ) → k < end → is_before (word_at counts k) sought ≡ true
+abbrev pub AreWordsBefore : List (List ℕ) → ℕ → List ℕ → Type 0
+AreWordsBefore words end sought = (k : ℕ) → k < end → is_before (word_at words k) sought ≡ true
 
 -- no word from this index on comes before the sought one
-abbrev pub NoneBefore : List (List ℕ × ℕ) → ℕ → List ℕ → Type 0
-NoneBefore counts start sought =
-    (k : ℕ) → start ≤ k → k < length counts → is_before (word_at counts k) sought ≡ false
+abbrev pub NoneBefore : List (List ℕ) → ℕ → List ℕ → Type 0
+NoneBefore words start sought =
+    (k : ℕ) → start ≤ k → k < length words → is_before (word_at words k) sought ≡ false
+
+-- the words from `start` up to, not including, `end` are meant
+abbrev pub AreMeantFrom : List (List ℕ) → ℕ → ℕ → Bool → List ℕ → Type 0
+AreMeantFrom words start end is_prefix sought =
+    (k : ℕ) → start ≤ k → k < end → is_meant is_prefix sought (word_at words k) ≡ true
 
 -- no word from this index on is meant
-abbrev pub NoneMeant : List (List ℕ × ℕ) → ℕ → Bool → List ℕ → Type 0
-NoneMeant counts start is_prefix sought =
-    (k : ℕ) → start ≤ k → k < length counts → is_meant is_prefix sought (word_at counts k) ≡ false
+abbrev pub NoneMeant : List (List ℕ) → ℕ → Bool → List ℕ → Type 0
+NoneMeant words start is_prefix sought =
+    (k : ℕ) → start ≤ k → k < length words → is_meant is_prefix sought (word_at words k) ≡ false
 
--- of the words from `start` on, exactly those before `end` are meant
-pub record AreMeantWords (counts : List (List ℕ × ℕ)) (is_prefix : Bool) (sought : List ℕ)
+-- exactly the words from `start` up to, not including, `end` are meant
+pub record AreMeantWords (words : List (List ℕ)) (is_prefix : Bool) (sought : List ℕ)
     (start end : ℕ) : Type 0 where
   pub forward : start ≤ end
-  pub within : end ≤ length counts
-  pub meant : (k : ℕ) → start ≤ k → k < end → is_meant is_prefix sought (word_at counts k) ≡ true
-  pub others : NoneMeant counts end is_prefix sought
+  pub within : end ≤ length words
+  pub before : (k : ℕ) → k < start → is_meant is_prefix sought (word_at words k) ≡ false
+  pub meant : AreMeantFrom words start end is_prefix sought
+  pub others : NoneMeant words end is_prefix sought

@@ -11,7 +11,6 @@
 
 mod counts;
 mod each_count;
-mod ends;
 mod fault;
 mod line;
 mod links;
@@ -20,16 +19,18 @@ mod page;
 mod query;
 mod ranking;
 mod repeats;
+mod search;
 mod tally;
 mod title;
 mod word;
 
-pub use counts::{Counts, is_meant};
+pub use counts::Counts;
 pub use each_count::EachCount;
 pub use fault::QueryFault;
 pub use numbered::Numbered;
 pub use page::Page;
 pub use query::{Operator, Query, Term};
 pub use ranking::push_page;
+pub use search::range_meant;
 pub use title::MAX_TITLE;
 pub use word::{MAX_WORD, words};

@@ -3,10 +3,11 @@
 ghost use Rattle.std.specs.Prelude.{◌≡◌, ◌≤◌, false, length, IfOk};
 ghost use Rattle.std.specs.Arc.{arc_value};
 ghost use Rattle.std.specs.List.{sum_by};
-ghost use Rattle.gopher_item.specs.Places.{places_lent};
+ghost use Rattle.gopher_item.specs.Places.{IsSum, places_lent};
 ghost use Rattle.gopher_page.specs.Words.{texts};
 ghost use Rattle.gopher_page.specs.Counts.{count_meant};
 ghost use Rattle.gopher_page.specs.Page.{IsPageOfLines, is_large, links_kept, page_of, page_of_menu, page_of_text};
+ghost use Rattle.gopher_page.specs.Size.{links_size, page_size, words_size};
 
 use crate::counts::Counts;
 use crate::line::{entry_lines, text_lines};
@@ -75,7 +76,9 @@ const LINK_SIZE: usize = 176;
 const POSTING_SIZE: usize = 11;
 
 // The most bytes that links take in a catalogue.
-fn size_of_links(links: &Places) -> usize {
+fn size_of_links(links: &Places) -> usize
+    ensures { IsSum (links_size links.now) result }
+{
     let names = links.names_len().saturating_mul(2);
     names.saturating_add(links.len().saturating_mul(LINK_SIZE))
 }
@@ -227,8 +230,10 @@ impl Page {
     /// Returns how many bytes of memory a catalogue needs for the page, at most: its words, its
     /// title, and its links twice (in the page and as known places). The words count twice (in the
     /// page and in the index), unless the page is large. Words and places that other pages have
-    /// too are counted again.
-    pub fn size(&self) -> usize {
+    /// too are counted again. At most `usize::MAX`.
+    pub fn size(&self) -> usize
+        ensures { IsSum (page_size self.now) result }
+    {
         let size = PAGE_SIZE.saturating_add(self.parts.title.len());
         let size = size.saturating_add(self.size_of_words());
         match self.packed_links() {
@@ -238,7 +243,9 @@ impl Page {
     }
 
     // The most bytes that the words take in a catalogue.
-    fn size_of_words(&self) -> usize {
+    fn size_of_words(&self) -> usize
+        ensures { IsSum (words_size self.now) result }
+    {
         let words = self.parts.counts.size();
         if self.is_large() {
             return words;

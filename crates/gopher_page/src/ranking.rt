@@ -1,8 +1,8 @@
 //! How pages are listed: the order of hits (`Page::rank`), and the pages that contain a word
 //! (`push_page`).
 
-ghost use Rattle.std.specs.Prelude.{◌≡◌, ◌++◌, OnOk};
-ghost use Rattle.gopher_page.specs.Ranking.{counted_place, scored_cmp};
+ghost use Rattle.std.specs.Prelude.{◌≡◌, OnErr, OnOk};
+ghost use Rattle.gopher_page.specs.Ranking.{AddsPlace, scored_cmp};
 
 use crate::page::Page;
 use gopher_item::{NoMemory, Place};
@@ -23,8 +23,13 @@ impl Page {
 }
 
 /// Adds the place of a page to a list, with a word's count in the page, unless the count is 0.
+///
+/// # Errors
+///
+/// `NoMemory` (90): out of memory. The list stays unchanged.
 pub fn push_page(page: &Page, count: u32, found: &mut Vec<(Place, u32)>) -> Result<(), NoMemory>
-    ensures { OnOk result (found.new.items ≡ found.old.items ++ counted_place page.now count) }
+    ensures added { OnOk result (AddsPlace page.now count found.old.items found.new.items) }
+    ensures refused { OnErr result (found.new.items ≡ found.old.items) }
 {
     if count > 0 {
         found.push((page.place().clone()?, count))?;

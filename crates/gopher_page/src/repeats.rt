@@ -1,7 +1,9 @@
 //! `Repeats`: a list of counts, most of them below 256.
 
-ghost use Rattle.std.specs.Prelude.{◌≡◌, ◌<◌, ◌≤◌, Some, [], ◌∷◌, ◌++◌, ◌-◌, length, take, drop, slice_get, IfOk, OnOk};
+ghost use Rattle.std.specs.Prelude.{◌≡◌, ◌+◌, ◌*◌, ◌<◌, ◌≤◌, Some, [], ◌∷◌, ◌++◌, ◌-◌, length, take, drop, slice_get, IfOk, OnOk};
 ghost use Rattle.std.specs.List.{sum};
+ghost use Rattle.gopher_item.specs.Places.{IsSum};
+ghost use Rattle.gopher_page.specs.Packed.{len_to_last};
 
 use gopher_item::NoMemory;
 use gopher_text::MAX_REPLY;
@@ -18,15 +20,15 @@ pub struct Repeats {
 }
 
 impl Model for Repeats {
-    ghost use Rattle.std.specs.Prelude.{ℕ, ◌≤◌, List, length};
+    ghost use Rattle.std.specs.Prelude.{ℕ, List};
 
     ghost Value = { List ℕ };
 
-    ghost use Rattle.gopher_page.specs.Packed.{joined_parts};
+    ghost use Rattle.gopher_page.specs.Packed.{joined_parts, AreParts};
 
     ghost view = { λ r. joined_parts 256 r.low.items r.high.items };
 
-    ghost invariant = { λ r. length r.high.items ≤ length r.low.items };
+    ghost invariant = { λ r. AreParts 256 r.low.items r.high.items };
 }
 
 fn sum_of_bytes(counts: &[u8]) -> u32
@@ -78,8 +80,8 @@ impl Repeats {
         let index = self.low.len();
         self.low.push((count % 256) as u8)?;
         if count >= 256 {
-            self.high.resize(index, 0)?;
-            self.high.push((count / 256) as u16)?;
+            self.high.resize(index + 1, 0)?;
+            self.high[index] = (count / 256) as u16;
         }
         Ok(())
     }
@@ -92,8 +94,10 @@ impl Repeats {
         self.high.shrink_to_fit();
     }
 
-    /// Returns the number of bytes that the counts take.
-    pub fn size(&self) -> usize {
+    /// Returns the number of bytes that the counts take; at most `usize::MAX`.
+    pub fn size(&self) -> usize
+        ensures { IsSum (length self.now + 2 * len_to_last 256 self.now) result }
+    {
         let high = self.high.len().saturating_mul(2);
         self.low.len().saturating_add(high)
     }

@@ -1,5 +1,6 @@
 -- What a line is answered with, by its bytes and the steps that are left until they are there.
 use Rattle.std.specs.Prelude.{◌≡◌, ℕ, suc, ◌<◌, ◌⊎◌, List, Option, None, Some}
+use Rattle.gopher_replies.specs.Hits.{hits_bytes}
 use Rattle.gopher_replies.specs.Kept.{reply_bytes}
 use Rattle.gopher_replies.specs.declared.answer.Answer.{Answer}
 use Rattle.gopher_replies.specs.declared.answer.Answer.TheVariants as answer
@@ -7,7 +8,7 @@ use Rattle.gopher_replies.specs.declared.answer.Answer.TheVariants as answer
 -- the bytes of an answer, also if its search isn't at its end
 abbrev pub answer_bytes : Answer → List ℕ
 answer_bytes (answer.Ready reply) = reply_bytes reply
-answer_bytes (answer.Searching search) = search.bytes
+answer_bytes (answer.Searching search) = hits_bytes search.hits
 
 -- the bytes of an answer; `None` if its search isn't at its end
 abbrev pub ready_bytes : Answer → Option (List ℕ)

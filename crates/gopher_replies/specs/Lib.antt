@@ -1,4 +1,3 @@
 pub mod Kept
 pub mod Hits
-pub mod SearchReply
 pub mod Answer

@@ -13,9 +13,7 @@ mod answer;
 mod hits;
 mod kept;
 mod replies;
-mod search_reply;
 
 pub use answer::Answer;
 pub use hits::hits_menu;
 pub use replies::{Replies, RepliesRefused, Reply};
-pub use search_reply::SearchReply;

@@ -8,6 +8,7 @@ use Rattle.toml.specs.Data.{Data, Members, as_array, as_table}
 use Rattle.toml.specs.View.{view, items_of, items_view, members_view}
 use Rattle.toml.specs.declared.value.Value.{Value}
 use Rattle.gopher_scope.specs.Reading.{elements, first_of, has_unknown, array_problem, element_problem, table_problem, values_read}
+use Rattle.gopher_scope.specs.Unknown.{table_names}
 use Rattle.gopher_scope.specs.declared.settings.tables.Element.{Element}
 use Rattle.gopher_scope.specs.declared.settings.value.Problem.TheVariants.{OutOfRange}
 
@@ -20,6 +21,11 @@ elements-items_of (value ∷ values) = ap (λ more. value ∷ more) (elements-it
 pub has_unknown-view : (is_known : List ℕ → Bool) (entries : List (String Global × Value)) → has_unknown is_known (members_view entries) ≡ list_any (λ name. not (is_known (string_bytes name))) (keys_of entries)
 has_unknown-view is_known [] = refl
 has_unknown-view is_known (entry ∷ entries) = ap (λ more. not (is_known (string_bytes entry.0)) || more) (has_unknown-view is_known entries)
+
+-- the names of a table are those of its map's keys
+pub table_names-view : (entries : List (String Global × Value)) → table_names (members_view entries) ≡ map (λ name. string_bytes name) (keys_of entries)
+table_names-view [] = refl
+table_names-view (entry ∷ entries) = ap (λ more. string_bytes entry.0 ∷ more) (table_names-view entries)
 
 -- if neither of two results exists, each is none
 pub option_or-none : {A : Type 0} (a b : Option A) → option_or a b ≡ None → (a ≡ None) × (b ≡ None)

@@ -15,4 +15,4 @@ mod settings;
 
 pub use fault::SettingsFault;
 pub use gopher_item::{MAX_PLACES, MAX_TRIES, Rule, Scope};
-pub use settings::{Key, Settings, is_key_name, key_has_unknown};
+pub use settings::{Key, Settings, UnknownKey, key_fault, unknown_keys};

@@ -8,17 +8,19 @@ mod check;
 mod items;
 mod key;
 mod tables;
+mod unknown;
 mod value;
 
 use crate::fault::SettingsFault;
+pub use check::key_fault;
 use check::settings_fault;
-pub use check::{is_key_name, key_has_unknown};
 use gopher_item::{Home, ItemFault, NoMemory, Place, Scope};
 use items::{rules, seeds, values_at};
 use key::Form;
 pub use key::Key;
 use std::alloc::Global;
 use toml::Table;
+pub use unknown::{UnknownKey, unknown_keys};
 
 /// The settings of a server and its crawl.
 #[derive(Debug, Drop)]

@@ -1,19 +1,17 @@
 -- Runs that stand one after another, taken as one.
 use Rattle.std.proofs.Common.{◌≡◌, ◌⊎◌, ℕ, zero, suc, ◌+◌, ◌-◌, ◌<◌, ◌≤◌, Bool, true, false, cond, List, [], ◌∷◌, ◌++◌, length, take, drop, refl, sym, ap, subst, ◌∙◌, inl, inr, arith}
 use Rattle.std.proofs.Math.Seq.{take-add}
-use Rattle.std.proofs.lemmas.Bool.{both_ways, cases_lt}
-use Rattle.std.proofs.lemmas.List.{drop-drop}
+use Rattle.std.proofs.lemmas.List.{drop-drop, length-map}
 use Rattle.std.specs.List.{AllByRecursion, flat_map, zip}
 use Rattle.std.specs.Cmp.Lexicographic.{bytes_decides}
-use Rattle.gopher_page.specs.Counts.{is_before, is_meant}
+use Rattle.gopher_page.specs.Counts.{is_meant}
 use Rattle.gopher_page.specs.Words.{same_word}
-use Rattle.gopher_page.proofs.Order.{meant_past}
 use Rattle.gopher_bytes.specs.Parts.{parts, start_at, AreEnds}
 use Rattle.gopher_bytes.proofs.PartLemmas.{start_le_at}
 use Rattle.gopher_segment.specs.Postings.{ArePackedRuns, AreWithin, count_in, one_run}
-use Rattle.gopher_segment.specs.Rows.{runs_of_rows, rows_count, postings_of, AreInOrder}
+use Rattle.gopher_segment.specs.Rows.{words_of_rows, runs_of_rows, rows_count, rows_meant, postings_of, AreRowsMeant}
 use Rattle.gopher_segment.proofs.PostingLemmas.{count_in-append}
-use Rattle.gopher_segment.proofs.RowSearch.{word_at, in_order, nothing_from}
+use Rattle.gopher_segment.proofs.RowSearch.{word_at, nothing_from}
 use Rattle.gopher_bytes.proofs.Zips.{length-zip, zip-take, zip-drop}
 
 -- ---- their items
@@ -66,7 +64,7 @@ runs_between pages counts ends start end first last packed forward within from t
 
 -- ---- what they count
 
-pub counts_between : (test : List ℕ → Bool) (page : ℕ) (rows : List (List ℕ × List (ℕ × ℕ))) (start n : ℕ) → ((k : ℕ) → k < start → k < length rows → test (word_at rows k) ≡ false) → ((k : ℕ) → start ≤ k → k < start + n → k < length rows → test (word_at rows k) ≡ true)
+counts_between : (test : List ℕ → Bool) (page : ℕ) (rows : List (List ℕ × List (ℕ × ℕ))) (start n : ℕ) → ((k : ℕ) → k < start → k < length rows → test (word_at rows k) ≡ false) → ((k : ℕ) → start ≤ k → k < start + n → k < length rows → test (word_at rows k) ≡ true)
     → ((k : ℕ) → start + n ≤ k → k < length rows → test (word_at rows k) ≡ false) → rows_count test page rows ≡ count_in page (one_run (take n (drop start (runs_of_rows rows))))
 counts_between test page [] zero zero before there after = refl
 counts_between test page [] zero (suc n) before there after = refl
@@ -81,6 +79,14 @@ counts_between test page (row ∷ rows) (suc start) n before there after =
     let here : cond (test row.0) (count_in page row.1) 0 ≡ 0 = ap (λ b. cond b (count_in page row.1) 0) (before 0 (omega arith) (omega arith)) in
     let rest = counts_between test page rows start n (λ k less within. before (suc k) (omega arith) (omega arith)) (λ k past less within. there (suc k) (omega arith) (omega arith) (omega arith)) (λ k past within. after (suc k) (omega arith) (omega arith)) in
     omega (arith, here, rest)
+
+pub rows_between : (is_prefix : Bool) (sought : List ℕ) (page : ℕ) (rows : List (List ℕ × List (ℕ × ℕ))) (start end : ℕ) → AreRowsMeant rows is_prefix sought start end → rows_meant rows is_prefix sought page ≡ count_in page (one_run (take (end - start) (drop start (runs_of_rows rows))))
+rows_between is_prefix sought page rows start end are =
+    let size : length (words_of_rows rows) ≡ length rows = length-map rows (λ (row : List ℕ × List (ℕ × ℕ)). row.0) in
+    counts_between (is_meant is_prefix sought) page rows start (end - start)
+    (λ k less within. are.before k less)
+    (λ k past less within. are.meant k past (omega (arith, less, are.forward)))
+    (λ k past within. are.others k (omega (arith, past, are.forward)) (omega (arith, within, size)))
 
 -- ---- and of which pages they are
 
@@ -110,24 +116,3 @@ module _ (first size : ℕ) where
       (within_between rows 0 n (λ word. all_right (λ (posting : ℕ × ℕ). (first ≤ posting.0) × (posting.0 < first + size)) (cond (same_word word row.0) row.1 []) (postings_of word rows) (all word)))
   within_between (row ∷ rows) (suc start) n all =
       within_between rows start n (λ word. all_right (λ (posting : ℕ × ℕ). (first ≤ posting.0) × (posting.0 < first + size)) (cond (same_word word row.0) row.1 []) (postings_of word rows) (all word))
-
--- ---- the words that are meant
-
-module _ (is_prefix : Bool) (sought : List ℕ) (rows : List (List ℕ × List (ℕ × ℕ))) (start : ℕ) (order : AreInOrder rows) (from : (k : ℕ) → start ≤ k → k < length rows → is_before (word_at rows k) sought ≡ false) where
-  -- behind one that isn't, none is
-  pub none_meant_from : (middle : ℕ) → start ≤ middle → is_meant is_prefix sought (word_at rows middle) ≡ false → (k : ℕ) → middle ≤ k → k < length rows → is_meant is_prefix sought (word_at rows k) ≡ false
-  none_meant_from middle forward fails k past within = by (cases_lt middle k)
-    where
-      by : (middle < k) ⊎ (k ≤ middle) → is_meant is_prefix sought (word_at rows k) ≡ false
-      by (inl less) = meant_past is_prefix sought (word_at rows middle) (word_at rows k) (from middle forward (omega arith)) fails (in_order rows middle k order less within)
-      by (inr up_to) =
-          let same : middle ≡ k = omega arith in
-          subst (λ j. is_meant is_prefix sought (word_at rows j) ≡ false) same fails
-
-  -- and up to one that is, each is
-  pub all_meant_to : (middle : ℕ) → middle < length rows → is_meant is_prefix sought (word_at rows middle) ≡ true → (k : ℕ) → start ≤ k → k < middle + 1 → is_meant is_prefix sought (word_at rows k) ≡ true
-  all_meant_to middle within holds k forward up_to = by (is_meant is_prefix sought (word_at rows k)) refl
-    where
-      by : (b : Bool) → is_meant is_prefix sought (word_at rows k) ≡ b → b ≡ true
-      by true e = refl
-      by false e = absurd (both_ways _ (none_meant_from k forward e middle (omega arith) within) holds)

@@ -12,7 +12,7 @@ use Rattle.std.specs.Cmp.Lexicographic.{slice_cmp, bytes_decides, nat_list_cmp_t
 use Rattle.gopher_page.specs.Words.{same_word}
 use Rattle.gopher_page.specs.Counts.{is_before}
 use Rattle.gopher_segment.specs.Postings.{count_in}
-use Rattle.gopher_segment.specs.Rows.{words_of_rows, AreInOrder, rows_count, postings_of, TellAlike, joined_from, joined_rows}
+use Rattle.gopher_segment.specs.Rows.{words_of_rows, AreRowsInOrder, rows_count, postings_of, TellAlike, joined_from, joined_rows}
 use Rattle.gopher_segment.proofs.PostingLemmas.{count_in-append}
 use Rattle.gopher_segment.proofs.RowSearch.{word_at}
 use Rattle.gopher_segment.proofs.WordOrder.{order_of, never_before_itself, less_from_apart}
@@ -103,19 +103,19 @@ same_rise : (row : Row) (postings : List (ℕ × ℕ)) (next : Row) (rows : List
 same_rise row postings next [] same rise = tt
 same_rise row postings next (later ∷ rows) same rise = (subst (λ w. is_before later.0 w ≡ false) (sym same) rise.0, rise.1)
 
-joined_order : (row : Row) (rows : List Row) → Rise (row ∷ rows) → AreInOrder (joined_from row rows)
+joined_order : (row : Row) (rows : List Row) → Rise (row ∷ rows) → AreRowsInOrder (joined_from row rows)
 unfolding IsStrictlySortedBy
 joined_order row [] rise = (tt, tt)
 joined_order row (next ∷ rows) rise =
     by (λ same. joined_order (row.0, row.1 ++ next.1) rows (same_rise row (row.1 ++ next.1) next rows same rise.1)) (joined_order next rows rise.1) (same_word next.0 row.0) refl
   where
-    by : (row.0 ≡ next.0 → AreInOrder (joined_from (row.0, row.1 ++ next.1) rows)) → AreInOrder (joined_from next rows) → (b : Bool) → same_word next.0 row.0 ≡ b → AreInOrder (cond b (joined_from (row.0, row.1 ++ next.1) rows) (row ∷ joined_from next rows))
+    by : (row.0 ≡ next.0 → AreRowsInOrder (joined_from (row.0, row.1 ++ next.1) rows)) → AreRowsInOrder (joined_from next rows) → (b : Bool) → same_word next.0 row.0 ≡ b → AreRowsInOrder (cond b (joined_from (row.0, row.1 ++ next.1) rows) (row ∷ joined_from next rows))
     by with_next alone true e = with_next (sym ((bytes_decides next.0 row.0).0 e))
     by with_next alone false e =
         let less : slice_cmp nat_cmp row.0 next.0 ≡ Less = less_from_apart next.0 row.0 rise.0 (λ same. both_ways _ e ((bytes_decides next.0 row.0).1 same)) in
         (joined_all (λ w. slice_cmp nat_cmp row.0 w ≡ Less) next rows less (all_less row.0 next rows less rise.1), alone)
 
-pub joined_in_order : (rows : List Row) → IsSorted (λ x y. slice_cmp nat_cmp x.0 y.0) rows → AreInOrder (joined_rows rows)
+pub joined_in_order : (rows : List Row) → IsSorted (λ x y. slice_cmp nat_cmp x.0 y.0) rows → AreRowsInOrder (joined_rows rows)
 unfolding IsStrictlySortedBy
 joined_in_order [] sorted = tt
 joined_in_order (row ∷ rows) sorted = joined_order row rows (rises (row ∷ rows) sorted)
@@ -189,28 +189,6 @@ alike_through rows middle last first second = record {
 }
 
 -- ---- the rows of one word, one after another
-
-pub first_joined : (rows : List Row) (start : ℕ) (d : Row) → start < length rows → joined_rows (drop start rows) ≡ joined_from (word_at rows start, (get_or rows start d).1) (drop (start + 1) rows)
-first_joined rows start d within =
-    ap joined_rows (drop_more rows start d within)
-    ∙ ap (λ w. joined_from (w, (get_or rows start d).1) (drop (start + 1) rows)) (sym (get_or-map (λ (row : Row). row.0) rows start d [] within))
-
-module _ (rows : List Row) (end : ℕ) (row d : Row) (within : end < length rows) where
-  pub next_joined : same_word (get_or rows end d).0 row.0 ≡ true → joined_from row (drop end rows) ≡ joined_from (row.0, row.1 ++ (get_or rows end d).1) (drop (end + 1) rows)
-  next_joined same =
-      let next = get_or rows end d in
-      ap (joined_from row) (drop_more rows end d within)
-      ∙ ap (λ b. cond b (joined_from (row.0, row.1 ++ next.1) (drop (end + 1) rows)) (row ∷ joined_from next (drop (end + 1) rows))) same
-
-  pub other_joined : same_word (get_or rows end d).0 row.0 ≡ false → joined_from row (drop end rows) ≡ row ∷ joined_rows (drop end rows)
-  other_joined differ =
-      let next = get_or rows end d in
-      ap (joined_from row) (drop_more rows end d within)
-      ∙ ap (λ b. cond b (joined_from (row.0, row.1 ++ next.1) (drop (end + 1) rows)) (row ∷ joined_from next (drop (end + 1) rows))) differ
-      ∙ ap (λ l. row ∷ joined_rows l) (sym (drop_more rows end d within))
-
-pub last_joined : (rows : List Row) (end : ℕ) (row : Row) → length rows ≤ end → joined_from row (drop end rows) ≡ row ∷ joined_rows (drop end rows)
-last_joined rows end row past = subst (λ l. joined_from row l ≡ row ∷ joined_rows l) (sym (drop_all end rows past)) refl
 
 -- rows of which all are joined, behind those that were
 pub all_joined : (rows so_far : List Row) (at : ℕ) → length rows ≤ at → so_far ++ joined_rows (drop at rows) ≡ joined_rows rows → so_far ≡ joined_rows rows

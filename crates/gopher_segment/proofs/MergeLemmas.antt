@@ -12,7 +12,7 @@ use Rattle.gopher_page.specs.Words.{same_word}
 use Rattle.gopher_page.specs.Counts.{is_before}
 use Rattle.gopher_page.proofs.Order.{not_before-trans}
 use Rattle.gopher_segment.specs.Postings.{count_in}
-use Rattle.gopher_segment.specs.Rows.{words_of_rows, AreInOrder, rows_count, first_word, passed, taken, lowest_from, AreAllInOrder, is_at, LackBefore, tables_count, rows_left, AllBefore, AllBeforeNext, ComeBefore}
+use Rattle.gopher_segment.specs.Rows.{words_of_rows, AreRowsInOrder, rows_count, first_word, passed, taken, lowest_from, AreAllInOrder, is_at, LackBefore, tables_count, rows_left, AllBefore, AllBeforeNext, ComeBefore}
 use Rattle.gopher_segment.proofs.PostingLemmas.{count_in-append}
 use Rattle.gopher_bytes.proofs.Zips.{zip-append}
 use Rattle.gopher_segment.proofs.RowLemmas.{rows_count-append}
@@ -148,11 +148,11 @@ fewer_left word (rows ∷ tables) (inr first) = omega (arith, shorter word rows,
 
 -- ---- the order
 
-pass_order : (word : List ℕ) (rows : List (List ℕ × List (ℕ × ℕ))) → AreInOrder rows → AreInOrder (passed word rows)
+pass_order : (word : List ℕ) (rows : List (List ℕ × List (ℕ × ℕ))) → AreRowsInOrder rows → AreRowsInOrder (passed word rows)
 pass_order word [] order = order
 pass_order word (row ∷ rows) order = by (same_word row.0 word)
   where
-    by : (b : Bool) → AreInOrder (cond b rows (row ∷ rows))
+    by : (b : Bool) → AreRowsInOrder (cond b rows (row ∷ rows))
     by true = sorted_tail (slice_cmp nat_cmp) row.0 (words_of_rows rows) order
     by false = order
 
@@ -166,14 +166,14 @@ before_first words word [] before first = absurd first
 before_first words word (rows ∷ tables) before (inl e) = subst (AllBeforeNext words) e before.0
 before_first words word (rows ∷ tables) before (inr first) = before_first words word tables before.1 first
 
-next_before : (words : List (List ℕ)) (word : List ℕ) (row : List ℕ × List (ℕ × ℕ)) (rows : List (List ℕ × List (ℕ × ℕ))) → AreInOrder (row ∷ rows) → AllBefore words word → row.0 ≡ word
+next_before : (words : List (List ℕ)) (word : List ℕ) (row : List ℕ × List (ℕ × ℕ)) (rows : List (List ℕ × List (ℕ × ℕ))) → AreRowsInOrder (row ∷ rows) → AllBefore words word → row.0 ≡ word
     → AllBeforeNext (words ++ word ∷ []) (first_word rows)
 unfolding IsStrictlySortedBy
 next_before words word row [] order before same = tt
 next_before words word row (next ∷ rows) order before same =
     all_before_next words word next.0 before (subst (λ w. slice_cmp nat_cmp w next.0 ≡ Less) same order.0.0)
 
-pass_before : (words : List (List ℕ)) (word : List ℕ) (rows : List (List ℕ × List (ℕ × ℕ))) → IsFrom word (first_word rows) → AreInOrder rows → AllBefore words word → AllBeforeNext (words ++ word ∷ []) (first_word (passed word rows))
+pass_before : (words : List (List ℕ)) (word : List ℕ) (rows : List (List ℕ × List (ℕ × ℕ))) → IsFrom word (first_word rows) → AreRowsInOrder rows → AllBefore words word → AllBeforeNext (words ++ word ∷ []) (first_word (passed word rows))
 pass_before words word [] from order before = tt
 pass_before words word (row ∷ rows) from order before = by (same_word row.0 word) refl
   where

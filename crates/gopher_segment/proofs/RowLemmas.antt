@@ -17,20 +17,6 @@ pub rows_count_le : (test : List ℕ → Bool) (page : ℕ) (rows : List (List �
 rows_count_le test page [] = omega arith
 rows_count_le test page (row ∷ rows) = omega (arith, rows_count_le test page rows, at_most (test row.0) (count_in page row.1))
 
--- ---- words beside runs
-
-pub words_of_zip : (words : List (List ℕ)) (runs : List (List (ℕ × ℕ))) → length runs ≡ length words → words_of_rows (zip words runs) ≡ words
-words_of_zip [] [] same = refl
-words_of_zip [] (run ∷ runs) same = absurd (omega arith)
-words_of_zip (word ∷ words) [] same = absurd (omega arith)
-words_of_zip (word ∷ words) (run ∷ runs) same = ap (λ l. word ∷ l) (words_of_zip words runs (omega arith))
-
-pub runs_of_zip : (words : List (List ℕ)) (runs : List (List (ℕ × ℕ))) → length runs ≡ length words → runs_of_rows (zip words runs) ≡ runs
-runs_of_zip [] [] same = refl
-runs_of_zip [] (run ∷ runs) same = absurd (omega arith)
-runs_of_zip (word ∷ words) [] same = absurd (omega arith)
-runs_of_zip (word ∷ words) (run ∷ runs) same = ap (λ l. run ∷ l) (runs_of_zip words runs (omega arith))
-
 -- one more of a list
 pub take_step : {A : Type 0} (xs : List A) (i : ℕ) (x : A) → slice_get xs i ≡ Some x → take (i + 1) xs ≡ take i xs ++ x ∷ []
 take_step {A = A} xs i x at =

@@ -8,7 +8,7 @@ use Rattle.gopher_page.specs.Counts.{count_where, count_meant, is_meant}
 use Rattle.gopher_page.specs.Packed.{AreCounts}
 use Rattle.gopher_page.specs.Page.{PageData}
 use Rattle.gopher_segment.specs.Postings.{count_in, pieces, run_of}
-use Rattle.gopher_segment.specs.Rows.{AreInOrder, rows_count, postings_of, page_rows, TellAlike, AreAllInOrder, tables_count}
+use Rattle.gopher_segment.specs.Rows.{AreRowsInOrder, rows_count, postings_of, page_rows, TellAlike, AreAllInOrder, tables_count}
 use Rattle.gopher_segment.specs.Segment.{SegmentData, pages_of, meant_counts}
 use Rattle.gopher_segment.specs.SegmentRows.{count_at, AreSmall, Tell, AreRowsOf, AreConsecutive, AreTablesOf}
 use Rattle.gopher_segment.proofs.PostingLemmas.{count_in-pieces}
@@ -123,7 +123,7 @@ page_behind first pages page at rows newer told sound here is =
 
 -- ---- tables of rows
 
-pub rows_of_both : (first : ℕ) (pages : List PageData) (rows table : List (List ℕ × List (ℕ × ℕ))) → Tell first pages rows → AreInOrder table → TellAlike rows table → AreRowsOf first pages table
+pub rows_of_both : (first : ℕ) (pages : List PageData) (rows table : List (List ℕ × List (ℕ × ℕ))) → Tell first pages rows → AreRowsInOrder table → TellAlike rows table → AreRowsOf first pages table
 rows_of_both first pages rows table told order alike = record {
   order = order;
   tell = record {

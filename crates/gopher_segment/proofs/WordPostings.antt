@@ -1,6 +1,6 @@
 -- The postings of a word, in tables and in pages.
 use Rattle.std.proofs.Common.{◌≡◌, ◌⊎◌, ℕ, zero, suc, ◌+◌, ◌<◌, ◌≤◌, Bool, true, false, List, [], ◌∷◌, ◌++◌, cond, length, map, append_assoc, slice_get, Some, None, refl, sym, ap, subst, ◌∙◌, inl, inr, arith}
-use Rattle.std.proofs.lemmas.Bool.{both_ways, cases_lt}
+use Rattle.std.proofs.lemmas.Bool.{both_ways}
 use Rattle.std.proofs.lemmas.List.{append-nil}
 use Rattle.std.proofs.lemmas.List.Sums.{sum_by-cons}
 use Rattle.std.specs.List.{AllByRecursion, flat_map, zip}
@@ -9,13 +9,13 @@ use Rattle.std.specs.Ordering.{nat_cmp, is_lt}
 use Rattle.std.specs.declared.cmp.Ordering.TheVariants.{Less}
 use Rattle.std.specs.Cmp.Lexicographic.{slice_cmp, bytes_decides, nat_list_cmp_total}
 use Rattle.gopher_page.specs.Words.{same_word}
-use Rattle.gopher_page.specs.Counts.{is_before, count_where, count_meant}
+use Rattle.gopher_page.specs.Counts.{count_where, count_meant}
 use Rattle.gopher_page.specs.Packed.{AreCounts}
-use Rattle.gopher_page.proofs.Order.{meant_before, meant_past}
+use Rattle.gopher_page.proofs.Order.{meant_before}
 use Rattle.gopher_segment.specs.Postings.{pieces, run_of}
-use Rattle.gopher_segment.specs.Rows.{words_of_rows, runs_of_rows, AreInOrder, postings_of, page_rows, first_word, passed, taken, lowest_from, AreAllInOrder}
+use Rattle.gopher_segment.specs.Rows.{words_of_rows, runs_of_rows, AreRowsInOrder, postings_of, page_rows, first_word, passed, taken, lowest_from, AreAllInOrder}
 use Rattle.gopher_segment.proofs.MergeLemmas.{IsFrom, AreFrom, never_none}
-use Rattle.gopher_segment.proofs.RowSearch.{word_at, in_order}
+use Rattle.gopher_segment.proofs.RowSearch.{word_at}
 use Rattle.gopher_bytes.proofs.Zips.{zip-append}
 use Rattle.gopher_segment.proofs.WordOrder.{never_before_itself, less_from_apart}
 
@@ -58,7 +58,7 @@ postings_before word [] after = refl
 postings_before word (row ∷ rows) after = λ i. cond (apart_from_less word row.0 after.0 i) row.1 [] ++ postings_before word rows after.1 i
 
 -- the first row of a word is its only one
-postings_first : (word : List ℕ) (row : List ℕ × List (ℕ × ℕ)) (rows : List (List ℕ × List (ℕ × ℕ))) → AreInOrder (row ∷ rows) → row.0 ≡ word → postings_of word (row ∷ rows) ≡ row.1
+postings_first : (word : List ℕ) (row : List ℕ × List (ℕ × ℕ)) (rows : List (List ℕ × List (ℕ × ℕ))) → AreRowsInOrder (row ∷ rows) → row.0 ≡ word → postings_of word (row ∷ rows) ≡ row.1
 postings_first word row rows order same =
     let after : AllAfter word (words_of_rows rows) = subst (λ w. AllAfter w (words_of_rows rows)) same (rest_after row.0 (words_of_rows rows) order) in
     (λ i. cond (same_word word (same i)) row.1 [] ++ postings_before word rows after i)
@@ -73,7 +73,7 @@ word_after word next (first ∷ words) zero after e =
 word_after word next (first ∷ words) (suc i) after e = word_after word next words i after.1 e
 
 -- the postings of a row are those of its word
-pub postings_there : (rows : List (List ℕ × List (ℕ × ℕ))) (i : ℕ) (word : List ℕ) (run : List (ℕ × ℕ)) → AreInOrder rows → slice_get (words_of_rows rows) i ≡ Some word → slice_get (runs_of_rows rows) i ≡ Some run → run ≡ postings_of word rows
+pub postings_there : (rows : List (List ℕ × List (ℕ × ℕ))) (i : ℕ) (word : List ℕ) (run : List (ℕ × ℕ)) → AreRowsInOrder rows → slice_get (words_of_rows rows) i ≡ Some word → slice_get (runs_of_rows rows) i ≡ Some run → run ≡ postings_of word rows
 postings_there [] i word run order at_word at_run = absurd cc
 postings_there (row ∷ rows) zero word run order at_word at_run =
     let same_run : row.1 ≡ run = cc in
@@ -83,25 +83,10 @@ postings_there (row ∷ rows) (suc i) word run order at_word at_run =
     postings_there rows i word run (rest_in_order row.0 (words_of_rows rows) order) at_word at_run
     ∙ ap (λ b. cond b row.1 [] ++ postings_of word rows) (sym (meant_before false word row.0 (ap is_lt less)))
 
-postings_absent : (rows : List (List ℕ × List (ℕ × ℕ))) (word : List ℕ) → ((k : ℕ) → k < length rows → same_word word (word_at rows k) ≡ false) → postings_of word rows ≡ []
+-- a word that no row has has none
+pub postings_absent : (rows : List (List ℕ × List (ℕ × ℕ))) (word : List ℕ) → ((k : ℕ) → k < length rows → same_word word (word_at rows k) ≡ false) → postings_of word rows ≡ []
 postings_absent [] word apart = refl
 postings_absent (row ∷ rows) word apart = λ i. cond (apart 0 (omega arith) i) row.1 [] ++ postings_absent rows word (λ k within. apart (suc k) (omega arith)) i
-
--- and a word that isn't where it would be has none
-pub postings_missing : (rows : List (List ℕ × List (ℕ × ℕ))) (word : List ℕ) (start : ℕ) → AreInOrder rows → ((k : ℕ) → k < start → is_before (word_at rows k) word ≡ true)
-    → ((k : ℕ) → start ≤ k → k < length rows → is_before (word_at rows k) word ≡ false) → (start < length rows → same_word word (word_at rows start) ≡ false) → postings_of word rows ≡ []
-postings_missing rows word start order before after apart = postings_absent rows word (λ k within. by k within (cases_lt k start))
-  where
-    later : (k : ℕ) → k < length rows → (start < k) ⊎ (k ≤ start) → start ≤ k → same_word word (word_at rows k) ≡ false
-    later k within (inl less) past =
-        meant_past false word (word_at rows start) (word_at rows k) (after start (omega arith) (omega arith)) (apart (omega arith)) (in_order rows start k order less within)
-    later k within (inr up_to) past =
-        let same : start ≡ k = omega arith in
-        subst (λ j. same_word word (word_at rows j) ≡ false) same (apart (omega arith))
-
-    by : (k : ℕ) → k < length rows → (k < start) ⊎ (start ≤ k) → same_word word (word_at rows k) ≡ false
-    by k within (inl less) = meant_before false word (word_at rows k) (before k less)
-    by k within (inr past) = later k within (cases_lt start k) past
 
 -- ---- merging
 
@@ -128,7 +113,7 @@ pass_one sought word (row ∷ rows) = by (same_word row.0 word) refl
     by false e = none (same_word sought word)
 
 -- and of the word itself none is left
-passed_none : (word : List ℕ) (rows : List (List ℕ × List (ℕ × ℕ))) → AreInOrder rows → IsFrom word (first_word rows) → postings_of word (passed word rows) ≡ []
+passed_none : (word : List ℕ) (rows : List (List ℕ × List (ℕ × ℕ))) → AreRowsInOrder rows → IsFrom word (first_word rows) → postings_of word (passed word rows) ≡ []
 passed_none word [] order from = refl
 passed_none word (row ∷ rows) order from = by (same_word row.0 word) refl
   where

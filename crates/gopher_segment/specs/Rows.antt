@@ -6,7 +6,7 @@ use Rattle.std.specs.Ordering.{nat_cmp}
 use Rattle.std.specs.Cmp.Lexicographic.{slice_cmp}
 use Rattle.std.specs.declared.cmp.Ordering.TheVariants.{Less}
 use Rattle.gopher_page.specs.Words.{same_word}
-use Rattle.gopher_page.specs.Counts.{is_before, is_meant}
+use Rattle.gopher_page.specs.Counts.{is_before, is_meant, AreMeantWords}
 use Rattle.gopher_page.specs.Numbered.{IsNumbered}
 use Rattle.gopher_segment.specs.Postings.{AreWithin, RunsData, count_in, pieces}
 
@@ -17,8 +17,8 @@ abbrev pub runs_of_rows : List (List ℕ × List (ℕ × ℕ)) → List (List (�
 runs_of_rows rows = map (λ row. row.1) rows
 
 -- the words are in the order of their bytes, each once
-abbrev pub AreInOrder : List (List ℕ × List (ℕ × ℕ)) → Type 0
-AreInOrder rows = IsStrictlySortedBy (slice_cmp nat_cmp) (words_of_rows rows)
+abbrev pub AreRowsInOrder : List (List ℕ × List (ℕ × ℕ)) → Type 0
+AreRowsInOrder rows = IsStrictlySortedBy (slice_cmp nat_cmp) (words_of_rows rows)
 
 -- the number of occurrences, in a page, of words that pass a test
 abbrev pub rows_count : (List ℕ → Bool) → ℕ → List (List ℕ × List (ℕ × ℕ)) → ℕ
@@ -42,31 +42,10 @@ postings_of word (row ∷ rows) =
 abbrev pub AreRowsWithin : ℕ → ℕ → List (List ℕ × List (ℕ × ℕ)) → Type 0
 AreRowsWithin first size rows = (word : List ℕ) → AreWithin first size (postings_of word rows)
 
--- the word of the row at an index comes before the sought one
-abbrev pub is_before_at : List (List ℕ × List (ℕ × ℕ)) → List ℕ → ℕ → Bool
-is_before_at rows sought index = is_before (slice_index_or (words_of_rows rows) index []) sought
-
--- all words up to an index, not including it, come before the sought one
-abbrev pub AllAreBefore : List (List ℕ × List (ℕ × ℕ)) → List ℕ → ℕ → Type 0
-AllAreBefore rows sought end = (k : ℕ) → k < end → is_before_at rows sought k ≡ true
-
--- no word from an index on comes before the sought one
-abbrev pub NoneIsBefore : List (List ℕ × List (ℕ × ℕ)) → List ℕ → ℕ → Type 0
-NoneIsBefore rows sought start =
-    (k : ℕ) → start ≤ k → k < length rows → is_before_at rows sought k ≡ false
-
--- the word of the row at an index equals the sought one or, if that is a prefix, begins with it
-abbrev pub is_meant_at : List (List ℕ × List (ℕ × ℕ)) → Bool → List ℕ → ℕ → Bool
-is_meant_at rows is_prefix sought index =
-    is_meant is_prefix sought (slice_index_or (words_of_rows rows) index [])
-
--- of the words from `start` on, exactly those before `end` are meant
-pub record AreMeant (rows : List (List ℕ × List (ℕ × ℕ))) (is_prefix : Bool) (sought : List ℕ)
-    (start end : ℕ) : Type 0 where
-  pub forward : start ≤ end
-  pub within : end ≤ length rows
-  pub meant : (k : ℕ) → start ≤ k → k < end → is_meant_at rows is_prefix sought k ≡ true
-  pub others : (k : ℕ) → end ≤ k → k < length rows → is_meant_at rows is_prefix sought k ≡ false
+-- exactly the rows from `start` up to, not including, `end` have words that are meant
+abbrev pub AreRowsMeant : List (List ℕ × List (ℕ × ℕ)) → Bool → List ℕ → ℕ → ℕ → Type 0
+AreRowsMeant rows is_prefix sought start end =
+    AreMeantWords (words_of_rows rows) is_prefix sought start end
 
 -- the rows of one page
 abbrev pub page_rows : ℕ → List (List ℕ × ℕ) → List (List ℕ × List (ℕ × ℕ))
@@ -138,7 +117,7 @@ lowest_from low (rows ∷ tables) = lowest_from (lower low (first_word rows)) ta
 
 abbrev pub AreAllInOrder : List (List (List ℕ × List (ℕ × ℕ))) → Type 0
 AreAllInOrder [] = Unit {0}
-AreAllInOrder (rows ∷ tables) = AreInOrder rows × AreAllInOrder tables
+AreAllInOrder (rows ∷ tables) = AreRowsInOrder rows × AreAllInOrder tables
 
 abbrev pub tables_count : (List ℕ → Bool) → ℕ → List (List (List ℕ × List (ℕ × ℕ))) → ℕ
 tables_count test page [] = 0

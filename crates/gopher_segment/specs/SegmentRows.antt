@@ -6,7 +6,7 @@ use Rattle.gopher_page.specs.Counts.{count_where}
 use Rattle.gopher_page.specs.Page.{PageData}
 use Rattle.gopher_segment.specs.Large.{in_table, large_from, pages_in_table, segment_in_table}
 use Rattle.gopher_segment.specs.Postings.{run_of}
-use Rattle.gopher_segment.specs.Rows.{AreInOrder, rows_count, page_rows, postings_of}
+use Rattle.gopher_segment.specs.Rows.{AreRowsInOrder, rows_count, page_rows, postings_of}
 use Rattle.gopher_segment.specs.Segment.{SegmentData, meant_counts}
 
 -- the number of occurrences, in the page `number`, of words that pass a test; the first of these
@@ -43,7 +43,7 @@ AddsPageRows number page old new = new ≡ old ++ page_rows number (in_table pag
 -- the rows of these pages, in order
 pub record AreRowsOf (first : ℕ) (pages : List PageData) (rows : List (List ℕ × List (ℕ × ℕ)))
     : Type 0 where
-  pub order : AreInOrder rows
+  pub order : AreRowsInOrder rows
   pub tell : Tell first pages rows
 
 -- the rows of a segment of these pages, and the indices of its large pages, whose words the rows

@@ -1,7 +1,7 @@
 //! Joining the words of pages into a table.
 
 ghost use Rattle.std.specs.Prelude.{◌≡◌, ◌<◌, ◌≤◌, [], length, IfOk};
-ghost use Rattle.gopher_segment.specs.Rows.{AreInOrder, IsJoined, TellAlike, joined_rows};
+ghost use Rattle.gopher_segment.specs.Rows.{AreRowsInOrder, IsJoined, TellAlike, joined_rows};
 
 use crate::row::Row;
 use crate::runs::Runs;
@@ -62,7 +62,7 @@ fn table_of(alloc: Global, rows: &[Row<'_>]) -> Result<Table, NoMemory>
 /// `NoMemory` (90): out of memory, or there would be over 4,294,967,295 rows or postings
 /// (`MAX_PACKED`).
 pub(crate) fn join(alloc: Global, rows: Vec<Row<'_>>) -> Result<Table, NoMemory>
-    ensures order { IfOk result (λ table. AreInOrder table) }
+    ensures order { IfOk result (λ table. AreRowsInOrder table) }
     ensures alike { IfOk result (λ table. TellAlike rows.entry.items table) }
 {
     let mut rows = rows;

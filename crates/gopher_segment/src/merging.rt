@@ -2,7 +2,7 @@
 
 ghost use Rattle.std.specs.Prelude.{◌≡◌, ◌<◌, None, ◌++◌, length, map, drop, option_map, IfOk, IfSome, OnOk};
 ghost use Rattle.std.specs.Option.{option_copied};
-ghost use Rattle.gopher_segment.specs.Rows.{AreInOrder, first_word, first_run, IsNumberOf, is_at, LackBefore, is_lower, passed, taken, lowest_from, AreAllInOrder, HaveCountsOf, HavePostingsOf, TakesRuns};
+ghost use Rattle.gopher_segment.specs.Rows.{AreRowsInOrder, first_word, first_run, IsNumberOf, is_at, LackBefore, is_lower, passed, taken, lowest_from, AreAllInOrder, HaveCountsOf, HavePostingsOf, TakesRuns};
 
 use crate::runs::{Run, Runs};
 use crate::table::Table;
@@ -225,7 +225,7 @@ fn room_of(cursors: &[Cursor<'_>]) -> Room {
 /// that number (`MAX_PACKED`).
 pub(crate) fn merge(alloc: Global, cursors: &mut [Cursor<'_>]) -> Result<Table, NoMemory>
     requires { AreAllInOrder cursors.old }
-    ensures order { IfOk result (λ table. AreInOrder table) }
+    ensures order { IfOk result (λ table. AreRowsInOrder table) }
     ensures counts { IfOk result (λ table. HaveCountsOf cursors.old table) }
     ensures runs { IfOk result (λ table. HavePostingsOf cursors.old table) }
 {

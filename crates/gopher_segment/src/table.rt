@@ -1,29 +1,18 @@
 //! `Table`, the rows of a segment: each is a word with its postings. Finds the row of a word.
 
-ghost use Rattle.std.specs.Prelude.{◌≡◌, true, ◌<◌, ◌≤◌, Some, length, slice_get, IfOk};
+ghost use Rattle.std.specs.Prelude.{◌≡◌, true, ◌<◌, Some, length, slice_get, IfOk};
 ghost use Rattle.std.specs.List.{zip};
-ghost use Rattle.gopher_page.specs.Counts.{is_meant};
 ghost use Rattle.gopher_segment.specs.Cells.{AreRaised, HaveRoom};
-ghost use Rattle.gopher_segment.specs.Rows.{words_of_rows, runs_of_rows, is_before_at, is_meant_at, AllAreBefore, AreInOrder, AreMeant, AreRowsWithin, NoneIsBefore, rows_count, rows_meant, postings_of};
+ghost use Rattle.gopher_segment.specs.Rows.{words_of_rows, runs_of_rows, AreRowsInOrder, AreRowsMeant, AreRowsWithin, rows_count, rows_meant, postings_of};
 
 use crate::runs::{Run, Runs};
 use gopher_bytes::{ByteStrings, NoMemory};
-use gopher_page::Numbered;
+use gopher_page::{Numbered, range_meant};
 use std::alloc::Global;
 use std::marker::Model;
 
 // How many words a block has. A table keeps the leading number of the first word of each block.
 const BLOCK: usize = 64;
-
-fn is_meant(is_prefix: bool, sought: &[u8], word: &[u8]) -> bool
-    ensures { result ≡ is_meant is_prefix sought.now word.now }
-{
-    if is_prefix {
-        word.starts_with(sought)
-    } else {
-        sought == word
-    }
-}
 
 // The leading number of the first word of each block.
 fn numbers_of(alloc: Global, words: &ByteStrings) -> Result<Vec<u64>, NoMemory> {
@@ -51,8 +40,8 @@ fn count_below(numbers: &[u64], number: u64) -> usize {
 
 /// Rows: words, each with its postings.
 ///
-/// `numbers` has the leading number of each 64th word, eight bytes for 64 words. A search gets a
-/// range of rows from them and checks both of its ends, so it is right whatever the numbers are.
+/// `numbers` has the leading number of each 64th word, eight bytes for 64 words. A search guesses a
+/// range of rows from them, so it is right whatever the numbers are.
 #[derive(Debug, Drop)]
 pub(crate) struct Table {
     words: ByteStrings,
@@ -120,110 +109,45 @@ impl Table {
         self.runs.get(index)
     }
 
-    fn is_before(&self, index: usize, sought: &[u8]) -> bool
-        requires { index < length self.now }
-        ensures { result ≡ is_before_at self.now sought.now index }
-    {
-        self.word(index).cmp(sought).is_lt()
-    }
-
-    // An index up to which all words come before `sought`: the one after `index` if the word there
-    // does, or else 0. The words are in order.
-    fn low_bound(&self, sought: &[u8], index: usize) -> usize
-        requires { AreInOrder self.now }
-        ensures within { result ≤ length self.now }
-        ensures before { AllAreBefore self.now sought.now result }
-    {
-        if index < self.len() && self.is_before(index, sought) {
-            return index + 1;
-        }
-        0
-    }
-
-    // An index from which on no word comes before `sought`: `index` if the word there doesn't, or
-    // else the number of words. The words are in order.
-    fn high_bound(&self, sought: &[u8], index: usize) -> usize
-        requires { AreInOrder self.now }
-        ensures within { result ≤ length self.now }
-        ensures after { NoneIsBefore self.now sought.now result }
-    {
-        if index < self.len() && !self.is_before(index, sought) {
-            return index;
-        }
-        self.len()
-    }
-
-    // The number of words before `sought`. The words are in order.
-    fn words_before(&self, sought: &[u8]) -> usize
-        requires { AreInOrder self.now }
-        ensures within { result ≤ length self.now }
-        ensures before { AllAreBefore self.now sought.now result }
-        ensures after { NoneIsBefore self.now sought.now result }
+    // The start and the end of the rows whose words equal `sought` or, if `is_prefix`, begin with
+    // it.
+    fn range(&self, is_prefix: bool, sought: &[u8]) -> (usize, usize)
+        requires { AreRowsInOrder self.now }
+        ensures { AreRowsMeant self.now is_prefix sought.now result.0 result.1 }
     {
         // This many blocks probably begin with a word before `sought`.
         let blocks = count_below(&self.numbers, Numbered::new(sought).number());
-        let mut low = self.low_bound(sought, blocks.saturating_sub(1).saturating_mul(BLOCK));
-        let mut high = self.high_bound(sought, blocks.saturating_mul(BLOCK));
-        while low < high {
-            let middle = low + (high - low) / 2;
-            if self.is_before(middle, sought) {
-                low = middle + 1;
-            } else {
-                high = middle;
-            }
-        }
-        low
+        let low = blocks.saturating_sub(1).saturating_mul(BLOCK);
+        range_meant(
+            &self.words,
+            is_prefix,
+            sought,
+            low,
+            blocks.saturating_mul(BLOCK),
+        )
     }
 
     /// Returns the postings of a word; none if no row has the word.
     pub fn find(&self, sought: &[u8]) -> Run<'_>
-        requires { AreInOrder self.now }
+        requires { AreRowsInOrder self.now }
         ensures { result ≡ postings_of sought.now self.now }
     {
-        let at = self.words_before(sought);
-        if at < self.len() && is_meant(false, sought, self.word(at)) {
-            return self.run(at);
+        let (start, end) = self.range(false, sought);
+        if start < end {
+            return self.run(start);
         }
         Run::none()
-    }
-
-    fn is_meant(&self, is_prefix: bool, sought: &[u8], index: usize) -> bool
-        requires { index < length self.now }
-        ensures { result ≡ is_meant_at self.now is_prefix sought.now index }
-    {
-        is_meant(is_prefix, sought, self.word(index))
-    }
-
-    // The end of the words that equal or begin with `sought`, which begin at `start`.
-    fn words_meant(&self, is_prefix: bool, sought: &[u8], start: usize) -> usize
-        requires order { AreInOrder self.now }
-        requires start { start ≤ length self.now }
-        requires from { NoneIsBefore self.now sought.now start }
-        ensures { AreMeant self.now is_prefix sought.now start result }
-    {
-        let mut low = start;
-        let mut high = self.len();
-        while low < high {
-            let middle = low + (high - low) / 2;
-            if self.is_meant(is_prefix, sought, middle) {
-                low = middle + 1;
-            } else {
-                high = middle;
-            }
-        }
-        low
     }
 
     /// Adds to the cell of each page the number of occurrences of `sought` or, if `is_prefix`, of
     /// all words that begin with it. The first cell is that of page `first`.
     pub fn spread(&self, is_prefix: bool, sought: &[u8], first: usize, cells: &mut [u32])
-        requires order { AreInOrder self.now }
+        requires order { AreRowsInOrder self.now }
         requires within { AreRowsWithin first (length cells.old) self.now }
         requires fits { HaveRoom first cells.old (λ page. rows_count (λ word. true) page self.now) }
         ensures { AreRaised first cells.old cells.new (rows_meant self.now is_prefix sought.now) }
     {
-        let start = self.words_before(sought);
-        let end = self.words_meant(is_prefix, sought, start);
+        let (start, end) = self.range(is_prefix, sought);
         self.runs.between(start, end).add_to(first, cells);
     }
 }

@@ -8,6 +8,7 @@ use Rattle.gopher_item.specs.Menu.{fields_of, first_field}
 use Rattle.gopher_item.specs.Request.{answers, request_of, ReadsRequest}
 use Rattle.gopher_item.specs.declared.fault.RequestFault.TheVariants.{BadSelector, LineTooLong}
 use Rattle.gopher_item.specs.declared.request.Request.{Request}
+use Rattle.gopher_text.specs.Watched.{HasFailed}
 use Rattle.gopher_page.specs.Query.{TermData}
 use Rattle.gopher_index.specs.declared.hit.Hit.{Hit}
 use Rattle.gopher_crew.specs.Crew.{PassData}
@@ -21,9 +22,10 @@ answers_hits home old new [] hits reply some found is = absurd (omega arith)
 answers_hits home old new (term ∷ terms) hits reply some found is = record { outcome = Some hits; searched = found; reply_is = is }
 
 pub answers_none : (home : HomeData) (old new : PassData) (terms : List TermData) (reply : List ℕ)
-    → 0 < length terms → SeesOn old new → reply ≡ no_catalogue_bytes home → AnswersTerms home old new terms reply
-answers_none home old new [] reply some seen is = absurd (omega arith)
-answers_none home old new (term ∷ terms) reply some seen is = record { outcome = None; searched = seen; reply_is = is }
+    → 0 < length terms → SeesOn old new → HasFailed old.failed_entries new.failed_entries → reply ≡ no_catalogue_bytes home
+    → AnswersTerms home old new terms reply
+answers_none home old new [] reply some seen failed is = absurd (omega arith)
+answers_none home old new (term ∷ terms) reply some seen failed is = record { outcome = None; searched = (seen, failed); reply_is = is }
 
 -- ---- a field is no longer than its line
 

@@ -1,11 +1,10 @@
--- What one answer leaves of a site, any number of answers leaves of it.
+-- Any number of answers of a site.
 use Rattle.std.specs.Prelude.{◌≡◌, ℕ, List, [], ◌∷◌, refl}
 use Rattle.std.proofs.Common.{◌∙◌, subst, sym}
-use mathlib.Core.List.{IsPrefix}
 use Rattle.gopher_crew.proofs.Prefixes.{prefix_self, prefix_trans}
-use Rattle.gopher_conversation.specs.Leads.{IsChain, Leads}
+use Rattle.gopher_conversation.specs.Leads.{IsChain}
 use Rattle.gopher_serve.specs.Answer.{SeesOn}
-use Rattle.gopher_serve.specs.Site.{SiteData, LeadsOn}
+use Rattle.gopher_serve.specs.Site.{SiteData, LeadsOn, SearchesTakeNothingBack}
 
 leads_on-stays : (a : SiteData) → LeadsOn a a
 leads_on-stays a = record { files = refl; home = refl; pass = record { seen = prefix_self a.pass.seen; told = prefix_self a.pass.told } }
@@ -24,5 +23,7 @@ leads_on-chain : (a b : SiteData) (states : List SiteData) → IsChain LeadsOn a
 leads_on-chain a b [] same = subst (LeadsOn a) (sym same) (leads_on-stays a)
 leads_on-chain a b (next ∷ states) (one, rest) = leads_on-joins a next b one (leads_on-chain next b states rest)
 
-pub leads_on-all : (a b : SiteData) → Leads LeadsOn a b → LeadsOn a b
-leads_on-all a b leads = leads_on-chain a b leads.states leads.chain
+pub nothing_back : SearchesTakeNothingBack
+nothing_back before asked after terms hits leads found =
+    let on = leads_on-chain before asked leads.states leads.chain in
+    (prefix_trans _ _ _ on.pass.seen found.after_seen, prefix_trans _ _ _ on.pass.told found.after_told)

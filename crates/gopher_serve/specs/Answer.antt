@@ -2,20 +2,17 @@
 -- the hits of its search.
 use Rattle.std.specs.Prelude.{◌≡◌, ℕ, ◌<◌, Bool, nat_eq, codes, List, [], ◌∷◌, length, Option, None, Some, MatchOption, if◌then◌else◌}
 use Rattle.std.specs.Cmp.Lexicographic.{pointwise}
-use Rattle.std.specs.Global.{Vec}
 use mathlib.Core.List.{IsPrefix}
 use Rattle.gopher_item.specs.Place.{HomeData}
 use Rattle.gopher_item.specs.Request.{request_fault, request_of}
 use Rattle.gopher_item.specs.declared.fault.RequestFault.{RequestFault}
 use Rattle.gopher_item.specs.declared.request.Request.{Request}
+use Rattle.gopher_text.specs.Watched.{HasFailed}
 use Rattle.gopher_page.specs.Query.{TermData, query_of}
 use Rattle.gopher_index.specs.declared.hit.Hit.{Hit}
 use Rattle.gopher_tree.specs.Files.{File}
 use Rattle.gopher_tree.specs.Reply.{error_bytes, tree_reply}
-use Rattle.gopher_replies.specs.Answer.{answer_bytes}
 use Rattle.gopher_replies.specs.Hits.{hits_bytes}
-use Rattle.gopher_replies.specs.Kept.{RepliesData}
-use Rattle.gopher_replies.specs.declared.answer.Answer.{Answer}
 use Rattle.gopher_catalogue.specs.Legal.{IsLegal}
 use Rattle.gopher_crew.specs.Crew.{PassData, hits_of}
 
@@ -86,10 +83,12 @@ pub record FindsHits (old new : PassData) (terms : List TermData) (hits : List H
   pub after_told : IsPrefix old.told new.seen
   pub none_told : new.told ≡ new.seen
 
--- the pass before and after a search, by the outcome of the search; without terms there is none
+-- the pass before and after a search, by the outcome of the search; without terms there is none.
+-- `None` says that an entry to the published version failed meanwhile
 abbrev pub Searches : PassData → PassData → List TermData → Option (List Hit) → Type 0
 Searches old new [] outcome = new ≡ old
-Searches old new (term ∷ terms) None = SeesOn old new
+Searches old new (term ∷ terms) None =
+    SeesOn old new × HasFailed old.failed_entries new.failed_entries
 Searches old new (term ∷ terms) (Some hits) = FindsHits old new (term ∷ terms) hits
 
 -- the reply to a search for these terms
@@ -112,33 +111,3 @@ pub record AnswersLine (files : List File) (home : HomeData) (old new : PassData
   pub outcome : Option (List Hit)
   pub searched : Searches old new (terms_of_line line) outcome
   pub reply_is : reply ≡ reply_of files home line outcome
-
--- ---- replies that were made
-
--- the reply to a search for these terms
-abbrev pub IsSearchReply : HomeData → PassData → PassData → List TermData → Vec ℕ → Type 0
-IsSearchReply home old new terms reply = AnswersTerms home old new terms reply.items
-
--- the reply to a request
-abbrev pub IsReplyTo : List File → HomeData → PassData → PassData → Request → Vec ℕ → Type 0
-IsReplyTo files home old new request reply = AnswersRequest files home old new request reply.items
-
--- the reply to a line
-abbrev pub IsReplyToLine : List File → HomeData → PassData → PassData → List ℕ → Vec ℕ → Type 0
-IsReplyToLine files home old new line reply = AnswersLine files home old new line reply.items
-
--- ---- answers: replies that are kept or were made, or searches that make them
-
--- the answer to a search for these terms
-abbrev pub IsSearchAnswer : HomeData → PassData → PassData → List TermData → Answer → Type 0
-IsSearchAnswer home old new terms answer = AnswersTerms home old new terms (answer_bytes answer)
-
--- the answer to a request, from these replies
-abbrev pub IsAnswerTo : RepliesData → PassData → PassData → Request → Answer → Type 0
-IsAnswerTo replies old new request answer =
-    AnswersRequest replies.files replies.home old new request (answer_bytes answer)
-
--- the answer to a line, from these replies
-abbrev pub IsAnswerToLine : RepliesData → PassData → PassData → List ℕ → Answer → Type 0
-IsAnswerToLine replies old new line answer =
-    AnswersLine replies.files replies.home old new line (answer_bytes answer)

@@ -1,9 +1,10 @@
 //! The reply to a request line, made anew (`answer`) or from kept replies (`answer_kept`).
 
 ghost use Rattle.std.specs.Prelude.{◌≡◌, ◌≤◌, IfOk, IfSome, OnErr, length};
-ghost use Rattle.gopher_serve.specs.Answer.{IsReplyTo, IsReplyToLine, IsAnswerTo, IsAnswerToLine, SeesOn, bad_request_bytes, is_search};
+ghost use Rattle.gopher_replies.specs.Answer.{answer_bytes};
+ghost use Rattle.gopher_serve.specs.Answer.{AnswersLine, AnswersRequest, SeesOn, bad_request_bytes, is_search};
 
-use crate::searching::{begin_search, search};
+use crate::searching::begin_search;
 use gopher_crew::{Crew, Pass};
 use gopher_item::{ByteString, Home, MAX_LINE, NoMemory, Request, RequestFault, read_request};
 use gopher_replies::{Answer, Replies, Reply};
@@ -17,7 +18,7 @@ use std::alloc::Global;
 ///   LF or NUL: the error reply `Bad request`.
 /// - The selector is `/search`: the hits as a menu. If the line has no search string, or one
 ///   without words, the error reply `No words`. If the published catalogue can't be entered (61),
-///   the error reply `No catalogue`.
+///   and only then, the error reply `No catalogue`.
 /// - Any other selector: the reply of `Tree::reply`.
 ///
 /// The pass searches only if there are words to search for. It answers from a record that begins
@@ -33,7 +34,8 @@ pub fn answer<C: Crew>(
     pass: &mut Pass<C>,
     line: &[u8],
 ) -> Result<Vec<u8>, NoMemory>
-    ensures answered { IfOk result (IsReplyToLine tree.now home.now pass.old pass.new line.now) }
+    ensures answered { IfOk result (λ reply. AnswersLine tree.now home.now pass.old pass.new
+        line.now reply.items) }
     ensures refused { OnErr result (SeesOn pass.old pass.new) }
 {
     match read_request(alloc, line) {
@@ -52,11 +54,12 @@ fn answer_request<C: Crew>(
     request: &Request,
 ) -> Result<Vec<u8>, NoMemory>
     requires { IfSome request.now.search (λ text. length text ≤ MAX_LINE) }
-    ensures answered { IfOk result (IsReplyTo tree.now home.now pass.old pass.new request.now) }
+    ensures answered { IfOk result (λ reply. AnswersRequest tree.now home.now pass.old pass.new
+        request.now reply.items) }
     ensures refused { OnErr result (SeesOn pass.old pass.new) }
 {
     if is_search(request.selector.as_slice()) {
-        return search(alloc, home, pass, &request.search);
+        return begin_search(alloc, home, pass, &request.search)?.finish(alloc);
     }
     tree.reply(alloc, request.selector.as_slice(), home)
 }
@@ -73,7 +76,8 @@ pub fn answer_kept<'a, C: Crew>(
     pass: &mut Pass<C>,
     line: &[u8],
 ) -> Result<Answer<'a>, NoMemory>
-    ensures answered { IfOk result (IsAnswerToLine replies.now pass.old pass.new line.now) }
+    ensures answered { IfOk result (λ answer. AnswersLine replies.now.files replies.now.home
+        pass.old pass.new line.now (answer_bytes answer)) }
     ensures refused { OnErr result (SeesOn pass.old pass.new) }
 {
     match read_request(alloc, line) {
@@ -92,7 +96,8 @@ fn answer_kept_request<'a, C: Crew>(
     request: &Request,
 ) -> Result<Answer<'a>, NoMemory>
     requires { IfSome request.now.search (λ text. length text ≤ MAX_LINE) }
-    ensures answered { IfOk result (IsAnswerTo replies.now pass.old pass.new request.now) }
+    ensures answered { IfOk result (λ answer. AnswersRequest replies.now.files replies.now.home
+        pass.old pass.new request.now (answer_bytes answer)) }
     ensures refused { OnErr result (SeesOn pass.old pass.new) }
 {
     if is_search(request.selector.as_slice()) {

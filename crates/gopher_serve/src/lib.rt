@@ -11,14 +11,13 @@
 
 mod answering;
 mod fetching;
+pub mod laws;
 mod searching;
 mod serving;
 mod site;
 
 pub use answering::{answer, answer_kept};
 pub use fetching::fetch_over;
-pub use gopher_conversation::{
-    Answers, Conversation, Progress, ServeFault, advance, converse, serve_with,
-};
+pub use gopher_conversation::{Answers, Conversation, Progress, ServeFault, advance, converse};
 pub use serving::serve_one;
 pub use site::Site;

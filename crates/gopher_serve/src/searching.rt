@@ -2,13 +2,13 @@
 
 ghost use Rattle.std.specs.Prelude.{◌≡◌, ◌<◌, ◌≤◌, IfOk, IfSome, OnErr, length};
 ghost use Rattle.gopher_replies.specs.Answer.{answer_bytes};
-ghost use Rattle.gopher_serve.specs.Answer.{IsQueryFor, IsSearchReply, IsSearchAnswer, SeesOn, asked, no_catalogue_bytes, no_words_bytes};
+ghost use Rattle.gopher_serve.specs.Answer.{AnswersTerms, IsQueryFor, SeesOn, asked, no_catalogue_bytes, no_words_bytes};
 
 use gopher_crew::{Crew, Pass, SearchFault};
 use gopher_index::Begun;
 use gopher_item::{ByteString, Home, MAX_LINE, NoMemory};
 use gopher_page::{Query, QueryFault};
-use gopher_replies::{Answer, Reply, SearchReply, hits_menu};
+use gopher_replies::{Answer, Reply, hits_menu};
 use gopher_tree::error_reply;
 use std::alloc::Global;
 
@@ -27,25 +27,8 @@ fn query_of(alloc: Global, search: &Option<ByteString>) -> Result<Option<Query>,
     }
 }
 
-/// Returns the reply to a search. `search` is the search string, if the line has one, of at most
-/// 1,024 bytes (`MAX_LINE`).
-pub fn search<C: Crew>(
-    alloc: Global,
-    home: &Home,
-    pass: &mut Pass<C>,
-    search: &Option<ByteString>,
-) -> Result<Vec<u8>, NoMemory>
-    requires { IfSome search.now (λ text. length text ≤ MAX_LINE) }
-    ensures answered { IfOk result (IsSearchReply home.now pass.old pass.new (asked search.now)) }
-    ensures refused { OnErr result (SeesOn pass.old pass.new) }
-{
-    match query_of(alloc, search)? {
-        Some(query) => look_up(alloc, home, pass, &query),
-        None => no_words(alloc, home),
-    }
-}
-
-/// Returns the reply that `search` returns, or a search that makes it.
+/// Returns the reply to a search, or a search that makes it. `search` is the search string, if the
+/// line has one, of at most 1,024 bytes (`MAX_LINE`).
 pub fn begin_search<'a, C: Crew>(
     alloc: Global,
     home: &Home,
@@ -53,11 +36,12 @@ pub fn begin_search<'a, C: Crew>(
     search: &Option<ByteString>,
 ) -> Result<Answer<'a>, NoMemory>
     requires { IfSome search.now (λ text. length text ≤ MAX_LINE) }
-    ensures answered { IfOk result (IsSearchAnswer home.now pass.old pass.new (asked search.now)) }
+    ensures answered { IfOk result (λ answer. AnswersTerms home.now pass.old pass.new
+        (asked search.now) (answer_bytes answer)) }
     ensures refused { OnErr result (SeesOn pass.old pass.new) }
 {
     match query_of(alloc, search)? {
-        Some(query) => begin_look_up(alloc, home, pass, &query),
+        Some(query) => look_up(alloc, home, pass, &query),
         None => Ok(made(no_words(alloc, home)?)),
     }
 }
@@ -69,40 +53,22 @@ fn made<'a>(bytes: Vec<u8>) -> Answer<'a>
     Answer::Ready(Reply::Made(bytes))
 }
 
-// The reply to a query.
-#[tactic(auto, using(crate::proofs::Searches::answers_hits, crate::proofs::Searches::answers_none))]
-fn look_up<C: Crew>(
-    alloc: Global,
-    home: &Home,
-    pass: &mut Pass<C>,
-    query: &Query,
-) -> Result<Vec<u8>, NoMemory>
-    requires { 0 < length query.now }
-    ensures answered { IfOk result (IsSearchReply home.now pass.old pass.new query.now) }
-    ensures refused { OnErr result (SeesOn pass.old pass.new) }
-{
-    match pass.search(query) {
-        Ok(found) => hits_menu(alloc, &found.hits),
-        Err(SearchFault::NoEntry) => no_catalogue(alloc, home),
-        Err(SearchFault::NoMemory) => Err(NoMemory),
-    }
-}
-
 // The reply to a query, or a search that makes it.
 #[tactic(auto, using(crate::proofs::Searches::answers_hits, crate::proofs::Searches::answers_none))]
-fn begin_look_up<'a, C: Crew>(
+fn look_up<'a, C: Crew>(
     alloc: Global,
     home: &Home,
     pass: &mut Pass<C>,
     query: &Query,
 ) -> Result<Answer<'a>, NoMemory>
     requires { 0 < length query.now }
-    ensures answered { IfOk result (IsSearchAnswer home.now pass.old pass.new query.now) }
+    ensures answered { IfOk result (λ answer. AnswersTerms home.now pass.old pass.new query.now
+        (answer_bytes answer)) }
     ensures refused { OnErr result (SeesOn pass.old pass.new) }
 {
     match pass.begin(query) {
         Ok(Begun::Found(hits)) => Ok(made(hits_menu(alloc, &hits)?)),
-        Ok(Begun::Searching(search)) => Ok(Answer::Searching(SearchReply::new(search))),
+        Ok(Begun::Searching(search)) => Ok(Answer::Searching(search)),
         Err(SearchFault::NoEntry) => Ok(made(no_catalogue(alloc, home)?)),
         Err(SearchFault::NoMemory) => Err(NoMemory),
     }

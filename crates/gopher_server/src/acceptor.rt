@@ -1,37 +1,27 @@
 //! How a server thread accepts connections: its listeners, its quota, and its pauses.
 
+ghost use Rattle.std.specs.Prelude.{◌≡◌};
+ghost use Rattle.gopher_connections.specs.declared.accepting.Accepting.TheVariants.{Ended};
+ghost use Rattle.gopher_connections.specs.declared.accepting.AcceptEvent.TheVariants.{Ends};
+
 use crate::listeners::{unwatch, watch};
 use crate::shared::ServerShared;
+use gopher_connections::{AcceptDuty, AcceptEvent, Accepting};
 use mio::Poll;
 use mio::net::{TcpListener, TcpStream};
 use std::io;
 use std::net::SocketAddr;
 use std::sync::Arc;
 
-// For how many milliseconds a thread accepts nothing if descriptors or memory are short.
-const PAUSE: u64 = 100;
-
 // After this many reports in a row of one connection each, a thread looks whether more wait.
 const MAX_SINGLE: u32 = 4;
-
-// Whether a thread accepts connections, and if not, why.
-#[derive(Clone, Copy, PartialEq, Eq)]
-enum Accepting {
-    // It accepts what waits.
-    Watches,
-    // It holds more than its share of connections and leaves new ones to other threads.
-    Leaves,
-    // Descriptors or memory are short: it accepts nothing before this time, in milliseconds.
-    Pauses(u64),
-    // It accepts nothing more.
-    Ended,
-}
 
 /// What accepts the connections of a server thread. Times are milliseconds by the thread's clock.
 #[derive(Drop)]
 pub(crate) struct Acceptor {
     listeners: Option<Arc<Vec<TcpListener>>>,
-    accepting: Accepting,
+    /// Whether it accepts connections, and if not, why.
+    pub(crate) state: Accepting,
     // How many reports in a row it took for one connection each; `MAX_SINGLE` while it accepts
     // until none waits.
     single: u32,
@@ -45,15 +35,10 @@ impl Acceptor {
         shared.places.add_thread();
         Acceptor {
             listeners: Some(listeners),
-            accepting: Accepting::Watches,
+            state: Accepting::Watches,
             single: 0,
             shared,
         }
-    }
-
-    /// Returns whether it accepts nothing more.
-    pub(crate) fn is_ended(&self) -> bool {
-        self.listeners.is_none()
     }
 
     /// Returns how many listeners it has, 0 if it accepts nothing more.
@@ -64,14 +49,6 @@ impl Acceptor {
         }
     }
 
-    /// Returns the end of its pause, if it pauses.
-    pub(crate) fn resumes_at(&self) -> Option<u64> {
-        match self.accepting {
-            Accepting::Pauses(until) => Some(until),
-            _ => None,
-        }
-    }
-
     // Stops the reports of the listeners' connections.
     fn unwatch(&self, poll: &Poll) {
         if let Some(listeners) = &self.listeners {
@@ -79,27 +56,53 @@ impl Acceptor {
         }
     }
 
-    /// Stops accepting. The last thread that stops closes the listeners.
-    pub(crate) fn stop(&mut self, poll: &Poll) {
-        if self.is_ended() {
-            return;
+    // Does what a change of its state asks. Returns false if the system refuses.
+    fn fulfil(&mut self, poll: &Poll, duty: AcceptDuty) -> bool
+        ensures { self.new.state ≡ self.old.state }
+    {
+        match duty {
+            AcceptDuty::Nothing => true,
+            AcceptDuty::Watch => match &self.listeners {
+                Some(listeners) => watch(poll, listeners),
+                None => true,
+            },
+            AcceptDuty::HandOver => {
+                self.unwatch(poll);
+                self.shared.wake_all();
+                true
+            }
+            AcceptDuty::End => {
+                self.unwatch(poll);
+                let _closed = self.listeners.take();
+                self.shared.lose_thread();
+                true
+            }
         }
-        self.unwatch(poll);
-        let _closed = self.listeners.take();
-        self.accepting = Accepting::Ended;
-        self.shared.lose_thread();
+    }
+
+    /// Goes over to the state after an event at the time `now`, and does what that asks. The last
+    /// thread that ends closes the listeners. If the system refuses reports of connections, it
+    /// pauses as if memory were short.
+    pub(crate) fn meet(&mut self, poll: &Poll, event: AcceptEvent, now: u64)
+        ensures { event ≡ Ends → self.new.state ≡ Ended }
+    {
+        let duty = self.state.meet(event, now);
+        if !self.fulfil(poll, duty) {
+            let duty = self.state.meet(AcceptEvent::IsShort, now);
+            let _done = self.fulfil(poll, duty);
+        }
     }
 
     /// Takes one of the quota, or stops accepting if none is left.
     pub(crate) fn take_quota(&mut self, poll: &Poll) {
         if !self.shared.quota.take() {
-            self.stop(poll);
+            self.meet(poll, AcceptEvent::Ends, 0);
         }
     }
 
     /// Accepts the next connection at a listener; `None` if nothing is accepted now.
     pub(crate) fn next_client(&self, index: usize) -> Option<io::Result<(TcpStream, SocketAddr)>> {
-        if self.accepting != Accepting::Watches {
+        if !self.state.is_watching() {
             return None;
         }
         let listener = self.listeners.as_ref()?.get(index)?;
@@ -127,54 +130,10 @@ impl Acceptor {
         self.single = 0;
     }
 
-    /// Accepts nothing for 100 ms, and wakes the other threads, which may have connections to
-    /// close.
-    pub(crate) fn pause(&mut self, poll: &Poll, now: u64) {
-        self.unwatch(poll);
-        self.accepting = Accepting::Pauses(now.saturating_add(PAUSE));
-        self.shared.wake_all();
-    }
-
-    // Accepts again. If the system refuses, pauses again.
-    fn resume(&mut self, poll: &Poll, now: u64) {
-        let Some(listeners) = &self.listeners else {
-            return;
-        };
-        self.accepting = if watch(poll, listeners) {
-            Accepting::Watches
-        } else {
-            Accepting::Pauses(now.saturating_add(PAUSE))
-        };
-    }
-
-    // Leaves new connections to the other threads.
-    fn leave(&mut self, poll: &Poll) {
-        self.unwatch(poll);
-        self.accepting = Accepting::Leaves;
-        self.shared.wake_all();
-    }
-
     /// Leaves new connections to other threads while this thread holds many more than its share.
     /// Accepts again when it doesn't, or when a pause is over.
     pub(crate) fn keep_share(&mut self, poll: &Poll, held: u64, now: u64) {
         let leaves = self.shared.places.leaves_to_others(held);
-        match self.accepting {
-            Accepting::Watches => {
-                if leaves {
-                    self.leave(poll);
-                }
-            }
-            Accepting::Leaves => {
-                if !leaves {
-                    self.resume(poll, now);
-                }
-            }
-            Accepting::Pauses(until) => {
-                if until <= now {
-                    self.resume(poll, now);
-                }
-            }
-            Accepting::Ended => {}
-        }
+        self.meet(poll, AcceptEvent::Round(leaves), now);
     }
 }

@@ -36,24 +36,14 @@ pub(crate) enum NextStep {
     Ends,
 }
 
-// What a connection is doing.
-#[derive(Clone, Copy, PartialEq, Eq)]
-enum Activity {
-    // It converses with the client.
-    Talks,
-    // A search makes its reply.
-    Searches,
-    // Its reply is sent, and it reads what the client still sends.
-    Lingers,
-}
-
 /// A connection with a client, which never waits.
 #[derive(Drop)]
 pub(crate) struct Connection<'a> {
     stream: TcpStream,
     conversation: Conversation<'a>,
     accepted: Option<Accepted>,
-    activity: Activity,
+    // Whether its reply is sent, and it reads what the client still sends.
+    lingers: bool,
     // What the poll reports of it; nothing so far if `None`.
     reported: Option<Interest>,
     // Whether the system queues more for its client than for others.
@@ -86,7 +76,7 @@ impl<'a> Connection<'a> {
             stream,
             conversation: Conversation::new(alloc),
             accepted,
-            activity: Activity::Talks,
+            lingers: false,
             reported: None,
             is_large: false,
             lacked_memory: false,
@@ -106,8 +96,7 @@ impl<'a> Connection<'a> {
     // What it waits for. It waits for room to write only while it has a reply to send, because a
     // report of room that it doesn't need costs a round.
     fn interest(&self) -> Interest {
-        let lingers = self.activity == Activity::Lingers;
-        if lingers || self.conversation.asked_line().is_none() {
+        if self.lingers || self.conversation.asked_line().is_none() {
             Interest::READABLE
         } else {
             Interest::READABLE | Interest::WRITABLE
@@ -131,11 +120,6 @@ impl<'a> Connection<'a> {
         watched.is_ok()
     }
 
-    /// Returns whether a search makes its reply.
-    pub(crate) fn searches(&self) -> bool {
-        self.activity == Activity::Searches
-    }
-
     /// Goes on while the client is ready. If a search makes the reply, takes one step of it. If it
     /// may enlarge its queue, the system then queues more of a long reply.
     pub(crate) fn go_on<A: Answers<'a>>(
@@ -145,7 +129,7 @@ impl<'a> Connection<'a> {
         buffer: &mut [u8; BUFFER_BYTES],
         may_enlarge: bool,
     ) -> NextStep {
-        if self.activity == Activity::Lingers {
+        if self.lingers {
             self.read_on(buffer)
         } else {
             self.talk(alloc, answers, buffer, may_enlarge)
@@ -183,12 +167,8 @@ impl<'a> Connection<'a> {
             buffer,
         );
         self.is_large = self.is_large || writer.into_inner().is_large;
-        self.activity = Activity::Talks;
         match progress {
-            Progress::Works => {
-                self.activity = Activity::Searches;
-                NextStep::Works
-            }
+            Progress::Works => NextStep::Works,
             Progress::Waits => NextStep::Waits,
             Progress::Done => self.end_reply(),
             Progress::Paused => NextStep::Ends,
@@ -205,7 +185,7 @@ impl<'a> Connection<'a> {
     fn end_reply(&mut self) -> NextStep {
         let ended = self.stream.shutdown(Shutdown::Write);
         if ended.is_ok() && self.conversation.sent_len() > LINGER_ABOVE {
-            self.activity = Activity::Lingers;
+            self.lingers = true;
             NextStep::Lingers
         } else {
             NextStep::Ends

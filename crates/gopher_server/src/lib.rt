@@ -5,9 +5,10 @@
 //! for events: in each round it handles all events first, then works for about a millisecond on the
 //! first search of the queue.
 //!
-//! Except in `accepting`, which says what an error of accept(2) means, the contracts here say only
-//! that calls are safe. `gopher_conversation` promises what a client receives, and
-//! `gopher_connections` which connection is closed and which search is next.
+//! Contracts here say what an error of accept(2) means, how the clock counts, and that a
+//! failed thread accepts nothing more; otherwise only that calls are safe. `gopher_conversation`
+//! promises what a client receives, and `gopher_connections` what the thread decides: how long it
+//! waits for events, when it accepts, which connection is closed, and which search is next.
 #![tactic(auto)]
 
 mod accepting;

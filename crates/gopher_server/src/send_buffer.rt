@@ -15,9 +15,6 @@ const LARGE_SEND_BUFFER: i32 = 262_144;
 // A reply is long if more than this is left of it. Less than this fits into an ordinary queue.
 const LONG_REPLY: usize = 114_688;
 
-/// The most connections of a thread that have a larger queue.
-pub(crate) const MAX_LARGE: usize = 16;
-
 // Sets the bytes that the system queues for a socket. If the system refuses, its own limit stays.
 fn set_send_buffer(socket: RawFd, bytes: i32) {
     let mut value = [0u8; 16];

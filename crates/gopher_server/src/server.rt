@@ -1,13 +1,17 @@
 //! A server thread at work (`serve`): accepting clients, and its round of events.
 
+ghost use Rattle.std.specs.Prelude.{◌≡◌};
+ghost use Rattle.gopher_connections.specs.declared.accepting.Accepting.TheVariants.{Ended};
+ghost use Rattle.gopher_server.specs.declared.thread_end.ThreadEnd.TheVariants.{Failed};
+
 use crate::accepting::{AcceptFailure, failure_of};
 use crate::acceptor::Acceptor;
 use crate::connection::{BUFFER_BYTES, Connection, NextStep};
 use crate::listeners::{WAKER, listener_index};
 use crate::setup::ThreadSetup;
-use crate::thread_clock::ThreadClock;
+use crate::thread_clock::{ThreadClock, millis_of};
 use crate::thread_end::ThreadEnd;
-use gopher_connections::{Connections, Deadlines, WorkQueue};
+use gopher_connections::{AcceptEvent, AcceptRun, Held, longest_wait};
 use gopher_conversation::Answers;
 use gopher_log_writer::ThreadLog;
 use mio::net::TcpStream;
@@ -39,12 +43,7 @@ pub(crate) struct Server<'a, A: Answers<'a> + Drop> {
     pub(crate) poll: Poll,
     pub(crate) buffer: [u8; BUFFER_BYTES],
     pub(crate) acceptor: Acceptor,
-    pub(crate) connections: Connections<Connection<'a>>,
-    pub(crate) deadlines: Deadlines,
-    /// The connections whose replies searches make.
-    pub(crate) searching: WorkQueue,
-    /// How many of the connections have a larger queue.
-    pub(crate) large: usize,
+    pub(crate) connections: Held<Connection<'a>>,
     pub(crate) answers: A,
     pub(crate) log: ThreadLog,
     pub(crate) clock: ThreadClock,
@@ -69,7 +68,7 @@ impl<'a, A: Answers<'a> + Drop> Server<'a, A> {
     // Accepts the connections that wait at a listener, or the first of them: the system reports the
     // others again.
     fn accept<R: Wait + Clock + Eprint>(&mut self, rt: &R, index: usize) {
-        let mut was_short = false;
+        let mut run = AcceptRun::new();
         for _accepted in 0..MAX_ACCEPTS {
             match self.acceptor.next_client(index) {
                 Some(Ok((stream, address))) => {
@@ -82,7 +81,7 @@ impl<'a, A: Answers<'a> + Drop> Server<'a, A> {
                     if error.kind() == ErrorKind::WouldBlock {
                         return self.acceptor.found_none();
                     }
-                    was_short = self.meet_failure(rt, error, was_short);
+                    self.meet_failure(rt, error, &mut run);
                 }
                 None => return,
             }
@@ -98,19 +97,16 @@ impl<'a, A: Answers<'a> + Drop> Server<'a, A> {
         }
     }
 
-    // Handles the error of a failed accept. Returns whether descriptors or memory were short.
+    // Handles the error of a failed accept.
     fn meet_failure<R: Wait + Clock + Eprint>(
         &mut self,
         rt: &R,
         error: io::Error,
-        was_short: bool,
-    ) -> bool {
+        run: &mut AcceptRun,
+    ) {
         match failure_of(error.raw_os_error().unwrap_or(0).unsigned_abs()) {
-            AcceptFailure::IsLost => false,
-            AcceptFailure::IsShort => {
-                self.make_do(rt, was_short);
-                true
-            }
+            AcceptFailure::IsLost => run.lose(),
+            AcceptFailure::IsShort => self.make_do(rt, run),
             AcceptFailure::IsBroken => {
                 tell(
                     rt,
@@ -118,21 +114,19 @@ impl<'a, A: Answers<'a> + Drop> Server<'a, A> {
                     error,
                     self.tells,
                 );
-                self.end = ThreadEnd::Failed;
-                self.acceptor.stop(&self.poll);
-                false
+                self.fail();
             }
         }
     }
 
-    // Closes the connection idle longest if descriptors or memory are short. If that didn't help,
-    // or there is none, accepts nothing for a time, and leaves the connection to the other threads.
-    fn make_do<R: Wait + Clock>(&mut self, rt: &R, was_short: bool) {
-        match self.connections.idle_longest() {
-            Some(key) if !was_short => self.close(rt, key),
-            _ => {
+    // Makes room if descriptors or memory are short, or else accepts nothing for a time and leaves
+    // the connection to the other threads.
+    fn make_do<R: Wait + Clock>(&mut self, rt: &R, run: &mut AcceptRun) {
+        match run.make_room(self.connections.idle_longest()) {
+            Some(key) => self.close(rt, key),
+            None => {
                 let now = self.clock.now(rt);
-                self.acceptor.pause(&self.poll, now);
+                self.acceptor.meet(&self.poll, AcceptEvent::IsShort, now);
             }
         }
     }
@@ -147,7 +141,7 @@ impl<'a, A: Answers<'a> + Drop> Server<'a, A> {
     // Goes on with a new connection at once, and keeps it if it has to wait.
     fn begin<R: Wait + Clock>(&mut self, rt: &R, connection: Connection<'a>) {
         let mut connection = connection;
-        let may_enlarge = self.may_enlarge();
+        let may_enlarge = self.connections.may_enlarge();
         let step = connection.go_on(self.alloc, &mut self.answers, &mut self.buffer, may_enlarge);
         self.meet_shortage(connection.lacked_memory());
         if step == NextStep::Ends {
@@ -183,46 +177,37 @@ impl<'a, A: Answers<'a> + Drop> Server<'a, A> {
         }
         match listener_index(token) {
             Some(index) => self.accept(rt, index),
-            None => self.go_on(rt, token, is_gone),
+            None => self.meet_event(rt, token, is_gone),
         }
     }
 
     // Whether nothing is left to do.
     fn is_done(&self) -> bool {
-        self.acceptor.is_ended() && self.connections.is_empty()
+        self.acceptor.state.has_ended() && self.connections.is_empty()
     }
 
-    // The next time at which there is work without an event; `None` if there is no such time.
-    fn next_time(&self) -> Option<u64> {
-        match (self.acceptor.resumes_at(), self.deadlines.first()) {
-            (Some(resume), Some(deadline)) => Some(resume.min(deadline)),
-            (Some(resume), None) => Some(resume),
-            (None, deadline) => deadline,
-        }
+    // The time, or 0 if it isn't needed: a round in which nothing has a time reads no clock.
+    fn time_if(&self, clock: &impl Clock, is_needed: bool) -> u64 {
+        if is_needed { self.clock.now(clock) } else { 0 }
     }
 
     // How long it may wait for events; `None` if it may wait until one comes.
     fn poll_timeout(&self, clock: &impl Clock) -> Option<Duration> {
-        if self.searching.first().is_some() {
-            return Some(Duration::from_millis(0));
-        }
-        let log = self.log.poll_timeout();
-        let Some(time) = self.next_time() else {
-            return log;
+        let searches = self.connections.next_search().is_some();
+        let resume = self.acceptor.state.pause_end();
+        let deadline = self.connections.first_deadline();
+        let log = match self.log.poll_timeout() {
+            Some(kept) => Some(millis_of(kept)),
+            None => None,
         };
-        let wait = Duration::from_millis(time.saturating_sub(self.clock.now(clock)));
-        match log {
-            Some(log) => Some(log.min(wait)),
-            None => Some(wait),
-        }
+        let now = self.time_if(clock, resume.is_some() || deadline.is_some());
+        let wait = longest_wait(searches, resume, deadline, log, now)?;
+        Some(Duration::from_millis(wait))
     }
 
-    // Accepts no more than its share of connections. The clock is read only during a pause.
+    // Accepts no more than its share of connections.
     fn keep_share(&mut self, clock: &impl Clock) {
-        let now = match self.acceptor.resumes_at() {
-            Some(_) => self.clock.now(clock),
-            None => 0,
-        };
+        let now = self.time_if(clock, !self.acceptor.state.is_watching());
         let held = self.connections.len() as u64;
         self.acceptor.keep_share(&self.poll, held, now);
     }
@@ -269,15 +254,26 @@ impl<'a, A: Answers<'a> + Drop> Server<'a, A> {
         self.end
     }
 
-    // Ends, and closes all connections.
-    fn give_up<R: Wait + Clock>(&mut self, rt: &R) {
+    // Accepts nothing more, and reports a failure at its end.
+    fn fail(&mut self)
+        ensures state { self.new.acceptor.state ≡ Ended }
+        ensures end { self.new.end ≡ Failed }
+    {
         self.end = ThreadEnd::Failed;
-        self.acceptor.stop(&self.poll);
+        self.acceptor.meet(&self.poll, AcceptEvent::Ends, 0);
+    }
+
+    // Closes all connections, and fails.
+    fn give_up<R: Wait + Clock>(&mut self, rt: &R)
+        ensures state { self.new.acceptor.state ≡ Ended }
+        ensures end { self.new.end ≡ Failed }
+    {
         for _closed in 0..self.connections.len() {
             if let Some(key) = self.connections.idle_longest() {
                 self.close(rt, key);
             }
         }
+        self.fail();
     }
 }
 
@@ -296,10 +292,12 @@ pub fn serve<'a, A: Answers<'a> + Drop, R: Wait + Clock + Eprint>(
         listeners,
         shared,
         log,
+        blocks,
         tells,
     } = setup;
+    drop(blocks);
     let mut events = events;
-    let (Ok(connections), Ok(clock)) = (Connections::new(alloc), ThreadClock::new(rt)) else {
+    let (Ok(connections), Ok(clock)) = (Held::new(alloc), ThreadClock::new(rt)) else {
         if tells {
             let _ = rt.eprintln("hole: a server thread ends: out of memory");
         }
@@ -311,9 +309,6 @@ pub fn serve<'a, A: Answers<'a> + Drop, R: Wait + Clock + Eprint>(
         buffer: [0u8; BUFFER_BYTES],
         acceptor: Acceptor::new(listeners, shared),
         connections,
-        deadlines: Deadlines::new(alloc),
-        searching: WorkQueue::new(alloc),
-        large: 0,
         answers,
         log,
         clock,

@@ -15,6 +15,14 @@ use std::sync::Arc;
 // The most events of one round.
 const MAX_EVENTS: usize = 256;
 
+// The least and the most bytes of the blocks of memory that the C library keeps for the thread that
+// gave them back, and how many of each size are set aside. A small request needs no larger ones.
+const MIN_BLOCK: usize = 24;
+
+const MAX_BLOCK: usize = 1_032;
+
+const BLOCKS: usize = 3;
+
 /// The system resources of a server thread.
 #[derive(Drop)]
 pub struct ThreadSetup {
@@ -23,6 +31,8 @@ pub struct ThreadSetup {
     pub(crate) listeners: Arc<Vec<TcpListener>>,
     pub(crate) shared: Arc<ServerShared>,
     pub(crate) log: ThreadLog,
+    /// Memory for small requests, set aside.
+    pub(crate) blocks: Vec<Vec<u8>>,
     pub(crate) tells: bool,
 }
 
@@ -82,6 +92,24 @@ fn polls_and_wakers<R: Net>(
     Ok((polls, wakers))
 }
 
+// Adds blocks of memory of a size.
+fn push_blocks(alloc: Global, size: usize, blocks: &mut Vec<Vec<u8>>) -> Result<(), NoMemory> {
+    for _block in 0..BLOCKS {
+        blocks.push(Vec::with_capacity(alloc, size)?)?;
+    }
+    Ok(())
+}
+
+// Blocks of memory of each size that a small request may need. A thread gives them back when it
+// starts. The C library then keeps them for that thread, so that a crawl can't take them.
+fn small_blocks(alloc: Global) -> Result<Vec<Vec<u8>>, NoMemory> {
+    let mut blocks = Vec::new(alloc);
+    for size in (MIN_BLOCK..=MAX_BLOCK).step_by(16) {
+        push_blocks(alloc, size, &mut blocks)?;
+    }
+    Ok(blocks)
+}
+
 // The resources of the thread with this poll.
 fn setup_with(
     alloc: Global,
@@ -101,6 +129,7 @@ fn setup_with(
         listeners: Arc::try_clone(listeners)?,
         shared: Arc::try_clone(shared)?,
         log: ThreadLog::new(alloc, queue),
+        blocks: small_blocks(alloc)?,
         tells,
     })
 }

@@ -1,5 +1,8 @@
 //! The clock of a server thread.
 
+ghost use Rattle.std.specs.Prelude.{◌≡◌, ◌/◌, ◌-◌, ◌^◌, min};
+ghost use Rattle.std.specs.Duration.{as_nanos};
+
 use std::io;
 use std::time::{Clock, Duration, Instant};
 
@@ -9,16 +12,24 @@ pub(crate) struct ThreadClock {
     began: Instant,
 }
 
-// How many milliseconds a time has.
-fn millis_of(time: Duration) -> u64 {
-    let millis = time.as_secs().saturating_mul(1_000);
-    millis.saturating_add(u64::from(time.subsec_millis()))
+/// Returns the whole milliseconds of a time, at most 2^64 - 1.
+pub(crate) fn millis_of(time: Duration) -> u64
+    ensures { result ≡ min (as_nanos time / 1_000_000) (2 ^ 64 - 1) }
+{
+    match u64::try_from(time.as_millis()) {
+        Ok(millis) => millis,
+        Err(_) => u64::MAX,
+    }
 }
 
-// How many microseconds a time has.
-fn micros_of(time: Duration) -> u64 {
-    let micros = time.as_secs().saturating_mul(1_000_000);
-    micros.saturating_add(u64::from(time.subsec_micros()))
+// The whole microseconds of a time, at most 2^64 - 1.
+fn micros_of(time: Duration) -> u64
+    ensures { result ≡ min (as_nanos time / 1_000) (2 ^ 64 - 1) }
+{
+    match u64::try_from(time.as_micros()) {
+        Ok(micros) => micros,
+        Err(_) => u64::MAX,
+    }
 }
 
 impl ThreadClock {

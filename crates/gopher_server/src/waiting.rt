@@ -2,15 +2,11 @@
 //! their reply.
 
 use crate::connection::{Connection, NextStep};
-use crate::send_buffer::MAX_LARGE;
 use crate::server::Server;
+use gopher_connections::EventMeaning;
 use gopher_conversation::Answers;
 use std::sync::Wait;
 use std::time::Clock;
-
-// For how many milliseconds a connection lingers at most. No more than 128 KiB of its reply are
-// still in the system by then, so that each client receives all that takes 8 KiB a second.
-const LINGER: u64 = 16_000;
 
 // For how many microseconds a thread works on a search before it looks for events again.
 const SEARCH_TIME: u64 = 1_000;
@@ -28,11 +24,10 @@ impl<'a, A: Answers<'a> + Drop> Server<'a, A> {
         step: NextStep,
     ) {
         let is_large = connection.is_large();
-        match self.connections.put(connection) {
+        match self.connections.take_in(connection) {
             Ok(key) => {
                 self.acceptor.shared.places.take();
-                self.count_large(is_large);
-                if self.watch_client(key) {
+                if self.mark_if_large(key, is_large) && self.watch_client(key) {
                     self.meet_step(rt, key, step);
                 } else {
                     self.close(rt, key);
@@ -91,26 +86,13 @@ impl<'a, A: Answers<'a> + Drop> Server<'a, A> {
     /// Takes out the connection at a key, which closes it, and returns whether there was one.
     pub(crate) fn take_out<R: Wait + Clock>(&mut self, rt: &R, key: usize) -> bool {
         self.log_at(rt, key);
-        self.searching.remove(key);
-        let Some(connection) = self.connections.remove(key) else {
-            return false;
-        };
-        if connection.is_large() {
-            self.large = self.large.saturating_sub(1);
-        }
-        true
+        self.connections.end(key).is_some()
     }
 
-    /// Returns whether one more connection may have a larger queue.
-    pub(crate) fn may_enlarge(&self) -> bool {
-        self.large < MAX_LARGE
-    }
-
-    // Counts a connection if its queue became larger.
-    fn count_large(&mut self, became_large: bool) {
-        if became_large {
-            self.large = self.large.saturating_add(1);
-        }
+    // Records that the connection at a key has a larger queue, if `is_large`. False if out of
+    // memory.
+    fn mark_if_large(&mut self, key: usize, is_large: bool) -> bool {
+        !is_large || self.connections.mark_large(key).is_ok()
     }
 
     /// Closes the connection at a key, and gives its place back.
@@ -129,27 +111,30 @@ impl<'a, A: Answers<'a> + Drop> Server<'a, A> {
         }
     }
 
-    /// Goes on with the connection at a key. One in the queue of searches goes on in its turn; it
-    /// is closed if its client takes nothing more.
-    pub(crate) fn go_on<R: Wait + Clock>(&mut self, rt: &R, key: usize, is_gone: bool) {
-        let may_enlarge = self.may_enlarge();
+    /// Does what an event asks for the connection at a key. `is_gone` says that its client takes
+    /// nothing more.
+    pub(crate) fn meet_event<R: Wait + Clock>(&mut self, rt: &R, key: usize, is_gone: bool) {
+        match self.connections.event_meaning(key, is_gone) {
+            EventMeaning::Nothing => {}
+            EventMeaning::GoesOn => self.go_on(rt, key),
+            EventMeaning::Closes => self.close(rt, key),
+        }
+    }
+
+    // Goes on with the connection at a key, for which no search works.
+    fn go_on<R: Wait + Clock>(&mut self, rt: &R, key: usize) {
+        let may_enlarge = self.connections.may_enlarge();
         let Some(connection) = self.connections.get_mut(key) else {
             return;
         };
-        if !connection.searches() {
-            let was_large = connection.is_large();
-            let step = connection.go_on(
-                self.alloc,
-                &mut self.answers,
-                &mut self.buffer,
-                may_enlarge,
-            );
-            let became_large = connection.is_large() && !was_large;
-            let lacked_memory = connection.lacked_memory();
-            self.meet_shortage(lacked_memory);
-            self.count_large(became_large);
+        let step = connection.go_on(self.alloc, &mut self.answers, &mut self.buffer, may_enlarge);
+        let is_large = connection.is_large();
+        let lacked_memory = connection.lacked_memory();
+        self.meet_shortage(lacked_memory);
+        self.connections.touch(key);
+        if self.mark_if_large(key, is_large) {
             self.meet_later_step(rt, key, step);
-        } else if is_gone {
+        } else {
             self.close(rt, key);
         }
     }
@@ -168,7 +153,6 @@ impl<'a, A: Answers<'a> + Drop> Server<'a, A> {
 
     // Does what the next step of the connection at a key asks, after the first one.
     fn meet_later_step<R: Wait + Clock>(&mut self, rt: &R, key: usize, step: NextStep) {
-        let _found = self.connections.touch(key);
         self.meet_step(rt, key, step);
         if self.lacks_reports(key, step) && !self.watch_client(key) {
             self.close(rt, key);
@@ -188,20 +172,20 @@ impl<'a, A: Answers<'a> + Drop> Server<'a, A> {
     // Has the connection at a key, whose reply is sent, closed in time.
     fn linger<R: Wait + Clock>(&mut self, rt: &R, key: usize) {
         self.log_at(rt, key);
-        let deadline = self.clock.now(rt).saturating_add(LINGER);
-        if self.deadlines.set(key, deadline).is_err() {
+        let now = self.clock.now(rt);
+        if self.connections.linger(key, now).is_err() {
             self.close(rt, key);
         }
     }
 
     /// Closes the connections that lingered for their time.
     pub(crate) fn end_lingering<R: Wait + Clock>(&mut self, rt: &R) {
-        if self.deadlines.first().is_none() {
+        if self.connections.first_deadline().is_none() {
             return;
         }
         let now = self.clock.now(rt);
         for _closed in 0..u64::MAX {
-            let Some(key) = self.deadlines.take_due(now) else {
+            let Some(key) = self.connections.take_due(now) else {
                 return;
             };
             self.close(rt, key);
@@ -212,7 +196,7 @@ impl<'a, A: Answers<'a> + Drop> Server<'a, A> {
 
     // Puts the connection at a key behind the others whose replies searches make.
     fn queue_search<R: Wait + Clock>(&mut self, rt: &R, key: usize) {
-        if self.searching.push(key).is_err() {
+        if self.connections.queue_search(key).is_err() {
             self.close(rt, key);
         }
     }
@@ -236,14 +220,13 @@ impl<'a, A: Answers<'a> + Drop> Server<'a, A> {
 
     /// Works for a time on the search that is first in the queue.
     pub(crate) fn search<R: Wait + Clock>(&mut self, rt: &R) {
-        let Some(key) = self.searching.first() else {
+        let Some(key) = self.connections.next_search() else {
             return;
         };
         let step = self.take_steps(rt, key);
-        if step == NextStep::Works {
-            let _found = self.connections.touch(key);
-        } else {
-            self.searching.remove(key);
+        let goes_on = step == NextStep::Works;
+        self.connections.end_turn(key, goes_on);
+        if !goes_on {
             self.meet_later_step(rt, key, step);
         }
     }

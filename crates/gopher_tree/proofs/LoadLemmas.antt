@@ -1,15 +1,15 @@
 -- The files that a walk through a folder lists, step by step, and why it stops.
-use Rattle.std.proofs.Common.{◌≡◌, ℕ, ◌+◌, ◌-◌, ◌<◌, Bool, true, false, cond, ltb, List, [], ◌∷◌, ◌++◌, length, take, Option, None, Some, Result, Ok, Err, IfSome, IfOk, IfErr, refl, sym, ap, ◌∙◌, subst, ◌⊎◌, inl, inr, arith}
-use Rattle.std.proofs.lemmas.Bool.{ltb-true}
+use Rattle.std.proofs.Common.{◌≡◌, ℕ, ◌≤◌, List, [], ◌∷◌, ◌++◌, length, take, Option, None, Some, Result, Ok, Err, IfSome, IfOk, IfErr, refl, sym, ap, ◌∙◌, subst, ◌⊎◌, inl, inr}
 use Rattle.std.proofs.lemmas.List.{append_assoc, append-nil}
 use Rattle.std.specs.Option.{option_map}
 use Rattle.std.specs.declared.io.traits.Take.{Take}
 use Rattle.std.specs.Io.Take.{take_limit, take_inner, take_remaining}
-use Rattle.gopher_tree.specs.Files.{File}
+use Rattle.gopher_tree.specs.Files.{File, total_bytes}
 use Rattle.gopher_tree.specs.Fault.{path_fault, or_fault, file_fault, fault_after, files_fault, AddsFile}
-use Rattle.gopher_tree.specs.Load.{folder_fault, LoadStops, Lists, WalksTo, Loads, LoadsTo, IsUnreadable, Refuses}
+use Rattle.gopher_tree.specs.Load.{StopsAt, StopsAtFolder, Lists, ListsFile, WalksTo, Loads, LoadsTo, IsUnreadable, Refuses}
 use Rattle.gopher_tree.specs.declared.fault.TreeFault.{TreeFault}
-use Rattle.gopher_tree.specs.declared.fault.TreeFault.TheVariants.{LongSelector, TooBig, NoMemory}
+use Rattle.gopher_tree.specs.declared.fault.TreeFault.TheVariants.{NoMemory}
+use Rattle.gopher_tree.specs.declared.load.trail.Trail.{Trail}
 use Rattle.gopher_tree.proofs.FaultLemmas.{or_fault-none, adds_refused}
 
 or_fault-both : (a b : Option TreeFault) → a ≡ None → b ≡ None → or_fault a b ≡ None
@@ -39,59 +39,56 @@ lists_more first between last (added, is, none) (more, is_more, none_more) = (
   fault_after-append first added more none (ap (λ l. fault_after l more) (sym is) ∙ none_more),
 )
 
+-- a trail after a file was read
+abbrev pub with_size : Trail → ℕ → Trail
+with_size trail size =
+    record { path = trail.path; size = size; bytes = trail.bytes; folders = trail.folders; nowhere = trail.nowhere; hidden = trail.hidden }
+
+-- a trail after the names of a folder were read
+abbrev pub with_hidden : Trail → ℕ → Trail
+with_hidden trail hidden =
+    record { path = trail.path; size = trail.size; bytes = trail.bytes; folders = trail.folders; nowhere = trail.nowhere; hidden = hidden }
+
 -- a walk that continues after the files listed so far
-pub walks_on : {T : Type 0} (listed : T → List File) (first between : List File) (path : List ℕ) (result : Result T TreeFault) → Lists first between → WalksTo listed between path result → WalksTo listed first path result
-walks_on listed first between path (Ok walk) lists walks = lists_more first between (listed walk) lists walks
-walks_on listed first between path (Err fault) lists (files, more, stops) = (files, lists_more first between files lists more, stops)
+pub walks_on : (first between : List File) (trail : Trail) (result : Result (List File) TreeFault) → Lists first between → WalksTo between trail result → WalksTo first trail result
+walks_on first between trail (Ok files) lists walks = lists_more first between files lists walks
+walks_on first between trail (Err fault) lists (files, more, stops) = (files, lists_more first between files lists more, stops)
 
 -- a walk that stops without listing one more file
-pub walks_none : {T : Type 0} (listed : T → List File) (first : List File) (path : List ℕ) (result : Result T TreeFault) (fault : TreeFault) → result ≡ Err fault → LoadStops first path fault → WalksTo listed first path result
-walks_none listed first path result fault is stops = subst (WalksTo listed first path) (sym is) (first, lists_none first, stops)
+pub walks_none : (first : List File) (trail : Trail) (result : Result (List File) TreeFault) (fault : TreeFault) → result ≡ Err fault → StopsAt first trail fault → WalksTo first trail result
+walks_none first trail result fault is stops = subst (WalksTo first trail) (sym is) (first, lists_none first, stops)
 
-pub stops_unreadable : (files : List File) (path : List ℕ) (number : ℕ) (fault : TreeFault) → number ≡ length files → IsUnreadable number fault → LoadStops files path fault
-stops_unreadable files path number fault same unreadable = (0, inr (inr (inr (subst (λ n. IsUnreadable n fault) same unreadable))))
+pub stops_unreadable : (files : List File) (trail : Trail) (number : ℕ) (fault : TreeFault) → number ≡ length files → IsUnreadable number fault → StopsAt files trail fault
+stops_unreadable files trail number fault same unreadable = inr (inr (subst (λ n. IsUnreadable n fault) same unreadable))
 
-pub stops_memory : (files : List File) (path : List ℕ) (fault : TreeFault) → fault ≡ NoMemory → LoadStops files path fault
-stops_memory files path fault is = (0, inr (inr (inr (inr is))))
-
--- the folders among a number of nodes
-folders_among : (files : List File) (nodes : ℕ) → length files < nodes → (folders : ℕ) × (1 + folders + length files ≡ nodes)
-folders_among files nodes more = (nodes - 1 - length files, omega arith)
+pub stops_memory : (files : List File) (trail : Trail) (fault : TreeFault) → fault ≡ NoMemory → StopsAt files trail fault
+stops_memory files trail fault is = inr (inr (inr is))
 
 -- a file with an invalid path
-pub path_refused : (files : List File) (nodes : ℕ) (path bytes : List ℕ) (number : ℕ) (fault : TreeFault) → number ≡ length files → path_fault number path ≡ Some fault → Refuses files nodes (path, bytes) fault
-path_refused files nodes path bytes number fault same is =
+pub path_refused : (files : List File) (trail : Trail) (path bytes : List ℕ) (number : ℕ) (fault : TreeFault) → number ≡ length files → path_fault number path ≡ Some fault → Refuses files trail (path, bytes) fault
+path_refused files trail path bytes number fault same is =
     inl (or_fault-some (path_fault (length files) path) _ fault (ap (λ n. path_fault n path) (sym same) ∙ is))
 
-pub stops_file : (files : List File) (nodes : ℕ) (path bytes : List ℕ) (fault : TreeFault) → length files < nodes → Refuses files nodes (path, bytes) fault → LoadStops files path fault
-stops_file files nodes path bytes fault more (inl is) = (0, inl (bytes, is))
-stops_file files nodes path bytes fault more (inr (inl many)) = let folders = folders_among files nodes more in (folders.0, inr (inr (inl (omega (arith, folders.1, many.0), many.1))))
-stops_file files nodes path bytes fault more (inr (inr memory)) = stops_memory files path fault memory.1
+stops_file : (files : List File) (trail : Trail) (path bytes : List ℕ) (fault : TreeFault) → trail.path.items ≡ path → length bytes ≤ trail.size → trail.bytes ≡ total_bytes files → Refuses files trail (path, bytes) fault → StopsAt files trail fault
+stops_file files trail path bytes fault at size total (inl is) = inl (bytes, size, total, ap (λ p. file_fault files (p, bytes)) at ∙ is)
+stops_file files trail path bytes fault at size total (inr (inl full)) = inr (inl (inr (inl full)))
+stops_file files trail path bytes fault at size total (inr (inr memory)) = stops_memory files trail fault memory.1
 
 -- a walk that reaches a file
-pub walks_file : {T : Type 0} (listed : T → List File) (first : List File) (nodes : ℕ) (path bytes : List ℕ) (result : Result T TreeFault)
-    → IfOk result (λ walk. (file_fault first (path, bytes) ≡ None) × (listed walk ≡ first ++ (path, bytes) ∷ []))
-    → length first < nodes → IfErr result (Refuses first nodes (path, bytes)) → WalksTo listed first path result
-walks_file listed first nodes path bytes (Ok walk) lists more refused = lists_one first (path, bytes) (listed walk) lists.0 lists.1
-walks_file listed first nodes path bytes (Err fault) lists more refused = (first, lists_none first, stops_file first nodes path bytes fault more refused)
+pub walks_file : (first : List File) (trail : Trail) (path bytes : List ℕ) (result : Result (List File) TreeFault) → trail.path.items ≡ path → length bytes ≤ trail.size → trail.bytes ≡ total_bytes first
+    → IfOk result (ListsFile first (path, bytes)) → IfErr result (Refuses first trail (path, bytes)) → WalksTo first trail result
+walks_file first trail path bytes (Ok files) at size total lists refused = lists_one first (path, bytes) files lists.0 lists.1
+walks_file first trail path bytes (Err fault) at size total lists refused = (first, lists_none first, stops_file first trail path bytes fault at size total refused)
 
 -- a folder with a fault
-pub stops_folder : (files : List File) (nodes : ℕ) (path : List ℕ) (fault : TreeFault) → length files < nodes → folder_fault (length files) nodes path ≡ Some fault → LoadStops files path fault
-stops_folder files nodes path fault more is = by (ltb 254 (length path)) (ltb 4095 nodes) refl refl is
-  where
-    by : (t s : Bool) → ltb 254 (length path) ≡ t → ltb 4095 nodes ≡ s → cond t (Some (LongSelector (length files))) (cond s (Some (TooBig (length files))) None) ≡ Some fault → LoadStops files path fault
-    by true s long many h = let e : fault ≡ LongSelector (length files) = cc in (0, inr (inl (ltb-true 254 (length path) long, e)))
-    by false true long many h =
-        let e : fault ≡ TooBig (length files) = cc in
-        let folders = folders_among files nodes more in
-        let most = ltb-true 4095 nodes many in (folders.0, inr (inr (inl (omega (arith, folders.1, most), e))))
-    by false false long many h = absurd cc
+pub stops_folder : (files : List File) (trail : Trail) (number : ℕ) (fault : TreeFault) → number ≡ length files → StopsAtFolder number trail fault → StopsAt files trail fault
+stops_folder files trail number fault same stops = inr (inl (subst (λ n. StopsAtFolder n trail fault) same stops))
 
 -- a file that is added to the tree, or fails
-pub file_refused : {T : Type 0} (files : List File) (nodes : ℕ) (path bytes : List ℕ) (after : T) (fault : TreeFault) → AddsFile (file_fault files (path, bytes)) after (Err fault) → Refuses files nodes (path, bytes) fault
-file_refused files nodes path bytes after fault adds = by (adds_refused (file_fault files (path, bytes)) after fault adds)
+pub file_refused : {T : Type 0} (files : List File) (trail : Trail) (path bytes : List ℕ) (after : T) (fault : TreeFault) → AddsFile (file_fault files (path, bytes)) after (Err fault) → Refuses files trail (path, bytes) fault
+file_refused files trail path bytes after fault adds = by (adds_refused (file_fault files (path, bytes)) after fault adds)
   where
-    by : (file_fault files (path, bytes) ≡ Some fault) ⊎ ((file_fault files (path, bytes) ≡ None) × (fault ≡ NoMemory)) → Refuses files nodes (path, bytes) fault
+    by : (file_fault files (path, bytes) ≡ Some fault) ⊎ ((file_fault files (path, bytes) ≡ None) × (fault ≡ NoMemory)) → Refuses files trail (path, bytes) fault
     by (inl is) = inl is
     by (inr memory) = inr (inr memory)
 
@@ -100,17 +97,17 @@ pub faultless : (files : List File) → Lists [] files → files_fault files ≡
 faultless files (added, is, none) = ap files_fault is ∙ none
 
 -- loading fails before a file is listed
-pub loads_memory : (path : List ℕ) (result : Result (List File) TreeFault) (fault : TreeFault) → result ≡ Err fault → fault ≡ NoMemory → LoadsTo path result
-loads_memory path result fault is memory = subst (LoadsTo path) (sym is) ([], refl, stops_memory [] path fault memory)
+pub loads_memory : (trail : Trail) → LoadsTo trail (Err NoMemory)
+loads_memory trail = ([], refl, stops_memory [] trail NoMemory refl)
 
--- loading fails when the walk stops
-pub loads_refused : {T : Type 0} (listed : T → List File) (first : List File) (path : List ℕ) (result : Result (List File) TreeFault) (fault : TreeFault) → result ≡ Err fault → first ≡ [] → WalksTo listed first path (Err fault) → LoadsTo path result
-loads_refused listed first path result fault is none (files, lists, stops) =
-    subst (LoadsTo path) (sym is) (files, faultless files (subst (λ l. Lists l files) none lists), stops)
+-- loading ends where the walk does
+pub loads_walk : (first : List File) (trail : Trail) (result : Result (List File) TreeFault) → first ≡ [] → WalksTo first trail result → LoadsTo trail result
+loads_walk first trail (Ok files) none lists = faultless files (subst (λ l. Lists l files) none lists)
+loads_walk first trail (Err fault) none (files, lists, stops) = (files, faultless files (subst (λ l. Lists l files) none lists), stops)
 
--- loading fails at some path
-pub loads_some : (path : List ℕ) (fault : TreeFault) → LoadsTo path (Err fault) → Loads (Err fault)
-loads_some path fault loads = (path, loads)
+-- loading fails on some trail
+pub loads_some : (trail : Trail) (fault : TreeFault) → LoadsTo trail (Err fault) → Loads (Err fault)
+loads_some trail fault loads = (trail, loads)
 
 -- the known bytes that a reader with a limit returns
 pub taken : {R : Type 0} (remaining : R → Option (List ℕ)) (reader : R) (most : ℕ) (limited : Take R) (bytes : List ℕ) → take_limit limited ≡ most → take_inner limited ≡ reader

@@ -1,11 +1,11 @@
 -- A list of files, each a path and its bytes, as a tree of folders.
-use Rattle.std.specs.Prelude.{◌≡◌, ℕ, Bool, true, false, ◌||◌, ◌&&◌, nat_eq, ◌==◌, List, [], ◌∷◌, ◌++◌, length, take, fold, find, Option, None, Some, is_some, sum_by, if◌then◌else◌}
+use Rattle.std.specs.Prelude.{◌≡◌, ℕ, Bool, true, false, ◌||◌, ◌&&◌, not, nat_eq, ◌==◌, List, [], ◌∷◌, ◌++◌, length, take, filter, fold, find, Option, None, Some, is_some, sum_by, if◌then◌else◌}
 use Rattle.std.specs.List.{list_any, filter_map, flat_map}
 use Rattle.std.specs.List.Sorted.{IsStrictlySortedBy}
 use Rattle.std.specs.Ordering.{nat_cmp}
 use Rattle.std.specs.Cmp.Lexicographic.{pointwise, slice_cmp}
 use Rattle.std.specs.BTreeMap.{insert_entry}
-use Rattle.gopher_tree.specs.Path.{names_of, is_menu_name, is_slash, rest_after, rest_below, is_below, folders_of}
+use Rattle.gopher_tree.specs.Path.{names_of, is_menu_name, is_menu_path, is_slash, rest_after, rest_below, is_below, folders_of}
 use Rattle.gopher_tree.specs.Kind.{kind_of}
 
 -- a file: its path and its bytes
@@ -21,6 +21,10 @@ is_file files path = list_any (has_path path) files
 -- the file with a path, if there is one
 abbrev pub file_at : List File → List ℕ → Option File
 file_at files path = find (has_path path) files
+
+-- the menu files, in the order of the files
+abbrev pub menu_files : List File → List File
+menu_files files = filter (λ file. is_menu_path file.0) files
 
 -- a folder: the root, or a path that some file's path leads through
 abbrev pub is_folder : List File → List ℕ → Bool
@@ -69,6 +73,10 @@ paths_of path = [] ∷ folders_of path ++ path ∷ []
 -- the distinct paths of the root, the folders and the files
 abbrev pub nodes : List File → List (List ℕ)
 nodes files = fold add_path ([] ∷ []) (flat_map (λ file. paths_of file.0) files)
+
+-- the path is none of the nodes
+abbrev pub is_missing : List File → List ℕ → Bool
+is_missing files path = not (is_path_among (nodes files) path)
 
 -- a path has a slash at this position, and a node before it
 abbrev pub is_node_before : List File → List ℕ → ℕ → Bool

@@ -1,5 +1,6 @@
 -- Looking up a path in a tree.
 use Rattle.std.specs.Prelude.{◌≡◌, ℕ, true, false, List, Option, None, Some}
+use Rattle.std.specs.Borrow.{Bor}
 use Rattle.std.specs.declared.vec.Vec.{Vec}
 use Rattle.gopher_tree.specs.Files.{File, file_at, is_folder, children}
 use Rattle.gopher_tree.specs.Reply.{Named, NamedFile, NamedFolder}
@@ -11,6 +12,10 @@ use Rattle.gopher_tree.specs.declared.tree.Node.TheVariants as node
 -- a file of a list of vectors
 abbrev pub file_data : {A B : Type 0} → Vec ℕ A × Vec ℕ B → File
 file_data file = (file.0.items, file.1.items)
+
+-- a file whose path and bytes are lent
+abbrev pub lent_file : Bor (List ℕ) × Bor (List ℕ) → File
+lent_file file = (file.0.now, file.1.now)
 
 -- the file with the path, the folder at the path, or neither
 abbrev pub FindsPath : List File → List ℕ → Option Found → Type 0

@@ -1,14 +1,14 @@
 -- A walk through a folder: the files that it lists, and why it stops.
-use Rattle.std.specs.Prelude.{◌≡◌, ℕ, ◌+◌, ◌<◌, ◌≤◌, Bool, true, false, not, ◌==◌, ◌||◌, nat_lt, List, [], ◌∷◌, ◌++◌, length, take, String, string_bytes, Option, None, Some, IfSome, Result, Ok, Err, IfOk, ◌⊎◌, if◌then◌else◌}
+use Rattle.std.specs.Prelude.{◌≡◌, ℕ, ◌+◌, ◌<◌, ◌≤◌, Bool, true, false, not, ◌==◌, ◌||◌, nat_le, nat_lt, List, [], ◌∷◌, ◌++◌, length, map, take, String, string_bytes, Option, None, Some, IfSome, Result, Ok, Err, IfOk, ◌⊎◌, if◌then◌else◌}
 use Rattle.std.specs.List.{All}
 use Rattle.std.specs.Fs.{IsDir, IsFile, file_type}
 use Rattle.std.specs.declared.fs.attrs.Metadata.{Metadata}
 use Rattle.std.specs.declared.vec.Vec.{Vec}
 use Rattle.gopher_tree.specs.Path.{is_menu_name}
-use Rattle.gopher_tree.specs.Files.{File}
+use Rattle.gopher_tree.specs.Files.{File, total_bytes}
 use Rattle.gopher_tree.specs.Fault.{file_fault, fault_after, files_fault}
 use Rattle.gopher_tree.specs.declared.fault.TreeFault.{TreeFault}
-use Rattle.gopher_tree.specs.declared.fault.LoadRefused.{LoadRefused}
+use Rattle.gopher_tree.specs.declared.load.trail.Trail.{Trail}
 use Rattle.gopher_tree.specs.declared.fault.TreeFault.TheVariants.{LongSelector, TooBig, Unreadable, NoMemory}
 
 -- a listed name isn't empty and doesn't begin with a period, except `.menu`
@@ -32,12 +32,14 @@ IsOfFolder found = IsDir (file_type found)
 abbrev pub IsOfFile : Metadata → Type 0
 IsOfFile found = IsFile (file_type found)
 
--- the fault of a folder, after `number` files and `nodes` nodes: its selector is too long, or there
--- are too many nodes
-abbrev pub folder_fault : ℕ → ℕ → List ℕ → Option TreeFault
-folder_fault number nodes path =
-    if nat_lt 254 (length path) then Some (LongSelector number) else
-    (if nat_lt 4095 nodes then Some (TooBig number) else None)
+-- the number of hidden names after a name was seen; it stays at its last value
+abbrev pub CountsHidden : ℕ → ℕ → List ℕ → Type 0
+CountsHidden old new name =
+    new ≡ (if is_shown name then old else if nat_lt old 18446744073709551615 then old + 1 else old)
+
+-- after these numbers of files and folders below the root, one more is too many
+abbrev pub leaves_no_room : ℕ → ℕ → Bool
+leaves_no_room files folders = nat_le 4095 (files + folders)
 
 -- how many bytes of a file of this length are read: at most one more than a file may have
 abbrev pub most_read : ℕ → ℕ
@@ -52,61 +54,73 @@ ReadsMost most remaining result =
 abbrev pub IsUnreadable : ℕ → TreeFault → Type 0
 IsUnreadable number fault = (fault ≡ Unreadable number) ⊎ (fault ≡ NoMemory)
 
--- a file fails after these files and nodes: with its own fault, because there are too many nodes,
--- or because it is out of memory
-abbrev pub Refuses : List File → ℕ → File → TreeFault → Type 0
-Refuses files nodes file fault =
+-- the size is at least the number of bytes that were read, if any were
+abbrev pub HasSize : {A : Type 0} → ℕ → Option (Vec ℕ A) → Type 0
+HasSize size read = IfSome read (λ bytes. length bytes.items ≤ size)
+
+-- there are as many files and folders as a tree may have
+abbrev pub LeavesNoRoom : ℕ → Trail → Type 0
+LeavesNoRoom number trail = leaves_no_room number (length trail.folders.items) ≡ true
+
+abbrev pub HasRoom : ℕ → Trail → Type 0
+HasRoom number trail = leaves_no_room number (length trail.folders.items) ≡ false
+
+-- a file fails after these files: with its own fault, because there are too many nodes, or because
+-- it is out of memory
+abbrev pub Refuses : List File → Trail → File → TreeFault → Type 0
+Refuses files trail file fault =
     (file_fault files file ≡ Some fault)
-    ⊎ (((4096 ≤ nodes) × (fault ≡ TooBig (length files)))
+    ⊎ ((LeavesNoRoom (length files) trail × (fault ≡ TooBig (length files)))
     ⊎ ((file_fault files file ≡ None) × (fault ≡ NoMemory)))
 
 -- a walk that had listed `before` lists a file without a fault
 abbrev pub ListsFile : List File → File → List File → Type 0
 ListsFile before file after = (file_fault before file ≡ None) × (after ≡ before ++ file ∷ [])
 
--- a folder fails after these files and nodes, with its own fault
-abbrev pub RefusesFolder : List File → ℕ → List ℕ → TreeFault → Type 0
-RefusesFolder files nodes path fault = folder_fault (length files) nodes path ≡ Some fault
+-- the folder at the end of a trail was visited after `number` files, and it has no fault
+pub record EntersFolder (number : ℕ) (old new : Trail) : Type 0 where
+  pub short : length old.path.items ≤ 254
+  pub room : HasRoom number old
+  pub added :
+      map (λ path. path.items) new.folders.items
+      ≡ map (λ path. path.items) old.folders.items ++ old.path.items ∷ []
 
--- a walk stops at a path after these files and nodes: the file there has the fault, the folder
--- there has too long a selector, there are too many nodes, something can't be read, or it is out of
--- memory
-abbrev pub StopsAt : List File → ℕ → List ℕ → TreeFault → Type 0
-StopsAt files nodes path fault =
-    ((bytes : List ℕ) × (file_fault files (path, bytes) ≡ Some fault))
-    ⊎ (((254 < length path) × (fault ≡ LongSelector (length files)))
-    ⊎ (((4096 ≤ nodes) × (fault ≡ TooBig (length files))) ⊎ IsUnreadable (length files) fault))
+-- a walk stops at the folder at the end of its trail, after `number` files: its selector is too
+-- long, there are too many nodes, or the walk is out of memory
+abbrev pub StopsAtFolder : ℕ → Trail → TreeFault → Type 0
+StopsAtFolder number trail fault =
+    ((254 < length trail.path.items) × (fault ≡ LongSelector number))
+    ⊎ ((LeavesNoRoom number trail × (fault ≡ TooBig number)) ⊎ (fault ≡ NoMemory))
 
--- a walk that listed these files stops at a path; its nodes are the root, the visited folders and
--- these files
-abbrev pub LoadStops : List File → List ℕ → TreeFault → Type 0
-LoadStops files path fault = (folders : ℕ) × StopsAt files (1 + folders + length files) path fault
+-- a walk stops at the end of its trail after these files: the file there has the fault, the folder
+-- there has it, or something can't be read
+abbrev pub StopsAt : List File → Trail → TreeFault → Type 0
+StopsAt files trail fault =
+    ((bytes : List ℕ) × (length bytes ≤ trail.size) × (trail.bytes ≡ total_bytes files)
+    × (file_fault files (trail.path.items, bytes) ≡ Some fault))
+    ⊎ (StopsAtFolder (length files) trail fault ⊎ IsUnreadable (length files) fault)
 
 -- a walk that had listed `before` lists these files, and the new ones have no fault
 abbrev pub Lists : List File → List File → Type 0
 Lists before files =
     (added : List File) × (files ≡ before ++ added) × (fault_after before added ≡ None)
 
--- a walk that had listed `before` ends, or stops at a path after the files that it has listed
-abbrev pub WalksTo : {T : Type 0} → (T → List File) → List File → List ℕ → Result T TreeFault
-    → Type 0
-WalksTo listed before path (Ok walk) = Lists before (listed walk)
-WalksTo listed before path (Err fault) =
-    (files : List File) × Lists before files × LoadStops files path fault
+-- a walk that had listed `before` ends, or stops at the end of its trail after the files that it
+-- has listed
+abbrev pub WalksTo : List File → Trail → Result (List File) TreeFault → Type 0
+WalksTo before trail (Ok files) = Lists before files
+WalksTo before trail (Err fault) =
+    (files : List File) × Lists before files × StopsAt files trail fault
 
 -- loading a folder returns the tree of the files that the walk lists, or fails with the fault at
--- which the walk stops, at this path
-abbrev pub LoadsTo : List ℕ → Result (List File) TreeFault → Type 0
-LoadsTo path (Ok files) = files_fault files ≡ None
-LoadsTo path (Err fault) =
-    (files : List File) × (files_fault files ≡ None) × LoadStops files path fault
-
-abbrev pub LoadsAt : Result (List File) LoadRefused → Type 0
-LoadsAt (Ok files) = files_fault files ≡ None
-LoadsAt (Err refused) = LoadsTo refused.path.items (Err refused.fault)
+-- which the walk stops, at the end of its trail
+abbrev pub LoadsTo : Trail → Result (List File) TreeFault → Type 0
+LoadsTo trail (Ok files) = files_fault files ≡ None
+LoadsTo trail (Err fault) =
+    (files : List File) × (files_fault files ≡ None) × StopsAt files trail fault
 
 -- loading a folder returns the tree of the files that the walk lists, or fails with the fault at
--- which the walk stops, at some path
+-- which the walk stops, on some trail
 abbrev pub Loads : Result (List File) TreeFault → Type 0
 Loads (Ok files) = files_fault files ≡ None
-Loads (Err fault) = (path : List ℕ) × LoadsTo path (Err fault)
+Loads (Err fault) = (trail : Trail) × LoadsTo trail (Err fault)

@@ -1,4 +1,4 @@
-//! `TreeFault`, `LoadRefused`: why files don't make a tree, with the number of each fault.
+//! `TreeFault`: why files don't make a tree, with the number of each fault.
 
 ghost use Rattle.std.specs.Prelude.{◌≡◌};
 ghost use Rattle.gopher_tree.specs.Fault.{tree_fault_code};
@@ -37,16 +37,6 @@ pub enum TreeFault {
     /// 90: out of memory.
     #[error("out of memory")]
     NoMemory,
-}
-
-/// Why a folder of the file system doesn't make a tree, and the path of the fault.
-#[derive(Debug, Drop)]
-pub struct LoadRefused {
-    /// Why the call failed.
-    pub fault: TreeFault,
-    /// The path of the file or folder with the fault, from the root and without a leading slash;
-    /// empty for the root itself.
-    pub path: Vec<u8>,
 }
 
 impl TreeFault {

@@ -18,6 +18,9 @@ mod menu_file;
 mod reply;
 mod tree;
 
-pub use fault::{LoadRefused, TreeFault};
+pub use fault::TreeFault;
+pub use load::trail::Trail;
+pub use menu_file::{WrittenLine, written_line};
 pub use reply::{error_reply, not_found};
-pub use tree::{MAX_NODES, Node, Tree};
+pub use tree::file_faults::MAX_FILE;
+pub use tree::{MAX_BYTES, MAX_NODES, Node, Tree};

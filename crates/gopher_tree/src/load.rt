@@ -1,83 +1,42 @@
 //! Loading a tree from a folder of the file system (`Tree::load`): the walk, depth first.
 
-ghost use Rattle.std.specs.Prelude.{◌≡◌, ◌<◌, ◌≤◌, ◌+◌, [], length, None, IfOk, IfErr, OnOk, MatchResult};
-ghost use Rattle.gopher_tree.specs.Load.{folder_fault, Refuses, ListsFile, RefusesFolder, WalksTo, Loads, LoadsTo, LoadsAt};
+ghost use Rattle.std.specs.Prelude.{◌≡◌, ◌<◌, ◌≤◌, length, IfOk, IfErr, OnOk};
+ghost use Rattle.gopher_tree.specs.Files.{total_bytes};
+ghost use Rattle.gopher_tree.specs.Load.{Refuses, ListsFile, HasRoom, WalksTo, Loads, LoadsTo};
 
 pub(crate) mod folder;
+pub(crate) mod trail;
 
-use crate::fault::{LoadRefused, TreeFault};
+use crate::fault::TreeFault;
 use crate::load::folder::{Target, names_in, read_file, target_of, without_links};
-use crate::tree::path::{MAX_PATH, path_fault, path_in};
-use crate::tree::{MAX_NODES, Tree};
-use gopher_item::NoMemory;
+use crate::load::trail::Trail;
+use crate::tree::Tree;
+use crate::tree::path::{path_fault, path_in};
 use std::alloc::Global;
 use std::fs::Files;
-use std::path::{Path, PathBuf};
+use std::path::Path;
 
-// A walk through a folder: the tree of the files listed so far, and the number of nodes visited:
-// the root, all folders, even without files, and these files.
-#[derive(Drop)]
-struct Walk {
-    tree: Tree,
-    nodes: usize,
-    ghost counted: { length tree < nodes },
-}
-
-// Records the path at which the walk is.
-fn note_path(at: &mut Vec<u8>, path: &[u8]) -> Result<(), NoMemory>
-    ensures { OnOk result (at.new.items ≡ path.now) }
-{
-    at.clear();
-    at.extend_from_slice(path)?;
-    Ok(())
-}
-
-impl Walk {
-    fn new(alloc: Global) -> Result<Walk, TreeFault>
-        ensures { MatchResult result (λ walk. walk.tree ≡ []) (λ why. why ≡ TreeFault.NoMemory) }
-    {
-        let Ok(tree) = Tree::empty(alloc) else {
-            return Err(TreeFault::NoMemory);
-        };
-        Ok(Walk { tree, nodes: 1 })
-    }
-
+impl Tree {
     // Lists a file, or fails with its first fault. Empty folders count among the nodes.
-    fn with_file(self, alloc: Global, path: Vec<u8>, bytes: Vec<u8>) -> Result<Walk, TreeFault>
-        ensures listed { IfOk result (λ w. ListsFile self.tree (path.items, bytes.items) w.tree) }
-        ensures counted { IfOk result (λ w. (self.nodes < 4096) × (w.nodes ≡ self.nodes + 1)) }
-        ensures refused { IfErr result (Refuses self.tree self.nodes (path.items, bytes.items)) }
+    fn with_listed(
+        self,
+        alloc: Global,
+        path: Vec<u8>,
+        bytes: Vec<u8>,
+        trail: &Trail,
+    ) -> Result<Tree, TreeFault>
+        ensures listed { IfOk result (λ tree. ListsFile self (path.items, bytes.items) tree) }
+        ensures room { OnOk result (HasRoom (length self) trail.now) }
+        ensures refused { IfErr result (Refuses self trail.now (path.items, bytes.items)) }
     {
-        let number = self.tree.number_of_files();
+        let number = self.number_of_files();
         if let Some(fault) = path_fault(number, &path) {
             return Err(fault);
         }
-        if self.nodes >= MAX_NODES {
+        if trail.leaves_no_room(number) {
             return Err(TreeFault::TooBig { file: number });
         }
-        let nodes = self.nodes + 1;
-        let tree = self.tree.with_file(alloc, path, bytes)?;
-        Ok(Walk { tree, nodes })
-    }
-
-    // Visits a folder, or fails with its first fault.
-    fn with_folder(self, path: &[u8]) -> Result<Walk, TreeFault>
-        ensures visited { IfOk result (λ w. (w.tree ≡ self.tree) × (w.nodes ≡ self.nodes + 1)) }
-        ensures good { OnOk result (folder_fault (length self.tree) self.nodes path.now ≡ None) }
-        ensures short { IfOk result (λ walk. length path.now ≤ 254) }
-        ensures refused { IfErr result (RefusesFolder self.tree self.nodes path.now) }
-    {
-        let number = self.tree.number_of_files();
-        if path.len() > MAX_PATH {
-            return Err(TreeFault::LongSelector { file: number });
-        }
-        if self.nodes >= MAX_NODES {
-            return Err(TreeFault::TooBig { file: number });
-        }
-        Ok(Walk {
-            tree: self.tree,
-            nodes: self.nodes + 1,
-        })
+        self.with_file(alloc, path, bytes)
     }
 
     // Reads a file and lists it, unless it has vanished.
@@ -87,17 +46,19 @@ impl Walk {
         alloc: Global,
         file: Path<'_>,
         path: Vec<u8>,
-    ) -> Result<Walk, TreeFault>
-        ensures { WalksTo (λ walk. walk.tree) self.tree path.items result }
+        trail: &mut Trail,
+    ) -> Result<Tree, TreeFault>
+        requires path { trail.old.path.items ≡ path.items }
+        requires bytes { trail.old.bytes ≡ total_bytes self }
+        ensures { WalksTo self trail.new result }
     {
-        match read_file(rt, alloc, file, self.tree.number_of_files())? {
-            Some(bytes) => self.with_file(alloc, path, bytes),
+        match read_file(rt, alloc, file, self.number_of_files(), &mut trail.size)? {
+            Some(bytes) => self.with_listed(alloc, path, bytes, trail),
             None => Ok(self),
         }
     }
 
-    // Lists everything in a folder and the folders below, name by name. If it fails below the
-    // folder, `at` is the path of the failure.
+    // Lists everything in a folder and the folders below, name by name.
     #[cycle(walk)]
     fn through_folder<R: Files>(
         self,
@@ -105,21 +66,22 @@ impl Walk {
         alloc: Global,
         folder: Path<'_>,
         path: &[u8],
-        at: &mut Vec<u8>,
-    ) -> Result<Walk, TreeFault>
+        trail: &mut Trail,
+    ) -> Result<Tree, TreeFault>
         requires { length path.now ≤ 254 }
-        ensures { WalksTo (λ walk. walk.tree) self.tree at.new.items result }
+        ensures { WalksTo self trail.new result }
     {
-        let number = self.tree.number_of_files();
-        let names = names_in(rt, alloc, folder, path.is_empty(), number)?;
-        let mut walk = self;
+        let number = self.number_of_files();
+        let is_root = path.is_empty();
+        let names = names_in(rt, alloc, folder, is_root, number, &mut trail.hidden)?;
+        let mut tree = self;
         for name in names {
-            walk = walk.through_name(rt, alloc, folder, path, name.as_str(), at)?;
+            tree = tree.through_name(rt, alloc, folder, path, name.as_str(), trail)?;
         }
-        Ok(walk)
+        Ok(tree)
     }
 
-    // Lists the file or folder to which a name leads. If it fails, `at` is the path of the failure.
+    // Lists the file or folder to which a name leads.
     #[cycle(walk)]
     fn through_name<R: Files>(
         self,
@@ -128,11 +90,11 @@ impl Walk {
         folder: Path<'_>,
         path: &[u8],
         name: &str,
-        at: &mut Vec<u8>,
-    ) -> Result<Walk, TreeFault>
+        trail: &mut Trail,
+    ) -> Result<Tree, TreeFault>
         requires short { length path.now ≤ 254 }
         requires named { 0 < length name.now }
-        ensures { WalksTo (λ walk. walk.tree) self.tree at.new.items result }
+        ensures { WalksTo self trail.new result }
     {
         let Ok(location) = folder.join(alloc, name) else {
             return Err(TreeFault::NoMemory);
@@ -140,22 +102,24 @@ impl Walk {
         let Ok(path) = path_in(alloc, path, name.as_bytes()) else {
             return Err(TreeFault::NoMemory);
         };
-        let Ok(()) = note_path(at, &path) else {
+        let Ok(()) = trail.reach(&path, self.number_of_bytes()) else {
             return Err(TreeFault::NoMemory);
         };
-        match target_of(rt, location.as_path(), self.tree.number_of_files())? {
-            Target::File => self.through_file(rt, alloc, location.as_path(), path),
+        let number = self.number_of_files();
+        match target_of(rt, location.as_path(), number)? {
+            Target::File => self.through_file(rt, alloc, location.as_path(), path, trail),
             Target::Folder => {
-                let walk = self.with_folder(&path)?;
+                trail.enter(alloc, number)?;
                 let location = without_links(rt, alloc, location)?;
-                walk.through_folder(rt, alloc, location.as_path(), &path, at)
+                self.through_folder(rt, alloc, location.as_path(), &path, trail)
             }
-            Target::Neither => Ok(self),
+            Target::Neither => {
+                trail.nowhere = trail.nowhere.saturating_add(1);
+                Ok(self)
+            }
         }
     }
-}
 
-impl Tree {
     /// Makes the tree of the folder `root` of the file system and the folders below. A relative
     /// path starts at the working directory.
     ///
@@ -182,38 +146,36 @@ impl Tree {
     pub fn load<R: Files>(rt: &R, alloc: Global, root: &str) -> Result<Tree, TreeFault>
         ensures { Loads result }
     {
-        match Tree::load_at(rt, alloc, root) {
+        let mut trail = Trail::new(alloc);
+        match Tree::load_along(rt, alloc, root, &mut trail) {
             Ok(tree) => Ok(tree),
-            Err(refused) => Err(refused.fault),
+            Err(fault) => Err(fault),
         }
     }
 
-    /// Makes the tree of a folder as `load` does. The error also contains the path of the fault,
-    /// from the root.
+    /// Makes the tree of a folder as `load` does, and tells what the walk met on a new trail.
     ///
-    /// It is the path of the file or folder with the fault, of the one that can't be read, or of
-    /// the folder with a name that isn't UTF-8. The root's own path is empty. When out of memory,
-    /// the path has no meaning.
+    /// If the call fails, the trail ends at the file or folder with the fault, at the one that
+    /// can't be read, or at the folder with a name that isn't UTF-8. `TooBig` (23) comes only if
+    /// the size of that file is over a limit, alone or with `trail.bytes`, or if the root,
+    /// `trail.folders` and the files listed before are as many as a tree may have. When out of
+    /// memory, the end has no meaning.
     ///
     /// # Errors
     ///
     /// Those of `load`.
-    pub fn load_at<R: Files>(rt: &R, alloc: Global, root: &str) -> Result<Tree, LoadRefused>
-        ensures { LoadsAt result }
+    #[tactic(auto, using(crate::proofs::LoadLemmas::loads_memory))]
+    pub fn load_along<R: Files>(
+        rt: &R,
+        alloc: Global,
+        root: &str,
+        trail: &mut Trail,
+    ) -> Result<Tree, TreeFault>
+        ensures { LoadsTo trail.new result }
     {
-        let mut path = Vec::new(alloc);
-        match load_to(rt, alloc, root, &mut path) {
-            Ok(tree) => Ok(tree),
-            Err(fault) => Err(LoadRefused { fault, path }),
-        }
+        let Ok(tree) = Tree::empty(alloc) else {
+            return Err(TreeFault::NoMemory);
+        };
+        tree.through_folder(rt, alloc, Path::new(root), b"", trail)
     }
-}
-
-// The tree of a folder. If it fails, `at` is the path of the failure.
-fn load_to<R: Files>(rt: &R, alloc: Global, root: &str, at: &mut Vec<u8>) -> Result<Tree, TreeFault>
-    ensures { LoadsTo at.new.items result }
-{
-    let walk = Walk::new(alloc)?;
-    let walk = walk.through_folder(rt, alloc, Path::new(root), b"", at)?;
-    Ok(walk.tree)
 }

@@ -13,13 +13,17 @@ use gopher_item::{
 
 const TAB: u8 = b'\t';
 
-// A line of a menu file. A line without a server is of the server that sends the file.
+/// A line of a menu file.
 #[derive(Clone, Copy)]
-struct WrittenLine<'a> {
-    kind: u8,
-    display: &'a [u8],
-    selector: &'a [u8],
-    server: Option<(&'a [u8], u16)>,
+pub struct WrittenLine<'a> {
+    /// The type of the item (RFC 1436, section 3.8); `i` for a text alone.
+    pub kind: u8,
+    /// The display string.
+    pub display: &'a [u8],
+    /// The selector.
+    pub selector: &'a [u8],
+    /// The host and the port; `None` for the server that sends the file.
+    pub server: Option<(&'a [u8], u16)>,
 }
 
 #[tactic(auto, using(crate::proofs::ItemLemmas::item_is))]
@@ -80,7 +84,8 @@ fn line_of_fields<'a>(first: &'a [u8], rest: &'a [u8]) -> Option<WrittenLine<'a>
     written_item(*kind, display, selector, Some(server))
 }
 
-fn written_line(line: &[u8]) -> Option<WrittenLine<'_>>
+/// Reads a line of a menu file, without its end; `None` if it has none of the valid forms.
+pub fn written_line(line: &[u8]) -> Option<WrittenLine<'_>>
     ensures { IsWrittenLine (written_line line.now) result }
 {
     match split_once(TAB, line) {

@@ -2,10 +2,10 @@
 
 ghost use Rattle.std.specs.Prelude.{◌≡◌, ◌≤◌, ◌<◌, ◌++◌, ◌∷◌, ◌||◌, [], None, length, take, map, count_by, IfOk, IsTrue};
 ghost use Rattle.gopher_tree.specs.Path.{is_menu_path};
-ghost use Rattle.gopher_tree.specs.Files.{is_file, is_folder, leads_through_file, AboveAreFolders, nodes, is_node_before, is_file_or_folder_before, is_path_among, AreNodes, total_bytes};
+ghost use Rattle.gopher_tree.specs.Files.{is_file, is_folder, is_missing, menu_files, leads_through_file, AboveAreFolders, nodes, is_node_before, is_file_or_folder_before, is_path_among, AreNodes, total_bytes};
 ghost use Rattle.gopher_tree.specs.Fault.{is_too_big, is_twice, path_fault, file_fault, AddsFileTo, MakesTree};
 ghost use Rattle.gopher_tree.specs.Tree.{AddsNodes, AddsFolders};
-ghost use Rattle.gopher_tree.specs.Found.{FindsPath, file_data};
+ghost use Rattle.gopher_tree.specs.Found.{FindsPath, file_data, lent_file};
 
 pub(crate) mod child_line;
 pub(crate) mod children;
@@ -27,7 +27,8 @@ use std::alloc::Global;
 use std::collections::BTreeMap;
 use std::marker::Model;
 
-const MAX_BYTES: usize = 67_108_864;
+/// The most bytes of all files of a tree.
+pub const MAX_BYTES: usize = 67_108_864;
 
 /// The most nodes of a tree: the root, the folders and the files.
 pub const MAX_NODES: usize = 4_096;
@@ -100,6 +101,26 @@ impl Tree {
             .iter()
             .filter(|file| is_menu_path(file.path()))
             .count()
+    }
+
+    /// Returns the path and the bytes of each menu file, in the order of the files.
+    pub fn menu_files(&self, alloc: Global) -> Result<Vec<(&[u8], &[u8])>, NoMemory>
+        ensures { IfOk result (λ menus. map lent_file menus.items ≡ menu_files self.now) }
+    {
+        let mut menus = Vec::new(alloc);
+        for file in &self.files {
+            if is_menu_path(file.path()) {
+                menus.push((file.path(), file.bytes()))?;
+            }
+        }
+        Ok(menus)
+    }
+
+    /// Returns how many of these paths are neither files nor folders of the tree.
+    pub fn number_of_missing(&self, paths: &[Vec<u8>]) -> usize
+        ensures { result ≡ count_by (λ path. is_missing self.now path.items) paths.now }
+    {
+        paths.iter().filter(|path| !self.has_node(path)).count()
     }
 
     /// Returns the number of bytes of all files, at most 67,108,864.

@@ -5,7 +5,7 @@ use crate::answers::{BAD_REQUEST, HELLO, ROOT};
 use crate::stream::{Ending, Stream};
 use gopher_item::NoMemory;
 use gopher_replies::{Answer, Reply};
-use gopher_serve::{Answers, Conversation, Progress, ServeFault, converse, serve_with};
+use gopher_serve::{Answers, Conversation, Progress, ServeFault, converse};
 use gopher_text::Watched;
 use std::alloc::Global;
 
@@ -49,15 +49,7 @@ fn conversed(alloc: Global, reader: Stream, writer: Stream) -> (Progress, usize)
     (turn, writer.into_inner().left.len())
 }
 
-// How `serve_with` ends over these streams, and how much it leaves unsent.
-fn served(alloc: Global, reader: Stream, writer: Stream) -> (Option<ServeFault>, usize) {
-    let mut reader = Watched::new(reader);
-    let mut writer = Watched::new(writer);
-    let end = serve_with(alloc, &mut Fixed, &mut reader, &mut writer);
-    (end.err(), writer.into_inner().left.len())
-}
-
-// Whether both end so, with so much unsent.
+// Whether a conversation ends so, with so much unsent.
 fn end_so(
     alloc: Global,
     reader: Stream,
@@ -70,7 +62,6 @@ fn end_so(
         Some(fault) => Progress::Failed(fault),
     };
     conversed(alloc, reader, writer) == (turn, left)
-        && served(alloc, reader, writer) == (wanted, left)
 }
 
 // Whether these bytes, in pieces of each size, get this reply or, if it is empty, fail as too long.
@@ -131,8 +122,8 @@ fn a_write_that_fails_ends_a_conversation_at_each_place(rt: HostRuntime) {
     }
 }
 
-// Whether a reader that fails after these bytes ends both, and one that would wait lets a
-// conversation wait.
+// Whether a reader that fails after these bytes ends a conversation, and one that would wait lets
+// it wait.
 fn stops_reading(alloc: Global, bytes: &[u8]) -> bool {
     let broken = Stream::giving(bytes, 9, Ending::Fails);
     let waiting = Stream::giving(bytes, 9, Ending::Waits);
@@ -141,7 +132,6 @@ fn stops_reading(alloc: Global, bytes: &[u8]) -> bool {
     let fault = Some(ServeFault::ReadFailed);
     end_so(alloc, broken, writer, fault, left)
         && conversed(alloc, waiting, writer) == (Progress::Waits, left)
-        && served(alloc, waiting, writer) == (fault, left)
 }
 
 #[test]

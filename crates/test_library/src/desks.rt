@@ -99,6 +99,19 @@ fn call_by_two<C: Crew, R: Wait + Abort + AllocGlobal>(
     find_both(rt, desk, other);
     let answer = answered(rt, pass, b"moon");
     assert!(rt; answer.at == 7 && are_files(&answer.hits, b"ab"));
+    see_one_record(rt, desk, pass, share, other);
+}
+
+// A share saw less than another one and a pass, until the desk shows it its status.
+fn see_one_record<C: Crew, R: Wait + Abort>(
+    rt: &R,
+    desk: &Desk<C, &R>,
+    pass: &Pass<C>,
+    share: &mut Share<C>,
+    other: &Share<C>,
+) {
+    assert!(rt; share.begins(other) && !other.begins(share) && !pass.begins_share(share));
+    assert!(rt; desk.status_for(rt, share) == all_done(3) && pass.begins_share(share));
 }
 
 // Whether a refusal of this number gives back a page that is as this one.

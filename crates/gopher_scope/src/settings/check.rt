@@ -10,8 +10,9 @@ use super::key::Key;
 use crate::fault::SettingsFault;
 use toml::Table;
 
+/// Returns the first fault of a key's value, or of a missing value (31, 32, 33).
 #[tactic(auto, unfolding(crate::specs::Settings::key_fault))]
-fn key_fault(table: &Table, key: Key) -> Option<SettingsFault>
+pub fn key_fault(table: &Table, key: Key) -> Option<SettingsFault>
     ensures { result ≡ key_fault (table_view table.now) key }
 {
     match key.form().problem(table, key.name()) {
@@ -31,9 +32,9 @@ fn first_fault(table: &Table, keys: &[Key]) -> Option<SettingsFault>
     None
 }
 
-/// Returns whether the settings have a key of this name.
+// Whether the settings have a key of this name.
 #[tactic(auto, unfolding(crate::specs::Settings::is_key_name))]
-pub fn is_key_name(name: &str) -> bool
+pub(crate) fn is_key_name(name: &str) -> bool
     ensures { result ≡ is_key_name name.now }
 {
     Key::ALL.iter().any(|key| key.name() == name)
@@ -50,9 +51,9 @@ fn has_unknown_key(table: &Table) -> bool
     false
 }
 
-/// Returns whether the value of this key is an array with a table that has an unknown key.
+// Whether the value of this key is an array with a table that has an unknown key.
 #[tactic(auto, unfolding(crate::specs::Settings::key_has_unknown))]
-pub fn key_has_unknown(table: &Table, key: Key) -> bool
+fn key_has_unknown(table: &Table, key: Key) -> bool
     ensures { result ≡ key_has_unknown (table_view table.now) key }
 {
     key.form().has_unknown(table, key.name())

@@ -111,7 +111,7 @@ fn tables(name: &'static str, element: Element) -> Row
 
 impl Key {
     /// All keys, in the order in which they are checked.
-    pub(crate) const ALL: [Key; 10] = [
+    pub const ALL: [Key; 10] = [
         Key::Host,
         Key::Port,
         Key::Root,

@@ -135,8 +135,9 @@ impl Element {
         }
     }
 
+    /// Returns whether such a table may have a key of this name.
     #[tactic(auto, unfolding(crate::specs::Reading::is_field_name))]
-    fn is_field_name(self, name: &str) -> bool
+    pub(crate) fn is_field_name(self, name: &str) -> bool
         ensures { result ≡ is_field_name self name.now }
     {
         self.fields().iter().any(|field| field.name() == name)

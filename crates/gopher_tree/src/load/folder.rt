@@ -8,7 +8,7 @@ ghost use Rattle.std.specs.List.Sorted.{IsSorted};
 ghost use Rattle.std.specs.Fs.{metadata_len};
 ghost use Rattle.std.specs.IoError.{error_kind};
 ghost use Rattle.std.specs.declared.io.ErrorKind.TheVariants.{OutOfMemory};
-ghost use Rattle.gopher_tree.specs.Load.{is_shown, with_shown, AreShown, IsOfFolder, IsOfFile, IsUnreadable, most_read, ReadsMost};
+ghost use Rattle.gopher_tree.specs.Load.{is_shown, with_shown, AreShown, CountsHidden, HasSize, IsOfFolder, IsOfFile, IsUnreadable, most_read, ReadsMost};
 
 use crate::fault::TreeFault;
 use crate::tree::file_faults::MAX_FILE;
@@ -53,40 +53,54 @@ fn is_shown(name: &[u8]) -> bool
     }
 }
 
-// Appends the name if it is listed.
-fn push_shown(alloc: Global, name: &str, names: &mut Vec<String>) -> Result<(), AllocError>
+// Appends the name if it is listed, and else counts it.
+fn push_shown(
+    alloc: Global,
+    name: &str,
+    names: &mut Vec<String>,
+    hidden: &mut usize,
+) -> Result<(), AllocError>
     requires { AreShown names.old.items }
     ensures shown { AreShown names.new.items }
     ensures kept { OnOk result (map (λ each. string_bytes each) names.new.items
         ≡ with_shown (map (λ each. string_bytes each) names.old.items) name.now) }
+    ensures counted { CountsHidden hidden.old hidden.new name.now }
 {
     if is_shown(name.as_bytes()) {
         names.push(String::from_str(alloc, name)?)?;
+    } else {
+        *hidden = hidden.saturating_add(1);
     }
     Ok(())
 }
 
-// Appends the listed names of a folder.
+// Appends the listed names of a folder, and counts the others.
 fn push_names<R: Files + AllocGlobal + Clone + Drop>(
     rt: &R,
     folder: Path<'_>,
     names: &mut Vec<String>,
+    hidden: &mut usize,
 ) -> io::Result<()>
     requires { AreShown names.old.items }
     ensures { AreShown names.new.items }
 {
     for entry in fs::read_dir(rt, folder)? {
-        push_shown(rt.alloc(), entry?.file_name(), names)?;
+        push_shown(rt.alloc(), entry?.file_name(), names, hidden)?;
     }
     Ok(())
 }
 
-// The listed names of a folder.
-fn shown_names<R: Files>(rt: &R, alloc: Global, folder: Path<'_>) -> io::Result<Vec<String>>
+// The listed names of a folder. Counts the others.
+fn shown_names<R: Files>(
+    rt: &R,
+    alloc: Global,
+    folder: Path<'_>,
+    hidden: &mut usize,
+) -> io::Result<Vec<String>>
     ensures { IfOk result (λ names. AreShown names.items) }
 {
     let mut names = Vec::new(alloc);
-    push_names(&(rt, alloc), folder, &mut names)?;
+    push_names(&(rt, alloc), folder, &mut names, hidden)?;
     Ok(names)
 }
 
@@ -102,11 +116,12 @@ fn names_there<R: Files>(
     folder: Path<'_>,
     is_root: bool,
     number: usize,
+    hidden: &mut usize,
 ) -> Result<Vec<String>, TreeFault>
     ensures shown { IfOk result (λ names. AreShown names.items) }
     ensures refused { IfErr result (IsUnreadable number) }
 {
-    match shown_names(rt, alloc, folder) {
+    match shown_names(rt, alloc, folder, hidden) {
         Ok(names) => Ok(names),
         Err(error) if !is_root && is_missing(error.kind()) => Ok(Vec::new(alloc)),
         Err(error) => Err(read_fault(error, number)),
@@ -114,19 +129,21 @@ fn names_there<R: Files>(
 }
 
 // The listed names of a folder in byte order. A name that isn't UTF-8 can't be read, hidden or not.
-// A folder that has vanished has none, except the root. `number` files were listed before.
+// A folder that has vanished has none, except the root. `number` files were listed before. Counts
+// the other names.
 pub(crate) fn names_in<R: Files>(
     rt: &R,
     alloc: Global,
     folder: Path<'_>,
     is_root: bool,
     number: usize,
+    hidden: &mut usize,
 ) -> Result<Vec<String>, TreeFault>
     ensures shown { IfOk result (λ names. AreShown names.items) }
     ensures order { IfOk result (λ names. IsSorted string_cmp names.items) }
     ensures refused { IfErr result (IsUnreadable number) }
 {
-    let mut names = names_there(rt, alloc, folder, is_root, number)?;
+    let mut names = names_there(rt, alloc, folder, is_root, number, hidden)?;
     let Ok(()) = names.sort() else {
         return Err(TreeFault::NoMemory);
     };
@@ -198,16 +215,19 @@ fn most_read(found: &fs::Metadata) -> Option<u64>
 }
 
 // The bytes of a file; `None` if it has vanished, or its path leads to no regular file by now.
+// `size` is then its length, or how many bytes were read, if these are more.
 pub(crate) fn read_file<R: Files>(
     rt: &R,
     alloc: Global,
     path: Path<'_>,
     number: usize,
+    size: &mut usize,
 ) -> Result<Option<Vec<u8>>, TreeFault>
-    ensures { IfErr result (IsUnreadable number) }
+    ensures sized { IfOk result (HasSize size.new) }
+    ensures refused { IfErr result (IsUnreadable number) }
 {
     match fs::open(rt, path) {
-        Ok(file) => read_open(alloc, file, number),
+        Ok(file) => read_open(alloc, file, number, size),
         Err(error) if is_missing(error.kind()) => Ok(None),
         Err(error) => Err(read_fault(error, number)),
     }
@@ -219,15 +239,21 @@ fn read_open<F: Read + OpenFile + Drop>(
     alloc: Global,
     file: F,
     number: usize,
+    size: &mut usize,
 ) -> Result<Option<Vec<u8>>, TreeFault>
-    ensures { IfErr result (IsUnreadable number) }
+    ensures sized { IfOk result (HasSize size.new) }
+    ensures refused { IfErr result (IsUnreadable number) }
 {
     let found = match file.metadata() {
         Ok(found) => found,
         Err(error) => return Err(read_fault(error, number)),
     };
     match most_read(&found) {
-        Some(most) => Ok(Some(read_most(alloc, file, most, number)?)),
+        Some(most) => {
+            let bytes = read_most(alloc, file, most, number)?;
+            *size = bytes.len().max(found.len() as usize);
+            Ok(Some(bytes))
+        }
         None => Ok(None),
     }
 }

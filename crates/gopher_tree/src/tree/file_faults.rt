@@ -8,8 +8,8 @@ use crate::fault::TreeFault;
 use crate::menu_file::bad_line;
 use crate::tree::path::{is_menu_path, path_fault};
 
-// The most bytes of a file.
-pub(crate) const MAX_FILE: usize = 16_777_216;
+/// The most bytes of a file.
+pub const MAX_FILE: usize = 16_777_216;
 
 // The fault of a file as a menu file, if it is one.
 pub(crate) fn menu_fault(number: usize, path: &[u8], bytes: &[u8]) -> Option<TreeFault>

@@ -3,6 +3,7 @@ use Rattle.std.specs.Arc.{arc_value}
 use Rattle.gopher_page.specs.Query.{TermData}
 use Rattle.gopher_index.specs.Best.{TakesIn}
 use Rattle.gopher_index.specs.Cells.{AreCells}
+use Rattle.gopher_index.specs.Plan.{is_match}
 use Rattle.gopher_index.specs.Ties.{AreTies}
 use Rattle.gopher_index.proofs.by_cells.rank_cells.Given as goal
 
@@ -12,7 +13,7 @@ invariant-loop-start l =
       within : l.start ≤ length l.scores;
       pages : map arc_value l.ties.pages.now ≡ l.segment.pages;
       ties : AreTies l.ties l.best;
-      taken : (terms : List TermData) → AreCells terms l.segment.pages l.truths l.scores → TakesIn terms (take l.start l.segment.pages) l.initial.best l.best;
+      taken : (terms : List TermData) → AreCells terms l.segment.pages (map is_match l.verdicts) l.scores → TakesIn terms (take l.start l.segment.pages) l.initial.best l.best;
     }
 
 abbrev pub decreases-loop-start : goal.decreases-loop-start

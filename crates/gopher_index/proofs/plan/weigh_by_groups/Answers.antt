@@ -27,7 +27,7 @@ loop-group-preserved c =
     (λ i. c.from.ensures i * (c.from-in-loop-group.ensures ∙ counted) i) in
     record {
       verdict =
-          c.higher-verdict.ensures ∙ (λ i. max (c.loop-group.invariant.verdict i) ((c.verdict.ensures ∙ ap (verdict_by here) counted) i))
+          c.higher-verdict.ensures ∙ (λ i. max (c.loop-group.invariant.verdict i) ((c.verdict_for.ensures ∙ ap (verdict_by here) counted) i))
           ∙ sym (next_verdict groups c.loop-group.group-index here c.loop-group-test.true c.group-item.is c.args.page.now.counts);
       total =
           (λ i. c.loop-group.invariant.total i + product i)

@@ -1,5 +1,5 @@
-use Rattle.std.proofs.Common.{◌≡◌, ◌∙◌, List, ℕ, length, map, ap, sym, subst, sum_by, arith}
-use Rattle.std.proofs.lemmas.List.Sorted.{length_permutation, sum_by-IsPermutation}
+use Rattle.std.proofs.Common.{◌≡◌, ◌∙◌, List, ℕ, length, map, ap, sym, subst, arith}
+use Rattle.std.proofs.lemmas.List.Sorted.{length_permutation}
 use Rattle.std.proofs.lemmas.Result.{IfOk-weaker}
 use Rattle.std.specs.List.{flat_map}
 use Rattle.std.specs.List.Sorted.{IsSorted}
@@ -8,7 +8,7 @@ use Rattle.gopher_page.specs.Words.{bare_words, words_of}
 use Rattle.gopher_page.specs.Counts.{counts_of}
 use Rattle.gopher_page.proofs.Lengths.{rises, counted_sorted}
 use Rattle.gopher_page.proofs.AddedWords.{compare}
-use Rattle.gopher_page.proofs.Lowered.{words_of_lines, lines_words_size, lines_words_count}
+use Rattle.gopher_page.proofs.Lowered.{words_of_lines, lines_words_count}
 use Rattle.gopher_page.proofs.tally.count_words.Goals as goal
 
 pub packed-requires : goal.packed-requires
@@ -18,15 +18,11 @@ packed-requires c =
     let sorted : List (List ℕ) = c.sort_unstable.new.self.items in
     let found : words ≡ flat_map words_of lines = c.in_ok-words.ensures ∙ ap bare_words (c.as_slice.ensures ∙ c.in_ok-lowered.ensures ∙ ap (map lower_case) (c.deref.ensures.value ∙ c.in_ok-text.ensures)) ∙ words_of_lines lines in
     let behind : c.deref-2.result.now ≡ sorted = c.deref-2.ensures.value in
-    let size : sum_by length c.deref-2.result.now ≡ sum_by length (flat_map words_of lines) =
-    ap (sum_by length) behind ∙ sum_by-IsPermutation (length {A = ℕ}) words sorted c.sort_unstable.ensures.permutation ∙ ap (sum_by length) found
-    in
     let count : length c.deref-2.result.now ≡ length (flat_map words_of lines) =
     ap length behind ∙ length_permutation words sorted c.sort_unstable.ensures.permutation ∙ ap length found
     in
     record {
       sorted = subst (IsSorted compare) (sym behind) c.sort_unstable.ensures.sorted;
-      short = omega (arith, size, lines_words_size lines, c.requires);
       few = omega (arith, count, lines_words_count lines, c.requires);
     }
 

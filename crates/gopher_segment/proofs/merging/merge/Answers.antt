@@ -5,8 +5,8 @@ use Rattle.std.specs.List.{flat_map, zip}
 use Rattle.std.specs.List.Sorted.{IsStrictlySortedBy}
 use Rattle.std.specs.Ordering.{nat_cmp}
 use Rattle.std.specs.Cmp.Lexicographic.{slice_cmp}
-use Rattle.gopher_segment.specs.Rows.{rows_count, postings_of, rows_left, taken, tables_count, AreInOrder, ComeBefore, HaveCountsOf, HavePostingsOf}
-use Rattle.gopher_segment.proofs.RowLemmas.{words_of_zip}
+use Rattle.gopher_segment.specs.Rows.{rows_count, postings_of, rows_left, taken, tables_count, AreRowsInOrder, ComeBefore, HaveCountsOf, HavePostingsOf}
+use Rattle.gopher_bytes.proofs.Zips.{firsts}
 use Rattle.gopher_segment.proofs.WordOrder.{sorted_push}
 use Rattle.gopher_segment.proofs.MergeLemmas.{IsFirst, AreFrom, nothing_left, lowest_first, fewer_left, pass_orders, before_first, pass_befores, counts_step}
 use Rattle.gopher_segment.proofs.WordPostings.{no_postings_left, runs_step}
@@ -63,8 +63,8 @@ pub returns-clause-order : goal.returns-clause-order
 returns-clause-order c =
     let P : List (List ℕ) → Type 0 = IsStrictlySortedBy (slice_cmp nat_cmp) in
     let made : List (List ℕ × List (ℕ × ℕ)) = zip c.loop-first.words c.loop-first.runs.whole in
-    let sorted : AreInOrder made = subst P (sym (words_of_zip c.loop-first.words c.loop-first.runs.whole c.loop-first.invariant.same)) c.loop-first.invariant.order in
-    IfOk-weaker c.packed.result (λ table. table ≡ made) AreInOrder (λ table is. subst AreInOrder (sym is) sorted) c.packed.ensures
+    let sorted : AreRowsInOrder made = subst P (sym (firsts c.loop-first.words c.loop-first.runs.whole c.loop-first.invariant.same)) c.loop-first.invariant.order in
+    IfOk-weaker c.packed.result (λ table. table ≡ made) AreRowsInOrder (λ table is. subst AreRowsInOrder (sym is) sorted) c.packed.ensures
 
 pub returns-clause-counts : goal.returns-clause-counts
 returns-clause-counts c =

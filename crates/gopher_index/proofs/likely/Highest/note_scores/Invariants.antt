@@ -2,7 +2,7 @@ use Rattle.std.proofs.Common.{◌-◌, ◌≤◌, length}
 use Rattle.gopher_index.proofs.likely.Highest.note_scores.Given as goal
 
 abbrev pub invariant-loop-start : goal.invariant-loop-start
-invariant-loop-start l = l.start ≤ length l.truths
+invariant-loop-start l = l.start ≤ length l.verdicts
 
 abbrev pub decreases-loop-start : goal.decreases-loop-start
-decreases-loop-start l = length l.truths - l.start
+decreases-loop-start l = length l.verdicts - l.start

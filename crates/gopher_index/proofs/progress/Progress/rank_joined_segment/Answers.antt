@@ -20,9 +20,8 @@ returns-clause-same c =
     let joined : AreJoined old.groups.items pages old.joined = c.requires.is.under_way segment c.index-segment.ensures (omega (arith, c.requires.groups, c.requires.planned)) in
     let all : AreGroupCells old.groups.items pages old.joined.verdicts.items old.joined.scores.items =
     subst (λ groups. AreGroupCells groups pages old.joined.verdicts.items old.joined.scores.items) (take_all old.joined.groups old.groups.items (omega (arith, c.requires.groups))) joined.cells in
-    let cells : AreCells terms pages c.in_ok-truths.truths.items old.joined.scores.items =
-    groups_cells terms old.groups.items pages c.in_ok-truths.truths.items old.joined.verdicts.items old.joined.scores.items (c.requires.is.plan c.requires.planned).groups_are (c.in_ok-truths.ensures ∙ ap (map is_match) c.deref.ensures.value) all in
-    let here : c.deref-3.result.now.pages ≡ pages = ap (λ segment. segment.pages) c.deref-3.ensures in
+    let cells : AreCells terms pages (map is_match old.joined.verdicts.items) old.joined.scores.items = groups_cells terms old.groups.items pages old.joined.verdicts.items old.joined.scores.items (c.requires.is.plan c.requires.planned).groups_are all in
+    let here : c.deref-2.result.now.pages ≡ pages = ap (λ segment. segment.pages) c.deref-2.ensures in
     record {
       is = record {
         query = c.requires.is.query;
@@ -35,8 +34,8 @@ returns-clause-same c =
         under_way = λ segment at more. absurd (omega (arith, more));
         best =
             c.in_ok-self.ensures terms
-            (same_cells terms pages c.deref-3.result.now.pages c.in_ok-truths.truths.items c.deref-4.result.now old.joined.scores.items c.deref-5.result.now (sym here) (sym c.deref-4.ensures.value) (sym c.deref-5.ensures.value) cells)
-            (pages_done old) (ap (map kept_hit) c.deref-2.ensures.value ∙ c.requires.is.best)
+            (same_cells terms pages c.deref-2.result.now.pages (map is_match old.joined.verdicts.items) (map is_match c.deref-3.result.now) old.joined.scores.items c.deref-4.result.now (sym here) (ap (map is_match) (sym c.deref-3.ensures.value)) (sym c.deref-4.ensures.value) cells)
+            (pages_done old) (ap (map kept_hit) c.deref.ensures.value ∙ c.requires.is.best)
             ∙ ap (λ pages. answer_from 0 (pages_done old ++ pages) terms) here
             ∙ ap (λ pages. answer_from 0 pages terms) (sym (segment_taken arc_value arc_value old.segments.items old.loose.items old.segments_done old.loose_done segment none c.requires.segments c.index-segment.ensures));
       };

@@ -1,24 +1,34 @@
-use Rattle.std.proofs.Common.{◌≡◌, ℕ, ◌<◌, false, List, length, sym, ap, ◌∙◌, arith}
+use Rattle.std.proofs.Common.{◌≡◌, ℕ, ◌<◌, false, List, length, Some, sym, ap, ⊎_elim, ◌∙◌, arith}
+use Rattle.std.proofs.lemmas.Bool.{cases_lt}
+use Rattle.std.proofs.lemmas.List.{length-map}
+use Rattle.std.proofs.lemmas.Option.{slice_get-get_or}
 use Rattle.std.specs.Cmp.Lexicographic.{bytes_decides}
 use Rattle.gopher_page.specs.Words.{same_word}
-use Rattle.gopher_segment.specs.Rows.{postings_of}
-use Rattle.gopher_segment.proofs.RowSearch.{word_at, word_read}
-use Rattle.gopher_segment.proofs.WordPostings.{postings_there, postings_missing}
+use Rattle.gopher_segment.specs.Rows.{words_of_rows}
+use Rattle.gopher_segment.proofs.RowSearch.{word_at}
+use Rattle.gopher_segment.proofs.WordPostings.{postings_there, postings_absent}
 use Rattle.gopher_segment.proofs.table.Table.find.Goals as goal
-use Rattle.gopher_segment.proofs.table.Table.find.Goals.{else-at-len-via-then-at-len+else-is_meant, else-at-len-via-else-at-len}
 
-pub returns-then-is_meant : goal.returns-then-is_meant
-returns-then-is_meant c =
-    let same : c.args.sought.now ≡ c.word.result.now = (bytes_decides c.args.sought.now c.word.result.now).0 (sym c.is_meant.ensures ∙ c.if-is_meant.true) in
-    postings_there c.args.self.now c.words_before-at.result c.word.result.now c.run.result c.requires c.word.ensures c.run.ensures ∙ ap (λ word. postings_of word c.args.self.now) (sym same)
+size : (rows : List (List ℕ × List (ℕ × ℕ))) → length (words_of_rows rows) ≡ length rows
+size rows = length-map rows (λ (row : List ℕ × List (ℕ × ℕ)). row.0)
+
+pub run-requires : goal.run-requires
+run-requires c = omega (arith, c.range-start.ensures.within, size c.args.self.now)
+
+pub returns-then-start-end : goal.returns-then-start-end
+returns-then-start-end c =
+    let rows : List (List ℕ × List (ℕ × ℕ)) = c.args.self.now in
+    let start : ℕ = c.range-start.result.0 in
+    let sought : List ℕ = c.args.sought.now in
+    let within : start < length (words_of_rows rows) = omega (arith, c.range-start.ensures.within) in
+    let is : sought ≡ word_at rows start = (bytes_decides sought (word_at rows start)).0 (c.range-start.ensures.meant start (omega arith) (omega arith)) in
+    postings_there rows start sought c.run.result c.requires (slice_get-get_or (words_of_rows rows) start _ within ∙ ap Some (sym is)) c.run.ensures
 
 pub returns : goal.returns
 returns c =
     let rows : List (List ℕ × List (ℕ × ℕ)) = c.args.self.now in
-    let at : ℕ = c.words_before-at.result in
-    let apart : at < length rows → same_word c.args.sought.now (word_at rows at) ≡ false =
-    elim c.else-at-len.branch [
-      | else-at-len-via-then-at-len+else-is_meant w ↦ λ within. ap (same_word c.args.sought.now) (word_read rows at w.word.result.now w.word.ensures) ∙ sym w.is_meant.ensures ∙ w.if-is_meant.false
-      | else-at-len-via-else-at-len w ↦ λ within. absurd (omega (arith, within, w.if-at-len.false, c.len.ensures))
-    ] in
-    c.none.ensures ∙ sym (postings_missing rows c.args.sought.now at c.requires c.words_before-at.ensures.before c.words_before-at.ensures.after apart)
+    let sought : List ℕ = c.args.sought.now in
+    let start : ℕ = c.range-start.result.0 in
+    let apart : (k : ℕ) → k < length rows → same_word sought (word_at rows k) ≡ false =
+    λ k within. ⊎_elim (λ less. c.range-start.ensures.before k less) (λ past. c.range-start.ensures.others k (omega (arith, past)) (omega (arith, within, size rows))) (cases_lt k start) in
+    c.none.ensures ∙ sym (postings_absent rows sought apart)

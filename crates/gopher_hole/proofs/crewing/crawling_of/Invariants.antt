@@ -1,0 +1,8 @@
+use Rattle.std.specs.Prelude.{◌≡◌, ◌+◌, vec_len}
+use Rattle.std.specs.Vec.Iter.{into_iter_len}
+use Rattle.gopher_hole.proofs.crewing.crawling_of.Given as goal
+
+-- each share so far has its pair
+abbrev pub invariant-loop-share : goal.invariant-loop-share
+invariant-loop-share g l =
+    vec_len l.pairs + into_iter_len l.share-iterator ≡ into_iter_len l.initial.share-iterator

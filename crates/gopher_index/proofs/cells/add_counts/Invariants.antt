@@ -1,6 +1,0 @@
-use Rattle.std.proofs.Common.{◌≡◌, ◌+◌, take}
-use Rattle.gopher_index.specs.Cells.{zipped}
-use Rattle.gopher_index.proofs.cells.add_counts.Given as goal
-
-abbrev pub invariant-loop-index : goal.invariant-loop-index
-invariant-loop-index l = l.scores ≡ zipped (λ score count. score + count) l.initial.scores (take l.index l.counts)

@@ -1,0 +1,132 @@
+//! Searching words in byte order: `range_meant`.
+
+ghost use Rattle.std.specs.Prelude.{◌≡◌, ◌<◌, ◌≤◌, length};
+ghost use Rattle.gopher_page.specs.Counts.{is_meant, is_before, word_at, AreInOrder, AreMeantWords, AreMeantFrom, AreWordsBefore, NoneBefore, NoneMeant};
+
+use gopher_bytes::ByteStrings;
+
+// Whether `word` equals `sought` or, if `is_prefix`, begins with it.
+fn is_meant(is_prefix: bool, sought: &[u8], word: &[u8]) -> bool
+    ensures { result ≡ is_meant is_prefix sought.now word.now }
+{
+    if is_prefix {
+        word.starts_with(sought)
+    } else {
+        sought == word
+    }
+}
+
+fn is_before_at(words: &ByteStrings, sought: &[u8], index: usize) -> bool
+    requires { index < length words.now }
+    ensures { result ≡ is_before (word_at words.now index) sought.now }
+{
+    words.get(index).cmp(sought).is_lt()
+}
+
+// An index up to which all words come before `sought`: the one after `index` if the word there
+// does, or else 0.
+fn low_bound(words: &ByteStrings, sought: &[u8], index: usize) -> usize
+    requires { AreInOrder words.now }
+    ensures within { result ≤ length words.now }
+    ensures before { AreWordsBefore words.now result sought.now }
+{
+    if index < words.len() && is_before_at(words, sought, index) {
+        return index + 1;
+    }
+    0
+}
+
+// An index from which on no word comes before `sought`: `index` if the word there doesn't, or else
+// the number of words.
+fn high_bound(words: &ByteStrings, sought: &[u8], index: usize) -> usize
+    requires { AreInOrder words.now }
+    ensures within { result ≤ length words.now }
+    ensures after { NoneBefore words.now result sought.now }
+{
+    if index < words.len() && !is_before_at(words, sought, index) {
+        return index;
+    }
+    words.len()
+}
+
+// The number of words before `sought`, which is probably above `low_guess` and at most
+// `high_guess`.
+fn words_before(words: &ByteStrings, sought: &[u8], low_guess: usize, high_guess: usize) -> usize
+    requires { AreInOrder words.now }
+    ensures within { result ≤ length words.now }
+    ensures before { AreWordsBefore words.now result sought.now }
+    ensures after { NoneBefore words.now result sought.now }
+{
+    let mut low = low_bound(words, sought, low_guess);
+    let mut high = high_bound(words, sought, high_guess);
+    while low < high {
+        let middle = low + (high - low) / 2;
+        if is_before_at(words, sought, middle) {
+            low = middle + 1;
+        } else {
+            high = middle;
+        }
+    }
+    low
+}
+
+// An index from which on no word equals or begins with `sought`. At most one word equals it.
+fn meant_bound(words: &ByteStrings, is_prefix: bool, sought: &[u8], start: usize) -> usize
+    requires order { AreInOrder words.now }
+    requires start { start ≤ length words.now }
+    requires from { NoneBefore words.now start sought.now }
+    ensures forward { start ≤ result }
+    ensures within { result ≤ length words.now }
+    ensures others { NoneMeant words.now result is_prefix sought.now }
+{
+    if is_prefix {
+        return words.len();
+    }
+    if start < words.len() {
+        start + 1
+    } else {
+        start
+    }
+}
+
+// The end of the words that equal or begin with `sought`, which begin at `start`.
+fn end_of_meant(words: &ByteStrings, is_prefix: bool, sought: &[u8], start: usize) -> usize
+    requires order { AreInOrder words.now }
+    requires start { start ≤ length words.now }
+    requires from { NoneBefore words.now start sought.now }
+    ensures forward { start ≤ result }
+    ensures within { result ≤ length words.now }
+    ensures meant { AreMeantFrom words.now start result is_prefix sought.now }
+    ensures others { NoneMeant words.now result is_prefix sought.now }
+{
+    let mut low = start;
+    let mut high = meant_bound(words, is_prefix, sought, start);
+    while low < high {
+        let middle = low + (high - low) / 2;
+        if is_meant(is_prefix, sought, words.get(middle)) {
+            low = middle + 1;
+        } else {
+            high = middle;
+        }
+    }
+    low
+}
+
+/// Returns the start and the end of the words that equal `sought` or, if `is_prefix`, begin with
+/// it. The words are distinct and in byte order.
+///
+/// The start is probably above `low_guess` and at most `high_guess`. Any guess gives the same
+/// range, and the number of words for both is no guess.
+pub fn range_meant(
+    words: &ByteStrings,
+    is_prefix: bool,
+    sought: &[u8],
+    low_guess: usize,
+    high_guess: usize,
+) -> (usize, usize)
+    requires { AreInOrder words.now }
+    ensures { AreMeantWords words.now is_prefix sought.now result.0 result.1 }
+{
+    let start = words_before(words, sought, low_guess, high_guess);
+    (start, end_of_meant(words, is_prefix, sought, start))
+}

@@ -1,0 +1,7 @@
+use Rattle.gopher_scope.proofs.Elements.{table_names-view}
+use Rattle.gopher_scope.proofs.settings.unknown.push_table.Goals as goal
+
+pub loop-name-init : goal.loop-name-init
+loop-name-init c =
+    let by_keys = table_names-view c.args.table.now.entries in
+    cc
