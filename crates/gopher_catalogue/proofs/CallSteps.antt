@@ -10,7 +10,7 @@ use Rattle.gopher_catalogue.specs.declared.event.Why.{Why}
 use Rattle.gopher_catalogue.specs.Event.{OpeningData, EventData, Opened, Claimed, Found, Failed}
 use Rattle.gopher_catalogue.specs.Frontier.{mentions, known, dropped, claims, finds, failures, entries, waiting, is_out, is_done, out, done}
 use Rattle.gopher_catalogue.specs.Legal.{IsLegalOpening, IsOut, IsLegal}
-use Rattle.gopher_frontier.proofs.Ranges.{filter_range_none}
+use Rattle.gopher_catalogue.proofs.Ranges.{filter_range_none}
 use Rattle.gopher_catalogue.proofs.Legal.{IsLegal-push, IsLegal-opened}
 use Rattle.gopher_catalogue.proofs.Steps.{known-claimed, known-failed, dropped-claimed, dropped-failed, claims-claimed, claims-claimed_other, claims-found, claims-failed, is_out-claimed, is_out-claimed_other, is_out-found, is_out-found_other, is_out-failed, is_out-failed_other, waiting-claimed, waiting-failed_last, length-known}
 use Rattle.gopher_catalogue.proofs.Sizes.{out_is, done_is}

@@ -8,20 +8,20 @@ use Rattle.std.proofs.lemmas.Option.{slice_get_within}
 use Rattle.gopher_item.specs.Place.{PlaceData, same_place}
 use Rattle.gopher_item.specs.Scope.{ScopeData, allows}
 use Rattle.gopher_page.specs.Page.{PageData}
-use Rattle.gopher_frontier.specs.declared.known.Standing.{Standing}
+use Rattle.gopher_catalogue.specs.declared.frontier.known.Standing.{Standing}
 use Rattle.gopher_catalogue.specs.declared.event.Why.{Why}
 use Rattle.gopher_catalogue.specs.declared.event.Why.TheVariants.{Read}
 use Rattle.gopher_catalogue.specs.declared.fault.OpenFault.{OpenFault}
 use Rattle.gopher_catalogue.specs.declared.fault.OpenFault.TheVariants.{SeedOutOfScope, BadPlaces, BadTries}
 use Rattle.gopher_catalogue.specs.declared.fault.FoundFault.TheVariants.{NotOut, WrongPlace}
-use Rattle.gopher_frontier.specs.declared.sizes.Added.{Added}
-use Rattle.gopher_frontier.specs.declared.sizes.Status.{Status}
+use Rattle.gopher_catalogue.specs.declared.frontier.sizes.Added.{Added}
+use Rattle.gopher_catalogue.specs.declared.frontier.sizes.Status.{Status}
 use Rattle.gopher_catalogue.specs.Event.{OpeningData, EventData, Opened, Claimed, Found, Failed}
 use Rattle.gopher_catalogue.specs.Frontier.{known, dropped, waiting, out, done, is_out}
 use Rattle.gopher_catalogue.specs.Legal.{IsLegalOpening, IsOut, IsLegal}
 use Rattle.gopher_catalogue.specs.Step.{Take, Idle, Finished, open_fault, turn_of, is_out_in, is_place_in, found_fault, added_by, status_of, places_of}
 use Rattle.gopher_catalogue.specs.Turn.{IsTake}
-use Rattle.gopher_frontier.specs.Tables.{FrontierData, KeepsFrontier, Learned, Begins, unclaimed, is_out_at, after_claim, after_find, after_failure}
+use Rattle.gopher_catalogue.specs.Tables.{FrontierData, KeepsFrontier, Learned, Begins, unclaimed, is_out_at, after_claim, after_find, after_failure}
 use Rattle.gopher_catalogue.specs.History.{RecordData, IsOpened, opening_in, later_in}
 use Rattle.gopher_catalogue.specs.Indexed.{standing_of, Tells, IsIndexed}
 use Rattle.gopher_catalogue.proofs.Lists.{slice_get-append_left}

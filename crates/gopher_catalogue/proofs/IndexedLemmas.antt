@@ -7,12 +7,12 @@ use Rattle.std.proofs.lemmas.List.{append-nil, append_assoc, length-append}
 use Rattle.gopher_item.specs.Place.{PlaceData, is_among}
 use Rattle.gopher_item.specs.Scope.{allows}
 use Rattle.gopher_page.specs.Page.{PageData}
-use Rattle.gopher_frontier.specs.declared.known.Standing.{Standing}
+use Rattle.gopher_catalogue.specs.declared.frontier.known.Standing.{Standing}
 use Rattle.gopher_catalogue.specs.declared.event.Why.{Why}
 use Rattle.gopher_catalogue.specs.Event.{OpeningData, EventData, Opened, Claimed, Found, Failed}
 use Rattle.gopher_catalogue.specs.Frontier.{mentions, known, dropped, waiting, done, claims}
 use Rattle.gopher_catalogue.specs.Legal.{IsLegalOpening, IsOut, IsLegal}
-use Rattle.gopher_frontier.specs.Tables.{FrontierData, Learned, Begins, unclaimed, after_mention, after_mentions, drops, is_dropped, after_claim, after_find, after_failure}
+use Rattle.gopher_catalogue.specs.Tables.{FrontierData, Learned, Begins, unclaimed, after_mention, after_mentions, drops, is_dropped, after_claim, after_find, after_failure}
 use Rattle.gopher_catalogue.specs.Indexed.{standing_of, Tells}
 use Rattle.gopher_catalogue.proofs.Places.{known_of, dropped_of, known_of_old, known_of_new, known_of_full, dropped_of_old, dropped_of_new, dropped_of_full}
 use Rattle.gopher_catalogue.proofs.Steps as steps

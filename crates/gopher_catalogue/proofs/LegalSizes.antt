@@ -13,7 +13,7 @@ use Rattle.gopher_catalogue.specs.Frontier.{known, claims, finds, failures, entr
 use Rattle.gopher_catalogue.specs.Legal.{MayFollow, FollowEachOther, IsLegal}
 use Rattle.gopher_catalogue.proofs.Legal.{legal_ind}
 use Rattle.gopher_catalogue.proofs.Steps.{claims_made, claims_made-claimed, claims_made-found, claims_made-failed, length-known, waiting-found, waiting-failed_again, is_out-claimed, is_done-failed_last, not_done-failed_again}
-use Rattle.gopher_frontier.proofs.Ranges.{filter_range_none}
+use Rattle.gopher_catalogue.proofs.Ranges.{filter_range_none}
 use Rattle.gopher_catalogue.proofs.Sizes.{NoneBeyond, length-out_claimed, length-out_found, length-out_failed, done-claimed, length-done_found, length-done_failed_last, done-failed_again}
 use Rattle.gopher_catalogue.proofs.Counting.{times, times-nil, times-cons, times-one, times-one_other, counted}
 use Rattle.gopher_catalogue.proofs.States.{claims_made_fit, waits_at, out_at, unknown_at}

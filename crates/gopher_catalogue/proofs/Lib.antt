@@ -1,3 +1,5 @@
+pub mod Ranges
+pub mod KnownLemmas
 pub mod Places
 pub mod Steps
 pub mod Sizes

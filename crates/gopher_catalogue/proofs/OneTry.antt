@@ -10,7 +10,7 @@ use Rattle.gopher_catalogue.specs.Frontier.{known, claims, finds, failures, entr
 use Rattle.gopher_catalogue.specs.Legal.{MayFollow, FollowEachOther, IsLegal}
 use Rattle.gopher_catalogue.specs.Laws.{outcomes, numbers, HasSimpleStates}
 use Rattle.gopher_catalogue.proofs.Places.{bools_agree}
-use Rattle.gopher_frontier.proofs.Ranges.{range-append, filter_range_none, filter_range_agree}
+use Rattle.gopher_catalogue.proofs.Ranges.{range-append, filter_range_none, filter_range_agree}
 use Rattle.gopher_catalogue.proofs.Legal.{legal_ind}
 use Rattle.gopher_catalogue.proofs.Steps.{claims_made, waiting_is, known-claimed, known-failed, length-known_push, entries-claimed, entries-found, entries-failed_last, is_out-claims, is_out_from_claims, is_done_is}
 use Rattle.gopher_catalogue.proofs.Sizes.{out_is, done_is}

@@ -6,7 +6,7 @@ use Rattle.gopher_page.specs.Page.{PageData}
 use Rattle.gopher_catalogue.specs.declared.event.Why.{Why}
 use Rattle.gopher_catalogue.specs.Event.{OpeningData, EventData, Claimed, Found, Failed}
 use Rattle.gopher_catalogue.specs.Frontier.{known, is_out, is_done, out, done}
-use Rattle.gopher_frontier.proofs.Ranges.{filter_range_same, filter_range_longer, count_range_more}
+use Rattle.gopher_catalogue.proofs.Ranges.{filter_range_same, filter_range_longer, count_range_more}
 use Rattle.gopher_catalogue.proofs.Steps.{known-claimed, known-failed, length-known_push, is_out-claimed_other, is_out-found_other, is_out-failed_other, is_out-found, is_out-failed, is_done-claimed, is_done-found_other, is_done-failed_other, is_done-found}
 
 pub out_is : (opening : OpeningData) (events : List EventData) → out opening events ≡ filter (is_out events) (range_with_len 0 (length (known opening events)))

@@ -2,7 +2,7 @@
 use Rattle.std.proofs.Common.{◌≡◌, ◌≢◌, ℕ, suc, zero, ◌+◌, ◌≤◌, ◌<◌, ◌∷◌, ◌++◌, map, length, replicate, set, Some, slice_get, refl, sym, ◌∙◌, ap, arith}
 use Rattle.std.specs.List.{range_with_len}
 use Rattle.std.proofs.lemmas.List.{map-append}
-use Rattle.gopher_frontier.proofs.Ranges.{range-append}
+use Rattle.gopher_catalogue.proofs.Ranges.{range-append}
 
 module _ {X : Type 0} (f g : ℕ → X) where
   pub map_range_agree : (a n : ℕ) → ((k : ℕ) → a ≤ k → k < a + n → f k ≡ g k) → map f (range_with_len a n) ≡ map g (range_with_len a n)

@@ -7,7 +7,7 @@ use Rattle.std.proofs.lemmas.List.Elements.{filter-append}
 use Rattle.gopher_catalogue.specs.Event.{OpeningData, EventData, Opened}
 use Rattle.gopher_catalogue.specs.Frontier.{known, waiting, is_out, is_done, out, done}
 use Rattle.gopher_catalogue.specs.Legal.{IsLegal}
-use Rattle.gopher_frontier.proofs.Ranges.{range-append, filter_range_agree}
+use Rattle.gopher_catalogue.proofs.Ranges.{range-append, filter_range_agree}
 use Rattle.gopher_catalogue.proofs.Sizes.{out_is, done_is}
 use Rattle.gopher_catalogue.proofs.Counting.{times, times-cons, times-one}
 use Rattle.gopher_catalogue.proofs.LegalSizes.{others, length-others, times-others_same, times-others_other}

@@ -6,8 +6,8 @@ use Rattle.gopher_item.specs.Place.{PlaceData, distinct, is_among}
 use Rattle.gopher_item.specs.Scope.{allows}
 use Rattle.std.specs.Arc.{arc_value}
 use Rattle.std.specs.declared.sync.Arc.{Arc}
-use Rattle.gopher_frontier.specs.Tables.{FrontierData, Learns, allowed}
-use Rattle.gopher_frontier.specs.declared.sizes.Added.{Added}
+use Rattle.gopher_catalogue.specs.Tables.{FrontierData, Learns, allowed}
+use Rattle.gopher_catalogue.specs.declared.frontier.sizes.Added.{Added}
 use Rattle.gopher_catalogue.specs.Event.{OpeningData, EventData, Claimed, Found, Failed}
 
 -- ---- places

@@ -2,11 +2,11 @@
 use Rattle.std.specs.Prelude.{◌≡◌, ℕ, ◌+◌, ◌*◌, ◌^◌, ◌<◌, ◌≤◌, List, length, map}
 use Rattle.std.specs.List.{range_with_len}
 use Rattle.gopher_text.specs.declared.reply_reader.TheConstants.{MAX_REPLY}
-use Rattle.gopher_frontier.specs.declared.known.Standing.{Standing}
+use Rattle.gopher_catalogue.specs.declared.frontier.known.Standing.{Standing}
 use Rattle.gopher_catalogue.specs.Event.{OpeningData, EventData}
 use Rattle.gopher_catalogue.specs.Frontier.{known, dropped, waiting, out, done, claims, is_out}
 use Rattle.gopher_catalogue.specs.Legal.{IsLegal}
-use Rattle.gopher_frontier.specs.Tables.{FrontierData}
+use Rattle.gopher_catalogue.specs.Tables.{FrontierData}
 use Rattle.gopher_catalogue.specs.History.{RecordData, opening_in, later_in}
 
 -- the state of a number after these events

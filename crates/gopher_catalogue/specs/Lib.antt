@@ -2,6 +2,7 @@ pub mod Opening
 pub mod Event
 pub mod EventOf
 pub mod Fault
+pub mod Tables
 pub mod Frontier
 pub mod Legal
 pub mod Step

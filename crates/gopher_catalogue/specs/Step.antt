@@ -13,8 +13,8 @@ use Rattle.gopher_catalogue.specs.declared.fault.FoundFault.TheVariants.{NotOut,
 use Rattle.gopher_catalogue.specs.Opening.{opening_of}
 use Rattle.gopher_catalogue.specs.Event.{OpeningData, EventData, Opened, Claimed, Found}
 use Rattle.gopher_catalogue.specs.Frontier.{known, dropped, waiting, out, done, is_out}
-pub use Rattle.gopher_frontier.specs.declared.sizes.Added.{Added}
-pub use Rattle.gopher_frontier.specs.declared.sizes.Status.{Status}
+pub use Rattle.gopher_catalogue.specs.declared.frontier.sizes.Added.{Added}
+pub use Rattle.gopher_catalogue.specs.declared.frontier.sizes.Status.{Status}
 
 -- ---- open
 

@@ -4,7 +4,7 @@ ghost use Rattle.std.specs.Prelude.{◌≡◌, ◌≤◌, ℕ, true, false, None
 ghost use Rattle.std.specs.Arc.{arc_value};
 ghost use Rattle.gopher_item.specs.Scope.{first_outside};
 ghost use Rattle.gopher_index.specs.Index.{IsSliceOf};
-ghost use Rattle.gopher_frontier.specs.Tables.{KeepsFrontier};
+ghost use Rattle.gopher_catalogue.specs.Tables.{KeepsFrontier};
 ghost use Rattle.gopher_catalogue.specs.Frontier.{LearnsLinks};
 ghost use Rattle.gopher_catalogue.specs.Event.{EventData, Opened, Claimed, Found, Failed};
 ghost use Rattle.gopher_catalogue.specs.EventOf.{event_data};
@@ -20,8 +20,8 @@ use crate::answer::{Claim, Turn};
 use crate::archive::Archive;
 use crate::event::{Event, Why};
 use crate::fault::{FailRefused, FoundFault, FoundRefused, OpenFault, OpenRefused};
+use crate::frontier::{Added, Frontier, Status};
 use crate::opening::Opening;
-use gopher_frontier::{Added, Frontier, Status};
 use gopher_index::{Due, Hit, Index};
 use gopher_item::{MAX_PLACES, MAX_TRIES, NoMemory, Place, Places, Scope};
 use gopher_page::{Page, Query};

@@ -5,10 +5,10 @@ use Rattle.gopher_item.specs.Scope.{allows}
 use Rattle.gopher_catalogue.specs.Fault.{IsFoundFault}
 use Rattle.gopher_catalogue.specs.declared.fault.FoundFault.TheVariants.{NotOut, WrongPlace, NoMemory}
 use Rattle.gopher_catalogue.specs.Step.{found_fault, added_by}
-use Rattle.gopher_frontier.specs.Tables.{Learned}
+use Rattle.gopher_catalogue.specs.Tables.{Learned}
 use Rattle.gopher_catalogue.specs.History.{opening_in}
 use Rattle.gopher_catalogue.specs.Indexed.{IsIndexed}
-use Rattle.gopher_frontier.proofs.KnownLemmas.{length-after_mentions}
+use Rattle.gopher_catalogue.proofs.KnownLemmas.{length-after_mentions}
 use Rattle.gopher_catalogue.proofs.IndexedCalls.{learned_of, limit_fits, places_fit, places_within, out_fits, done_fits, dropped_fits, some_out, fault_not_out, fault_wrong, fault_none, still_stands, added_shown, after_found}
 use Rattle.gopher_catalogue.proofs.catalogue.Catalogue.found.Goals as goal
 

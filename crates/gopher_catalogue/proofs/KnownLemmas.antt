@@ -1,0 +1,148 @@
+-- Lists of entries and of places, as `KnownPlaces` keeps them.
+use Rattle.std.proofs.Common.{◌≡◌, ℕ, suc, zero, Bool, true, false, ◌||◌, List, [], ◌∷◌, ◌++◌, map, take, length, replicate, arith, inl, inr, ◌+◌, ◌-◌, ◌<◌, ◌≤◌, ◌&&◌, cond, drop, filter, get_or, add-one, Option, None, Some, is_some, set, refl, ap, sym, ◌∙◌, true≢false}
+use Rattle.std.specs.List.{list_any, range_with_len}
+use Rattle.gopher_catalogue.proofs.Ranges.{range-append}
+use Rattle.std.specs.Int.{from_bool}
+use Rattle.std.specs.Map.{keys_of, values_of, lookup}
+use Rattle.std.proofs.lemmas.List.{map-append, take-map, append-nil, append_assoc, length-append, replicate-append-replicate}
+use Rattle.std.proofs.lemmas.Map.Made.{is_some-lookup}
+use Rattle.std.proofs.lemmas.Bool.{cases_Bool, cases_lt, lt-leb, le-leb}
+use Rattle.std.proofs.Math.Seq.{drop-cons, take-append_seam}
+use Rattle.gopher_item.specs.Place.{PlaceData, is_among}
+use Rattle.gopher_item.specs.Scope.{ScopeData, allows}
+use Rattle.gopher_catalogue.specs.Tables.{KnownData, Extends, unclaimed, after_mention, after_mentions, drops, is_dropped, after_link, is_dropped_link}
+use Rattle.indexmap.specs.IndexMap.{IndexMap, get, insert_entry, set_value_at}
+use Rattle.indexmap.proofs.CallerLemmas.{insert_entry-new}
+
+-- a test of the images of elements
+pub list_any-map : {X Y : Type 0} (show : X → Y) (test : Y → Bool) (xs : List X) → list_any (λ x. test (show x)) xs ≡ list_any test (map show xs)
+list_any-map show test [] = refl
+list_any-map show test (x ∷ xs) = ap (λ rest. test (show x) || rest) (list_any-map show test xs)
+
+-- a look-up finds a key exactly if the list of the keys' images contains its image
+pub lookup-shown : {K X Y : Type 0} (show : K → Y) (test : Y → Bool) (es : List (K × X)) (ys : List Y) → map show (keys_of es) ≡ ys → is_some (lookup (λ k. test (show k)) es) ≡ list_any test ys
+lookup-shown show test es ys h = is_some-lookup (λ k. test (show k)) es ∙ list_any-map show test (keys_of es) ∙ ap (list_any test) h
+
+none-from-is_some : {X : Type 0} (o : Option X) → is_some o ≡ false → o ≡ None
+none-from-is_some None h = refl
+none-from-is_some (Some x) h = absurd (true≢false h)
+
+-- writing by index changes one of the values
+pub values_set_value_at : {K X : Type 0} (es : List (K × X)) (i : ℕ) (w : X) → values_of (set_value_at es i w) ≡ set (values_of es) i w
+values_set_value_at [] i w = refl
+values_set_value_at (e ∷ es) zero w = refl
+values_set_value_at (e ∷ es) (suc i) w = ap (λ l. e.1 ∷ l) (values_set_value_at es i w)
+
+-- keys whose images are a list still match it after both are truncated
+pub shown-take : {K X Y : Type 0} (show : K → Y) (n : ℕ) (es es' : List (K × X)) (ks ks' : List K) → es' ≡ take n es → ks' ≡ take n ks → map show (keys_of es) ≡ map show ks → map show (keys_of es') ≡ map show ks'
+shown-take show n es es' ks ks' cut_entries cut_keys h =
+    ap (λ l. map show (keys_of l)) cut_entries ∙ ap (map show) (sym (take-map (λ e. e.0) n es)) ∙ sym (take-map show n (keys_of es)) ∙ ap (take n) h ∙ take-map show n ks ∙ ap (map show) (sym cut_keys)
+
+-- keys whose images are a list still match it after both get one more with the same image
+pub shown-push : {K X Y : Type 0} (show : K → Y) (es es' : List (K × X)) (ks ks' : List K) (k l : K) (w : X) → es' ≡ es ++ (k, w) ∷ [] → ks' ≡ ks ++ l ∷ [] → show k ≡ show l → map show (keys_of es) ≡ map show ks → map show (keys_of es') ≡ map show ks'
+shown-push show es es' ks ks' k l w more_entries more_keys same h =
+    ap (λ l. map show (keys_of l)) more_entries ∙ ap (map show) (map-append (λ e. e.0) es ((k, w) ∷ [])) ∙ map-append show (keys_of es) (k ∷ [])
+    ∙ ap (λ l. l ++ show k ∷ []) h ∙ ap (λ s. map show ks ++ s ∷ []) same ∙ sym (map-append show ks (l ∷ [])) ∙ ap (map show) (sym more_keys)
+
+-- a key with a new image is inserted last
+pub insert-unshown : {K X Y S : Type 0} (show : K → Y) (eq : Y → Y → Bool) (m : IndexMap K X S) (ys : List Y) (k : K) (w : X) → map show (keys_of m.entries) ≡ ys → list_any (eq (show k)) ys ≡ false
+    → insert_entry (λ a b. eq (show a) (show b)) m.entries k w ≡ m.entries ++ (k, w) ∷ []
+insert-unshown show eq m ys k w h absent =
+    insert_entry-new (λ a b. eq (show a) (show b)) m k w (none-from-is_some (get (λ a b. eq (show a) (show b)) m k) (lookup-shown show (eq (show k)) m.entries ys h ∙ absent))
+
+-- ---- more known places
+
+pub Extends-trans : (a b c : KnownData) → Extends a b → Extends b c → Extends a c
+Extends-trans a b c h k =
+    record {
+      more = h.more ++ k.more;
+      places = k.places ∙ ap (λ l. l ++ k.more) h.places ∙ append_assoc a.places h.more k.more;
+      standings =
+          k.standings ∙ ap (λ l. l ++ replicate (length k.more) unclaimed) h.standings ∙ append_assoc a.standings (replicate (length h.more) unclaimed) (replicate (length k.more) unclaimed)
+          ∙ ap (λ l. a.standings ++ l) (replicate-append-replicate (length h.more) (length k.more) unclaimed ∙ ap (λ n. replicate n unclaimed) (sym (length-append h.more k.more)));
+    }
+
+-- ---- no more than the limit
+
+length-after_mention : (limit : ℕ) (places : List PlaceData) (place : PlaceData) → length places ≤ limit → length (after_mention limit places place) ≤ limit
+length-after_mention limit places place h =
+    elim (cases_Bool (is_among places place)) as (λ b. length (after_mention limit places place) ≤ limit) [
+      | inl known ↦ rw known h
+      | inr new ↦
+          elim (cases_lt (length places) limit) as (λ b. length (after_mention limit places place) ≤ limit) [
+            | inl room ↦ rw (new, lt-leb limit (length places) room) (omega (arith, length-append places (place ∷ [])))
+            | inr full ↦ rw (new, le-leb limit (length places) full) h
+          ]
+    ]
+
+pub length-after_mentions : (limit : ℕ) (places mentions : List PlaceData) → length places ≤ limit → length (after_mentions limit places mentions) ≤ limit
+length-after_mentions limit places [] h = h
+length-after_mentions limit places (mention ∷ mentions) h = length-after_mentions limit (after_mention limit places mention) mentions (length-after_mention limit places mention h)
+
+-- ---- the links of a page, one by one
+
+from_bool_is : (b : Bool) → from_bool b ≡ cond b 1 0
+from_bool_is true = refl
+from_bool_is false = refl
+
+pub from_bool-le : (b : Bool) (n : ℕ) → n ≡ from_bool b → n ≤ 1
+from_bool-le true n e = omega (arith, e)
+from_bool-le false n e = omega (arith, e)
+
+module _ (scope : ScopeData) (limit : ℕ) where
+  after_link-cons : (places : List PlaceData) (link : PlaceData) (links : List PlaceData) → after_mentions limit places (filter (allows scope) (link ∷ links)) ≡ after_mentions limit (after_link scope limit places link) (filter (allows scope) links)
+  after_link-cons places link links =
+      elim (allows scope link) as (λ b. after_mentions limit places (cond b (link ∷ filter (allows scope) links) (filter (allows scope) links)) ≡ after_mentions limit (cond b (after_mention limit places link) places) (filter (allows scope) links)) [
+        | true ↦ refl
+        | false ↦ refl
+      ]
+
+  drops-link_cons : (places : List PlaceData) (link : PlaceData) (links : List PlaceData)
+      → drops limit places (filter (allows scope) (link ∷ links)) ≡ cond (is_dropped_link scope limit places link) 1 0 + drops limit (after_link scope limit places link) (filter (allows scope) links)
+  drops-link_cons places link links =
+      elim (allows scope link) as (λ b. drops limit places (cond b (link ∷ filter (allows scope) links) (filter (allows scope) links)) ≡ cond (b && is_dropped limit places link) 1 0 + drops limit (cond b (after_mention limit places link) places) (filter (allows scope) links)) [
+        | true ↦ refl
+        | false ↦ omega arith
+      ]
+
+  module _ (links : List PlaceData) (i : ℕ) (link : PlaceData) (within : i < length links) (is : link ≡ get_or links i link) where
+    links-drop : drop i links ≡ link ∷ drop (i + 1) links
+    links-drop = rw (add-one, drop-cons links i link within, ← is) refl
+
+    pub after_mentions-link : (places next all : List PlaceData) → next ≡ after_link scope limit places link → after_mentions limit places (filter (allows scope) (drop i links)) ≡ all
+        → after_mentions limit next (filter (allows scope) (drop (i + 1) links)) ≡ all
+    after_mentions-link places next all e h =
+        ap (λ p. after_mentions limit p (filter (allows scope) (drop (i + 1) links))) e ∙ sym (after_link-cons places link (drop (i + 1) links)) ∙ ap (λ l. after_mentions limit places (filter (allows scope) l)) (sym links-drop) ∙ h
+
+    pub drops-link : (places next : List PlaceData) (before taken all : ℕ) (dropped : Bool) → next ≡ after_link scope limit places link → taken ≡ from_bool dropped → dropped ≡ is_dropped_link scope limit places link
+        → before + drops limit places (filter (allows scope) (drop i links)) ≡ all → before + taken + drops limit next (filter (allows scope) (drop (i + 1) links)) ≡ all
+    drops-link places next before taken all dropped e t d h =
+        let here = ap (λ p. drops limit p (filter (allows scope) (drop (i + 1) links))) e in
+        let one = ap (λ l. drops limit places (filter (allows scope) l)) links-drop ∙ drops-link_cons places link (drop (i + 1) links) in
+        let counted : taken ≡ cond (is_dropped_link scope limit places link) 1 0 = t ∙ from_bool_is dropped ∙ ap (λ b. cond b 1 0) d in
+        omega (arith, here, one, counted)
+
+-- ---- the seeds, one by one
+
+module _ (limit : ℕ) (seeds : List PlaceData) (i : ℕ) (seed : PlaceData) (within : i < length seeds) (is : seed ≡ get_or seeds i seed) where
+  seeds-drop : drop i seeds ≡ seed ∷ drop (i + 1) seeds
+  seeds-drop = rw (add-one, drop-cons seeds i seed within, ← is) refl
+
+  pub after_mentions-seed : (places next all : List PlaceData) → next ≡ after_mention limit places seed → after_mentions limit places (drop i seeds) ≡ all → after_mentions limit next (drop (i + 1) seeds) ≡ all
+  after_mentions-seed places next all e h = ap (λ p. after_mentions limit p (drop (i + 1) seeds)) e ∙ ap (after_mentions limit places) (sym seeds-drop) ∙ h
+
+  pub drops-seed : (places next : List PlaceData) (before taken all : ℕ) (dropped : Bool) → next ≡ after_mention limit places seed → taken ≡ from_bool dropped → dropped ≡ is_dropped limit places seed
+      → before + drops limit places (drop i seeds) ≡ all → before + taken + drops limit next (drop (i + 1) seeds) ≡ all
+  drops-seed places next before taken all dropped e t d h =
+      let here = ap (λ p. drops limit p (drop (i + 1) seeds)) e in
+      let one = ap (drops limit places) seeds-drop in
+      let counted : taken ≡ cond (is_dropped limit places seed) 1 0 = t ∙ from_bool_is dropped ∙ ap (λ b. cond b 1 0) d in
+      omega (arith, here, one, counted)
+
+-- ---- ranges
+
+pub range-next : (first number : ℕ) → first ≤ number → range_with_len first (number - first) ++ number ∷ [] ≡ range_with_len first (number + 1 - first)
+range-next first number h =
+    let one : number + 1 - first ≡ number - first + 1 = omega arith in
+    let at : first + (number - first) ≡ number = omega arith in
+    sym (ap (λ n. range_with_len first n) one ∙ range-append first (number - first) 1 ∙ ap (λ n. range_with_len first (number - first) ++ n ∷ []) at)

@@ -1,0 +1,210 @@
+//! `KnownPlaces`, `Standing`: the known places of a crawl, the state of each, and mentions of
+//! places.
+
+ghost use Rattle.std.specs.Prelude.{◌≡◌, ◌<◌, [], ◌≤◌, false, length, map, take, slice_get, slice_set, IfOk, OnOk, OnErr};
+ghost use Rattle.std.specs.Arc.{arc_value};
+ghost use Rattle.gopher_item.specs.Place.{is_among};
+ghost use Rattle.gopher_catalogue.specs.Tables.{KnownData, Extends, IsWithPlace, IsWithUnclaimed, Mentions, IsDropped, Links, IsDroppedLink, LinksAll, MentionsAll, AreDropped, allowed};
+
+use gopher_item::{NoMemory, Place, Places, Scope};
+use gopher_text::MAX_REPLY;
+use indexmap::IndexMap;
+use std::alloc::Global;
+use std::marker::Model;
+use std::sync::Arc;
+
+/// The state of a known place.
+#[derive(Clone, Copy, Debug, PartialEq, Eq)]
+pub(crate) struct Standing {
+    /// How often the place was claimed.
+    pub claims: u32,
+    /// Whether the place was claimed and has no outcome yet.
+    pub is_out: bool,
+}
+
+impl Standing {
+    /// The state of a place that was never claimed.
+    const UNCLAIMED: Standing = Standing {
+        claims: 0,
+        is_out: false,
+    };
+}
+
+/// The known places in the order of first mention. The index of a place is its number.
+#[derive(Debug, Drop)]
+pub(crate) struct KnownPlaces {
+    standings: IndexMap<Arc<Place>, Standing>,
+    // The keys of `standings` again, because callers get them as one slice.
+    places: Vec<Arc<Place>>,
+}
+
+impl Model for KnownPlaces {
+    ghost use Rattle.std.specs.Prelude.{◌≡◌, map};
+    ghost use Rattle.std.specs.Arc.{arc_value};
+    ghost use Rattle.indexmap.specs.IndexMap.{keys, values};
+    ghost use Rattle.gopher_catalogue.specs.Tables.{KnownData, known_with};
+
+    ghost Value = { KnownData };
+
+    ghost view = { λ k. known_with (map arc_value k.places.items) (values k.standings) };
+
+    ghost invariant = { λ k. map arc_value (keys k.standings) ≡ map arc_value k.places.items };
+}
+
+impl KnownPlaces {
+    /// An empty list.
+    pub fn new(alloc: Global) -> KnownPlaces
+        ensures places { result.places ≡ [] }
+        ensures standings { result.standings ≡ [] }
+    {
+        KnownPlaces {
+            standings: IndexMap::new(alloc),
+            places: Vec::new(alloc),
+        }
+    }
+
+    /// Returns the number of places.
+    pub fn len(&self) -> usize
+        ensures places { result ≡ length self.now.places }
+        ensures standings { result ≡ length self.now.standings }
+    {
+        self.places.len()
+    }
+
+    /// Returns the places, each at the index that is its number.
+    pub fn as_slice(&self) -> &[Arc<Place>]
+        ensures { map arc_value result.now ≡ self.now.places }
+    {
+        &self.places
+    }
+
+    /// Returns whether the place is known.
+    pub fn contains(&self, place: &Arc<Place>) -> bool
+        ensures { result ≡ is_among self.now.places (arc_value place.now) }
+    {
+        self.standings.contains_key(place)
+    }
+
+    /// Returns the state of the place with this number.
+    pub fn standing(&self, number: usize) -> Option<Standing>
+        ensures { result ≡ slice_get self.now.standings number }
+    {
+        let (_, standing) = self.standings.get_index(number)?;
+        Some(*standing)
+    }
+
+    /// Replaces the state of the place with this number.
+    pub fn set_standing(&mut self, number: usize, standing: Standing)
+        requires { number < length self.old.standings }
+        ensures places { self.new.places ≡ self.old.places }
+        ensures standings { self.new.standings ≡ slice_set self.old.standings number standing }
+    {
+        self.standings[number] = standing;
+    }
+
+    /// Appends a place that was never claimed.
+    pub fn add(&mut self, place: &Arc<Place>) -> Result<(), NoMemory>
+        requires { is_among self.old.places (arc_value place.now) ≡ false }
+        ensures places { OnOk result (IsWithPlace self.old self.new (arc_value place.now)) }
+        ensures standings { OnOk result (IsWithUnclaimed self.old self.new) }
+        ensures err { OnErr result (self.new ≡ self.old) }
+    {
+        self.places.reserve(1)?;
+        let listed = place.clone()?;
+        self.standings.insert(place.clone()?, Standing::UNCLAIMED)?;
+        self.places.push_reserved(listed);
+        Ok(())
+    }
+
+    /// Forgets all places after the first `len`.
+    pub fn truncate(&mut self, len: usize)
+        ensures places { self.new.places ≡ take len self.old.places }
+        ensures standings { self.new.standings ≡ take len self.old.standings }
+    {
+        self.standings.truncate(len);
+        self.places.truncate(len);
+    }
+}
+
+impl KnownPlaces {
+    /// Makes a place known unless it is known already, or `limit` places are. Returns whether the
+    /// mention was dropped.
+    pub fn mention(&mut self, limit: usize, place: &Arc<Place>) -> Result<bool, NoMemory>
+        ensures places { OnOk result (Mentions limit self.old self.new (arc_value place.now)) }
+        ensures dropped { IfOk result (IsDropped limit self.old (arc_value place.now)) }
+        ensures grows { OnOk result (Extends self.old self.new) }
+        ensures err { OnErr result (self.new ≡ self.old) }
+    {
+        if self.contains(place) {
+            return Ok(false);
+        }
+        if self.len() >= limit {
+            return Ok(true);
+        }
+        self.add(place)?;
+        Ok(false)
+    }
+
+    /// Mentions a link if the scope allows it. Returns whether the mention was dropped.
+    fn mention_link(
+        &mut self,
+        scope: &Scope,
+        limit: usize,
+        link: &Arc<Place>,
+    ) -> Result<bool, NoMemory>
+        ensures places { OnOk result (Links scope.now limit self.old self.new link.now) }
+        ensures dropped { IfOk result (IsDroppedLink scope.now limit self.old link.now) }
+        ensures grows { OnOk result (Extends self.old self.new) }
+        ensures err { OnErr result (self.new ≡ self.old) }
+    {
+        if scope.allows(link) {
+            self.mention(limit, link)
+        } else {
+            Ok(false)
+        }
+    }
+
+    /// Mentions the links that the scope allows. Returns the number of dropped mentions. When out
+    /// of memory it can leave new places known.
+    pub fn mention_links(
+        &mut self,
+        alloc: Global,
+        scope: &Scope,
+        limit: usize,
+        links: &Places,
+    ) -> Result<u32, NoMemory>
+        requires { length links.now ≤ MAX_REPLY }
+        ensures places { OnOk result (LinksAll scope.now limit self.old self.new links.now) }
+        ensures dropped { IfOk result (AreDropped limit self.old (allowed scope.now links.now)) }
+        ensures few { IfOk result (λ dropped. dropped ≤ length links.now) }
+        ensures grows { Extends self.old self.new }
+    {
+        let mut dropped = 0;
+        for index in 0..links.len() {
+            let link = Arc::new(alloc, links.get(index).to_place(alloc)?)?;
+            dropped += u32::from(self.mention_link(scope, limit, &link)?);
+        }
+        Ok(dropped)
+    }
+
+    /// Mentions the seeds of a crawl. Returns the number of dropped mentions. When out of memory it
+    /// can leave new places known.
+    pub fn mention_seeds(
+        &mut self,
+        alloc: Global,
+        limit: usize,
+        seeds: &[Place],
+    ) -> Result<u64, NoMemory>
+        ensures places { OnOk result (MentionsAll limit self.old self.new seeds.now) }
+        ensures dropped { IfOk result (AreDropped limit self.old seeds.now) }
+        ensures few { IfOk result (λ dropped. dropped ≤ length seeds.now) }
+        ensures grows { Extends self.old self.new }
+    {
+        let mut dropped = 0;
+        for seed in seeds {
+            let place = Arc::new(alloc, seed.clone()?)?;
+            dropped += u64::from(self.mention(limit, &place)?);
+        }
+        Ok(dropped)
+    }
+}
