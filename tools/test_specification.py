@@ -65,7 +65,7 @@ class Manual(unittest.TestCase):
         self.assertEqual(told, stated - answers)
 
     def test_messages_of_a_running_server_are_those_of_the_code(self):
-        crates = ("gopher_hole", "gopher_server", "gopher_log_writer")
+        crates = ("gopher_hole", "gopher_server")
         printed = [words for crate in crates for words in re.findall(r'"hole: ([a-z][^"]+)"', sources(crate))]
         # a head up to what differs each time
         told = [re.split(r"\b[A-Z]+\b", head)[0].strip() for head, _ in entries(manual("hole.1")) if re.match("[a-z]", head)]

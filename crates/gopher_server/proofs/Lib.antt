@@ -1,0 +1,4 @@
+mod Appends
+mod Escapes
+mod Handing
+mod HeldLemmas

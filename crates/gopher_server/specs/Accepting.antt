@@ -1,19 +1,45 @@
--- What an error of accept(2) means, by its number on Linux.
-use Rattle.std.specs.Prelude.{ℕ, ◌==◌, Bool, ◌||◌, if◌then◌else◌}
-use Rattle.gopher_server.specs.declared.accepting.AcceptFailure.{AcceptFailure}
-use Rattle.gopher_server.specs.declared.accepting.AcceptFailure.TheVariants.{IsLost, IsShort, IsBroken}
+-- Whether a server thread accepts connections.
+use Rattle.std.specs.Prelude.{ℕ, ◌+◌, ◌^◌, ◌-◌, Bool, true, false, not, ◌&&◌, nat_le, min, if◌then◌else◌, Option, None, Some}
+use Rattle.gopher_server.specs.declared.decisions.accepting.Accepting.{Accepting}
+use Rattle.gopher_server.specs.declared.decisions.accepting.Accepting.TheVariants.{Watches, Leaves, Pauses, Ended}
+use Rattle.gopher_server.specs.declared.decisions.accepting.AcceptEvent.{AcceptEvent}
+use Rattle.gopher_server.specs.declared.decisions.accepting.AcceptEvent.TheVariants.{IsShort, Ends, Round}
+use Rattle.gopher_server.specs.declared.decisions.accepting.AcceptDuty.{AcceptDuty}
+use Rattle.gopher_server.specs.declared.decisions.accepting.AcceptDuty.TheVariants.{Nothing, Watch, HandOver, End}
 
--- ENOMEM, ENFILE, EMFILE, ENOBUFS
-abbrev pub is_short : ℕ → Bool
-is_short error = (((error == 12) || (error == 23)) || (error == 24)) || (error == 105)
+-- a pause that begins now ends after 100 ms
+abbrev pub pause : ℕ → Accepting
+pause now = Pauses (min (now + 100) (2 ^ 64 - 1))
 
--- EPERM, EINTR, ENONET, EPROTO, ENOPROTOOPT, EOPNOTSUPP, ENETDOWN, ENETUNREACH, ECONNABORTED,
--- EHOSTDOWN, EHOSTUNREACH
-abbrev pub is_lost : ℕ → Bool
-is_lost error =
-    ((((((((((error == 1) || (error == 4)) || (error == 64)) || (error == 71)) || (error == 92))
-    || (error == 95)) || (error == 100)) || (error == 101)) || (error == 103)) || (error == 112))
-    || (error == 113)
+-- after the end of its accepting, a thread accepts nothing more; it pauses if descriptors or memory
+-- are short; at the end of a round it leaves new connections to other threads while it holds many
+-- more than its share, except that a pause isn't cut short
+abbrev pub after_event : Accepting → AcceptEvent → ℕ → Accepting
+after_event Ended event now = Ended
+after_event state Ends now = Ended
+after_event state IsShort now = pause now
+after_event (Pauses until) (Round leaves) now =
+    if nat_le until now then Watches else Pauses until
+after_event state (Round leaves) now = if leaves then Leaves else Watches
 
-abbrev pub failure_of : ℕ → AcceptFailure
-failure_of error = if is_short error then IsShort else (if is_lost error then IsLost else IsBroken)
+-- whether the system reports to the thread that connections wait
+abbrev pub is_watching : Accepting → Bool
+is_watching Watches = true
+is_watching state = false
+
+abbrev pub has_ended : Accepting → Bool
+has_ended Ended = true
+has_ended state = false
+
+-- what a change of state asks of a thread: one that watches no longer hands over to the others, and
+-- so does one that ends, for good
+abbrev pub duty_at : Accepting → Accepting → AcceptDuty
+duty_at old new =
+    if has_ended new && not (has_ended old) then End
+    else (if is_watching old && not (is_watching new) then HandOver
+    else (if is_watching new && not (is_watching old) then Watch else Nothing))
+
+-- the end of the pause, if the thread pauses
+abbrev pub pause_end : Accepting → Option ℕ
+pause_end (Pauses until) = Some until
+pause_end state = None

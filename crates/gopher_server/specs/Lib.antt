@@ -1,1 +1,16 @@
+pub mod AcceptFailure
 pub mod Accepting
+pub mod Deadlines
+pub mod Moment
+pub mod Escaped
+pub mod RequestLine
+pub mod Batch
+pub mod ThreadLog
+pub mod Pending
+pub mod Places
+pub mod Rests
+pub mod Timing
+pub mod UseOrder
+pub mod Waits
+pub mod WorkQueue
+pub mod Held

@@ -1,12 +1,12 @@
 //! How a server thread accepts connections: its listeners, its quota, and its pauses.
 
 ghost use Rattle.std.specs.Prelude.{◌≡◌};
-ghost use Rattle.gopher_connections.specs.declared.accepting.Accepting.TheVariants.{Ended};
-ghost use Rattle.gopher_connections.specs.declared.accepting.AcceptEvent.TheVariants.{Ends};
+ghost use Rattle.gopher_server.specs.declared.decisions.accepting.Accepting.TheVariants.{Ended};
+ghost use Rattle.gopher_server.specs.declared.decisions.accepting.AcceptEvent.TheVariants.{Ends};
 
+use crate::decisions::{AcceptDuty, AcceptEvent, Accepting};
 use crate::listeners::{unwatch, watch};
 use crate::shared::ServerShared;
-use gopher_connections::{AcceptDuty, AcceptEvent, Accepting};
 use mio::Poll;
 use mio::net::{TcpListener, TcpStream};
 use std::io;

@@ -1,8 +1,8 @@
 //! One connection with a client.
 
+use crate::logging::{Accepted, ThreadLog};
 use crate::send_buffer::ReplyWriter;
 use gopher_conversation::{Answers, Conversation, Progress, ServeFault, converse};
-use gopher_log_writer::{Accepted, ThreadLog};
 use gopher_text::Watched;
 use mio::net::TcpStream;
 use mio::{Interest, Registry, Token};

@@ -7,14 +7,17 @@
 //!
 //! Contracts here say what an error of accept(2) means, how the clock counts, and that a
 //! failed thread accepts nothing more; otherwise only that calls are safe. `gopher_conversation`
-//! promises what a client receives, and `gopher_connections` what the thread decides: how long it
-//! waits for events, when it accepts, which connection is closed, and which search is next.
+//! promises what a client receives. Contracts of `decisions` say what the thread decides: how long
+//! it waits for events, when it accepts, which connection is closed, and which search is next. Those
+//! of `logging` say what a line of the log is, and which bytes of the log are written.
 #![tactic(auto)]
 
-mod accepting;
+mod accept_failure;
 mod acceptor;
 mod connection;
+mod decisions;
 mod listeners;
+mod logging;
 mod send_buffer;
 mod server;
 mod setup;
@@ -24,6 +27,7 @@ mod thread_end;
 mod waiting;
 
 pub use listeners::MAX_LISTENERS;
+pub use logging::{Log, LogQueue, OpenLog, start_log};
 pub use send_buffer::limit_send_buffers;
 pub use server::serve;
 pub use setup::{ThreadSetup, max_connections, set_up};

@@ -1,19 +1,19 @@
 //! A server thread at work (`serve`): accepting clients, and its round of events.
 
 ghost use Rattle.std.specs.Prelude.{◌≡◌};
-ghost use Rattle.gopher_connections.specs.declared.accepting.Accepting.TheVariants.{Ended};
+ghost use Rattle.gopher_server.specs.declared.decisions.accepting.Accepting.TheVariants.{Ended};
 ghost use Rattle.gopher_server.specs.declared.thread_end.ThreadEnd.TheVariants.{Failed};
 
-use crate::accepting::{AcceptFailure, failure_of};
+use crate::accept_failure::{AcceptFailure, failure_of};
 use crate::acceptor::Acceptor;
 use crate::connection::{BUFFER_BYTES, Connection, NextStep};
+use crate::decisions::{AcceptEvent, AcceptRun, Held, longest_wait};
 use crate::listeners::{WAKER, listener_index};
+use crate::logging::ThreadLog;
 use crate::setup::ThreadSetup;
 use crate::thread_clock::{ThreadClock, millis_of};
 use crate::thread_end::ThreadEnd;
-use gopher_connections::{AcceptEvent, AcceptRun, Held, longest_wait};
 use gopher_conversation::Answers;
-use gopher_log_writer::ThreadLog;
 use mio::net::TcpStream;
 use mio::{Events, Poll};
 use std::alloc::Global;

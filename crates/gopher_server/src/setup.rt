@@ -1,10 +1,10 @@
 //! What server threads need of the system, made before they start (`set_up`).
 
+use crate::decisions::{AcceptQuota, Places, max_places, other_files, serves_crawl};
 use crate::listeners::{WAKER, watch};
+use crate::logging::{LogQueue, ThreadLog};
 use crate::shared::ServerShared;
-use gopher_connections::{AcceptQuota, Places, max_places, other_files, serves_crawl};
 use gopher_item::NoMemory;
-use gopher_log_writer::{LogQueue, ThreadLog};
 use mio::net::TcpListener;
 use mio::{Events, Poll, Token, Waker};
 use std::alloc::Global;

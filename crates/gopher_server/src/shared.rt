@@ -1,6 +1,6 @@
 //! The state that all server threads share.
 
-use gopher_connections::{AcceptQuota, Places};
+use crate::decisions::{AcceptQuota, Places};
 use mio::Waker;
 
 /// The state that all server threads share: how many connections they accept and hold together, and

@@ -2,8 +2,8 @@
 //! their reply.
 
 use crate::connection::{Connection, NextStep};
+use crate::decisions::EventMeaning;
 use crate::server::Server;
-use gopher_connections::EventMeaning;
 use gopher_conversation::Answers;
 use std::sync::Wait;
 use std::time::Clock;

@@ -1,4 +1,0 @@
-pub mod Moment
-pub mod Escaped
-pub mod RequestLine
-pub mod Batch

@@ -1,4 +1,0 @@
-pub mod Batches
-pub mod Pending
-pub mod Rests
-pub mod Timing

@@ -1,0 +1,81 @@
+-- Keys of connections that are held, each once.
+use Rattle.std.proofs.Common.{◌≡◌, ℕ, ◌+◌, ◌≤◌, ◌==◌, Bool, true, false, not, cond, if◌then◌else◌, List, [], ◌∷◌, ◌++◌, length, nat_eq, Option, None, Some, Result, Ok, Err, OnOk, OnErr, refl, sym, ap, subst, ◌∙◌, arith}
+use Rattle.std.proofs.lemmas.Bool.Decides.{nat_tests}
+use Rattle.std.specs.List.{filter, list_any}
+use Rattle.std.specs.Map.{lookup, lookup_entry, remove_entry}
+use Rattle.std.specs.Option.{is_some, option_map, option_map_or}
+use Rattle.lru.specs.LruCache.{promoted}
+use Rattle.lru.proofs.CallerLemmas.{Contains-lookup_entry}
+use Rattle.lru.proofs.Pairs.{lookup-lookup_entry}
+use Rattle.gopher_server.specs.WorkQueue.{occurs, has_key, with_key, without_key}
+use Rattle.gopher_server.specs.Held.{AreHeldOnce}
+
+occurs_without : (k key : ℕ) (keys : List ℕ) → occurs k (without_key key keys) ≤ occurs k keys
+occurs_without k key [] = omega arith
+occurs_without k key (x ∷ xs) = grind (arith, nat_tests, occurs_without k key xs)
+
+occurs_gone : (key : ℕ) (keys : List ℕ) → occurs key (without_key key keys) ≡ 0
+occurs_gone key [] = refl
+occurs_gone key (x ∷ xs) = grind (arith, nat_tests, occurs_gone key xs)
+
+occurs_none : (key : ℕ) (keys : List ℕ) → has_key key keys ≡ false → occurs key keys ≡ 0
+occurs_none key [] none = refl
+occurs_none key (x ∷ xs) none = grind (arith, nat_tests, occurs_none key xs)
+
+occurs_added : (k key : ℕ) (keys : List ℕ) → occurs k (keys ++ key ∷ []) ≡ occurs k keys + cond (key == k) 1 0
+occurs_added k key [] = grind (arith, nat_tests)
+occurs_added k key (x ∷ xs) = grind (arith, nat_tests, occurs_added k key xs)
+
+module _ {X : Type 0} where
+  lookup_other : (k key : ℕ) (es : List (ℕ × X)) → nat_eq k key ≡ false → lookup (nat_eq k) (remove_entry (nat_eq key) es) ≡ lookup (nat_eq k) es
+  lookup_other k key [] apart = refl
+  lookup_other k key (e ∷ es) apart = grind (arith, nat_tests, lookup_other k key es apart)
+
+  pub less_once : (key : ℕ) (keys : List ℕ) (es : List (ℕ × X)) → AreHeldOnce keys es → AreHeldOnce (without_key key keys) es
+  less_once key keys es once k = omega (arith, occurs_without k key keys, once k)
+
+  pub ended_once : (key : ℕ) (keys : List ℕ) (es : List (ℕ × X)) → AreHeldOnce keys es → AreHeldOnce (without_key key keys) (remove_entry (nat_eq key) es)
+  ended_once key keys es once k = by (nat_eq k key) refl
+    where
+      by : (same : Bool) → nat_eq k key ≡ same → occurs k (without_key key keys) ≤ (if is_some (lookup (nat_eq k) (remove_entry (nat_eq key) es)) then 1 else 0)
+      by true e = let is : k ≡ key = grind (arith, nat_tests) in let none : occurs k (without_key key keys) ≡ 0 = rw is (occurs_gone key keys) in omega (arith, none)
+      by false e = rw (lookup_other k key es e) (less_once key keys es once k)
+
+  more_once : (key : ℕ) (keys : List ℕ) (es : List (ℕ × X)) → is_some (lookup (nat_eq key) es) ≡ true → AreHeldOnce keys es → AreHeldOnce (with_key key keys) es
+  more_once key keys es held once k = by (has_key key keys) refl
+    where
+      by : (has : Bool) → has_key key keys ≡ has → occurs k (with_key key keys) ≤ (if is_some (lookup (nat_eq k) es) then 1 else 0)
+      by true e = rw e (once k)
+      by false e = rw e (also (key == k) refl)
+        where
+          also : (same : Bool) → (key == k) ≡ same → occurs k (keys ++ key ∷ []) ≤ (if is_some (lookup (nat_eq k) es) then 1 else 0)
+          also true s = let is : key ≡ k = grind (arith, nat_tests) in subst (λ j. occurs j (keys ++ key ∷ []) ≤ (if is_some (lookup (nat_eq j) es) then 1 else 0)) is (rw held (grind (arith, nat_tests, occurs_added key key keys, occurs_none key keys e)))
+          also false s = grind (arith, nat_tests, occurs_added k key keys, once k)
+
+  lookup_promoted : (k key : ℕ) (es : List (ℕ × X)) → is_some (lookup (nat_eq k) (promoted (nat_eq key) es)) ≡ is_some (lookup (nat_eq k) es)
+  lookup_promoted k key es = by (lookup_entry (nat_eq key) es) refl
+    where
+      by : (found : Option (ℕ × X)) → lookup_entry (nat_eq key) es ≡ found → is_some (lookup (nat_eq k) (option_map_or (λ e. e ∷ remove_entry (nat_eq key) es) found es)) ≡ is_some (lookup (nat_eq k) es)
+      by None e = refl
+      by (Some pair) e = also (nat_eq k key) refl
+        where
+          at_key : nat_eq key pair.0 ≡ true
+          at_key = (Contains-lookup_entry (nat_eq key) es pair e).1
+
+          there : lookup (nat_eq key) es ≡ Some pair.1
+          there = sym (lookup-lookup_entry (nat_eq key) es) ∙ ap (option_map (λ p. p.1)) e
+
+          also : (same : Bool) → nat_eq k key ≡ same → is_some (lookup (nat_eq k) (pair ∷ remove_entry (nat_eq key) es)) ≡ is_some (lookup (nat_eq k) es)
+          also true s = let is : key ≡ k = grind (arith, nat_tests) in subst (λ j. is_some (lookup (nat_eq j) (pair ∷ remove_entry (nat_eq key) es)) ≡ is_some (lookup (nat_eq j) es)) is (rw at_key (rw there refl))
+          also false s = let apart : nat_eq k pair.0 ≡ false = grind (arith, nat_tests, at_key) in rw apart (ap is_some (lookup_other k key es s))
+
+  pub promoted_once : (key : ℕ) (keys : List ℕ) (es : List (ℕ × X)) → AreHeldOnce keys es → AreHeldOnce keys (promoted (nat_eq key) es)
+  promoted_once key keys es once k = rw (lookup_promoted k key es) (once k)
+
+  pub moved : (keys : List ℕ) {after : List ℕ} (es : List (ℕ × X)) {left : List (ℕ × X)} → after ≡ keys → left ≡ es → AreHeldOnce keys es → AreHeldOnce after left
+  moved keys {after} es {left} same others once = subst (λ ks. AreHeldOnce ks left) (sym same) (subst (AreHeldOnce keys) (sym others) once)
+
+  -- keys after one was added, unless there was no memory
+  pub grown_once : {A B : Type 0} (result : Result A B) (key : ℕ) (keys after : List ℕ) (es : List (ℕ × X)) → OnOk result (after ≡ with_key key keys) → OnErr result (after ≡ keys) → is_some (lookup (nat_eq key) es) ≡ true → AreHeldOnce keys es → AreHeldOnce after es
+  grown_once (Ok _) key keys after es added same held once = moved (with_key key keys) es added refl (more_once key keys es held once)
+  grown_once (Err _) key keys after es added same held once = moved keys es same refl once

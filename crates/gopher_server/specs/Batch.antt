@@ -1,0 +1,42 @@
+-- Lines of requests that are gathered before they are written.
+use Rattle.std.specs.Prelude.{ℕ, ◌+◌, ◌&&◌, ◌==◌, Bool, List, [], ◌++◌, codes, length, min, nat_le, if◌then◌else◌}
+use Rattle.std.specs.Fmt.{decimal}
+use Rattle.gopher_server.specs.RequestLine.{RequestData, logged_bytes}
+
+-- the lines, as bytes, and the number of requests that were dropped since the last of them
+pub record BatchData : Type 0 where
+  pub written : List ℕ
+  pub dropped : ℕ
+
+abbrev pub no_lines : BatchData
+no_lines = record { written = []; dropped = 0 }
+
+abbrev pub is_full : BatchData → Bool
+is_full batch = nat_le 65_536 (length batch.written)
+
+abbrev pub is_empty : BatchData → Bool
+is_empty batch = (length batch.written == 0) && (batch.dropped == 0)
+
+-- one more request was dropped; the count stops at 2^64 - 1
+abbrev pub with_dropped : BatchData → BatchData
+with_dropped batch =
+    record { written = batch.written; dropped = min (batch.dropped + 1) 18_446_744_073_709_551_615 }
+
+abbrev pub with_line : BatchData → RequestData → BatchData
+with_line batch request =
+    record { written = batch.written ++ logged_bytes request; dropped = batch.dropped }
+
+-- a batch that is full takes no line
+abbrev pub with_request : BatchData → RequestData → BatchData
+with_request batch request = if is_full batch then with_dropped batch else with_line batch request
+
+abbrev pub dropped_line : ℕ → List ℕ
+dropped_line dropped = codes "# dropped " ++ decimal dropped ++ codes "\n"
+
+-- the lines, followed by the line of the dropped requests, if any were dropped
+abbrev pub all_told : BatchData → List ℕ
+all_told batch =
+    if batch.dropped == 0 then batch.written else batch.written ++ dropped_line batch.dropped
+
+abbrev pub with_told : BatchData → BatchData
+with_told batch = record { written = all_told batch; dropped = 0 }

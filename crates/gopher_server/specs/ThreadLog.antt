@@ -1,0 +1,28 @@
+-- The lines of a server thread, until it hands them on.
+use Rattle.std.specs.Prelude.{◌≡◌, ◌⊎◌, ℕ, List}
+use Rattle.std.specs.Net.Text.{ip_text}
+use Rattle.std.specs.declared.net.ip_addr.IpAddr.{IpAddr}
+use Rattle.gopher_server.specs.RequestLine.{RequestData}
+use Rattle.gopher_server.specs.Batch.{BatchData, no_lines, with_request, with_dropped}
+
+-- a batch was handed on whole, or was kept whole
+abbrev pub IsHandedOn : BatchData → BatchData → Type 0
+IsHandedOn before after = (after ≡ no_lines) ⊎ (after ≡ before)
+
+-- the line of a request was added to a batch, or the request was counted as dropped
+abbrev pub AddsRequestTo : RequestData → BatchData → BatchData → Type 0
+AddsRequestTo request before after =
+    (after ≡ with_request before request) ⊎ (after ≡ with_dropped before)
+
+-- the line of a request, from this address, with this line asked and this many bytes sent, was
+-- added to a batch or to the next one
+abbrev pub AddsRequest : IpAddr → List ℕ → ℕ → BatchData → BatchData → Type 0
+AddsRequest peer asked sent before after =
+    (request : RequestData) × (request.peer ≡ ip_text peer) × (request.asked ≡ asked)
+    × (request.sent ≡ sent)
+    × ((between : BatchData) × IsHandedOn before between × AddsRequestTo request between after)
+
+-- a request was added, unless nothing happened
+abbrev pub AddsLine : IpAddr → List ℕ → ℕ → BatchData → BatchData → Type 0
+AddsLine peer asked sent before after =
+    (after ≡ before) ⊎ AddsRequest peer asked sent before after

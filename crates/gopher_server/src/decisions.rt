@@ -1,0 +1,28 @@
+//! What a server thread decides: which connection was idle longest, which are past their deadline,
+//! whose search is next, how long it may wait for events, when it accepts and when it wakes the
+//! other threads, how many connections the server may hold, and how many it still accepts.
+//!
+//! No socket, thread or clock appears here: a connection is whatever the server keeps, and times
+//! are numbers. The server uses these contracts: a key returns the connection that was taken in at
+//! it, the connection idle longest is the one touched least recently, no connection ends before its
+//! deadline, searches are served first in, first out, a connection that ends leaves the queue, a
+//! thread waits no longer than until its next work, and one that stops accepting hands over to the
+//! others.
+//!
+//! Error 90 (`AllocError`) means out of memory, and leaves everything unchanged. Calls that can't
+//! fail with it allocate nothing.
+
+mod accepting;
+mod deadlines;
+mod held;
+mod places;
+mod quota;
+mod use_order;
+mod waits;
+mod work_queue;
+
+pub use accepting::{AcceptDuty, AcceptEvent, AcceptRun, Accepting};
+pub use held::{EventMeaning, Held};
+pub use places::{Places, max_places, other_files, serves_crawl};
+pub use quota::AcceptQuota;
+pub use waits::longest_wait;

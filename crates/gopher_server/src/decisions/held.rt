@@ -1,0 +1,244 @@
+//! The connections that a server thread holds, and what each is doing.
+
+ghost use Rattle.std.specs.Prelude.{◌≡◌, ◌==◌, [], length, nat_eq, nat_lt, Some, IfOk, IfErr, OnOk, OnErr};
+ghost use Rattle.std.specs.Option.{option_map, option_copied_mut};
+ghost use Rattle.std.specs.Borrow.{sem};
+ghost use Rattle.std.specs.Map.{remove_entry};
+ghost use Rattle.lru.specs.LruCache.{last_entry, promoted};
+ghost use Rattle.gopher_server.specs.Deadlines.{TakesIfDue, first_deadline};
+ghost use Rattle.gopher_server.specs.WorkQueue.{first_key, without_key};
+ghost use Rattle.gopher_server.specs.Held.{added, connection, held_entries, IsSound, large_of, Lingers, LendsHeld, meaning_at, queue, queue_after, PutsHeld};
+
+use crate::decisions::deadlines::Deadlines;
+use crate::decisions::use_order::UseOrder;
+use crate::decisions::work_queue::WorkQueue;
+use std::alloc::{AllocError, Global};
+
+// For how many milliseconds a connection lingers at most. No more than 128 KiB of its reply are
+// still in the system by then, so that each client receives all that takes 8 KiB a second.
+const LINGER: u64 = 16_000;
+
+// The most connections of a thread that have a larger queue.
+const MAX_LARGE: usize = 16;
+
+/// What an event means for the connection that it names.
+#[derive(Clone, Copy)]
+pub enum EventMeaning {
+    /// There is nothing to do.
+    Nothing,
+    /// The connection goes on.
+    GoesOn,
+    /// The connection is closed: a search makes its reply, and its client is gone.
+    Closes,
+}
+
+/// The connections that a server thread holds. Each is in one of three states: its key is in the
+/// queue of searches, or its reply is sent and it lingers until its deadline, or it waits for its
+/// client.
+///
+/// Contracts see the pairs of keys and connections as `held_entries`, the most recently used first,
+/// the keys of those that search as `queue`, the next one first, and the keys of those that have a
+/// larger queue in the system as `large_of`.
+#[derive(Drop)]
+pub struct Held<T: Drop> {
+    connections: UseOrder<T>,
+    searching: WorkQueue,
+    large: WorkQueue,
+    deadlines: Deadlines,
+}
+
+impl<T: Drop> Held<T> {
+    /// Makes an empty collection.
+    pub fn new(alloc: Global) -> Result<Held<T>, AllocError>
+        ensures none { IfOk result (λ none. held_entries none ≡ []) }
+        ensures queue { IfOk result (λ none. queue none ≡ []) }
+        ensures large { IfOk result (λ none. large_of none ≡ []) }
+        ensures sound { IfOk result IsSound }
+    {
+        Ok(Held {
+            connections: UseOrder::new(alloc)?,
+            searching: WorkQueue::new(alloc),
+            large: WorkQueue::new(alloc),
+            deadlines: Deadlines::new(alloc),
+        })
+    }
+
+    /// Returns the number of connections.
+    pub fn len(&self) -> usize
+        ensures { result ≡ length (held_entries self.now) }
+    {
+        self.connections.len()
+    }
+
+    /// Returns whether there are no connections.
+    pub fn is_empty(&self) -> bool
+        ensures { result ≡ (length (held_entries self.now) == 0) }
+    {
+        self.connections.is_empty()
+    }
+
+    /// Takes in a connection at a new key and returns the key. The connection is then the most
+    /// recently used, and waits for its client.
+    ///
+    /// # Errors
+    ///
+    /// The connection that was passed in, if out of memory; nothing changes.
+    pub fn take_in(&mut self, taken: T) -> Result<usize, T>
+        ensures named { IfOk result (λ key. connection self.new key ≡ Some taken) }
+        ensures others { OnOk result (PutsHeld self.old self.new taken) }
+        ensures returned { IfErr result (λ refused. refused ≡ taken) }
+        ensures kept { OnErr result (self.new ≡ self.old) }
+        ensures queue { queue self.new ≡ queue self.old }
+        ensures large { large_of self.new ≡ large_of self.old }
+    {
+        self.connections.put(taken)
+    }
+
+    /// Returns the connection at a key, or `None` if there is none. What is written to it stays at
+    /// that key, and nothing else changes.
+    pub fn get_mut(&mut self, key: usize) -> Option<&mut T>
+        ensures* written { sem 𝓛 (LendsHeld T.row self.entry key result) }
+        ensures found { option_copied_mut result ≡ connection self.old key }
+    {
+        self.connections.get_mut(key)
+    }
+
+    /// Returns the key of the connection that was used least recently. Takes constant time.
+    pub fn idle_longest(&self) -> Option<usize>
+        ensures { result ≡ option_map (λ pair. pair.0) (last_entry (held_entries self.now)) }
+    {
+        self.connections.idle_longest()
+    }
+
+    /// Makes the connection at a key the most recently used.
+    pub fn touch(&mut self, key: usize)
+        ensures first { held_entries self.new ≡ promoted (nat_eq key) (held_entries self.old) }
+        ensures queue { queue self.new ≡ queue self.old }
+        ensures large { large_of self.new ≡ large_of self.old }
+        ensures sound { IsSound self.old → IsSound self.new }
+    {
+        let _found = self.connections.touch(key);
+    }
+
+    /// Ends the connection at a key: removes it from all that it was in. Returns it, or `None` if
+    /// there is none.
+    pub fn end(&mut self, key: usize) -> Option<T>
+        ensures taken { result ≡ connection self.old key }
+        ensures others { held_entries self.new ≡ remove_entry (nat_eq key) (held_entries self.old) }
+        ensures queue { queue self.new ≡ without_key key (queue self.old) }
+        ensures large { large_of self.new ≡ without_key key (large_of self.old) }
+        ensures sound { IsSound self.old → IsSound self.new }
+    {
+        self.searching.remove(key);
+        self.large.remove(key);
+        self.connections.remove(key)
+    }
+
+    /// Returns what an event means for the connection at a key, whose client takes nothing more if
+    /// `is_gone`. A connection in the queue of searches goes on in its turn.
+    pub fn event_meaning(&self, key: usize, is_gone: bool) -> EventMeaning
+        ensures { result ≡ meaning_at self.now key is_gone }
+    {
+        if !self.connections.contains(key) {
+            EventMeaning::Nothing
+        } else if !self.searching.contains(key) {
+            EventMeaning::GoesOn
+        } else if is_gone {
+            EventMeaning::Closes
+        } else {
+            EventMeaning::Nothing
+        }
+    }
+
+    // ---- searches
+
+    /// Puts a connection whose reply a search makes behind the others in the queue, unless it is in
+    /// the queue.
+    pub fn queue_search(&mut self, key: usize) -> Result<(), AllocError>
+        ensures queue { OnOk result (queue self.new ≡ added self.old key (queue self.old)) }
+        ensures refused { OnErr result (queue self.new ≡ queue self.old) }
+        ensures others { held_entries self.new ≡ held_entries self.old }
+        ensures large { large_of self.new ≡ large_of self.old }
+        ensures sound { IsSound self.old → IsSound self.new }
+    {
+        if !self.connections.contains(key) {
+            return Ok(());
+        }
+        self.searching.add(key)
+    }
+
+    /// Returns the key of the connection whose search is next, or `None` if none searches.
+    pub fn next_search(&self) -> Option<usize>
+        ensures { result ≡ first_key (queue self.now) }
+    {
+        self.searching.first()
+    }
+
+    /// Ends a turn of the search of the connection at a key, which is then the most recently used.
+    /// If the search goes on, it keeps its place in the queue, otherwise it leaves the queue.
+    pub fn end_turn(&mut self, key: usize, goes_on: bool)
+        ensures first { held_entries self.new ≡ promoted (nat_eq key) (held_entries self.old) }
+        ensures queue { queue self.new ≡ queue_after goes_on key (queue self.old) }
+        ensures large { large_of self.new ≡ large_of self.old }
+        ensures sound { IsSound self.old → IsSound self.new }
+    {
+        self.touch(key);
+        if !goes_on {
+            self.searching.remove(key);
+        }
+    }
+
+    // ---- lingering
+
+    /// Has the connection at a key linger for 16 s (`LINGER`) from `now`. All connections linger
+    /// for the same time, so the first deadline is the earliest.
+    pub fn linger(&mut self, key: usize, now: u64) -> Result<(), AllocError>
+        ensures set { OnOk result (Lingers self.old self.new key now) }
+        ensures others { held_entries self.new ≡ held_entries self.old }
+        ensures queue { queue self.new ≡ queue self.old }
+        ensures large { large_of self.new ≡ large_of self.old }
+    {
+        self.deadlines.set(key, now.saturating_add(LINGER))
+    }
+
+    /// Returns the first deadline, or `None` if there is none.
+    pub fn first_deadline(&self) -> Option<u64>
+        ensures { result ≡ first_deadline self.now.deadlines.queue.items }
+    {
+        self.deadlines.first()
+    }
+
+    /// Removes the first deadline and returns its key, if the deadline isn't after the time `now`.
+    pub fn take_due(&mut self, now: u64) -> Option<usize>
+        ensures due { TakesIfDue now self.old.deadlines self.new.deadlines result }
+        ensures others { held_entries self.new ≡ held_entries self.old }
+        ensures queue { queue self.new ≡ queue self.old }
+        ensures large { large_of self.new ≡ large_of self.old }
+    {
+        self.deadlines.take_due(now)
+    }
+
+    // ---- larger queues
+
+    /// Returns whether one more connection may have a larger queue: fewer than 16 (`MAX_LARGE`)
+    /// have one.
+    pub fn may_enlarge(&self) -> bool
+        ensures { result ≡ nat_lt (length (large_of self.now)) 16 }
+    {
+        self.large.len() < MAX_LARGE
+    }
+
+    /// Records that the connection at a key has a larger queue.
+    pub fn mark_large(&mut self, key: usize) -> Result<(), AllocError>
+        ensures large { OnOk result (large_of self.new ≡ added self.old key (large_of self.old)) }
+        ensures refused { OnErr result (large_of self.new ≡ large_of self.old) }
+        ensures others { held_entries self.new ≡ held_entries self.old }
+        ensures queue { queue self.new ≡ queue self.old }
+        ensures sound { IsSound self.old → IsSound self.new }
+    {
+        if !self.connections.contains(key) {
+            return Ok(());
+        }
+        self.large.add(key)
+    }
+}

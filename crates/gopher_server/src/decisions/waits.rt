@@ -1,0 +1,45 @@
+//! How long a server thread may wait for events.
+
+ghost use Rattle.std.specs.Prelude.{◌≡◌};
+ghost use Rattle.gopher_server.specs.Waits.{longest_wait as longest, shorter, wait_until};
+
+// How long it is until a time, from `now`.
+fn wait_until(now: u64, time: Option<u64>) -> Option<u64>
+    ensures { result ≡ wait_until now time }
+{
+    match time {
+        Some(time) => Some(time.saturating_sub(now)),
+        None => None,
+    }
+}
+
+// The shorter of two waits, if there are any.
+fn shorter(wait: Option<u64>, other: Option<u64>) -> Option<u64>
+    ensures { result ≡ shorter wait other }
+{
+    match (wait, other) {
+        (Some(wait), Some(other)) => Some(wait.min(other)),
+        (Some(wait), None) => Some(wait),
+        (None, other) => other,
+    }
+}
+
+/// Returns for how many milliseconds a server thread may wait for events; `None` if until one
+/// comes. It has work without an event while a search waits for its turn, at the end `resume` of
+/// its pause, at the first `deadline` of a connection, and once the `log` has kept lines for that
+/// long. Times are milliseconds by one clock.
+pub fn longest_wait(
+    searches: bool,
+    resume: Option<u64>,
+    deadline: Option<u64>,
+    log: Option<u64>,
+    now: u64,
+) -> Option<u64>
+    ensures { result ≡ longest searches resume deadline log now }
+{
+    if searches {
+        return Some(0);
+    }
+    let first = shorter(wait_until(now, resume), wait_until(now, deadline));
+    shorter(first, log)
+}

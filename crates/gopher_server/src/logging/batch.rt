@@ -1,0 +1,135 @@
+//! Lines of the log, gathered before they are written (`Batch`).
+
+ghost use Rattle.std.specs.Prelude.{◌≡◌, OnOk, OnErr};
+ghost use Rattle.gopher_server.specs.Batch.{is_full, is_empty, with_line, with_dropped, with_request, with_told, no_lines};
+
+use crate::logging::request_line::{RequestLine, push_request};
+use gopher_item::NoMemory;
+use itoa::Buffer;
+use std::alloc::Global;
+use std::marker::Model;
+use std::mem::replace;
+
+// A batch of this many bytes takes no further line.
+const MAX_BYTES: usize = 65_536;
+
+/// Lines of requests, and the number of requests that were dropped since the last of them. A line
+/// is added only while there are fewer than 65,536 bytes (`MAX_BYTES`).
+#[derive(Drop)]
+pub struct Batch {
+    written: Vec<u8>,
+    line: Vec<u8>,
+    dropped: u64,
+}
+
+impl Model for Batch {
+    ghost use Rattle.gopher_server.specs.Batch.{BatchData};
+
+    ghost Value = { BatchData };
+
+    ghost view = { λ b. record { written = b.written.items; dropped = b.dropped } };
+}
+
+impl Batch {
+    /// Makes a batch without lines.
+    pub fn new(alloc: Global) -> Batch
+        ensures { result ≡ no_lines }
+    {
+        Batch {
+            written: Vec::new(alloc),
+            line: Vec::new(alloc),
+            dropped: 0,
+        }
+    }
+
+    /// Returns whether it takes no further line, because it has 65,536 bytes (`MAX_BYTES`) or more.
+    pub fn is_full(&self) -> bool
+        ensures { result ≡ is_full self.now }
+    {
+        self.written.len() >= MAX_BYTES
+    }
+
+    /// Returns whether it has no line and no dropped request.
+    pub fn is_empty(&self) -> bool
+        ensures { result ≡ is_empty self.now }
+    {
+        self.written.is_empty() && self.dropped == 0
+    }
+
+    /// Appends the line of a request. A full batch counts the request as dropped instead.
+    ///
+    /// # Errors
+    ///
+    /// `NoMemory` (90): the request is counted as dropped.
+    pub fn add(&mut self, request: &RequestLine<'_>) -> Result<(), NoMemory>
+        ensures added { OnOk result (self.new ≡ with_request self.old request.now) }
+        ensures refused { OnErr result (self.new ≡ with_dropped self.old) }
+    {
+        if self.is_full() {
+            self.drop_one();
+            return Ok(());
+        }
+        if self.push(request).is_err() {
+            self.drop_one();
+            return Err(NoMemory);
+        }
+        Ok(())
+    }
+
+    // Appends the line of a request.
+    fn push(&mut self, request: &RequestLine<'_>) -> Result<(), NoMemory>
+        ensures written { OnOk result (self.new ≡ with_line self.old request.now) }
+        ensures refused { OnErr result (self.new ≡ self.old) }
+    {
+        self.line.clear();
+        push_request(&mut self.line, request)?;
+        self.written.extend_from_slice(&self.line)?;
+        Ok(())
+    }
+
+    // Counts a request that was dropped.
+    fn drop_one(&mut self)
+        ensures { self.new ≡ with_dropped self.old }
+    {
+        self.dropped = self.dropped.saturating_add(1);
+    }
+
+    /// Appends a line with the number of dropped requests, if there are any, and sets the number to
+    /// 0.
+    ///
+    /// # Errors
+    ///
+    /// `NoMemory` (90).
+    pub fn tell_dropped(&mut self) -> Result<(), NoMemory>
+        ensures told { OnOk result (self.new ≡ with_told self.old) }
+        ensures refused { OnErr result (self.new ≡ self.old) }
+    {
+        if self.dropped == 0 {
+            return Ok(());
+        }
+        let mut digits = Buffer::new();
+        self.line.clear();
+        self.line.extend_from_slice(b"# dropped ")?;
+        self.line
+            .extend_from_slice(digits.format(self.dropped).as_bytes())?;
+        self.line.push(b'\n')?;
+        self.written.extend_from_slice(&self.line)?;
+        self.dropped = 0;
+        Ok(())
+    }
+
+    /// Returns its lines.
+    pub fn lines(&self) -> &[u8]
+        ensures { result.now ≡ self.now.written }
+    {
+        &self.written
+    }
+
+    /// Returns its lines and its number of dropped requests as a batch, and leaves it empty.
+    pub fn take(&mut self, alloc: Global) -> Batch
+        ensures taken { result ≡ self.old }
+        ensures emptied { self.new ≡ no_lines }
+    {
+        replace(self, Batch::new(alloc))
+    }
+}

@@ -1,0 +1,228 @@
+//! The thread that writes the log.
+
+ghost use Rattle.std.specs.Prelude.{◌≡◌};
+ghost use Rattle.gopher_server.specs.Pending.{KeepsPending};
+
+use crate::logging::batch::Batch;
+use crate::logging::pending::{Pending, Step, step_after};
+use crate::logging::queue::LogQueue;
+use crate::logging::rests::Rests;
+use crate::logging::standard_error::{ErrorStream, STANDARD_ERROR};
+use crossbeam_channel::Receiver;
+use gopher_item::NoMemory;
+use std::alloc::Global;
+use std::fs::{File, OpenOptions};
+use std::io::{self, Eprint};
+use std::os::fd::AsRawFd;
+use std::sync::{Arc, Wait};
+use std::thread::{self, JoinHandle, Threads};
+use std::time::{Clock, Duration};
+
+/// The log of a server, while it is written.
+#[derive(Drop)]
+pub struct Log {
+    queue: Arc<LogQueue>,
+    thread: JoinHandle<()>,
+}
+
+// What the thread works with.
+#[derive(Drop)]
+struct LogWriter {
+    path: String,
+    file: Option<File>,
+    alloc: Global,
+    pending: Pending,
+    is_told: bool,
+}
+
+/// A runtime that opens logs. It is a trait of its own, because what is known of a type parameter's
+/// `Files` isn't known in another thread.
+pub trait OpenLog {
+    /// Opens a log for appending, and makes the file if there is none. A pipe is opened for reading
+    /// too, so that it can be opened and written while nobody reads it. Calls of the file don't
+    /// wait for a reader.
+    ///
+    /// # Errors
+    ///
+    /// The system's error.
+    fn open_log(&self, path: &str) -> io::Result<File>;
+}
+
+impl OpenLog for HostRuntime {
+    fn open_log(&self, path: &str) -> io::Result<File> {
+        let mut how = OpenOptions::new();
+        how.read(true).append(true).create(true);
+        let file = how.open(self, path)?;
+        let _refused = os::set_nonblocking(file.as_raw_fd(), true);
+        Ok(file)
+    }
+}
+
+impl LogWriter {
+    // Prints on the error stream, once, that the log can't be written.
+    fn tell(&mut self, rt: &impl Eprint, error: io::Error) {
+        if !self.is_told {
+            self.is_told = true;
+            let _ = rt.eprint("hole: the log can't be written: ");
+            let _ = rt.eprintln(error);
+        }
+    }
+
+    // Opens the file, if it isn't open.
+    fn open<R: OpenLog + Eprint>(&mut self, rt: &R) {
+        if self.file.is_some() || self.path.as_str() == STANDARD_ERROR {
+            return;
+        }
+        match rt.open_log(self.path.as_str()) {
+            Ok(file) => self.file = Some(file),
+            Err(error) => self.tell(rt, error),
+        }
+    }
+
+    // Waits for the next batch, if all of the last is written. Returns false if no more come.
+    fn take_next(
+        &mut self,
+        rt: &impl Wait,
+        receiver: &Receiver<Batch, Global>,
+        queue: &LogQueue,
+    ) -> bool
+        ensures { KeepsPending self.old.pending self.new.pending result }
+    {
+        if !self.pending.is_empty() {
+            return true;
+        }
+        let next = if queue.is_closed() {
+            receiver.try_recv(rt).ok()
+        } else {
+            receiver.recv(rt).ok()
+        };
+        let Some(batch) = next else {
+            return false;
+        };
+        self.pending = Pending::new(batch);
+        true
+    }
+
+    // Calls the file once with what is left of the batch. Without a file nothing is written.
+    fn write_once<R: Eprint>(&mut self, rt: &R) -> io::Result<usize>
+        requires { self.old.pending.batch.dropped ≡ 0 }
+    {
+        if self.path.as_str() == STANDARD_ERROR {
+            return self.pending.write_to(self.alloc, &mut ErrorStream { rt });
+        }
+        match &mut self.file {
+            Some(file) => self.pending.write_to(self.alloc, file),
+            None => Ok(0),
+        }
+    }
+
+    // Writes what is left of the batch, as far as the file takes it.
+    fn write<R: Eprint>(&mut self, rt: &R) -> Step
+        requires { self.old.pending.batch.dropped ≡ 0 }
+    {
+        match self.write_once(rt) {
+            Ok(0) => Step::Refused,
+            Ok(_) => Step::Written,
+            Err(error) => {
+                let step = step_after(error.kind());
+                if step == Step::Refused {
+                    self.tell(rt, error);
+                }
+                step
+            }
+        }
+    }
+
+    // Writes once, if there is something to write.
+    fn step<R: OpenLog + Eprint>(&mut self, rt: &R) -> Step {
+        if self.pending.is_empty() {
+            return Step::Written;
+        }
+        self.open(rt);
+        if self.pending.tell_dropped().is_err() {
+            return Step::Refused;
+        }
+        self.write(rt)
+    }
+}
+
+// Writes the batches of a queue until no more come. What the file doesn't take is tried again after
+// a rest; once no more batches come, it is given up after some tries.
+fn write_log<R: OpenLog + Wait + Clock + Eprint>(
+    rt: &R,
+    writer: LogWriter,
+    receiver: &Receiver<Batch, Global>,
+    queue: &LogQueue,
+) {
+    let mut writer = writer;
+    let mut rests = Rests::new();
+    writer.open(rt);
+    for _step in rt.forever() {
+        if !writer.take_next(rt, receiver, queue) {
+            return;
+        }
+        if writer.step(rt) == Step::Written {
+            rests = Rests::new();
+            continue;
+        }
+        match rests.next(queue.is_closed()) {
+            Some(millis) => thread::sleep(rt, Duration::from_millis(millis)),
+            None => return,
+        }
+    }
+    unreachable!()
+}
+
+// Starts the thread. `None` if the system refuses it.
+fn spawn_writer<R: OpenLog + Threads + Wait + Clock + Eprint + Clone + Send + Drop + 'static>(
+    rt: &R,
+    alloc: Global,
+    path: &str,
+) -> Result<Option<Log>, NoMemory> {
+    let (queue, receiver) = LogQueue::new(alloc)?;
+    let queue = Arc::new(alloc, queue)?;
+    let writer = LogWriter {
+        path: String::from_str(alloc, path)?,
+        file: None,
+        alloc,
+        pending: Pending::new(Batch::new(alloc)),
+        is_told: false,
+    };
+    let theirs = Arc::try_clone(&queue)?;
+    let Ok(runtime) = rt.clone() else {
+        return Err(NoMemory);
+    };
+    match thread::spawn(rt, move || write_log(&runtime, writer, &receiver, &theirs)) {
+        Ok(thread) => Ok(Some(Log { queue, thread })),
+        Err(_refused) => Ok(None),
+    }
+}
+
+/// Starts the thread that writes the log at `path`. If it can't be started, prints that on the
+/// error stream and returns `None`; then nothing is logged.
+pub fn start_log<R: OpenLog + Threads + Wait + Clock + Eprint + Clone + Send + Drop + 'static>(
+    rt: &R,
+    alloc: Global,
+    path: &str,
+) -> Option<Log> {
+    match spawn_writer(rt, alloc, path) {
+        Ok(Some(log)) => Some(log),
+        _ => {
+            let _ = rt.eprintln("hole: the log can't be written: its thread can't be started");
+            None
+        }
+    }
+}
+
+impl Log {
+    /// Returns the queue for server threads, or `None` if memory runs out.
+    pub fn queue(&self) -> Option<Arc<LogQueue>> {
+        Arc::try_clone(&self.queue).ok()
+    }
+
+    /// Ends the log: writes the batches that wait, as far as the file takes them.
+    pub fn end<R: Threads + Wait>(self, rt: &R, alloc: Global) {
+        self.queue.close(rt, alloc);
+        self.thread.join(rt);
+    }
+}
