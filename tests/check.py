@@ -166,6 +166,11 @@ def put(path, content=b""):
     return lambda site: site.add(path, content)
 
 
+def put_among_fifty(path):
+    """A file, and fifty others in its folder."""
+    return lambda site: [site.add(name) for name in (path, *(os.path.dirname(path) + b"/%02d" % number for number in range(50)))]
+
+
 def say(text):
     """Settings of this text; ROOT becomes the path of the folder."""
     return lambda site: site.write(text.replace("ROOT", str(site.root)))
@@ -254,6 +259,7 @@ FAULTS = {
         lambda site: [put(b"b/.menu", b"\t\n")(site), put(b"a\t")(site)], "20 file 0", report(20, "ROOT/a\\t", BAD_NAME)
     ),
     "a name that isn't UTF-8": (put(b"docs/caf\xe9.txt"), "26", report(26, "ROOT/docs", NOT_UTF8)),
+    "a name that isn't UTF-8 among fifty": (put_among_fifty(b"docs/caf\xe9.txt"), "26", report(26, "ROOT/docs", NOT_UTF8)),
     "a hidden name that isn't UTF-8": (put(b".\xff"), "26", report(26, "ROOT/", NOT_UTF8)),
     "a link to itself": (put_link("a", "a"), "26", report(26, "ROOT/a", LOOP)),
     "a root that isn't there": (say(HEAD + 'root = "ROOT/x"\n'), "26", report(26, "ROOT/x/", MISSING)),

@@ -29,7 +29,7 @@ MOST_PRINTED, MORE = 1_000, 7
 PIECES = (b"The ti", b"tle of a text\r", b"\nalpha", b"bet moon\r\n..stuffed\r\n", b".\r", b"\nafterwards\r\n")
 SECONDS_BETWEEN = 0.2
 # How many workers fetch from a host that holds its replies back until as many have asked, and how many texts it has.
-WORKERS, HELD = 3, 8
+WORKERS = {3: 8, 16: 20}
 # How long a host is watched after the last fetch that is expected of it. Fetches follow each other within milliseconds.
 SECONDS_AFTER = 1.0
 
@@ -139,8 +139,14 @@ def check_pieces(tally, program):
 
 
 def check_workers(tally, program):
-    """As many workers as the settings say fetch at once, and no more: no text is sent before as many ask, and a while longer."""
-    names, changed, asking, most = [b"/%d" % number for number in range(HELD)], threading.Condition(), 0, 0
+    """As many workers as the settings say fetch at once, and no more."""
+    for workers, texts in WORKERS.items():
+        check_held(tally, program, workers, sorted(b"/%d" % number for number in range(texts)))
+
+
+def check_held(tally, program, workers, names):
+    """So many workers fetch at once: no text is sent before as many ask, and a while longer."""
+    changed, asking, most = threading.Condition(), 0, 0
 
     def answer(line):
         nonlocal asking, most
@@ -150,15 +156,15 @@ def check_workers(tally, program):
             asking += 1
             most = max(most, asking)
             changed.notify_all()
-            changed.wait_for(lambda: most >= WORKERS, SECONDS_FOR_ALL)
+            changed.wait_for(lambda: most >= workers, SECONDS_FOR_ALL)
         time.sleep(SECONDS_AFTER)
         with changed:
             asking -= 1
         return MOON
 
-    with Host(answer) as host, crawling(program, seeded(host.port, f"workers = {WORKERS}")) as server:
-        tally.expect("each held text is found", sorted(found_at_last(server, b"moon", names)), names)
-    tally.expect("how many workers fetch at once", most, WORKERS)
+    with Host(answer) as host, crawling(program, seeded(host.port, f"workers = {workers}")) as server:
+        tally.expect("each held text is found", found_at_last(server, b"moon", names), names)
+    tally.expect("how many workers fetch at once", most, workers)
 
 
 def main():

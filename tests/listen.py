@@ -77,14 +77,14 @@ def check_ports(tally, program, folder, root):
             tally.expect(f"[::] is served at {host}", ask(server.port, b"/a.txt\r\n", host), REPLY)
 
 
-def hand_over(sockets):
-    """What starts a program with these sockets as those of socket activation, sd_listen_fds(3)."""
+def hand_over(sockets, receiver="os.getpid()"):
+    """What starts a program with these sockets as those of socket activation, sd_listen_fds(3), for itself or another process."""
     numbers = [str(each.fileno()) for each in sockets]
     code = (
         "import fcntl, os, sys\n"
         "kept = [fcntl.fcntl(int(number), fcntl.F_DUPFD, 100) for number in sys.argv[1].split(',')]\n"
         "for place, number in enumerate(kept):\n    os.dup2(number, 3 + place)\n"
-        "os.environ.update(LISTEN_PID=str(os.getpid()), LISTEN_FDS=str(len(kept)))\n"
+        f"os.environ.update(LISTEN_PID=str({receiver}), LISTEN_FDS=str(len(kept)))\n"
         "os.execv(sys.argv[2], sys.argv[2:])\n"
     )
     return (sys.executable, "-c", code, ",".join(numbers))
@@ -127,6 +127,10 @@ def check_activation(tally, program, folder, root):
             for port in ports:
                 tally.expect("a text at a socket that was handed over", ask(port, b"/a.txt\r\n"), b"hello\r\n.\r\n")
             tally.expect("the end of handed over sockets", server.end()[1:], (b"", 0))
+        before = hand_over((first,), "os.getppid()")
+        with Server(program, folder, root, before=before, words=("--requests", "1"), fds=(first,)) as server:
+            tally.expect("sockets of another process: the line", server.started(), f"listening {HOST} {server.port}\n".encode())
+            tally.expect("sockets of another process: a text at the host", ask(server.port, b"/a.txt\r\n"), REPLY)
         other.bind((HOST, 0))
         with Server(program, folder, root, before=hand_over((other,)), fds=(other,)) as server:
             tally.expect("a socket that doesn't listen", server.end()[1:], (b"hole: 81\n", 1))

@@ -52,6 +52,7 @@ class Room:
         (self.root / "docs").mkdir(parents=True)
         (self.root / "a.txt").write_text("hello\n")
         (self.root / "docs" / "b.txt").write_text("moon\n")
+        (self.root / "empty.png").write_bytes(b"")
         (self.root / "large.png").write_bytes(LARGE)
 
     def serve(self, *words, more="threads = 2\n"):
@@ -89,7 +90,7 @@ def check_fields(tally, room):
         (b"/gone\r\n", b"/gone", b""), (b"/search\tmoon and sun\r\n", b"/search", b"moon and sun"), (b"/search\t\r\n", b"/search", b""),
         (b"/a.txt\t+\r\n", b"/a.txt", b"+"), (b"/a.txt\twords\t+\t1\r\n", b"/a.txt", b"words"), (b"/large.png\r\n", b"/large.png", b""),
         (b"/a b\\c\x00\x1f\x7f\xc3\xb6\r\n", b"/a b\\x5cc\\x00\\x1f\\x7f\\xc3\\xb6", b""), (b"\tfr\xf6g\"\r\n", b"", b"fr\\xf6g\""),
-        (b"/a\r.txt\r\n", b"/a\\x0d.txt", b""), (b"/" + b"x" * 1_023 + b"\r\n", b"/" + b"x" * 1_023, b""),
+        (b"/a\r.txt\r\n", b"/a\\x0d.txt", b""), (b"/empty.png\r\n", b"/empty.png", b""), (b"/" + b"x" * 1_023 + b"\r\n", b"/" + b"x" * 1_023, b""),
     ]
     path = room.folder / "fields"
     with room.serve("--log", path, "--requests", len(asked), more="threads = 1\n") as server:
@@ -108,12 +109,12 @@ def check_fields(tally, room):
 
 def check_steady(tally, room):
     """Lines are written while requests go on, and the microseconds of one count from the accept."""
-    path, waits = room.folder / "steady", 0.1
+    path, waits = room.folder / "steady", [1.1, *[0.1] * (STEADY - 2)]
     with room.serve("--log", path, "--requests", STEADY, more="threads = 1\n") as server:
         server.started()
-        for _ in range(STEADY - 1):
+        for wait in waits:
             with connect(server.port) as client:
-                time.sleep(waits)
+                time.sleep(wait)
                 client.sendall(b"/a.txt\r\n")
                 read_all(client)
         early = len(logged(path))
@@ -121,7 +122,7 @@ def check_steady(tally, room):
         tally.expect("a server with steady requests ends well", server.end(), (SIZES, b"", 0))
     found = logged(path)
     tally.expect(f"{early} of {len(found)} lines are written meanwhile", (early >= STEADY // 2, len(found)), (True, STEADY))
-    short = [request.micros for request in found[:-1] if request.micros < waits * 0.5e6]
+    short = [request.micros for request, wait in zip(found, waits) if request.micros < wait * 0.5e6]
     tally.expect("the microseconds of a client that waits before its line", short, [])
 
 
@@ -188,12 +189,17 @@ def check_empty_writes(tally, room):
         ask_all(server.port, [b"/a.txt\r\n"] * STEADY)
         tally.expect("a server whose first writes take nothing ends well", server.end(), (SIZES, b"", 0))
     tally.expect("its lines", [request[2] for request in logged(path)], [b"/a.txt"] * STEADY)
+    before = refusing(room.folder, EMPTY_WRITES=10**18)
+    with Server(room.program, room.folder, room.root, words=["--log", str(path), "--requests", "1"], before=before) as server:
+        server.started()
+        ask(server.port, b"/a.txt\r\n")
+        tally.expect("a server whose writes all take nothing ends", server.end(), (SIZES, b"", 0))
 
 
 def check_closed(tally, room):
     """A connection that is closed because all places are taken has its line."""
     path = room.folder / "closed"
-    before = ("sh", "-c", 'ulimit -n 66; exec "$@"', "sh")
+    before = ("sh", "-c", 'ulimit -Sn 66; exec "$@"', "sh")
     words = ["--log", str(path)]
     with Server(room.program, room.folder, room.root, more="threads = 1\n", words=words, before=before) as server:
         server.started()
@@ -225,7 +231,8 @@ def is_open(client):
 
 
 def check_silence(tally, room):
-    """Clients that ask nothing leave no line; what stood in the file stays; lines come while the server runs."""
+    """Clients that ask nothing leave no line; what stood in the file stays; lines come while the server runs, and while a client
+    stays that has its whole reply."""
     path = room.folder / "appended"
     path.write_bytes(b"what stood there\n")
     with room.serve("--log", path) as server:
@@ -235,14 +242,17 @@ def check_silence(tally, room):
         with connect(server.port) as silent:
             silent.sendall(b"/a.txt")
             ask(server.port, b"/a.txt\r\n")
-            until = time.monotonic() + MOST_SECONDS_FOR_LATE
-            while path.read_bytes().count(b"\n") < 2 and time.monotonic() < until:
-                time.sleep(0.05)
-        lines = logged(path)
+            with connect(server.port) as staying:
+                staying.sendall(b"/large.png\r\n")
+                read_all(staying)
+                until = time.monotonic() + MOST_SECONDS_FOR_LATE
+                while path.read_bytes().count(b"\n") < 3 and time.monotonic() < until:
+                    time.sleep(0.05)
+                lines = logged(path)
         server.process.terminate()
         server.end()
     tally.expect("what stood there stays", lines[:1], [b"what stood there"])
-    tally.expect("the one line that was asked", [request[2] for request in lines[1:]], [b"/a.txt"])
+    tally.expect("the lines that were asked", [request[2] for request in lines[1:]], [b"/a.txt", b"/large.png"])
 
 
 def check_reset(tally, room):
@@ -337,6 +347,22 @@ def check_unread(tally, room):
     tally.expect("a pipe: lines and dropped ones", (len(requests) + sum(dropped), sum(dropped) > 0), (LINES_FOR_PIPE + LAST_LINES, True))
 
 
+def check_read_at_the_end(tally, room):
+    """Threads that end wait for a pipe that is read soon: its lines and the number of dropped ones make up all."""
+    path = room.folder / "soon"
+    os.mkfifo(path)
+    line = b"/" + b"\xff" * 1_000 + b"\r\n"
+    with room.serve("--log", path, "--requests", LINES_FOR_PIPE) as server:
+        server.started()
+        ask_all(server.port, [line] * LINES_FOR_PIPE)
+        with os.fdopen(os.open(path, os.O_RDONLY | os.O_NONBLOCK), "rb") as pipe:
+            os.set_blocking(pipe.fileno(), True)
+            found = lines_of(pipe.read())
+        server.end()
+    dropped = [int(line.removeprefix(b"# dropped ")) for line in found if line.startswith(b"# dropped ")]
+    tally.expect("a pipe that is read soon: lines and dropped ones", len(found) - len(dropped) + sum(dropped), LINES_FOR_PIPE)
+
+
 def check_never_read(tally, room):
     """A server whose log is a pipe that nobody ever reads ends all the same."""
     path = room.folder / "never"
@@ -402,7 +428,8 @@ def check_ratio(tally, room, least):
 
 CHECKS = (
     check_fields, check_steady, check_escapes, check_idle, check_refused_watch, check_empty_writes, check_closed, check_silence,
-    check_reset, check_threads, check_standard_error, check_unread, check_never_read, check_progress,
+    check_reset, check_threads, check_standard_error, check_unread, check_read_at_the_end,
+    check_never_read, check_progress,
 )
 
 
