@@ -50,6 +50,8 @@ ALONE = {"attack", "crawling", "large_texts", "log", "refused_crawls"}
 AFTER_CI = {"refusals"}
 # how many parts run at once, beside these, which take most of the gate
 LONG, AT_ONCE = ("ci", "wrong_bodies"), 2
+# seconds between two looks at what is proved
+LOOK_AGAIN = 0.2
 # what `rt ci` prints of a crate that is proved now, or that an earlier run on this machine proved
 PROVED = re.compile(r"rt: (\w+) (?:proved$|is kept: )")
 COUNTS = re.compile(r"(?m)^(?:.*: )?(\d+) passed, (\d+) failed$")
@@ -133,15 +135,13 @@ def chosen_of(names, is_quick):
 
 def counted(said, status):
     """How many of what a part tried passed and failed, from what it printed."""
-    found = COUNTS.findall(said)
-    ran = OF_UNITTEST.findall(said)
-    if found:
+    if found := COUNTS.findall(said):
         passed, failed = map(int, found[-1])
-    elif ran:
+    elif ran := OF_UNITTEST.findall(said):
         failed = sum(map(int, re.findall(r"\d+", "".join(FAILED_OF_UNITTEST.findall(said)))))
         passed = int(ran[-1]) - failed
     else:
-        passed, failed = int(not status), int(status != 0)
+        passed, failed = int(not status), 0
     return passed, max(failed, int(status != 0))
 
 
@@ -176,7 +176,7 @@ class Proved:
     there before in the place of its libraries when it ends."""
 
     def __init__(self, folder, runs):
-        self.folder, self.said, self.names, self.changed = folder, [], [], threading.Condition()
+        self.folder, self.said, self.names = folder, [], []
         self.stands, self.ended = threading.Event(), threading.Event()
         if not runs:
             self.end()
@@ -195,11 +195,9 @@ class Proved:
             shutil.rmtree(aside, ignore_errors=True)
             if not (crate / "src" / "main.rt").exists():
                 shutil.copytree(crate / "out" / "rlib", aside, copy_function=link)
-        except Exception as error:
-            return print(f"gate: the library {name} isn't set aside: {error}", flush=True)
-        with self.changed:
             self.names.append(name)
-            self.changed.notify_all()
+        except Exception as error:
+            print(f"gate: the library {name} isn't set aside: {error}", flush=True)
 
     def end(self):
         """`rt ci` has ended: what couldn't be set aside before is, unless an older library with its stamp has its place. A crate
@@ -210,19 +208,14 @@ class Proved:
         self.names += [name for name in self.said if name not in self.names]
         self.stands.set()
         self.ended.set()
-        with self.changed:
-            self.changed.notify_all()
 
     def tell(self, stream):
         """Writes the name of each crate that is set aside, as it comes, until `rt ci` has ended."""
-        told = 0
+        told, is_last = 0, False
         with contextlib.suppress(OSError), stream:
-            while True:
-                with self.changed:
-                    self.changed.wait_for(lambda: told < len(self.names) or self.ended.is_set())
-                    new = self.names[told:]
-                if not new:
-                    return
+            while not is_last:
+                is_last = self.ended.wait(LOOK_AGAIN)
+                new = self.names[told:]
                 stream.write("".join(f"{name}\n" for name in new))
                 stream.flush()
                 told += len(new)
@@ -230,12 +223,12 @@ class Proved:
 
 def start(words, proved):
     """Starts a part; one that works beside `rt ci` is told what is proved."""
-    memory = os.sysconf("SC_PHYS_PAGES") * os.sysconf("SC_PAGE_SIZE")
-    how = {"stdout": subprocess.PIPE, "stderr": subprocess.STDOUT, "text": True, "errors": "replace"}
-    how["env"] = environment(len(os.sched_getaffinity(0)), memory)
-    is_told = LIBRARIES in words
-    words = [str(proved.folder) if word == LIBRARIES else word for word in words]
-    process = subprocess.Popen(words, cwd=ROOT, stdin=subprocess.PIPE if is_told else subprocess.DEVNULL, **how)
+    memory, is_told = os.sysconf("SC_PHYS_PAGES") * os.sysconf("SC_PAGE_SIZE"), LIBRARIES in words
+    process = subprocess.Popen(
+        [str(proved.folder) if word == LIBRARIES else word for word in words],
+        cwd=ROOT, env=environment(len(os.sched_getaffinity(0)), memory), stdin=subprocess.PIPE if is_told else subprocess.DEVNULL,
+        stdout=subprocess.PIPE, stderr=subprocess.STDOUT, text=True, errors="replace",
+    )
     if is_told:
         threading.Thread(target=proved.tell, args=(process.stdin,), daemon=True).start()
     return process
@@ -243,31 +236,26 @@ def start(words, proved):
 
 def run(part, words, is_shown, proved):
     """Runs a part, and gives the rows that it fills. Its output is shown as it comes, or else at its end."""
-    began, said = time.monotonic(), []
-    head = f"== {part.name}: {' '.join(map(str, words))}"
-    print(f"{head}\n" if is_shown else "", end="", flush=True)
-    try:
-        process = start(words, proved)
-    except OSError as error:
-        print(f"{head}\n{error}", flush=True)
-        return {part.row: Result(0, 1, 0, 0, [part.name])}
-    with shares.of(process.pid, part.name == "ci") as found, process.stdout:
+    began, said, is_ci = time.monotonic(), [], part.name == "ci"
+    head = f"== {part.name}: {' '.join(map(str, words))}\n"
+    print(head if is_shown else "", end="", flush=True)
+    process = start(words, proved)
+    with shares.of(process.pid, is_ci) as found, process.stdout:
         for line in process.stdout:
             said.append(line)
             print(line if is_shown else "", end="", flush=True)
-            if part.name == "ci":
+            if is_ci:
                 proved.note(line)
         _, status, used = os.wait4(process.pid, 0)
     process.returncode = status = os.waitstatus_to_exitcode(status)
     said = "".join(said)
-    print("" if is_shown else f"{head}\n{said}", end="", flush=True)
+    print("" if is_shown else f"{head}{said}", end="", flush=True)
     clock, processors = (time.monotonic() - began) / 60, (used.ru_utime + used.ru_stime) / 60
-    if part.name == "ci":
-        rows = counted_by_ci(said, status, found)
-        rows["proofs"].clock = clock
-        rows["proofs"].processors = processors - sum(rows[row].processors or 0 for row in rows if row != "proofs")
-    else:
-        rows = {part.row: Result(*counted(said, status), clock, processors)}
+    if not is_ci:
+        passed, failed = counted(said, status)
+        return {part.row: Result(passed, failed, clock, processors, [part.name] if failed else [])}
+    rows = counted_by_ci(said, status, found)
+    rows["proofs"].clock, rows["proofs"].processors = clock, processors - sum(found.values())
     for row in rows.values():
         row.names = [part.name] if row.failed else []
     return rows
@@ -291,13 +279,13 @@ def attempt(part, program, proved, is_shown):
     finally:
         if part.name == "ci":
             proved.end()
-    if LIBRARIES not in words or not filled[part.row].failed:
-        return filled
-    proved.ended.wait()
-    first, again = filled[part.row], run(part, words, is_shown, proved)
-    again[part.row].clock += first.clock
-    again[part.row].processors += first.processors
-    return again
+    first = filled.get(part.row)
+    if LIBRARIES in words and first.failed:
+        proved.ended.wait()
+        filled = run(part, words, is_shown, proved)
+        filled[part.row].clock += first.clock
+        filled[part.row].processors += first.processors
+    return filled
 
 
 def run_all(chosen, program, jobs):
@@ -318,20 +306,15 @@ def run_all(chosen, program, jobs):
 def table(rows, clock):
     """The rows as lines, and the closing one over all of them, which took so many minutes of the clock."""
     minutes = lambda it: "" if it is None else f"{it:.1f}"
-    shown = [("", "passed", "failed", "clock", "processors")]
     whole = Result()
-    for name, row in rows.items():
+    for row in rows.values():
         whole.add(row)
-        shown.append((name, row.passed, row.failed, minutes(row.clock), minutes(row.processors)))
-    shown.append(("all, in minutes", whole.passed, whole.failed, minutes(clock), minutes(whole.processors)))
-    lines = ["{:<22}{:>8}{:>8}{:>8}{:>12}".format(*map(str, line)).rstrip() for line in shown]
+    whole.clock = clock
+    lines = ["{:<22}{:>8}{:>8}{:>8}{:>12}".format("", "passed", "failed", "clock", "processors")]
+    for name, row in [*rows.items(), ("all, in minutes", whole)]:
+        lines.append(f"{name:<22}{row.passed:>8}{row.failed:>8}{minutes(row.clock):>8}{minutes(row.processors):>12}".rstrip())
     failed = [f"FAILED: {', '.join(whole.names)}"] if whole.names else []
     return [*lines, *failed, f"{whole.passed} passed, {whole.failed} failed"]
-
-
-def kit():
-    """The toolchain's own line of which it is."""
-    return subprocess.run(["rt", "version"], stdout=subprocess.PIPE, text=True).stdout.strip()
 
 
 def main(words):
@@ -350,7 +333,8 @@ def main(words):
     with tempfile.TemporaryDirectory(prefix="gate-") as room:
         program = unproved.Program(pathlib.Path(room)) if given.quick else lambda: (unproved.PROVED, True)
         rows = run_all(chosen, program, 1 if given.parts else AT_ONCE)
-    print(f"== with {kit()}", *table(rows, (time.monotonic() - began) / 60), sep="\n")
+    kit = subprocess.run(["rt", "version"], stdout=subprocess.PIPE, text=True).stdout.strip()
+    print(f"== with {kit}", *table(rows, (time.monotonic() - began) / 60), sep="\n")
     return 1 if any(row.failed for row in rows.values()) else 0
 
 

@@ -8,55 +8,42 @@ SECONDS = 1.0
 TICKS_A_MINUTE = os.sysconf("SC_CLK_TCK") * 60
 
 
-def processes():
-    """Each process by its number: its parent's number, and the ticks that it and those of its children that ended took."""
-    found = {}
-    for folder in pathlib.Path("/proc").iterdir():
-        if folder.name.isdigit():
-            with contextlib.suppress(OSError, IndexError):
-                fields = (folder / "stat").read_text().rpartition(")")[2].split()
-                found[int(folder.name)] = int(fields[1]), sum(map(int, fields[11:15]))
-    return found
-
-
-def row_of(pid):
+def row_of(process):
     """The row of a process: a check of an edit runs in a folder of its own, and tests are built by a flag."""
-    with contextlib.suppress(OSError):
-        words = pathlib.Path(f"/proc/{pid}/cmdline").read_bytes().split(b"\0")
-        if "/rt-edit-" in f"{os.readlink(f'/proc/{pid}/cwd')}/":
-            return "must-fail edits"
-        if b"--test" in words or words[0].endswith(b"rattle-test"):
-            return "tests of crates"
-    return None
+    words = (process / "cmdline").read_bytes().split(b"\0")
+    if "/rt-edit-" in f"{os.readlink(process / 'cwd')}/":
+        return "must-fail edits"
+    return "tests of crates" if b"--test" in words or words[0].endswith(b"rattle-test") else None
 
 
-def look(root, ticks):
-    """Notes the ticks of the processes that `root` started, as long as each of them runs."""
-    seen = processes()
-    for pid, (parent, used) in seen.items():
-        if parent == root:
-            row = ticks[pid][0] if pid in ticks and ticks[pid][1] <= used else row_of(pid)
-            ticks[pid] = row, used
+def look(root, seen):
+    """Notes each process that `root` started: its row, and the ticks that it and those of its children that ended took."""
+    for file in pathlib.Path(f"/proc/{root}/task").glob("*/children"):
+        with contextlib.suppress(OSError):
+            for process in map(pathlib.Path("/proc").joinpath, file.read_text().split()):
+                with contextlib.suppress(OSError):
+                    fields = (process / "stat").read_text().rpartition(")")[2].split()
+                    known = process, fields[19]  # a number may be used again, but not with the same start
+                    row = seen[known][0] if known in seen else row_of(process)
+                    seen[known] = row, sum(map(int, fields[11:15]))
 
 
 @contextlib.contextmanager
 def of(root, is_wanted):
     """Minutes of the processors by row, filled at the end, of what a process started meanwhile."""
-    found, ticks, ended = {}, {}, threading.Event()
+    found, seen, ended = {}, {}, threading.Event()
 
     def go_on():
-        while not ended.wait(SECONDS):
-            look(root, ticks)
+        while is_wanted and not ended.wait(SECONDS):
+            look(root, seen)
 
     thread = threading.Thread(target=go_on)
-    if is_wanted:
-        thread.start()
+    thread.start()
     try:
         yield found
     finally:
         ended.set()
-        if is_wanted:
-            thread.join()
-        for row, used in ticks.values():
+        thread.join()
+        for row, ticks in seen.values():
             if row:
-                found[row] = found.get(row, 0) + used / TICKS_A_MINUTE
+                found[row] = found.get(row, 0) + ticks / TICKS_A_MINUTE
