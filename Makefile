@@ -65,8 +65,7 @@ files:
 .PHONY: documents
 documents:
 	tools/numbers_of_code.py --write
-	tools/draw_crates.py
-	tools/draw_ratios.py
+	tools/draw.py
 
 # Lets each installed Gopher client ask a server of the example's site for a menu, a text, a search and an image.
 # If there is no proved program, it begins with an hour of proofs.

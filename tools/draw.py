@@ -2,6 +2,8 @@
 """Draws docs/crates.svg, the crates of crates.txt, each above those that it uses; and docs/answer.svg and docs/found.svg, the ways
 of one answer and of one found page. A use that other lines imply has no line. Each function that a picture names exists.
 """
+import collections
+import graphlib
 import pathlib
 import re
 from html import escape
@@ -45,57 +47,34 @@ MERGING = (0, "merging", "before the next claim", "gopher_crew::MergeJob::run")
 
 
 def uses():
-    """The crates of the product, and the uses of each that no longer way of uses says."""
+    """The row of each crate of the product, from 0 for the lowest, and the uses of each that other uses don't imply."""
     lines = re.findall(r"(?m)^(\w+)[^:\n]*:(.*)$", (ROOT / "crates.txt").read_text())
-    drawn = {crate: used.split() for crate, used in lines if not crate.startswith(("test_", "example_"))}
-    drawn = {crate: [one for one in used if one in drawn] for crate, used in drawn.items()}
-
-    def reach(crate):
-        return set(drawn[crate]).union(*map(reach, drawn[crate]))
-
-    return {crate: [one for one in used if not any(one in reach(other) for other in used)] for crate, used in drawn.items()}
-
-
-def ways(drawn):
-    """The depth of each crate, and each use as a list of points from the upper crate down: one in each row that it passes."""
-    depth = {}
-
-    def level(crate):
-        if crate not in depth:
-            depth[crate] = 1 + max(map(level, drawn[crate]), default=-1)
-        return depth[crate]
-
-    lines = []
-    for crate in drawn:
-        for one in drawn[crate]:
-            between = [(row, (crate, one)) for row in range(level(crate) - 1, level(one), -1)]
-            lines.append([(level(crate), crate), *between, (level(one), one)])
-    return {crate: level(crate) for crate in drawn}, lines
+    named = {crate: used.split() for crate, used in lines if not crate.startswith(("test_", "example_"))}
+    rows, below, drawn = {}, {}, {}
+    for crate in graphlib.TopologicalSorter(named).static_order():
+        if crate in named:
+            used = [one for one in named[crate] if one in named]
+            rows[crate] = 1 + max(map(rows.get, used), default=-1)
+            below[crate] = {*used}.union(*map(below.get, used))
+            drawn[crate] = [one for one in used if not any(one in below[other] for other in used)]
+    return rows, drawn
 
 
-def placed(depth, lines):
-    """Where each crate and each point of a line is in its row: near what it is tied to in the rows beside."""
-    rows = [[] for _ in range(1 + max(depth.values()))]
-    near, at = {(row, crate): [] for crate, row in depth.items()}, {}
+def placed(lines, count):
+    """Where each point of these lines is in its row: near what it is tied to in the rows beside."""
+    near, at = collections.defaultdict(set), {}
     for line in lines:
         for upper, lower in zip(line, line[1:]):
-            near.setdefault(upper, []).append(lower)
-            near.setdefault(lower, []).append(upper)
-    for point in near:
-        rows[point[0]].append(point)
-
-    def spread(row):
-        x = (WIDTH - sum(BOX + 26 if isinstance(name, str) else 34 for _, name in row)) / 2
-        for point in row:
-            width = BOX + 26 if isinstance(point[1], str) else 34
-            at[point], x = x + width / 2, x + width
-
-    for row in rows:
-        spread(row)
+            near[upper].add(lower)
+            near[lower].add(upper)
+    width = lambda point: BOX + 26 if len(point) == 2 else 34
+    middle = lambda point: sum(at.get(one, WIDTH / 2) for one in near[point]) / len(near[point])
     for sweep in range(40):
-        for row in rows if sweep % 2 else reversed(rows):
-            row.sort(key=lambda point: (sum(at[one] for one in near[point]) / max(1, len(near[point])), str(point)))
-            spread(row)
+        for row in range(count) if sweep % 2 else reversed(range(count)):
+            points = sorted((point for point in near if point[0] == row), key=lambda point: (middle(point), point))
+            x = (WIDTH - sum(map(width, points))) / 2
+            for point in points:
+                at[point], x = x + width(point) / 2, x + width(point)
     return at
 
 
@@ -124,14 +103,19 @@ def picture(height, title, parts):
 
 
 def crates():
-    """The picture of the crates."""
-    depth, lines = ways(uses())
-    at, top = placed(depth, lines), lambda row: MARGIN + ROW * (max(depth.values()) - row)
-    parts = []
-    for line in lines:
-        passed = [(at[point], y) for point in line[1:-1] for y in (top(point[0]), top(point[0]) + HEIGHT)]
-        parts.append(arrow([(at[line[0]], top(line[0][0]) + HEIGHT), *passed, (at[line[-1]], top(line[-1][0]) - 1)]))
-    parts += [box(at[row, crate] - BOX / 2, top(row), BOX, crate) for crate, row in depth.items()]
+    """The picture of the crates. A line has a point in each row that it passes."""
+    rows, drawn = uses()
+    lines = []
+    for crate, used in drawn.items():
+        for one in used:
+            passed = ((row, crate, one) for row in range(rows[crate] - 1, rows[one], -1))
+            lines.append([(rows[crate], crate), *passed, (rows[one], one)])
+    top = lambda row: MARGIN + ROW * (max(rows.values()) - row)
+    at, parts = placed(lines, 1 + max(rows.values())), []
+    for first, *passed, last in lines:
+        points = [(at[point], y) for point in passed for y in (top(point[0]), top(point[0]) + HEIGHT)]
+        parts.append(arrow([(at[first], top(first[0]) + HEIGHT), *points, (at[last], top(last[0]) - 1)]))
+    parts += [box(at[row, crate] - BOX / 2, top(row), BOX, crate) for crate, row in rows.items()]
     return picture(top(0) + HEIGHT + MARGIN, "The crates of Hole, each above those that it uses", parts)
 
 
