@@ -10,8 +10,7 @@ import unittest
 sys.path.insert(0, str(pathlib.Path(__file__).resolve().parent))
 import numbers_of_code
 
-ROOT = pathlib.Path(__file__).resolve().parent.parent
-SPECS = sorted(ROOT.glob("crates/*/specs/**/*.antt"))
+SPECS = {path: path.read_text() for path in numbers_of_code.ROOT.glob("crates/*/specs/**/*.antt")}
 DEFINITION = re.compile(r"(?m)^(?:(?:pub|abbrev|unfoldable|opaque) )*(?:(?:record|data) (\w\S*)|(\w\S*) (?::|[({][^=\n]*[)}] :))")
 LEMMAS = re.compile(r"(?m)^use Rattle\.(?!std\b)\w+\.proofs\..*$")
 # comments and clauses of sources; of definitions also what isn't a list of names or a text
@@ -24,18 +23,15 @@ def names(text):
 
 
 class Definitions(unittest.TestCase):
-    def test_each_name_has_one_meaning(self):
-        counts = collections.Counter(name for path in SPECS for name in names(path.read_text()))
+    def test_each_name_has_one_meaning_and_cites_no_lemma(self):
+        counts = collections.Counter(name for text in SPECS.values() for name in names(text))
         self.assertEqual([name for name, count in counts.items() if count > 1], [])
-
-    def test_definitions_cite_no_lemma(self):
-        for path in SPECS:
-            self.assertEqual(LEMMAS.findall(path.read_text()), [], str(path))
+        self.assertEqual([str(path) for path, text in SPECS.items() if LEMMAS.search(text)], [])
 
     def test_comments_clauses_and_definitions_are_short(self):
         for kind, pattern in SHORT.items():
-            for path in sorted(path for folder in numbers_of_code.crates() for path in folder.glob(kind)):
-                self.assertEqual([line for line in re.findall(pattern, path.read_text()) if len(line) > 100], [], str(path))
+            for text in numbers_of_code.texts(kind):
+                self.assertEqual([line for line in re.findall(pattern, text) if len(line) > 100], [])
 
     def test_names_are_found(self):
         text = "use Rattle.std.specs.Prelude.{ℕ}\n-- one more\nabbrev pub one_more : ℕ → ℕ\none_more n = n + 1\n"
