@@ -1,11 +1,11 @@
 #!/usr/bin/env python3
 """Runs the gate, part by part, and ends with one table and one line 'N passed, M failed' over all of it.
 
-    tools/gate.py [--quick] [--list] [PART ..]
+    tools/gate.py [--quick] [PART ..]
 
 Without --quick every part runs, as `make test` does: each proof from nothing, each edit that the prover must refuse, each
 test. With --quick only the parts that need no proof run, as `make quick` does, on the program that `make build` left if no
-source is younger, and else on one that is built without its proofs. PART names single parts; --list prints them.
+source is younger, and else on one that is built without its proofs. PART names single parts.
 
 Parts run beside each other. Scripts, documents and wrong bodies begin with `rt ci`: the wrong bodies of a crate are tried once
 `rt ci` has proved it, on what its proofs leave idle. Tests of the program begin when `rt ci` has proved and built it; those
@@ -14,8 +14,8 @@ are tried once more after it.
 
 A part that fails doesn't hide others. Its counts are those that it prints last; a part that prints none counts as one. The
 clock of a row is the sum of its parts', that of the last line is the gate's. The minutes of processors are those of a part's
-processes; of `rt ci` they are also told apart into rows, by looking at its processes every second, so that the rows' sum may
-differ a little from the whole. The status is 1 if anything failed.
+processes; those of `rt ci` are told apart into rows by looking at its processes every second, so the rows' sum may differ a
+little from the whole. The status is 1 if anything failed.
 """
 import argparse
 import contextlib
@@ -30,7 +30,7 @@ import threading
 import time
 import traceback
 from concurrent.futures import ThreadPoolExecutor
-from dataclasses import dataclass, field, replace
+from dataclasses import astuple, dataclass, replace
 
 import shares
 import unproved
@@ -80,20 +80,16 @@ class Part:
 
 @dataclass
 class Result:
-    """What a part, or a row, came to; the minutes are None where nobody knows them."""
+    """What a part, or a row, came to, in minutes, and the parts that failed; 0 minutes if nobody knows them."""
 
     passed: int = 0
     failed: int = 0
-    clock: float | None = None
-    processors: float | None = None
-    names: list = field(default_factory=list)
+    clock: float = 0
+    processors: float = 0
+    names: tuple = ()
 
-    def add(self, other):
-        self.passed, self.failed = self.passed + other.passed, self.failed + other.failed
-        self.names += other.names
-        for name in ("clock", "processors"):
-            minutes = [it for it in (getattr(self, name), getattr(other, name)) if it is not None]
-            setattr(self, name, sum(minutes) if minutes else None)
+    def __add__(self, other):
+        return Result(*(one + more for one, more in zip(astuple(self), astuple(other))))
 
 
 def program_part(script, *words, quick=True, unproved=()):
@@ -148,9 +144,8 @@ def counted(said, status):
 def counted_by_ci(said, status, minutes):
     """The rows that `rt ci` fills. What its own last line counts as failed beyond them counts among the proofs."""
     rows = {}
-    for row, (well, ill) in SAID_BY_CI.items():
-        passed, failed = (len(re.findall(f"(?m){words}", said)) for words in (well, ill))
-        rows[row] = Result(passed, failed, None, minutes.get(row))
+    for row, kinds in SAID_BY_CI.items():
+        rows[row] = Result(*(len(re.findall(f"(?m){words}", said)) for words in kinds), processors=minutes.get(row, 0))
     beyond = counted(said, status)[1] - sum(row.failed for row in rows.values())
     rows["proofs"].failed += max(beyond, 0)
     return rows
@@ -175,11 +170,9 @@ class Proved:
     """What `rt ci` has proved so far: crates, whose libraries are set aside in a folder, and the program. `rt ci` puts what was
     there before in the place of its libraries when it ends."""
 
-    def __init__(self, folder, runs):
+    def __init__(self, folder):
         self.folder, self.said, self.names = folder, [], []
         self.stands, self.ended = threading.Event(), threading.Event()
-        if not runs:
-            self.end()
 
     def note(self, line):
         """Takes a line of what `rt ci` prints."""
@@ -251,13 +244,10 @@ def run(part, words, is_shown, proved):
     said = "".join(said)
     print("" if is_shown else f"{head}{said}", end="", flush=True)
     clock, processors = (time.monotonic() - began) / 60, (used.ru_utime + used.ru_stime) / 60
-    if not is_ci:
-        passed, failed = counted(said, status)
-        return {part.row: Result(passed, failed, clock, processors, [part.name] if failed else [])}
-    rows = counted_by_ci(said, status, found)
-    rows["proofs"].clock, rows["proofs"].processors = clock, processors - sum(found.values())
+    rows = counted_by_ci(said, status, found) if is_ci else {part.row: Result(*counted(said, status))}
+    rows[part.row].clock, rows[part.row].processors = clock, processors - sum(found.values())
     for row in rows.values():
-        row.names = [part.name] if row.failed else []
+        row.names = (part.name,) if row.failed else ()
     return rows
 
 
@@ -275,7 +265,7 @@ def attempt(part, program, proved, is_shown):
         filled = run(part, words, is_shown, proved)
     except Exception:
         traceback.print_exc()
-        filled = {part.row: Result(0, 1, 0, 0, [part.name])}
+        filled = {part.row: Result(failed=1, names=(part.name,))}
     finally:
         if part.name == "ci":
             proved.end()
@@ -295,21 +285,19 @@ def run_all(chosen, program, jobs):
     long = [it for it in chosen if it.name in LONG]
     others = sorted((it for it in chosen if not it.is_alone), key=lambda it: it.name in AFTER_CI)
     with tempfile.TemporaryDirectory(prefix="gate-libraries-") as folder, ThreadPoolExecutor(jobs + len(long)) as pool:
-        proved = Proved(pathlib.Path(folder), any(it.name == "ci" for it in chosen))
+        proved = Proved(pathlib.Path(folder))
+        if not any(it.name == "ci" for it in chosen):
+            proved.end()
         run_part = lambda it: attempt(it, program, proved, it in long or jobs == 1)
         for filled in [*pool.map(run_part, others), *map(run_part, (it for it in chosen if it.is_alone))]:
-            for row, result in filled.items():
-                rows[row].add(result)
+            rows |= {row: rows[row] + result for row, result in filled.items()}
     return rows
 
 
 def table(rows, clock):
     """The rows as lines, and the closing one over all of them, which took so many minutes of the clock."""
-    minutes = lambda it: "" if it is None else f"{it:.1f}"
-    whole = Result()
-    for row in rows.values():
-        whole.add(row)
-    whole.clock = clock
+    minutes = lambda it: f"{it:.1f}" if it else ""
+    whole = replace(sum(rows.values(), Result()), clock=clock)
     lines = ["{:<22}{:>8}{:>8}{:>8}{:>12}".format("", "passed", "failed", "clock", "processors")]
     for name, row in [*rows.items(), ("all, in minutes", whole)]:
         lines.append(f"{name:<22}{row.passed:>8}{row.failed:>8}{minutes(row.clock):>8}{minutes(row.processors):>12}".rstrip())
@@ -320,16 +308,12 @@ def table(rows, clock):
 def main(words):
     options = argparse.ArgumentParser(description=__doc__, formatter_class=argparse.RawDescriptionHelpFormatter)
     options.add_argument("--quick", action="store_true")
-    options.add_argument("--list", action="store_true")
     options.add_argument("parts", nargs="*", metavar="PART")
     given = options.parse_args(words)
-    unknown = set(given.parts) - {part.name for part in parts()}
-    if unknown:
-        options.error(f"no part is named {', '.join(sorted(unknown))}: --list prints them")
+    names = [part.name for part in parts()]
+    if {*given.parts} - {*names}:
+        options.error(f"the parts are {', '.join(names)}")
     chosen, began = chosen_of(given.parts, given.quick), time.monotonic()
-    if given.list:
-        print(*(part.name for part in chosen), sep="\n")
-        return 0
     with tempfile.TemporaryDirectory(prefix="gate-") as room:
         program = unproved.Program(pathlib.Path(room)) if given.quick else lambda: (unproved.PROVED, True)
         rows = run_all(chosen, program, 1 if given.parts else AT_ONCE)

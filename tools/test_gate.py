@@ -5,7 +5,6 @@ import io
 import os
 import pathlib
 import re
-import subprocess
 import sys
 import tempfile
 import time
@@ -83,6 +82,11 @@ class Case(unittest.TestCase):
 
 
 class Counts(Case):
+    def test_what_rt_ci_says_of_a_proved_crate_is_read(self):
+        kept = "rt: low is kept: an earlier run on this machine proved the same files\n"
+        names = [found[1] for found in map(gate.PROVED.match, [kept, *CI.splitlines(keepends=True)]) if found]
+        self.assertEqual(names, ["low", "low", "high"])
+
     def test_what_a_part_counts_as(self):
         for said, status, wanted in COUNTS:
             self.assertEqual(gate.counted(said, status), wanted, said)
@@ -97,7 +101,7 @@ class Counts(Case):
     def test_the_table_has_all_rows_and_their_sum(self):
         rows = {row: gate.Result() for row in gate.ROWS}
         rows["proofs"] = gate.Result(20, 0, 60.04, 100.25)
-        rows["must-fail edits"] = gate.Result(33, 1, None, 9.0, ["ci"])
+        rows["must-fail edits"] = gate.Result(33, 1, 0, 9.0, ("ci",))
         lines = gate.table(rows, 61)
         self.assertEqual(lines[1].split(), ["proofs", "20", "0", "60.0", "100.2"])
         self.assertEqual(lines[2].split(), ["must-fail", "edits", "33", "1", "9.0"])
@@ -106,18 +110,14 @@ class Counts(Case):
 
 
 class Run(Case):
-    def test_a_failure_hides_nothing(self):
+    def test_parts_side_by_side_are_all_counted_and_a_failure_hides_nothing(self):
         said = self.run_all(
             part("first", "proofs", "echo one: 2 passed, 1 failed; exit 1"),
             gate.Part("second", WRONG, ("tools/no_such_script",)),
-            part("third", PROGRAM, "echo third; echo 5 passed, 0 failed"),
+            *(part(str(at), PROGRAM, f"echo {at} passed, 0 failed") for at in range(8)),
+            jobs=3,
         )
-        self.assertIn("third\n5 passed", said)
-        self.assertEqual(gate.table(self.rows, 1)[-2:], ["FAILED: first, second", "7 passed, 2 failed"])
-
-    def test_parts_side_by_side_are_all_counted(self):
-        said = self.run_all(*(part(str(at), PROGRAM, f"echo {at} passed, 0 failed") for at in range(8)), jobs=3)
-        self.assertEqual(self.counts(), {PROGRAM: (28, 0)})
+        self.assertEqual(gate.table(self.rows, 1)[-2:], ["FAILED: first, second", "30 passed, 2 failed"])
         self.assertEqual(len(re.findall(r"(?m)^== \d: sh -c .*\n\d passed, 0 failed$", said)), 8)
 
     def test_the_program_is_asked_for_by_its_path(self):
@@ -125,22 +125,15 @@ class Run(Case):
         self.assertIn("\n/room/hole --slow\n", self.run_all(one, program=lambda: ("/room/hole", False)))
         self.assertIn("\n/proved\n", self.run_all(one, program=lambda: ("/proved", True)))
 
-    def test_minutes_are_those_of_the_parts_processes(self):
-        busy = "import time\nwhile time.process_time() < 0.3: pass"
-        self.run_all(gate.Part("busy", "proofs", (sys.executable, "-c", busy)), part("idle", WRONG, "sleep 0.3"))
-        self.assertGreater(self.rows["proofs"].processors * 60, 0.25)
-        self.assertLess(self.rows[WRONG].processors * 60, 0.2)
-        self.assertGreater(self.rows[WRONG].clock * 60, 0.25)
-
-    def test_tests_are_told_from_proofs(self):
+    def test_minutes_are_those_of_the_parts_processes_and_tests_are_told_from_proofs(self):
         busy = "import sys, time\nwhile time.process_time() < 0.4: pass\ntime.sleep(0.4)"
         starts = f"import subprocess, sys; subprocess.run([sys.executable, '-c', {busy!r}, '--test'])"
         self.replace(shares, SECONDS=0.1)
-        process = subprocess.Popen([sys.executable, "-c", starts])
-        with shares.of(process.pid, True) as found:
-            process.wait()
-        self.assertEqual([*found], ["tests of crates"])
-        self.assertGreater(found["tests of crates"] * 60, 0.2)
+        self.run_all(gate.Part("ci", "proofs", (sys.executable, "-c", starts)), part("idle", WRONG, "sleep 0.3"))
+        self.assertGreater(self.rows["tests of crates"].processors * 60, 0.2)
+        self.assertGreater(sum(self.rows[row].processors for row in ("proofs", "tests of crates")) * 60, 0.35)
+        self.assertLess(self.rows[WRONG].processors * 60, 0.2)
+        self.assertGreater(self.rows[WRONG].clock * 60, 0.25)
 
     def test_each_of_few_processors_gets_a_crate_as_far_as_memory_reaches(self):
         with mock.patch.dict(os.environ, {"HOME": "/root"}, clear=True):
@@ -161,27 +154,22 @@ class Beside(Case):
         self.replace(gate, ROOT=root)
         self.replace(unproved, PROVED=root / "crates/hole/out/hole")
 
-    def ci(self, said, after="rm -r crates/low/out/rlib; echo rt: last proved"):
-        return part("ci", "proofs", f"echo rt: {said}\n{self.WAIT}{after}; echo 2 passed, 0 failed")
+    def ci(self, proves):
+        script = f"echo rt: {proves} proved\n{self.WAIT}rm -r crates/low/out/rlib; echo rt: last proved; echo 2 passed, 0 failed"
+        return part("ci", "proofs", script)
 
     def wrong_bodies(self, script):
         return part("wrong_bodies", WRONG, script, gate.LIBRARIES)
 
     def test_wrong_bodies_are_told_of_a_library_that_is_set_aside(self):
-        said = self.run_all(self.ci("low proved"), self.wrong_bodies("read it; touch seen; sleep 0.5; cat $0/$it/low.rlib/format; cat; echo 3 passed, 0 failed"))
+        said = self.run_all(self.ci("low"), self.wrong_bodies("read it; touch seen; sleep 0.5; cat $0/$it/low.rlib/format; cat; echo 3 passed, 0 failed"))
         self.assertEqual(self.counts(), {"proofs": (2, 0), WRONG: (3, 0)})
         self.assertIn("statements\nlast\n3 passed", said)
         self.assertIn("the library last isn't set aside", said)
 
-    def test_wrong_bodies_are_told_of_a_library_that_an_earlier_run_proved(self):
-        ci = self.ci("low is kept: an earlier run on this machine proved the same files", "echo")
-        said = self.run_all(ci, self.wrong_bodies("read it; touch seen; cat $0/$it/low.rlib/format; cat; echo 3 passed, 0 failed"))
-        self.assertEqual(self.counts()[WRONG], (3, 0))
-        self.assertIn("\nstatements\n", said)
-
     def test_what_fails_beside_is_tried_once_more(self):
         fails_once = "[ -e seen ] && { cat; echo 3 passed, 0 failed; exit 0; }; touch seen; exit 1"
-        said = self.run_all(self.ci("low proved"), self.wrong_bodies(fails_once))
+        said = self.run_all(self.ci("low"), self.wrong_bodies(fails_once))
         self.assertEqual(self.counts()[WRONG], (3, 0))
         self.assertIn("low\nlast\n3 passed", said)
 
@@ -189,7 +177,7 @@ class Beside(Case):
         beside = part("beside", PROGRAM, "touch seen; echo 1 passed, 0 failed", gate.PROGRAM)
         alone = part("alone", PROGRAM, "[ -e over ] && echo 1 passed, 0 failed", is_alone=True)
         slow = part("slow", "proofs", "sleep 0.5; touch over")
-        self.run_all(alone, self.ci("hole proved"), beside, slow, program=lambda: ("hole", True), jobs=2)
+        self.run_all(alone, self.ci("hole"), beside, slow, program=lambda: ("hole", True), jobs=2)
         self.assertEqual(self.counts(), {"proofs": (3, 0), PROGRAM: (2, 0)})
 
     def test_what_waits_for_a_program_that_is_never_proved_runs_in_the_end(self):
