@@ -14,8 +14,7 @@ are tried once more after it.
 
 A part that fails doesn't hide others. Its counts are those that it prints last; a part that prints none counts as one. The
 clock of a row is the sum of its parts', that of the last line is the gate's. The minutes of processors are those of a part's
-processes; those of `rt ci` are told apart into rows by looking at its processes every second, so the rows' sum may differ a
-little from the whole. The status is 1 if anything failed.
+processes; the row of the proofs has all those of `rt ci`. The status is 1 if anything failed.
 """
 import argparse
 import contextlib
@@ -32,7 +31,6 @@ import traceback
 from concurrent.futures import ThreadPoolExecutor
 from dataclasses import astuple, dataclass, replace
 
-import shares
 import unproved
 
 ROOT = pathlib.Path(__file__).resolve().parent.parent
@@ -80,7 +78,7 @@ class Part:
 
 @dataclass
 class Result:
-    """What a part, or a row, came to, in minutes, and the parts that failed; 0 minutes if nobody knows them."""
+    """What a part, or a row, came to, in minutes, and the parts that failed."""
 
     passed: int = 0
     failed: int = 0
@@ -104,7 +102,6 @@ def parts():
     named = [
         Part("ci", "proofs", ("rt", "ci")),
         Part("wrong_bodies", "wrong bodies", ("tools/wrong_bodies.py", "--beside", LIBRARIES)),
-        Part("layout", SCRIPTS, ("tools/check_layout.py",), is_quick=True),
         Part("links", SCRIPTS, ("tools/check_links.py",), is_quick=True),
         *(Part(it.stem, SCRIPTS, (f"tools/{it.name}",), is_quick=True) for it in scripts),
         program_part("program.py"),
@@ -141,11 +138,11 @@ def counted(said, status):
     return passed, max(failed, int(status != 0))
 
 
-def counted_by_ci(said, status, minutes):
+def counted_by_ci(said, status):
     """The rows that `rt ci` fills. What its own last line counts as failed beyond them counts among the proofs."""
     rows = {}
     for row, kinds in SAID_BY_CI.items():
-        rows[row] = Result(*(len(re.findall(f"(?m){words}", said)) for words in kinds), processors=minutes.get(row, 0))
+        rows[row] = Result(*(len(re.findall(f"(?m){words}", said)) for words in kinds))
     beyond = counted(said, status)[1] - sum(row.failed for row in rows.values())
     rows["proofs"].failed += max(beyond, 0)
     return rows
@@ -233,7 +230,7 @@ def run(part, words, is_shown, proved):
     head = f"== {part.name}: {' '.join(map(str, words))}\n"
     print(head if is_shown else "", end="", flush=True)
     process = start(words, proved)
-    with shares.of(process.pid, is_ci) as found, process.stdout:
+    with process.stdout:
         for line in process.stdout:
             said.append(line)
             print(line if is_shown else "", end="", flush=True)
@@ -243,9 +240,9 @@ def run(part, words, is_shown, proved):
     process.returncode = status = os.waitstatus_to_exitcode(status)
     said = "".join(said)
     print("" if is_shown else f"{head}{said}", end="", flush=True)
-    clock, processors = (time.monotonic() - began) / 60, (used.ru_utime + used.ru_stime) / 60
-    rows = counted_by_ci(said, status, found) if is_ci else {part.row: Result(*counted(said, status))}
-    rows[part.row].clock, rows[part.row].processors = clock, processors - sum(found.values())
+    rows = counted_by_ci(said, status) if is_ci else {part.row: Result(*counted(said, status))}
+    rows[part.row].clock = (time.monotonic() - began) / 60
+    rows[part.row].processors = (used.ru_utime + used.ru_stime) / 60
     for row in rows.values():
         row.names = (part.name,) if row.failed else ()
     return rows

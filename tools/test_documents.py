@@ -81,9 +81,12 @@ class Documents(unittest.TestCase):
             pages[path] = "\n".join(COMMENT.findall(path.read_text()))
         self.assertEqual({name: found for name, page in pages.items() if (found := AVOIDED.findall(page))}, {})
 
-    def test_the_pictures_are_current(self):
-        for name, picture in draw.PICTURES.items():
-            self.assertEqual((ROOT / name).read_text(), picture(), f"{name}: run make documents")
+    def test_the_picture_of_the_crates_is_current_and_others_name_functions_that_exist(self):
+        self.assertEqual(draw.PICTURE.read_text(), draw.picture(), "run make documents")
+        for name in re.findall(r">(gopher_\w+::[\w:]+)<", "".join(path.read_text() for path in ROOT.glob("docs/*.svg"))):
+            crate, *_, function = name.split("::")
+            sources = "".join(path.read_text() for path in ROOT.glob(f"crates/{crate}/src/**/*.rt"))
+            self.assertRegex(sources, rf"\bpub(?:\(crate\))? fn {function}\b", name)
 
     def test_each_folder_of_the_first_sites_has_a_menu_with_a_heading(self):
         for site in (ROOT / "examples/site", ROOT / "packaging/site"):
