@@ -1,8 +1,7 @@
 """Refusals that stand, kept on this machine: what tools/wrong_bodies.py need not try a second time.
 
-They lie outside of the checkout, in the folder that HOLE_GATE_CACHE names, or else in hole-gate among the user's caches. Each
-edit has a file with a sum of all that its check reads, and with what its function lacks. A file that can't be read or has
-another sum counts as none. Only refusals are kept.
+They lie in the folder that HOLE_GATE_CACHE names, or else in hole-gate among the user's caches. Each edit has a file with a sum
+of all that its check reads, and with what its function lacks. A file that can't be read or has another sum counts as none.
 """
 import contextlib
 import hashlib

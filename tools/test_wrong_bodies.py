@@ -144,13 +144,9 @@ class WrongBodies(Case):
         ran = subprocess.run(words, env=environment, input=names, capture_output=True, text=True)
         return ran.stdout, ran.returncode
 
-    def test_a_caller_of_a_refused_function_is_not_refused(self):
-        said = "small/b: NOT REFUSED\n1 passed, 1 failed\n"
-        self.assertEqual(self.tried(a=ONE_TOO_MANY, b=HARMLESS_CALLER), (said, 1))
-
-    def test_second_edits_of_a_function_are_tried_with_the_first(self):
-        said = "small/c: NOT REFUSED\n2 passed, 1 failed\n"
-        self.assertEqual(self.tried(a=ONE_TOO_MANY, b=ONE_TOO_FEW_AGAIN, c=HARMLESS), (said, 1))
+    def test_harmless_edits_are_not_refused_and_second_edits_of_a_function_are_tried_with_the_first(self):
+        said = "small/b: NOT REFUSED\nsmall/d: NOT REFUSED\n2 passed, 2 failed\n"
+        self.assertEqual(self.tried(a=ONE_TOO_MANY, b=HARMLESS_CALLER, c=ONE_TOO_FEW_AGAIN, d=HARMLESS), (said, 1))
 
     def test_an_edit_that_does_not_compile_is_not_refused(self):
         said, status = self.tried(a=NO_SUCH_NAME)

@@ -5,25 +5,20 @@
 
 tries those of these crates, or these, or all; with --reasons it prints for each what its function lacks. A refusal that stands
 is kept on this machine (tools/kept.py) and not tried again while nothing changes that its check reads; --from-nothing tries it
-all the same. The libraries that checks stand on are built, but with --beside, which is for work beside `rt ci`: then FOLDER/NAME
-holds the library of the crate NAME once the standard input has a line NAME, which says that the crate is proved. Until that
-input ends, checks leave processors and memory to `rt ci` (tools/lanes.py).
+all the same. With --beside, for work beside `rt ci`, FOLDER/NAME holds the library of the crate NAME once the standard input has
+a line NAME, and until that input ends, checks leave processors and memory to `rt ci` (tools/lanes.py). Without, libraries are built.
 
-An edit is a file crates/CRATE/wrong-bodies/NAME.edit: a line 'function: PATH', the function whose meaning it turns, as a
-check names it below its crate; a line 'file: src/NAME.rt'; then pairs of lines 'old: TEXT' and 'new: TEXT'. An old text
-occurs exactly once in the file, as the pairs before it left that, or else is one whole line of it. Only bodies of functions
-may change.
+CONTRIBUTING.md has the form of an edit. All edits of a crate are tried in one check of a copy of the crate, since the prover goes
+on after a refusal and says of each function what it lacks. Of a second edit of a function, a twin of the function is written
+beside it, with its contract, its proof files and a name of its own; methods of traits have no twins, and their further edits are
+tried in further checks. Every other function is blank there, with a body whose proof fails at once: callers are judged by its
+contract, and what it calls isn't proved again. A crate of tests is checked with its tests.
 
-All edits of a crate are tried in one check of a copy of the crate, since the prover goes on after a refusal and says of each
-function what it lacks. Of a second edit of a function, a twin of the function is written beside it, with its contract, its
-proof files and a name of its own; methods of traits have no twins, and their further edits are tried in further checks. Every
-other function is blank there, with a body whose proof fails at once: callers are judged by its contract, and what it calls
-isn't proved again. A crate of tests is checked with its tests. An edit counts as refused only if its own function
-lacks the proof of a goal: not if the function only calls a refused one or passes an impl that has one, and not if a proof
-file only names what the edit took away. What isn't refused in company is tried alone, with no blank body: 'NOT REFUSED' is
-then said of a function that is proved, and 'NOT PROVED, BY NAMES ALONE' of one whose proof file no longer fits, which shows
-nothing either way. Each of these lines is printed as its check ends, and a line for each check, with its seconds of the
-processors, goes to the standard error. The last line is 'N passed, M failed'; the status is 1 if any failed.
+An edit counts as refused only if its own function lacks the proof of a goal: not if the function only calls a refused one or
+passes an impl that has one, and not if a proof file only names what the edit took away. What isn't refused in company is tried
+alone, with no blank body: 'NOT REFUSED' is then said of a function that is proved, and 'NOT PROVED, BY NAMES ALONE' of one whose
+proof file no longer fits, which shows nothing either way. Each of these lines is printed as its check ends, and the seconds of the
+processors of each check go to the standard error. The last line is 'N passed, M failed'; the status is 1 if any failed.
 """
 import argparse
 import os
@@ -72,19 +67,16 @@ class Edit:
         if len(words) < 4 or words != ["function", "file", *["old", "new"] * (len(words) // 2 - 1)]:
             raise BadEdit("it isn't a function, a file, and pairs of an old and a new text")
         self.function, self.file, *texts = (text for _, _, text in lines)
-        pristine = edited = self.source()
+        source = ROOT / "crates" / self.crate / self.file
+        if not self.file.startswith("src/") or not source.is_file():
+            raise BadEdit(f"there is no source file {self.file}")
+        edited = source.read_text()
         for old, new in zip(texts[::2], texts[1::2]):
             edited = replaced(edited, old, new)
-        self.compare(pieces(pristine), pieces(edited))
+        self.compare(pieces(source.read_text()), pieces(edited))
 
     def __str__(self):
         return f"{self.crate}/{self.name}"
-
-    def source(self):
-        path = ROOT / "crates" / self.crate / self.file
-        if not self.file.startswith("src/") or not path.is_file():
-            raise BadEdit(f"there is no source file {self.file}")
-        return path.read_text()
 
     def compare(self, before, after):
         if len(before) != len(after) or before[::2] != after[::2]:
@@ -232,10 +224,19 @@ def write(edits, folder, is_alone):
             stands.update({(str(file), at): function for at in range(line, end) if function})
             line = end
         (folder / file).write_text("".join(part for part, _ in parts))
-    write_proofs(crate, folder, left)
+    write_proofs(crate / "proofs", folder / "proofs", left)
     for function, edit in found.items():
         write_twins_proofs(folder, edit.function, function)
     return found, stands
+
+
+def write_proofs(own, copied, left):
+    """Writes the proofs of the copy: the lemmas, and of functions' own files those of the functions that are left."""
+    shutil.rmtree(copied, ignore_errors=True)
+    if own.is_dir():
+        files = {f"{name}.antt" for name in OWN_PROOFS}
+        is_left = lambda folder: left & {*pathlib.Path(folder).relative_to(own).parts}
+        shutil.copytree(own, copied, ignore=lambda folder, names: () if is_left(folder) else files & {*names})
 
 
 def write_twins_proofs(folder, function, twin):
@@ -247,17 +248,6 @@ def write_twins_proofs(folder, function, twin):
         for file in own.glob("*.antt"):
             text = file.read_text().replace(dotted(function), dotted(twin))
             (folder / proofs_of(twin) / file.name).write_text(text)
-
-
-def write_proofs(crate, folder, left):
-    """Writes the proofs of the copy: the lemmas, and of functions' own files those of the functions that are left."""
-    shutil.rmtree(folder / "proofs", ignore_errors=True)
-    if (crate / "proofs").is_dir():
-        shutil.copytree(crate / "proofs", folder / "proofs")
-        for name in OWN_PROOFS:
-            for file in (folder / "proofs").rglob(f"{name}.antt"):
-                if not left & set(file.relative_to(folder / "proofs").parts):
-                    file.unlink()
 
 
 def try_group(edits, folder, is_alone):
@@ -275,14 +265,14 @@ def try_group(edits, folder, is_alone):
 def results_of(edits, built):
     """What became of some edits of a crate, check by check. They are tried in groups, and alone those that weren't refused in
     company. The checks follow one another in one copy, so that each begins with the lemmas that those before it proved."""
-    again = []
+    left = [*edits]
     with tempfile.TemporaryDirectory(prefix="wrong-bodies-") as room:
         folder = copy_of(edits[0].crate, built, pathlib.Path(room))
         for group in groups_of(edits):
-            tried = try_group(group, folder, is_alone=False)
-            again += [edit for edit, (is_refused, _) in tried.items() if not is_refused]
-            yield {edit: result for edit, result in tried.items() if result[0]}
-        for edit in again:
+            refused = {edit: result for edit, result in try_group(group, folder, is_alone=False).items() if result[0]}
+            left = [edit for edit in left if edit not in refused]
+            yield refused
+        for edit in left:
             yield try_group([edit], folder, is_alone=True)
 
 
@@ -297,11 +287,10 @@ def try_crate(edits, libraries, kept, show):
     try:
         take({edit: (True, why) for edit, why in kept.known(edits).items()})
         tell([f"{edits[0].crate}: {len(tried)} of {len(edits)} kept"], sys.stderr)
-        left = [edit for edit in edits if edit not in tried]
-        built = {name: library.result() for name, library in libraries.items()} if left else {}
-        for results in results_of(left, built) if left else ():
-            take(results)
-            kept.keep({edit: why for edit, (is_refused, why) in results.items() if is_refused})
+        if left := [edit for edit in edits if edit not in tried]:
+            for results in results_of(left, {name: library.result() for name, library in libraries.items()}):
+                take(results)
+                kept.keep({edit: why for edit, (is_refused, why) in results.items() if is_refused})
     except Exception as why:
         take({edit: (False, f"NOT TRIED: {why}") for edit in edits if edit not in tried})
     return tried
