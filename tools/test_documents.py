@@ -1,9 +1,10 @@
 #!/usr/bin/env python3
-"""Tests the documents: what they name exists, what README counts and quotes is in the tree, the pictures are current, and words
-that readers stumbled over stay away.
+"""Tests the documents and the words of the crates: what documents name exists, what README counts and quotes is in the tree, the
+pictures are current, words that readers stumbled over stay away, and each definition of specs/ has a name of its own.
 
 tools/check_links.py looks after links, pictures and paths.
 """
+import collections
 import pathlib
 import re
 import subprocess
@@ -23,7 +24,17 @@ RECIPES = "\n".join(path.read_text() for path in [ROOT / "Makefile", *ROOT.glob(
 # words of an older dialect; plain ones are: out of memory, if, as many, fails with 90
 AVOIDED = re.compile(r"(?i)\b(?:want of memory|whoever|so many|answers 90|refused only where|memory is refused)\b")
 COMMENT = re.compile(r"(?m)^ *(?://[/!]?|--) (.*)$")
+SPECS = {path: path.read_text() for path in ROOT.glob("crates/*/specs/**/*.antt")}
+DEFINITION = re.compile(r"(?m)^(?:(?:pub|abbrev|unfoldable|opaque) )*(?:(?:record|data) (\w\S*)|(\w\S*) (?::|[({][^=\n]*[)}] :))")
+LEMMAS = re.compile(r"(?m)^use Rattle\.(?!std\b)\w+\.proofs\..*$")
+# comments and clauses of sources; of definitions also what isn't a list of names or a text
+SHORT = {"src/**/*.rt": r"(?m)^ *(?://|requires\b|ensures\b).*$", "specs/**/*.antt": r'(?m)^(?: *--.*|(?!(?:pub )?use )[^"\n]*)$'}
 OFF_BY = 0.02  # a count over 1,000 moves with every commit and may differ by so much
+
+
+def names(text):
+    """The names that a text defines."""
+    return [first or second for first, second in DEFINITION.findall(text)]
 
 
 class ReadmeAndPromises(unittest.TestCase):
@@ -97,6 +108,24 @@ class Documents(unittest.TestCase):
         for path in (path for crate in numbers_of_code.crates() for path in crate.glob("src/**/*.r[ts]")):
             if path.name != "lib.rt":
                 self.assertRegex(list_files.about(path.read_text()), r"^[A-Z`].*\.$", str(path))
+
+
+class Definitions(unittest.TestCase):
+    def test_each_name_has_one_meaning_and_cites_no_lemma(self):
+        counts = collections.Counter(name for text in SPECS.values() for name in names(text))
+        self.assertEqual([name for name, count in counts.items() if count > 1], [])
+        self.assertEqual([str(path) for path, text in SPECS.items() if LEMMAS.search(text)], [])
+
+    def test_comments_clauses_and_definitions_are_short(self):
+        for kind, pattern in SHORT.items():
+            for text in numbers_of_code.texts(kind):
+                self.assertEqual([line for line in re.findall(pattern, text) if len(line) > 100], [])
+
+    def test_names_are_found(self):
+        text = "use Rattle.std.specs.Prelude.{ℕ}\n-- one more\nabbrev pub one_more : ℕ → ℕ\none_more n = n + 1\n"
+        text += "pub record IsLong (length : ℕ)\n    (bytes : List ℕ) : Type 0 where\n  pub is : 9 < length\n"
+        text += "parted (first : ℕ) (rest : ℕ) : ℕ\nparted first rest = (other : ℕ) × first\n"
+        self.assertEqual(names(text), ["one_more", "IsLong", "parted"])
 
 
 if __name__ == "__main__":
