@@ -53,8 +53,8 @@ impl Search {
         })
     }
 
-    /// Does one step, of the size that the crate's head states. Returns the hits if no step is left,
-    /// and `None` otherwise.
+    /// Does one step, of the size that the crate's head states. Returns the hits if no step is
+    /// left, and `None` otherwise.
     ///
     /// # Errors
     ///
