@@ -6,9 +6,9 @@ that they reach.
     tools/audit.py PROMISE ..       prints the text of these promises, by number or name, each definition once
     tools/audit.py --crate CRATE    prints the contract of each public function of a crate
 
-The text holds no proof, no body and no import. A contract comes first. Each definition follows the one that first names it.
-Types of the program appear as contracts see them: the value of their model, or their public fields. Words of the standard
-library and of mathlib are only listed. A line counts unless it is empty or a comment.
+The text holds no proof, no body and no import. Each definition follows the contract or definition that first names it. Types of
+the program appear as contracts see them: the value of their model, or their public fields. Words of the standard library and of
+mathlib are only listed. A line counts unless it is empty or a comment.
 """
 import pathlib
 import re

@@ -3,18 +3,16 @@
 
     tools/gate.py [--quick] [PART ..]
 
-Without --quick every part runs, as `make test` does: each proof from nothing, each edit that the prover must refuse, each
-test. With --quick only the parts that need no proof run, as `make quick` does, on the program that `make build` left if no
-source is younger, and else on one that is built without its proofs. PART names single parts.
+Without --quick every part runs, as `make test` does. With --quick only the parts that need no proof run, as `make quick` does, on
+the program that `make build` left if no source is younger, and else on one that is built without its proofs. PART names single
+parts.
 
-Parts run beside each other. Scripts, documents and wrong bodies begin with `rt ci`: the wrong bodies of a crate are tried once
-`rt ci` has proved it, on what its proofs leave idle. Tests of the program begin when `rt ci` has proved and built it; those
-that measure time or memory, or whose waits are short, run one by one after all others. Wrong bodies that failed beside `rt ci`
-are tried once more after it.
+Parts run beside each other. The wrong bodies of a crate are tried once `rt ci` has proved it, on what its proofs leave idle, and
+once more after it if they failed. Tests of the program begin when `rt ci` has proved and built it; those that measure time or
+memory, or whose waits are short, run one by one after all others.
 
-A part that fails doesn't hide others. Its counts are those that it prints last; a part that prints none counts as one. The
-clock of a row is the sum of its parts', that of the last line is the gate's. The minutes of processors are those of a part's
-processes; the row of the proofs has all those of `rt ci`. The status is 1 if anything failed.
+A part that fails doesn't hide others. Its counts are those that it prints last; a part that prints none counts as one. The clock
+of a row is the sum of its parts', that of the last line is the gate's; the row of the proofs has all minutes of `rt ci`.
 """
 import argparse
 import contextlib
@@ -41,7 +39,12 @@ ROWS = ("proofs", "must-fail edits", "wrong bodies", "tests of crates", "tests o
 FEW_PROCESSORS = 4
 MEMORY_OF_A_CHECK = 5 << 30
 # tests that want what a machine may lack
-BY_HAND = {"tests/clients.py"}
+BY_HAND = {"clients"}
+# tests of `make quick`, with more words if the program was built without its proofs
+QUICK = {
+    "program": (), "serving": (), "requests": (), "check": (), "replays": ("--scripts", "200", "--pages", "257"), "log": ("--ratio", "0"),
+    "attack": ("--memory", "100000"),
+}
 # tests that measure time or memory, or that wait for a second or two only: nothing else runs beside them
 ALONE = {"attack", "crawling", "large_texts", "log", "refused_crawls"}
 # tests that want the built tests of a crate
@@ -90,31 +93,20 @@ class Result:
         return Result(*(one + more for one, more in zip(astuple(self), astuple(other))))
 
 
-def program_part(script, *words, quick=True, unproved=()):
-    """A test of the built program in tests/."""
-    name = script.partition(".")[0]
-    return Part(name, "tests of the program", (f"tests/{script}", *words, PROGRAM), quick, unproved, name in ALONE)
-
-
 def parts():
-    """All parts, in the order in which they run. A test in tests/ that isn't named here runs with the others of the program."""
+    """All parts, in the order in which they begin: each test of tools/, and each of tests/ that can be executed."""
     scripts = sorted((ROOT / "tools").glob("test_*.py"))
-    named = [
+    tests = {it.stem: it.name for it in sorted((ROOT / "tests").iterdir()) if it.is_file() and os.access(it, os.X_OK)}
+    found = [
         Part("ci", "proofs", ("rt", "ci")),
         Part("wrong_bodies", "wrong bodies", ("tools/wrong_bodies.py", "--beside", LIBRARIES)),
         Part("links", SCRIPTS, ("tools/check_links.py",), is_quick=True),
         *(Part(it.stem, SCRIPTS, (f"tools/{it.name}",), is_quick=True) for it in scripts),
-        program_part("program.py"),
-        program_part("serving.py"),
-        program_part("replays.py", unproved=("--scripts", "200", "--pages", "257")),
-        program_part("requests.py", "--lines", "500"),
-        program_part("check.py"),
-        program_part("log.py", unproved=("--ratio", "0")),
-        program_part("attack.py", unproved=("--memory", "100000")),
     ]
-    taken = {part.words[0] for part in named} | BY_HAND
-    others = [it.name for it in sorted((ROOT / "tests").iterdir()) if it.is_file() and os.access(it, os.X_OK)]
-    return [*named, *(program_part(it, quick=False) for it in others if f"tests/{it}" not in taken)]
+    for name in sorted(tests.keys() - BY_HAND, key=lambda it: (it not in QUICK, it)):
+        words = (f"tests/{tests[name]}", PROGRAM)
+        found.append(Part(name, "tests of the program", words, name in QUICK, QUICK.get(name, ()), name in ALONE))
+    return found
 
 
 def chosen_of(names, is_quick):

@@ -188,7 +188,7 @@ class Parts(Case):
         for it in gate.parts():
             self.assertIn(it.row, gate.ROWS)
             self.assertTrue(it.words[0] == "rt" or os.access(gate.ROOT / it.words[0], os.X_OK), it.words[0])
-        self.assertLessEqual(gate.ALONE | gate.AFTER_CI, {*names})
+        self.assertLessEqual({*gate.ALONE, *gate.AFTER_CI, *gate.QUICK}, {*names})
 
     def test_a_script_that_is_added_to_tests_is_a_part(self):
         root = self.room("tests/later.py", "tests/model.py", "tests/clients.py", "tests/log.py")

@@ -3,24 +3,19 @@
 
     tools/wrong_bodies.py [--reasons] [--from-nothing] [--beside FOLDER] [CRATE|CRATE/NAME ..]
 
-tries those of these crates, or these, or all; with --reasons it prints for each what its function lacks. A refusal that stands
-is kept on this machine (tools/kept.py) and not tried again while nothing changes that its check reads; --from-nothing tries it
-all the same. With --beside, for work beside `rt ci`, FOLDER/NAME holds the library of the crate NAME once the standard input has
-a line NAME, and until that input ends, checks leave processors and memory to `rt ci` (tools/lanes.py). Without, libraries are built.
+tries those of these crates, or these, or all; CONTRIBUTING.md has their form. With --reasons it prints for each what its function
+lacks. A refusal that stands is kept (tools/kept.py); --from-nothing tries it all the same. With --beside, for work beside `rt ci`,
+FOLDER/NAME holds the library of the crate NAME once the standard input has a line NAME, and until that input ends, checks leave
+processors and memory to `rt ci` (tools/lanes.py). Without, libraries are built.
 
-CONTRIBUTING.md has the form of an edit. All edits of a crate are tried in one check of a copy of the crate, since the prover goes
-on after a refusal and says of each function what it lacks. Of a second edit of a function, a twin of the function is written
-beside it, with its contract, its proof files and a name of its own; methods of traits have no twins, and their further edits are
-tried in further checks. Every other function is blank there, with a body whose proof fails at once: callers are judged by its
-contract, and what it calls isn't proved again. A crate of tests is checked with its tests.
-
-An edit counts as refused only if its own function lacks the proof of a goal: not if the function only calls a refused one or
-passes an impl that has one, and not if a proof file only names what the edit took away. What isn't refused in company is tried
-alone, with no blank body: 'NOT REFUSED' is then said of a function that is proved, and 'NOT PROVED, BY NAMES ALONE' of one whose
-proof file no longer fits, which shows nothing either way. Each of these lines is printed as its check ends, and the seconds of the
-processors of each check go to the standard error. The last line is 'N passed, M failed'; the status is 1 if any failed.
+All edits of a crate are tried in one check of a copy of the crate, since the prover goes on after a refusal. A second edit of a
+function changes a twin of it, unless it is a method of a trait. All other functions are blank, with a body whose proof fails at once.
+An edit counts as refused only if its own function lacks the proof of a goal. What isn't refused in company is tried alone, with no
+blank body: 'NOT REFUSED' is then said of a function that is proved, and 'NOT PROVED, BY NAMES ALONE' of one whose proof file no
+longer fits, which shows nothing either way. The last line is 'N passed, M failed'.
 """
 import argparse
+import collections
 import os
 import pathlib
 import re
@@ -95,17 +90,13 @@ class Edit:
 
 def groups_of(edits):
     """Parts the edits of a crate into groups with at most one edit in any function that can't have a twin."""
-    groups = []
+    groups, taken = collections.defaultdict(list), collections.Counter()
     for edit in edits:
-        stands = {(edit.file, at) for at in edit.changes}
-        for taken, group in groups:
-            if not taken & stands or edit.twin:
-                taken |= stands
-                group.append(edit)
-                break
-        else:
-            groups.append((stands, [edit]))
-    return [group for _, group in groups]
+        places = [(edit.file, at) for at in edit.changes]
+        number = 0 if edit.twin else max(taken[place] for place in places)
+        groups[number].append(edit)
+        taken |= collections.Counter(dict.fromkeys(places, number + 1))
+    return [*groups.values()]
 
 
 def proofs_of(function):
