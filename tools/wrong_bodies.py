@@ -9,13 +9,12 @@ FOLDER/NAME holds the library of the crate NAME once the standard input has a li
 processors and memory to `rt ci` (tools/lanes.py). Without, libraries are built.
 
 All edits of a crate are tried in one check of a copy of the crate, since the prover goes on after a refusal. A second edit of a
-function changes a twin of it, unless it is a method of a trait. All other functions are blank, with a body whose proof fails at once.
-An edit counts as refused only if its own function lacks the proof of a goal. What isn't refused in company is tried alone, with no
-blank body: 'NOT REFUSED' is then said of a function that is proved, and 'NOT PROVED, BY NAMES ALONE' of one whose proof file no
+function changes a twin of it. All other functions are blank, with a body whose proof fails at once. An edit counts as refused
+only if its own function lacks the proof of a goal. What isn't refused in company, or has no twin, is tried alone, with no blank
+body: 'NOT REFUSED' is then said of a function that is proved, and 'NOT PROVED, BY NAMES ALONE' of one whose proof file no
 longer fits, which shows nothing either way. The last line is 'N passed, M failed'.
 """
 import argparse
-import collections
 import os
 import pathlib
 import re
@@ -86,17 +85,6 @@ class Edit:
             raise BadEdit(f"it changes nothing in {self.function}")
         can_have = len(self.changes) == 1 and may_have_twin(self.crate, self.function, before, *self.changes)
         self.twin = re.sub(r"\W", "_", f"{name}_of_{self.name}") if can_have else None
-
-
-def groups_of(edits):
-    """Parts the edits of a crate into groups with at most one edit in any function that can't have a twin."""
-    groups, taken = collections.defaultdict(list), collections.Counter()
-    for edit in edits:
-        places = [(edit.file, at) for at in edit.changes]
-        number = 0 if edit.twin else max(taken[place] for place in places)
-        groups[number].append(edit)
-        taken |= collections.Counter(dict.fromkeys(places, number + 1))
-    return [*groups.values()]
 
 
 def proofs_of(function):
@@ -254,17 +242,22 @@ def try_group(edits, folder, is_alone):
 
 
 def results_of(edits, built):
-    """What became of some edits of a crate, check by check. They are tried in groups, and alone those that weren't refused in
-    company. The checks follow one another in one copy, so that each begins with the lemmas that those before it proved."""
-    left = [*edits]
+    """What became of some edits of a crate, check by check: of all together, but for second edits of a function that has no twin,
+    and then of each that wasn't refused there. The checks follow one another in one copy, so that each begins with the lemmas that
+    those before it proved."""
+    together, taken = [], set()
+    for edit in edits:
+        places = {(edit.file, at) for at in edit.changes}
+        together += [edit] if edit.twin or not places & taken else []
+        taken |= places
     with tempfile.TemporaryDirectory(prefix="wrong-bodies-") as room:
         folder = copy_of(edits[0].crate, built, pathlib.Path(room))
-        for group in groups_of(edits):
-            refused = {edit: result for edit, result in try_group(group, folder, is_alone=False).items() if result[0]}
-            left = [edit for edit in left if edit not in refused]
-            yield refused
-        for edit in left:
-            yield try_group([edit], folder, is_alone=True)
+        tried = try_group(together, folder, is_alone=False)
+        refused = {edit: result for edit, result in tried.items() if result[0]}
+        yield refused
+        for edit in edits:
+            if edit not in refused:
+                yield try_group([edit], folder, is_alone=True)
 
 
 def try_crate(edits, libraries, kept, show):
