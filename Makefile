@@ -31,7 +31,7 @@ test:
 	$(NEEDS_TOOLCHAIN)
 	tools/gate.py
 
-# What needs no proof, in minutes: layout, scripts, links, and the tests of the program, built without its proofs if need be.
+# What needs no proof, in minutes: scripts, links, and the tests of the program, built without its proofs if need be.
 .PHONY: quick
 quick:
 	$(NEEDS_TOOLCHAIN)
@@ -61,12 +61,11 @@ audit:
 files:
 	@tools/list_files.py $(CRATE)
 
-# Writes the parts of the documents that come from the sources: counts and pictures.
+# Writes the parts of the documents that come from the sources: README's counts and the picture of the crates.
 .PHONY: documents
 documents:
 	tools/numbers_of_code.py --write
-	tools/draw_crates.py
-	tools/draw_ratios.py
+	tools/draw.py
 
 # Lets each installed Gopher client ask a server of the example's site for a menu, a text, a search and an image.
 # If there is no proved program, it begins with an hour of proofs.

@@ -2,7 +2,7 @@
 """Makes the tables of docs/TIMINGS.md that compare with plain C from what `make bench` printed.
 
     bench/table.py OUTPUT            prints them
-    bench/table.py --write OUTPUT    puts them into docs/TIMINGS.md, with the day and the machine, and draws docs/ratios.svg anew
+    bench/table.py --write OUTPUT    puts them into docs/TIMINGS.md, with the day and the machine
 
 OUTPUT is a file. A ratio over 1 means that Hole is faster, or uses less. Searches are the geometric mean over the queries.
 A crawl is one of four workers. If no other server was measured, their table stays.
@@ -142,8 +142,8 @@ def main(words):
     text = pathlib.Path(words[-1]).read_text()
     if words[0] == "--write":
         PAGE.write_text(written(PAGE.read_text(), text))
-        return subprocess.run([ROOT / "tools/draw_ratios.py"]).returncode
-    print(f"{told()}\n\n{table(text)}\n{files(text)}\n{peers(text)}", end="")
+    else:
+        print(f"{told()}\n\n{table(text)}\n{files(text)}\n{peers(text)}", end="")
     return 0
 
 

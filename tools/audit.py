@@ -3,13 +3,12 @@
 that they reach.
 
     tools/audit.py                  lists the promises, with the lines to read for each
-    tools/audit.py PROMISE ..       prints the text of these promises, by number or name
-    tools/audit.py --all            prints the text of all promises, each definition once
+    tools/audit.py PROMISE ..       prints the text of these promises, by number or name, each definition once
     tools/audit.py --crate CRATE    prints the contract of each public function of a crate
 
-The text holds no proof, no body and no import. A contract comes first. Each definition follows the one that first names it.
-Types of the program appear as contracts see them: the value of their model, or their public fields. Words of the standard
-library and of mathlib are only listed. A line counts unless it is empty or a comment.
+The text holds no proof, no body and no import. Each definition follows the contract or definition that first names it. Types of
+the program appear as contracts see them: the value of their model, or their public fields. Words of the standard library and of
+mathlib are only listed. A line counts unless it is empty or a comment.
 """
 import pathlib
 import re
@@ -90,13 +89,13 @@ class Tree:
     def __init__(self):
         self.items, self.handed_on = {}, {}
         for path in sorted(ROOT.glob("crates/*/specs/*.antt")):
+            crate = path.parts[-3]
             for item in definitions(path):
                 cases = re.findall(r"(?m)^\s+([\w']+) :", item.text) if re.search(r"(?m)^(?:pub )?data ", item.text) else ()
                 for name in (item.name, *cases):
-                    self.items.setdefault((item.crate, name), item)
-            for name, target in uses("\n".join(re.findall(r"(?m)^pub use .*", path.read_text()))).items():
-                if isinstance(target, tuple) and target != (path.parts[-3], name):
-                    self.handed_on[path.parts[-3], name] = target
+                    self.items.setdefault((crate, name), item)
+            handed_on = uses("\n".join(re.findall(r"(?m)^pub use .*", path.read_text())))
+            self.handed_on |= {(crate, name): to for name, to in handed_on.items() if to[0] in CRATES and to != (crate, name)}
         for path in sorted(ROOT.glob("crates/*/src/**/*.rt")):
             for item in types(path):
                 self.items.setdefault((item.crate, item.name), item)
@@ -123,17 +122,18 @@ class Tree:
         order, kit = [], set()
 
         def visit(item):
+            if item in order:
+                return
             order.append(item)
             for word in WORD.findall("\n".join(item.read())):
                 meaning = self.meaning(item, word)
                 if isinstance(meaning, str):
                     kit.add(meaning)
-                elif meaning and meaning not in order:
+                elif meaning:
                     visit(meaning)
 
         for root in roots:
-            if root not in order:
-                visit(root)
+            visit(root)
         return order, kit
 
     def text(self, names):
@@ -179,20 +179,18 @@ def contracts_of(crate):
 
 def main(words):
     if words[:1] == ["--crate"] and len(words) == 2:
-        print("\n\n".join(contracts_of(words[1])))
-        return 0
+        return print("\n\n".join(contracts_of(words[1])))
     tree = Tree()
     names = list(tree.promises)
     numbers = {str(number): name for number, name in enumerate(names, 1)}
-    asked = names if words == ["--all"] else [numbers.get(word, word) for word in words]
-    if set(asked) - set(names):
+    asked = [numbers.get(word, word) for word in words]
+    if {*asked} - {*names}:
         raise SystemExit(f"The promises are {', '.join(names)}.")
     if asked:
-        print(tree.text(asked)[0])
-    for number, name in enumerate([] if asked else names, 1):
+        return print(tree.text(asked)[0])
+    for number, name in numbers.items():
         print(f"{number} {name} {tree.text([name])[1]} lines")
-    return 0
 
 
 if __name__ == "__main__":
-    sys.exit(main(sys.argv[1:]))
+    main(sys.argv[1:])

@@ -5,8 +5,8 @@
 
 Every relative link leads to a file or a folder, and its anchor to a heading there. Every picture exists. So does every path
 in backquotes that begins with docs/, tests/, tools/, crates/ or examples/: `*` stands for any name, and so do CRATE and NAME.
-What a build leaves, below a folder out/, isn't looked for. The last line is 'links: N passed, M failed'; the status is 1 if
-any failed.
+What a build leaves, below a folder out/, isn't looked for. Links are written `[text](target)`. The last line is
+'links: N passed, M failed'; the status is 1 if any failed.
 """
 import pathlib
 import re
@@ -14,45 +14,23 @@ import sys
 import urllib.parse
 
 ROOT = pathlib.Path(__file__).resolve().parent.parent
-FENCED = re.compile(r"(?ms)^ *(```|~~~).*?^ *\1 *$")
-INDENTED = re.compile(r"(?m)(?:\A|(?<=\n\n))(?: {4,}.*\n?|\n(?= {4}))+")
+CODE = re.compile(r"(?ms)^ *```.*?^ *```$|(?:\A|(?<=\n\n))(?: {4,}[^\n]*\n?|\n(?= {4}))+")
 SPAN = re.compile(r"`([^`\n]+)`")
-LINK = re.compile(r"!?\[(?:[^\[\]]|\[[^\[\]]*\])*\]\(\s*<?([^()\s>]+)>?(?:\s+\"[^\"]*\")?\s*\)")
-REFERENCE = re.compile(r"(?m)^ {0,3}\[[^\]]+\]:\s*<?(\S+?)>?\s*$")
-IN_HTML = re.compile(r"(?:src|href)=\"([^\"]+)\"")
-HEADING = re.compile(r"(?m)^#{1,6} +(.+?) *#* *$")
-NAMED = re.compile(r"(?:docs|tests|tools|crates|examples)/[^\s]*")
-ANY_NAME = re.compile(r"\b(?:CRATE|NAME)\b")
-
-
-def prose(text):
-    """The text without its blocks of code."""
-    return INDENTED.sub("\n", FENCED.sub("\n", text))
+LINK = re.compile(r"!?\[(?:[^\[\]]|\[[^\[\]]*\])*\]\(([^()\s]+)\)")
+OTHER_LINK = re.compile(r"(?m)^ {0,3}\[[^\]]+\]:.*$|<(?:a|img) [^>]*>")
+HEADING = re.compile(r"(?m)^#+ +(.+)$")
+NAMED = re.compile(r"(?:docs|tests|tools|crates|examples)/\S*")
 
 
 def anchors(text):
     """What leads to the headings of a document: lower case, words joined by hyphens, a repeated one numbered."""
-    found = set(re.findall(r"<a (?:id|name)=\"([^\"]+)\"", text))
-    for heading in HEADING.findall(FENCED.sub("\n", text)):
-        shown = re.sub(r"\[([^\]]*)\]\([^)]*\)", r"\1", heading).replace("`", "")
+    found = []
+    for heading in HEADING.findall(CODE.sub("\n", text)):
+        shown = re.sub(r"\[([^\]]*)\]\([^)]*\)", r"\1", heading)
         slug = re.sub(r"[^\w\- ]", "", shown.lower()).replace(" ", "-")
-        number = 1
-        while slug in found and f"{slug}-{number}" in found:
-            number += 1
-        found.add(f"{slug}-{number}" if slug in found else slug)
+        found.append(slug)
+        found.append(f"{slug}-{found.count(slug) - 1}")
     return found
-
-
-def targets(text):
-    """The links and pictures of a document, as they are written."""
-    words = SPAN.sub("", prose(text))
-    return LINK.findall(words) + REFERENCE.findall(words) + IN_HTML.findall(words)
-
-
-def paths(text):
-    """The paths that a document names in backquotes."""
-    spans = (NAMED.match(span) for span in SPAN.findall(prose(text)))
-    return [found[0].rstrip(".,:;)") for found in spans if found and "/out/" not in f"{found[0]}/"]
 
 
 def fault_of_link(document, target):
@@ -70,17 +48,25 @@ def fault_of_link(document, target):
 
 def fault_of_path(root, path):
     """Why a named path is nowhere, if it is."""
-    pattern = ANY_NAME.sub("*", path.partition("#")[0].rstrip("/"))
-    return None if any(root.glob(re.sub(r":\d+$", "", pattern))) else f"`{path}` isn't there"
+    pattern = re.sub(r"\b(?:CRATE|NAME)\b", "*", path.partition("#")[0].rstrip("/.,:;)"))
+    return None if "/out/" in f"{path}/" or any(root.glob(pattern)) else f"`{path}` isn't there"
+
+
+def faults_of(root, document):
+    """What is wrong with each link and each path of a document, or None."""
+    prose = CODE.sub("\n", document.read_text())
+    words = SPAN.sub("", prose)
+    paths = [found[0] for found in map(NAMED.match, SPAN.findall(prose)) if found]
+    faults = [fault_of_link(document, target) for target in LINK.findall(words)]
+    faults += [f"{link} isn't written [text](target)" for link in OTHER_LINK.findall(words)]
+    return faults + [fault_of_path(root, path) for path in paths]
 
 
 def main(words):
     root = pathlib.Path(words[0]) if words else ROOT
     passed, failed = 0, 0
     for document in [*sorted(root.glob("*.md")), *sorted((root / "docs").rglob("*.md"))]:
-        text = document.read_text()
-        faults = [fault_of_link(document, target) for target in targets(text)]
-        faults += [fault_of_path(root, path) for path in paths(text)]
+        faults = faults_of(root, document)
         for fault in filter(None, faults):
             print(f"links: {document.relative_to(root)}: {fault}")
         passed, failed = passed + faults.count(None), failed + len(faults) - faults.count(None)

@@ -1,21 +1,18 @@
 #!/usr/bin/env python3
 """Runs the gate, part by part, and ends with one table and one line 'N passed, M failed' over all of it.
 
-    tools/gate.py [--quick] [--list] [PART ..]
+    tools/gate.py [--quick] [PART ..]
 
-Without --quick every part runs, as `make test` does: each proof from nothing, each edit that the prover must refuse, each
-test. With --quick only the parts that need no proof run, as `make quick` does, on the program that `make build` left if no
-source is younger, and else on one that is built without its proofs. PART names single parts; --list prints them.
+Without --quick every part runs, as `make test` does. With --quick only the parts that need no proof run, as `make quick` does, on
+the program that `make build` left if no source is younger, and else on one that is built without its proofs. PART names single
+parts.
 
-Parts run beside each other. Scripts, documents and wrong bodies begin with `rt ci`: the wrong bodies of a crate are tried once
-`rt ci` has proved it, on what its proofs leave idle. Tests of the program begin when `rt ci` has proved and built it; those
-that measure time or memory, or whose waits are short, run one by one after all others. Wrong bodies that failed beside `rt ci`
-are tried once more after it.
+Parts run beside each other. The wrong bodies of a crate are tried once `rt ci` has proved it, on what its proofs leave idle, and
+once more after it if they failed. Tests of the program begin when `rt ci` has proved and built it; those that measure time or
+memory, or whose waits are short, run one by one after all others.
 
-A part that fails doesn't hide others. Its counts are those that it prints last; a part that prints none counts as one. The
-clock of a row is the sum of its parts', that of the last line is the gate's. The minutes of processors are those of a part's
-processes; of `rt ci` they are also told apart into rows, by looking at its processes every second, so that the rows' sum may
-differ a little from the whole. The status is 1 if anything failed.
+A part that fails doesn't hide others. Its counts are those that it prints last; a part that prints none counts as one. The clock
+of a row is the sum of its parts', that of the last line is the gate's; the row of the proofs has all minutes of `rt ci`.
 """
 import argparse
 import contextlib
@@ -30,9 +27,8 @@ import threading
 import time
 import traceback
 from concurrent.futures import ThreadPoolExecutor
-from dataclasses import dataclass, field, replace
+from dataclasses import astuple, dataclass, replace
 
-import shares
 import unproved
 
 ROOT = pathlib.Path(__file__).resolve().parent.parent
@@ -43,13 +39,20 @@ ROWS = ("proofs", "must-fail edits", "wrong bodies", "tests of crates", "tests o
 FEW_PROCESSORS = 4
 MEMORY_OF_A_CHECK = 5 << 30
 # tests that want what a machine may lack
-BY_HAND = {"tests/clients.py"}
+BY_HAND = {"clients"}
+# tests of `make quick`, with more words if the program was built without its proofs
+QUICK = {
+    "program": (), "serving": (), "requests": (), "check": (), "replays": ("--scripts", "200", "--pages", "257"), "log": ("--ratio", "0"),
+    "attack": ("--memory", "100000"),
+}
 # tests that measure time or memory, or that wait for a second or two only: nothing else runs beside them
 ALONE = {"attack", "crawling", "large_texts", "log", "refused_crawls"}
 # tests that want the built tests of a crate
 AFTER_CI = {"refusals"}
 # how many parts run at once, beside these, which take most of the gate
 LONG, AT_ONCE = ("ci", "wrong_bodies"), 2
+# seconds between two looks at what is proved
+LOOK_AGAIN = 0.2
 # what `rt ci` prints of a crate that is proved now, or that an earlier run on this machine proved
 PROVED = re.compile(r"rt: (\w+) (?:proved$|is kept: )")
 COUNTS = re.compile(r"(?m)^(?:.*: )?(\d+) passed, (\d+) failed$")
@@ -78,48 +81,32 @@ class Part:
 
 @dataclass
 class Result:
-    """What a part, or a row, came to; the minutes are None where nobody knows them."""
+    """What a part, or a row, came to, in minutes, and the parts that failed."""
 
     passed: int = 0
     failed: int = 0
-    clock: float | None = None
-    processors: float | None = None
-    names: list = field(default_factory=list)
+    clock: float = 0
+    processors: float = 0
+    names: tuple = ()
 
-    def add(self, other):
-        self.passed, self.failed = self.passed + other.passed, self.failed + other.failed
-        self.names += other.names
-        for name in ("clock", "processors"):
-            minutes = [it for it in (getattr(self, name), getattr(other, name)) if it is not None]
-            setattr(self, name, sum(minutes) if minutes else None)
-
-
-def program_part(script, *words, quick=True, unproved=()):
-    """A test of the built program in tests/."""
-    name = script.partition(".")[0]
-    return Part(name, "tests of the program", (f"tests/{script}", *words, PROGRAM), quick, unproved, name in ALONE)
+    def __add__(self, other):
+        return Result(*(one + more for one, more in zip(astuple(self), astuple(other))))
 
 
 def parts():
-    """All parts, in the order in which they run. A test in tests/ that isn't named here runs with the others of the program."""
+    """All parts, in the order in which they begin: each test of tools/, and each of tests/ that can be executed."""
     scripts = sorted((ROOT / "tools").glob("test_*.py"))
-    named = [
+    tests = {it.stem: it.name for it in sorted((ROOT / "tests").iterdir()) if it.is_file() and os.access(it, os.X_OK)}
+    found = [
         Part("ci", "proofs", ("rt", "ci")),
         Part("wrong_bodies", "wrong bodies", ("tools/wrong_bodies.py", "--beside", LIBRARIES)),
-        Part("layout", SCRIPTS, ("tools/check_layout.py",), is_quick=True),
         Part("links", SCRIPTS, ("tools/check_links.py",), is_quick=True),
         *(Part(it.stem, SCRIPTS, (f"tools/{it.name}",), is_quick=True) for it in scripts),
-        program_part("program.py"),
-        program_part("serving.py"),
-        program_part("replays.py", unproved=("--scripts", "200", "--pages", "257")),
-        program_part("requests.py", "--lines", "500"),
-        program_part("check.py"),
-        program_part("log.py", unproved=("--ratio", "0")),
-        program_part("attack.py", unproved=("--memory", "100000")),
     ]
-    taken = {part.words[0] for part in named} | BY_HAND
-    others = [it.name for it in sorted((ROOT / "tests").iterdir()) if it.is_file() and os.access(it, os.X_OK)]
-    return [*named, *(program_part(it, quick=False) for it in others if f"tests/{it}" not in taken)]
+    for name in sorted(tests.keys() - BY_HAND, key=lambda it: (it not in QUICK, it)):
+        words = (f"tests/{tests[name]}", PROGRAM)
+        found.append(Part(name, "tests of the program", words, name in QUICK, QUICK.get(name, ()), name in ALONE))
+    return found
 
 
 def chosen_of(names, is_quick):
@@ -133,24 +120,21 @@ def chosen_of(names, is_quick):
 
 def counted(said, status):
     """How many of what a part tried passed and failed, from what it printed."""
-    found = COUNTS.findall(said)
-    ran = OF_UNITTEST.findall(said)
-    if found:
+    if found := COUNTS.findall(said):
         passed, failed = map(int, found[-1])
-    elif ran:
+    elif ran := OF_UNITTEST.findall(said):
         failed = sum(map(int, re.findall(r"\d+", "".join(FAILED_OF_UNITTEST.findall(said)))))
         passed = int(ran[-1]) - failed
     else:
-        passed, failed = int(not status), int(status != 0)
+        passed, failed = int(not status), 0
     return passed, max(failed, int(status != 0))
 
 
-def counted_by_ci(said, status, minutes):
+def counted_by_ci(said, status):
     """The rows that `rt ci` fills. What its own last line counts as failed beyond them counts among the proofs."""
     rows = {}
-    for row, (well, ill) in SAID_BY_CI.items():
-        passed, failed = (len(re.findall(f"(?m){words}", said)) for words in (well, ill))
-        rows[row] = Result(passed, failed, None, minutes.get(row))
+    for row, kinds in SAID_BY_CI.items():
+        rows[row] = Result(*(len(re.findall(f"(?m){words}", said)) for words in kinds))
     beyond = counted(said, status)[1] - sum(row.failed for row in rows.values())
     rows["proofs"].failed += max(beyond, 0)
     return rows
@@ -175,11 +159,9 @@ class Proved:
     """What `rt ci` has proved so far: crates, whose libraries are set aside in a folder, and the program. `rt ci` puts what was
     there before in the place of its libraries when it ends."""
 
-    def __init__(self, folder, runs):
-        self.folder, self.said, self.names, self.changed = folder, [], [], threading.Condition()
+    def __init__(self, folder):
+        self.folder, self.said, self.names = folder, [], []
         self.stands, self.ended = threading.Event(), threading.Event()
-        if not runs:
-            self.end()
 
     def note(self, line):
         """Takes a line of what `rt ci` prints."""
@@ -195,11 +177,9 @@ class Proved:
             shutil.rmtree(aside, ignore_errors=True)
             if not (crate / "src" / "main.rt").exists():
                 shutil.copytree(crate / "out" / "rlib", aside, copy_function=link)
-        except Exception as error:
-            return print(f"gate: the library {name} isn't set aside: {error}", flush=True)
-        with self.changed:
             self.names.append(name)
-            self.changed.notify_all()
+        except Exception as error:
+            print(f"gate: the library {name} isn't set aside: {error}", flush=True)
 
     def end(self):
         """`rt ci` has ended: what couldn't be set aside before is, unless an older library with its stamp has its place. A crate
@@ -210,19 +190,14 @@ class Proved:
         self.names += [name for name in self.said if name not in self.names]
         self.stands.set()
         self.ended.set()
-        with self.changed:
-            self.changed.notify_all()
 
     def tell(self, stream):
         """Writes the name of each crate that is set aside, as it comes, until `rt ci` has ended."""
-        told = 0
+        told, is_last = 0, False
         with contextlib.suppress(OSError), stream:
-            while True:
-                with self.changed:
-                    self.changed.wait_for(lambda: told < len(self.names) or self.ended.is_set())
-                    new = self.names[told:]
-                if not new:
-                    return
+            while not is_last:
+                is_last = self.ended.wait(LOOK_AGAIN)
+                new = self.names[told:]
                 stream.write("".join(f"{name}\n" for name in new))
                 stream.flush()
                 told += len(new)
@@ -230,12 +205,12 @@ class Proved:
 
 def start(words, proved):
     """Starts a part; one that works beside `rt ci` is told what is proved."""
-    memory = os.sysconf("SC_PHYS_PAGES") * os.sysconf("SC_PAGE_SIZE")
-    how = {"stdout": subprocess.PIPE, "stderr": subprocess.STDOUT, "text": True, "errors": "replace"}
-    how["env"] = environment(len(os.sched_getaffinity(0)), memory)
-    is_told = LIBRARIES in words
-    words = [str(proved.folder) if word == LIBRARIES else word for word in words]
-    process = subprocess.Popen(words, cwd=ROOT, stdin=subprocess.PIPE if is_told else subprocess.DEVNULL, **how)
+    memory, is_told = os.sysconf("SC_PHYS_PAGES") * os.sysconf("SC_PAGE_SIZE"), LIBRARIES in words
+    process = subprocess.Popen(
+        [str(proved.folder) if word == LIBRARIES else word for word in words],
+        cwd=ROOT, env=environment(len(os.sched_getaffinity(0)), memory), stdin=subprocess.PIPE if is_told else subprocess.DEVNULL,
+        stdout=subprocess.PIPE, stderr=subprocess.STDOUT, text=True, errors="replace",
+    )
     if is_told:
         threading.Thread(target=proved.tell, args=(process.stdin,), daemon=True).start()
     return process
@@ -243,33 +218,25 @@ def start(words, proved):
 
 def run(part, words, is_shown, proved):
     """Runs a part, and gives the rows that it fills. Its output is shown as it comes, or else at its end."""
-    began, said = time.monotonic(), []
-    head = f"== {part.name}: {' '.join(map(str, words))}"
-    print(f"{head}\n" if is_shown else "", end="", flush=True)
-    try:
-        process = start(words, proved)
-    except OSError as error:
-        print(f"{head}\n{error}", flush=True)
-        return {part.row: Result(0, 1, 0, 0, [part.name])}
-    with shares.of(process.pid, part.name == "ci") as found, process.stdout:
+    began, said, is_ci = time.monotonic(), [], part.name == "ci"
+    head = f"== {part.name}: {' '.join(map(str, words))}\n"
+    print(head if is_shown else "", end="", flush=True)
+    process = start(words, proved)
+    with process.stdout:
         for line in process.stdout:
             said.append(line)
             print(line if is_shown else "", end="", flush=True)
-            if part.name == "ci":
+            if is_ci:
                 proved.note(line)
         _, status, used = os.wait4(process.pid, 0)
     process.returncode = status = os.waitstatus_to_exitcode(status)
     said = "".join(said)
-    print("" if is_shown else f"{head}\n{said}", end="", flush=True)
-    clock, processors = (time.monotonic() - began) / 60, (used.ru_utime + used.ru_stime) / 60
-    if part.name == "ci":
-        rows = counted_by_ci(said, status, found)
-        rows["proofs"].clock = clock
-        rows["proofs"].processors = processors - sum(rows[row].processors or 0 for row in rows if row != "proofs")
-    else:
-        rows = {part.row: Result(*counted(said, status), clock, processors)}
+    print("" if is_shown else f"{head}{said}", end="", flush=True)
+    rows = counted_by_ci(said, status) if is_ci else {part.row: Result(*counted(said, status))}
+    rows[part.row].clock = (time.monotonic() - began) / 60
+    rows[part.row].processors = (used.ru_utime + used.ru_stime) / 60
     for row in rows.values():
-        row.names = [part.name] if row.failed else []
+        row.names = (part.name,) if row.failed else ()
     return rows
 
 
@@ -287,17 +254,17 @@ def attempt(part, program, proved, is_shown):
         filled = run(part, words, is_shown, proved)
     except Exception:
         traceback.print_exc()
-        filled = {part.row: Result(0, 1, 0, 0, [part.name])}
+        filled = {part.row: Result(failed=1, names=(part.name,))}
     finally:
         if part.name == "ci":
             proved.end()
-    if LIBRARIES not in words or not filled[part.row].failed:
-        return filled
-    proved.ended.wait()
-    first, again = filled[part.row], run(part, words, is_shown, proved)
-    again[part.row].clock += first.clock
-    again[part.row].processors += first.processors
-    return again
+    first = filled.get(part.row)
+    if LIBRARIES in words and first.failed:
+        proved.ended.wait()
+        filled = run(part, words, is_shown, proved)
+        filled[part.row].clock += first.clock
+        filled[part.row].processors += first.processors
+    return filled
 
 
 def run_all(chosen, program, jobs):
@@ -307,50 +274,40 @@ def run_all(chosen, program, jobs):
     long = [it for it in chosen if it.name in LONG]
     others = sorted((it for it in chosen if not it.is_alone), key=lambda it: it.name in AFTER_CI)
     with tempfile.TemporaryDirectory(prefix="gate-libraries-") as folder, ThreadPoolExecutor(jobs + len(long)) as pool:
-        proved = Proved(pathlib.Path(folder), any(it.name == "ci" for it in chosen))
+        proved = Proved(pathlib.Path(folder))
+        if not any(it.name == "ci" for it in chosen):
+            proved.end()
         run_part = lambda it: attempt(it, program, proved, it in long or jobs == 1)
         for filled in [*pool.map(run_part, others), *map(run_part, (it for it in chosen if it.is_alone))]:
-            for row, result in filled.items():
-                rows[row].add(result)
+            rows |= {row: rows[row] + result for row, result in filled.items()}
     return rows
 
 
 def table(rows, clock):
     """The rows as lines, and the closing one over all of them, which took so many minutes of the clock."""
-    minutes = lambda it: "" if it is None else f"{it:.1f}"
-    shown = [("", "passed", "failed", "clock", "processors")]
-    whole = Result()
-    for name, row in rows.items():
-        whole.add(row)
-        shown.append((name, row.passed, row.failed, minutes(row.clock), minutes(row.processors)))
-    shown.append(("all, in minutes", whole.passed, whole.failed, minutes(clock), minutes(whole.processors)))
-    lines = ["{:<22}{:>8}{:>8}{:>8}{:>12}".format(*map(str, line)).rstrip() for line in shown]
+    minutes = lambda it: f"{it:.1f}" if it else ""
+    whole = replace(sum(rows.values(), Result()), clock=clock)
+    lines = ["{:<22}{:>8}{:>8}{:>8}{:>12}".format("", "passed", "failed", "clock", "processors")]
+    for name, row in [*rows.items(), ("all, in minutes", whole)]:
+        lines.append(f"{name:<22}{row.passed:>8}{row.failed:>8}{minutes(row.clock):>8}{minutes(row.processors):>12}".rstrip())
     failed = [f"FAILED: {', '.join(whole.names)}"] if whole.names else []
     return [*lines, *failed, f"{whole.passed} passed, {whole.failed} failed"]
-
-
-def kit():
-    """The toolchain's own line of which it is."""
-    return subprocess.run(["rt", "version"], stdout=subprocess.PIPE, text=True).stdout.strip()
 
 
 def main(words):
     options = argparse.ArgumentParser(description=__doc__, formatter_class=argparse.RawDescriptionHelpFormatter)
     options.add_argument("--quick", action="store_true")
-    options.add_argument("--list", action="store_true")
     options.add_argument("parts", nargs="*", metavar="PART")
     given = options.parse_args(words)
-    unknown = set(given.parts) - {part.name for part in parts()}
-    if unknown:
-        options.error(f"no part is named {', '.join(sorted(unknown))}: --list prints them")
+    names = [part.name for part in parts()]
+    if {*given.parts} - {*names}:
+        options.error(f"the parts are {', '.join(names)}")
     chosen, began = chosen_of(given.parts, given.quick), time.monotonic()
-    if given.list:
-        print(*(part.name for part in chosen), sep="\n")
-        return 0
     with tempfile.TemporaryDirectory(prefix="gate-") as room:
         program = unproved.Program(pathlib.Path(room)) if given.quick else lambda: (unproved.PROVED, True)
         rows = run_all(chosen, program, 1 if given.parts else AT_ONCE)
-    print(f"== with {kit()}", *table(rows, (time.monotonic() - began) / 60), sep="\n")
+    kit = subprocess.run(["rt", "version"], stdout=subprocess.PIPE, text=True).stdout.strip()
+    print(f"== with {kit}", *table(rows, (time.monotonic() - began) / 60), sep="\n")
     return 1 if any(row.failed for row in rows.values()) else 0
 
 

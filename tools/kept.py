@@ -1,14 +1,12 @@
 """Refusals that stand, kept on this machine: what tools/wrong_bodies.py need not try a second time.
 
-They lie outside of the checkout, in the folder that HOLE_GATE_CACHE names, or else in hole-gate among the user's caches. Each
-edit has a file with a sum of all that its check reads, and with what its function lacks. A file that can't be read or has
-another sum counts as none. Only refusals are kept.
+They lie in the folder that HOLE_GATE_CACHE names, or else in hole-gate among the user's caches. Each edit has a file with a sum
+of all that its check reads, and with what its function lacks. A file that can't be read or has another sum counts as none.
 """
 import contextlib
 import hashlib
 import os
 import pathlib
-import tempfile
 
 TOOLS = pathlib.Path(__file__).resolve().parent
 TOOL = [(TOOLS / name).read_bytes() for name in ("wrong_bodies.py", "functions.py", "answers.py", "lanes.py", "kept.py")]
@@ -57,9 +55,8 @@ class Refusals:
         """Keeps what the functions of a crate's refused edits lack, unless a source has changed since."""
         for edit, why in edits.items():
             with contextlib.suppress(*BROKEN):
-                folder = place() / edit.crate
+                new = place() / edit.crate / f".{edit.name}.{os.getpid()}"
                 if self.sums[edit] == sum_of(self.crate(edit.crate), edit.name, edit.text):
-                    folder.mkdir(parents=True, exist_ok=True)
-                    with tempfile.NamedTemporaryFile("w", dir=folder, prefix=".new-", delete=False) as file:
-                        file.write(f"{self.sums[edit]}\n{why}\n")
-                    os.replace(file.name, folder / edit.name)
+                    new.parent.mkdir(parents=True, exist_ok=True)
+                    new.write_text(f"{self.sums[edit]}\n{why}\n")
+                    new.replace(new.with_name(edit.name))

@@ -56,14 +56,12 @@ class Lanes:
         if beside:
             with contextlib.suppress(OSError):
                 pathlib.Path(f"/proc/{process.pid}/oom_score_adj").write_text("1000")
-        pid = 0
-        while not pid:
-            time.sleep(0.2)
-            pid, status, used = os.wait4(process.pid, os.WNOHANG)
-            if not pid and not self.is_quiet.is_set() and available() < LEAST:
+        while not (ended := os.wait4(process.pid, os.WNOHANG))[0]:
+            if not self.is_quiet.is_set() and available() < LEAST:
                 os.kill(process.pid, signal.SIGKILL)
-        process.returncode = os.waitstatus_to_exitcode(status)
-        return used.ru_utime + used.ru_stime
+            time.sleep(0.2)
+        process.returncode = os.waitstatus_to_exitcode(ended[1])
+        return ended[2].ru_utime + ended[2].ru_stime
 
     def run(self, words, folder):
         """What a check says, and its seconds. One that is killed beside `rt ci` is run again once that has ended."""
@@ -73,7 +71,6 @@ class Lanes:
                 process = subprocess.Popen([*GIVING_WAY, *words] if beside else words, **how)
                 seconds = self.end(process, beside)
                 told.seek(0)
-                said = told.read()
-            if not beside or process.returncode >= 0:
-                return said, seconds
+                if not beside or process.returncode >= 0:
+                    return told.read(), seconds
             self.is_quiet.wait()

@@ -1,9 +1,7 @@
 #!/usr/bin/env python3
-"""Lists the source files of the product's crates, and what each holds: the first paragraph of its `//!` lines, or of those of the
-crate's src/lib.rt.
+"""Prints what each source file of the product holds: the first paragraph of its `//!` lines.
 
-    tools/list_files.py              prints the list of all crates, each above those that it uses
-    tools/list_files.py CRATE ..     prints that of these crates
+    tools/list_files.py [CRATE ..]    the files of these crates, or of all in the order of crates.txt
 """
 import re
 import sys
@@ -13,29 +11,22 @@ import numbers_of_code
 
 def about(text):
     """What a file holds: its first paragraph of `//!` lines."""
-    first = text.partition("\n//!\n")[0]
-    return " ".join(line.removeprefix("//!").strip() for line in first.splitlines() if line.startswith("//!"))
-
-
-def section(crate):
-    """The name of a crate, what it holds, and its files, each with what it holds."""
-    lines = [crate.name]
-    for path in sorted((crate / "src").rglob("*.r[ts]"), key=lambda path: (path.name != "lib.rt", path)):
-        name = [] if path.name == "lib.rt" else [f"  {path.relative_to(crate / 'src')}"]
-        lines += [*name, f"{'  ' * (1 + len(name))}{about(path.read_text())}"]
-    return "\n".join([*lines, ""])
+    lines = re.match(r"(?://! ?.+\n)*", text)[0].splitlines()
+    return " ".join(line.removeprefix("//!").strip() for line in lines)
 
 
 def main(words):
-    order = re.findall(r"(?m)^(\w+)", (numbers_of_code.ROOT / "crates.txt").read_text())
-    crates = sorted(numbers_of_code.crates(), key=lambda path: order.index(path.name))
-    unknown = set(words) - {crate.name for crate in crates}
-    if unknown:
-        print(f"no crate is named {', '.join(sorted(unknown))}", file=sys.stderr)
-        return 2
-    print("\n".join(section(crate) for crate in crates if crate.name in words or not words))
-    return 0
+    named = re.findall(r"(?m)^(\w+)", (numbers_of_code.ROOT / "crates.txt").read_text())
+    crates = sorted(numbers_of_code.crates(), key=lambda crate: named.index(crate.name))
+    if unknown := {*words} - {crate.name for crate in crates}:
+        raise SystemExit(f"no crate is named {', '.join(sorted(unknown))}")
+    for crate in crates:
+        if crate.name in words or not words:
+            print(f"{crate.name}\n  {about((crate / 'src/lib.rt').read_text())}" if (crate / "src/lib.rt").exists() else crate.name)
+            for path in sorted(path for path in (crate / "src").rglob("*.r[ts]") if path.name != "lib.rt"):
+                print(f"  {path.relative_to(crate / 'src')}\n    {about(path.read_text())}")
+            print()
 
 
 if __name__ == "__main__":
-    sys.exit(main(sys.argv[1:]))
+    main(sys.argv[1:])

@@ -29,7 +29,7 @@ def crates():
 
 def texts(pattern):
     """The texts of files below the crates of the product."""
-    return [path.read_text() for crate in crates() for path in sorted(crate.glob(pattern)) if "/out/" not in str(path)]
+    return [path.read_text() for crate in crates() for path in sorted(crate.glob(pattern))]
 
 
 def lines_of(text):
@@ -51,23 +51,19 @@ def counted():
     """The counts, by name."""
     sources, tree = texts("src/**/*.rt"), audit.Tree()
     heads = [head[0] for text in sources for head in HEAD.finditer(text)]
-    lines, plain = sum(len(lines_of(text)) for text in sources), sum(map(plain_lines, sources))
+    lines = lambda pattern: sum(len(lines_of(text)) for text in texts(pattern))
+    plain = sum(map(plain_lines, sources))
     return {
         "crates": len(crates()),
         "functions": len(heads),
         "of them with a contract": sum(bool(re.search(r"(?m)^\s*(?:requires|ensures)\b", head)) for head in heads),
         "lines of Rust": plain,
-        "lines of contracts": lines - plain,
-        "lines of definitions": sum(len(lines_of(text)) for text in texts("specs/**/*.antt")),
-        "lines of proofs": sum(len(lines_of(text)) for text in texts("proofs/**/*.antt")),
+        "lines of contracts": lines("src/**/*.rt") - plain,
+        "lines of definitions": lines("specs/**/*.antt"),
+        "lines of proofs": lines("proofs/**/*.antt"),
         "lines to audit": tree.text(tree.promises)[1],
         "wrong bodies": len([*ROOT.glob("crates/*/wrong-bodies/*.edit"), *ROOT.glob("crates/*/must-fail/*")]),
     }
-
-
-def stated(page):
-    """The counts that a README states."""
-    return {name: int(count.replace(",", "")) for count, name in re.findall(r"([\d,]*\d) ([A-Za-z ]+)", MARKS.search(page)[0])}
 
 
 def version():
@@ -82,14 +78,8 @@ def written(page):
     return VERSION.sub(f"This is version {version()}", MARKS.sub(rf"\g<1>{sentence}.\g<2>", page))
 
 
-def main(words):
-    if words == ["--write"]:
+if __name__ == "__main__":
+    if sys.argv[1:] == ["--write"]:
         PAGE.write_text(written(PAGE.read_text()))
     else:
-        for name, count in counted().items():
-            print(f"{count:7,} {name}")
-    return 0
-
-
-if __name__ == "__main__":
-    sys.exit(main(sys.argv[1:]))
+        print(*(f"{count:7,} {name}" for name, count in counted().items()), sep="\n")

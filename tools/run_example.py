@@ -19,47 +19,37 @@ import tempfile
 import time
 import tomllib
 
-from unproved import PROVED, ROOT, is_up, is_up_to_date, lacks_toolchain
-from unproved import command as unproved_command
+import unproved
+from unproved import PROVED, ROOT, is_up
 
-ENDING = (signal.SIGTERM, signal.SIGHUP)
-# Waits for a line that says that the server has ended, or for the end of the script, and then ends the server.
+# Waits for the end of the script, and then ends what is left of the server.
 GUARD = """
-import os, signal, sys
-if not sys.stdin.read():
-    try:
-        os.killpg(int(sys.argv[1]), signal.SIGTERM)
-    except ProcessLookupError:
-        pass
+import contextlib, os, signal, sys
+sys.stdin.read()
+with contextlib.suppress(ProcessLookupError):
+    os.killpg(int(sys.argv[1]), signal.SIGTERM)
 """
 
 
 def is_usable(program):
     """Whether a program is there, and no source is younger if it is the one that `make build` left."""
-    return os.access(program, os.X_OK) and (program != PROVED or is_up_to_date())
+    return os.access(program, os.X_OK) and (program != PROVED or unproved.is_up_to_date())
 
 
 def lacks_program(program):
     """Whether there is no program and none can be built; standard error then says what is missing."""
-    return not is_usable(program) and lacks_toolchain()
+    return not is_usable(program) and unproved.lacks_toolchain()
 
 
 def command(program, *words):
     """What starts the program with these words, and where."""
     if is_usable(program):
         return [str(program), *words], ROOT
-    return unproved_command(*words), ROOT / "crates/hole"
+    return unproved.command(*words), ROOT / "crates/hole"
 
 
-def with_whole_root(text, root):
-    """The settings, with the root as a whole path."""
-    line = f"root = '{pathlib.Path(root).absolute()}'"
-    return re.sub(r"(?m)^\s*root\s*=.*$", lambda _: line, text, count=1)
-
-
-def hints(settings, is_example):
+def hints(settings, host, port, is_example):
     """How to ask the server."""
-    host, port = settings["host"], settings.get("port", 70)
     place = f"{f'[{host}]' if ':' in host else host}:{port}"
     requests = [f"    curl gopher://{place}/"]
     if is_example:
@@ -75,9 +65,8 @@ def hints(settings, is_example):
 def serve(words, place, host, port, hint):
     """Starts the server with its guard, and waits until it ends."""
     server = subprocess.Popen(words, cwd=place, start_new_session=True)
-    guard = subprocess.Popen(
-        [sys.executable, "-c", GUARD, str(server.pid)], stdin=subprocess.PIPE, start_new_session=True
-    )
+    guarding = [sys.executable, "-c", GUARD, str(server.pid)]
+    guard = subprocess.Popen(guarding, stdin=subprocess.PIPE, start_new_session=True)
     try:
         while server.poll() is None and not is_up(host, port):
             time.sleep(0.5)
@@ -87,10 +76,8 @@ def serve(words, place, host, port, hint):
     except KeyboardInterrupt:
         return 0
     finally:
-        if server.poll() is None:
-            os.killpg(server.pid, signal.SIGTERM)
-            server.wait()
-        guard.communicate(b"ended\n")
+        guard.communicate()
+        server.wait()
 
 
 def main():
@@ -98,7 +85,7 @@ def main():
     words.add_argument("settings", nargs="?", metavar="SETTINGS", help="examples/hole.toml without it")
     words.add_argument("--program", type=pathlib.Path, default=PROVED, help="what `make build` left without it")
     program, given = words.parse_args().program.resolve(), words.parse_args().settings
-    for number in ENDING:
+    for number in (signal.SIGTERM, signal.SIGHUP):
         signal.signal(number, lambda number, _: sys.exit(128 + number))
     try:
         text = pathlib.Path(given or ROOT / "examples/hole.toml").read_text()
@@ -112,12 +99,13 @@ def main():
     if is_up(host, port):
         print(f"Something listens at port {port} already.", file=sys.stderr)
         return 1
+    whole_root = f"root = '{pathlib.Path(root if given else ROOT / root).absolute()}'"
     with tempfile.TemporaryDirectory() as folder:
         place = pathlib.Path(folder) / "hole.toml"
-        place.write_text(with_whole_root(text, root if given else ROOT / root))
+        place.write_text(re.sub(r"(?m)^\s*root\s*=.*$", lambda _: whole_root, text, count=1))
         start, where = command(program, "serve", str(place))
         print("Starting:", " ".join(start[:2]), ".. (without a proved program of these sources this takes 2 minutes)", flush=True)
-        return serve(start, where, host, port, hints(settings, not given))
+        return serve(start, where, host, port, hints(settings, host, port, not given))
 
 
 if __name__ == "__main__":

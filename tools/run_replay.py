@@ -3,16 +3,15 @@
 
     tools/run_replay.py [--program FILE] SCRIPT
 
-Without --program it runs the one that `make build` has left, if no source is younger, or else builds one without its proofs, by
-`rt try`, which adds lines of its own on standard error. The status is that of the replay.
+Without --program it runs what tools/run_example.py would; `rt try` adds lines of its own on standard error. The status is that of
+the replay.
 """
 import argparse
 import pathlib
 import subprocess
 import sys
 
-from run_example import command, lacks_program
-from unproved import PROVED
+from run_example import PROVED, command, lacks_program
 
 
 def main():

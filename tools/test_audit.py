@@ -9,16 +9,27 @@ sys.path.insert(0, str(pathlib.Path(__file__).resolve().parent))
 import audit
 
 TREE = audit.Tree()
-
-
-def text(name):
-    return TREE.text([name])[0]
+# what the text of each promise has: definitions that it speaks of or that a field's name reaches, constants, and clauses
+PRINTED = {
+    "search": (
+        "answer_of pages query = take 50 (ranked (hits_among query pages))", "is_out events number = claims events number", "ensures hits",
+    ),
+    "tries": (),
+    "one-catalogue": (),
+    "requests": ("const MAX_LINE: usize = 1_024;",),
+    "closure": ("pub data IsReachable", "dropped opening events ="),
+}
 
 
 class Audit(unittest.TestCase):
-    def test_the_page_has_five_promises_with_contracts(self):
-        self.assertEqual(list(TREE.promises), ["search", "tries", "one-catalogue", "requests", "closure"])
-        self.assertTrue(all(TREE.promises.values()))
+    def test_each_promise_has_contracts_and_prints_what_it_speaks_of_without_proofs_and_bodies(self):
+        self.assertEqual(list(TREE.promises), list(PRINTED))
+        for name, parts in PRINTED.items():
+            text = TREE.text([name])[0]
+            self.assertTrue(TREE.promises[name])
+            self.assertEqual([part for part in parts if part not in text], [])
+            self.assertNotRegex(text, r"/proofs/|(?m:^\s*(?:let mut|return|ghost use|use Rattle)\b)")
+        self.assertNotIn("ensures refused", TREE.text(["search"])[0], "a clause that isn't asked for")
 
     def test_every_definition_is_read(self):
         for path in audit.ROOT.glob("crates/*/specs/*.antt"):
@@ -31,23 +42,6 @@ class Audit(unittest.TestCase):
                 found = item.scope.get(word)
                 if isinstance(found, tuple) and found[0] in audit.CRATES:
                     self.assertIsNotNone(TREE.meaning(item, word), f"{word} of {item.name} in {item.file}")
-
-    def test_a_definition_is_reached_by_a_field_of_its_name(self):
-        self.assertIn("is_out events number = claims events number", text("search"))
-        self.assertIn("dropped opening events =", text("closure"))
-
-    def test_promises_reach_what_they_speak_of(self):
-        self.assertIn("answer_of pages query = take 50 (ranked (hits_among query pages))", text("search"))
-        self.assertIn("pub data IsReachable", text("closure"))
-        self.assertIn("const MAX_LINE: usize = 1_024;", text("requests"))
-
-    def test_no_proof_and_no_body_is_printed(self):
-        for name in TREE.promises:
-            self.assertNotRegex(text(name), r"/proofs/|(?m:^\s*(?:let mut|return|ghost use|use Rattle)\b)")
-
-    def test_only_the_clauses_that_are_asked_for_are_printed(self):
-        self.assertIn("ensures hits", text("search"))
-        self.assertNotIn("ensures refused", text("search"))
 
     def test_each_public_function_of_a_crate_has_its_contract_printed(self):
         printed = "\n".join(audit.contracts_of("gopher_item"))

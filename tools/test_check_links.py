@@ -10,55 +10,39 @@ import unittest
 sys.path.insert(0, str(pathlib.Path(__file__).resolve().parent))
 import check_links
 
-GUIDE = """# The guide
-
-## What it *does*, and `how`
-
-## Twice
-
-## Twice
-
-<a id="by-hand"></a>
-"""
+GUIDE = "# The guide\n\n## What it *does*, and `how`\n\n## Twice\n\n## Twice\n"
+# words of a README, and what is wrong with each link or path that they name, or None
+ROWS = (
+    ("[a](docs/GUIDE.md) [b](docs/GUIDE.md#what-it-does-and-how) ![way](docs/way.svg)", [None, None, None]),
+    ("[c](#head) [d](https://x.example/y) [e](docs/GUIDE.md#twice-1) [f](docs/)\n\n# Head", [None, None, None, None]),
+    ("`tools/run.py` `tools/run.py --all` `crates/*/must-fail/` `crates/CRATE/must-fail/NAME.edit`", [None, None, None, None]),
+    ("`crates/low/out/low`", [None]),
+    ("[a](docs/GONE.md)", ["docs/GONE.md leads to no file"]),
+    ("- one\n\n- two\n  ![a](docs/gone.svg)", ["docs/gone.svg leads to no file"]),
+    ("[a](docs/GUIDE.md#thrice)", ["docs/GUIDE.md#thrice leads to no heading"]),
+    ("[a](docs/GUIDE.md#twice-2)", ["docs/GUIDE.md#twice-2 leads to no heading"]),
+    ("[a](#nowhere)", ["#nowhere leads to no heading"]),
+    ("As `tools/gone.py` does.", ["`tools/gone.py` isn't there"]),
+    ("[a]\n\n[a]: docs/GUIDE.md", ["[a]: docs/GUIDE.md isn't written [text](target)"]),
+    ('<img src="docs/way.svg">', ['<img src="docs/way.svg"> isn\'t written [text](target)']),
+    ("```\n[a](docs/GONE.md)\n```\n\n    [b](docs/GONE.md) `tools/gone.py`\n\nand `[c](docs/GONE.md)`.", []),
+)
 
 
 class Links(unittest.TestCase):
-    def faults(self, readme):
-        """What the script says of a repository with this README, and its status."""
+    def test_what_is_there_passes_and_what_is_missing_fails(self):
         with tempfile.TemporaryDirectory() as room:
             root = pathlib.Path(room)
             for file in ("docs/GUIDE.md", "docs/way.svg", "tools/run.py", "crates/low/must-fail/one.edit"):
                 (root / file).parent.mkdir(parents=True, exist_ok=True)
                 (root / file).write_text(GUIDE)
-            (root / "README.md").write_text(readme)
-            with contextlib.redirect_stdout(io.StringIO()) as said:
-                status = check_links.main([room])
-            *faults, last = said.getvalue().splitlines()
-            self.assertEqual(status, int(bool(faults)), last)
-            return [fault.partition("README.md: ")[2] for fault in faults], last
-
-    def test_what_is_there_passes(self):
-        good = "[a](docs/GUIDE.md) [b](docs/GUIDE.md#what-it-does-and-how) ![way](docs/way.svg) [c](#head) [d](https://x.example/y)\n"
-        good += "[e](docs/GUIDE.md#twice-1) [f](docs/GUIDE.md#by-hand) `tools/run.py` `tools/run.py --all` `crates/*/must-fail`\n"
-        good += "`crates/CRATE/must-fail/NAME.edit` `crates/low/out/low` [g]\n\n[g]: docs/\n\n# Head\n"
-        self.assertEqual(self.faults(good), ([], "links: 12 passed, 0 failed"))
-
-    def test_what_is_missing_fails(self):
-        self.assertEqual(self.faults("[a](docs/GONE.md)\n")[0], ["docs/GONE.md leads to no file"])
-        self.assertEqual(self.faults("![a](docs/gone.svg)\n")[0], ["docs/gone.svg leads to no file"])
-        self.assertEqual(self.faults('<img src="docs/gone.svg">\n')[0], ["docs/gone.svg leads to no file"])
-        self.assertEqual(self.faults("[a](docs/GUIDE.md#thrice)\n")[0], ["docs/GUIDE.md#thrice leads to no heading"])
-        self.assertEqual(self.faults("[a](docs/GUIDE.md#twice-2)\n")[0], ["docs/GUIDE.md#twice-2 leads to no heading"])
-        self.assertEqual(self.faults("[a](#nowhere)\n")[0], ["#nowhere leads to no heading"])
-        self.assertEqual(self.faults("As `tools/gone.py` does.\n")[0], ["`tools/gone.py` isn't there"])
-        self.assertEqual(self.faults("[a]\n\n[a]: docs/GONE.md\n")[0], ["docs/GONE.md leads to no file"])
-
-    def test_code_is_not_read(self):
-        code = "```\n[a](docs/GONE.md)\n```\n\n    [b](docs/GONE.md) `tools/gone.py`\n\nand `[c](docs/GONE.md)`.\n"
-        self.assertEqual(self.faults(code), ([], "links: 0 passed, 0 failed"))
-
-    def test_text_of_a_list_is_read(self):
-        self.assertEqual(len(self.faults("- one\n\n- two\n  [a](docs/GONE.md)\n")[0]), 1)
+            for words, faults in ROWS:
+                (root / "README.md").write_text(f"{words}\n")
+                self.assertEqual(check_links.faults_of(root, root / "README.md"), faults, words)
+                with contextlib.redirect_stdout(io.StringIO()) as said:
+                    self.assertEqual(check_links.main([room]), int(any(faults)))
+                failed = len(faults) - faults.count(None)
+                self.assertTrue(said.getvalue().endswith(f"links: {faults.count(None)} passed, {failed} failed\n"))
 
 
 if __name__ == "__main__":

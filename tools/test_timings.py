@@ -17,9 +17,8 @@ READ = """the file {}:
 split in plain C: 600 MB/s
 """
 OUTPUT = (
-    "links-quarter: 1 bytes, 0.1 s\n"
+    "".join(SERVED.format(name, unit) for name, _, unit in table.SERVED)
     + "".join(READ.format(file, file.removeprefix("small_")) for _, file in table.READ)
-    + "".join(SERVED.format(name, unit) for name, _, unit in table.SERVED)
     + "".join(f"small menu beside {count} silent clients, requests a second: 9,000 (C 10,000), quotient 0.90\n" for count in table.IDLE)
     + """start of 4094 nodes: 160 ms (find and cat 80), quotient 2.00
 memory at start: 200 bytes, of 100 bytes of files, quotient 2.00
@@ -45,19 +44,17 @@ small menus of Hole: 10,000 a second (C 10,000), quotient 1.0000
 small menus of gophernicus: 400 a second (C 10,000), quotient 0.0400
 """
 )
+ROWS = {
+    "small menus": "2.00 | 2.00 |", "small menus, 1,000 idle clients": "0.90 | |", "searches of 65,536 pages": "1.00 | |",
+    "making pages": "1.00 | |", "adding pages to the index": "0.50 | |", "memory of a page": "0.50 | |",
+    "a crawl by four workers": "0.75 | |", **{name: "0.50 | |" for name, _ in table.READ},
+}
 
 
 class Timings(unittest.TestCase):
     def test_the_tables_have_what_was_printed(self):
         rows = dict(re.findall(r"(?m)^\| ([^|]+) \| ([\d.]+ \|(?: [\d.]+)? \|)$", table.table(OUTPUT)))
-        self.assertEqual(rows["small menus"], "2.00 | 2.00 |")
-        self.assertEqual(rows["small menus, 1,000 idle clients"], "0.90 | |")
-        self.assertEqual(rows["searches of 65,536 pages"], "1.00 | |")
-        self.assertEqual((rows["making pages"], rows["adding pages to the index"]), ("1.00 | |", "0.50 | |"))
-        self.assertEqual(rows["memory of a page"], "0.50 | |")
-        self.assertEqual(rows["a crawl by four workers"], "0.75 | |")
-        for name, _ in table.READ:
-            self.assertEqual(rows[name], "0.50 | |")
+        self.assertEqual(rows, rows | ROWS)
         files = re.findall(r"(?m)^\| (.+) \| ([\d.]+) \|$", table.files(OUTPUT))
         self.assertEqual([ratio for _, ratio in files], ["2.00", "2.00", "0.40"])
         self.assertIn("the pages of 100 real texts", files[2][0])
@@ -65,13 +62,12 @@ class Timings(unittest.TestCase):
     def test_writing_puts_each_table_below_its_day(self):
         page = table.written(table.PAGE.read_text(), OUTPUT)
         self.assertIn("| small menus | 2.00 | 2.00 |\n", page)
-        self.assertIn("| gophernicus | 0.040 |\n<!-- end -->", page)
-        days = re.findall(r"<!-- \w+: bench/table.py -->\n(.*)\n\n\|", page)
-        self.assertEqual(days, [table.told()] * 3)
-        self.assertRegex(days[0], r"^\d+ \w+ \d{4}, .*, commit \w+")
+        self.assertEqual(re.findall(r"<!-- \w+: bench/table.py -->\n(.*)\n\n\|", page), [table.told()] * 3)
+        self.assertRegex(table.told(), r"^\d+ \w+ \d{4}, .*, commit \w+")
         alone = table.written(page, re.sub(r"(?m)^small menus of .*\n", "", OUTPUT.replace("quotient 2.00, goal", "quotient 3.00, goal")))
         self.assertIn("| small menus | 3.00 |", alone)
-        self.assertIn("| gophernicus | 0.040 |\n<!-- end -->", alone)
+        for written in (page, alone):
+            self.assertIn("| gophernicus | 0.040 |\n<!-- end -->", written)
 
     def test_a_missing_line_is_told(self):
         with self.assertRaisesRegex(SystemExit, "the output has no line like"):

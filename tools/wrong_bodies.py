@@ -3,28 +3,16 @@
 
     tools/wrong_bodies.py [--reasons] [--from-nothing] [--beside FOLDER] [CRATE|CRATE/NAME ..]
 
-tries those of these crates, or these, or all; with --reasons it prints for each what its function lacks. A refusal that stands
-is kept on this machine (tools/kept.py) and not tried again while nothing changes that its check reads; --from-nothing tries it
-all the same. The libraries that checks stand on are built, but with --beside, which is for work beside `rt ci`: then FOLDER/NAME
-holds the library of the crate NAME once the standard input has a line NAME, which says that the crate is proved. Until that
-input ends, checks leave processors and memory to `rt ci` (tools/lanes.py).
+tries those of these crates, or these, or all; CONTRIBUTING.md has their form. With --reasons it prints for each what its function
+lacks. A refusal that stands is kept (tools/kept.py); --from-nothing tries it all the same. With --beside, for work beside `rt ci`,
+FOLDER/NAME holds the library of the crate NAME once the standard input has a line NAME, and until that input ends, checks leave
+processors and memory to `rt ci` (tools/lanes.py). Without, libraries are built.
 
-An edit is a file crates/CRATE/wrong-bodies/NAME.edit: a line 'function: PATH', the function whose meaning it turns, as a
-check names it below its crate; a line 'file: src/NAME.rt'; then pairs of lines 'old: TEXT' and 'new: TEXT'. An old text
-occurs exactly once in the file, as the pairs before it left that, or else is one whole line of it. Only bodies of functions
-may change.
-
-All edits of a crate are tried in one check of a copy of the crate, since the prover goes on after a refusal and says of each
-function what it lacks. Of a second edit of a function, a twin of the function is written beside it, with its contract, its
-proof files and a name of its own; methods of traits have no twins, and their further edits are tried in further checks. Every
-other function is blank there, with a body whose proof fails at once: callers are judged by its contract, and what it calls
-isn't proved again. A crate of tests is checked with its tests. An edit counts as refused only if its own function
-lacks the proof of a goal: not if the function only calls a refused one or passes an impl that has one, and not if a proof
-file only names what the edit took away. What isn't refused in company is tried alone, with no blank body: 'NOT REFUSED' is
-then said of a function that is proved, and 'NOT PROVED, BY NAMES ALONE' of one whose proof file no longer fits, which shows
-nothing either way. Each of these lines is printed as its check ends, and a line for each check goes to the standard error. A
-table tells for each crate its edits, the checks that they took and the seconds of the processors. The last line is
-'N passed, M failed'; the status is 1 if any failed.
+All edits of a crate are tried in one check of a copy of the crate, since the prover goes on after a refusal. A second edit of a
+function changes a twin of it. All other functions are blank, with a body whose proof fails at once. An edit counts as refused
+only if its own function lacks the proof of a goal. What isn't refused in company, or has no twin, is tried alone, with no blank
+body: 'NOT REFUSED' is then said of a function that is proved, and 'NOT PROVED, BY NAMES ALONE' of one whose proof file no
+longer fits, which shows nothing either way. The last line is 'N passed, M failed'.
 """
 import argparse
 import os
@@ -44,7 +32,6 @@ from lanes import Lanes
 
 ROOT = pathlib.Path(os.environ.get("ROOT") or pathlib.Path(__file__).resolve().parent.parent)
 LANES = Lanes()
-SECONDS = {}  # of the processors, that each check of a crate took
 PRINTING = threading.Lock()
 CLAUSE = re.compile(r"(?m)^ *(?:ensures|requires|ghost)\b.*$")
 OWN_PROOFS = ("Answers", "Invariants", "Proof")
@@ -56,7 +43,7 @@ class BadEdit(Exception):
 
 def replaced(source, old, new):
     """A source with a text that occurs once, or else is one whole line, in place of which another stands."""
-    if source.count(old) == 1:
+    if old and source.count(old) == 1:
         return source.replace(old, new)
     lines = source.split("\n")
     if lines.count(old) != 1:
@@ -68,34 +55,22 @@ class Edit:
     """A wrong body: the pieces of one source file that it changes, by their index."""
 
     def __init__(self, path):
-        self.crate, self.name = path.parent.parent.name, path.stem
-        self.function = self.file = old = pristine = edited = None
-        self.text = path.read_text()
-        for line in self.text.splitlines():
-            word, _, text = line.partition(": ")
-            if word == "function" and not self.function:
-                self.function = text
-            elif word == "file" and not self.file:
-                self.file = text
-                pristine = edited = self.source()
-            elif word == "old" and text and edited and not old:
-                old = text
-            elif word in ("new", "new:") and old:
-                edited, old = replaced(edited, old, text), None
-            else:
-                raise BadEdit(f"it can't be read: {line}")
-        if old or not self.function or not pristine:
-            raise BadEdit("it lacks a function, a file, or a new text")
-        self.compare(pieces(pristine), pieces(edited))
+        self.crate, self.name, self.text = path.parent.parent.name, path.stem, path.read_text()
+        lines = [line.partition(": ") for line in self.text.splitlines()]
+        words = [word.removesuffix(":") for word, _, _ in lines]
+        if len(words) < 4 or words != ["function", "file", *["old", "new"] * (len(words) // 2 - 1)]:
+            raise BadEdit("it isn't a function, a file, and pairs of an old and a new text")
+        self.function, self.file, *texts = (text for _, _, text in lines)
+        source = ROOT / "crates" / self.crate / self.file
+        if not self.file.startswith("src/") or not source.is_file():
+            raise BadEdit(f"there is no source file {self.file}")
+        edited = source.read_text()
+        for old, new in zip(texts[::2], texts[1::2]):
+            edited = replaced(edited, old, new)
+        self.compare(pieces(source.read_text()), pieces(edited))
 
     def __str__(self):
         return f"{self.crate}/{self.name}"
-
-    def source(self):
-        path = ROOT / "crates" / self.crate / self.file
-        if not self.file.startswith("src/") or not path.is_file():
-            raise BadEdit(f"there is no source file {self.file}")
-        return path.read_text()
 
     def compare(self, before, after):
         if len(before) != len(after) or before[::2] != after[::2]:
@@ -112,21 +87,6 @@ class Edit:
         self.twin = re.sub(r"\W", "_", f"{name}_of_{self.name}") if can_have else None
 
 
-def groups_of(edits):
-    """Parts the edits of a crate into groups with at most one edit in any function that can't have a twin."""
-    groups = []
-    for edit in edits:
-        stands = {(edit.file, at) for at in edit.changes}
-        for taken, group in groups:
-            if not taken & stands or edit.twin:
-                taken |= stands
-                group.append(edit)
-                break
-        else:
-            groups.append((stands, [edit]))
-    return [group for _, group in groups]
-
-
 def proofs_of(function):
     return pathlib.Path("proofs", *function.split("::"))
 
@@ -137,10 +97,9 @@ def may_have_twin(crate, function, text, at):
     is_of_trait = around and not re.match(r"impl\b(?!.* for )", around[-1])
     if is_in_cycle(text[at], text[at - 1]) or len(names_in(text[at])) > 1 or is_of_trait:
         return False
-    name = function.rpartition("::")[2]
-    folder, within = ROOT / "crates" / crate / proofs_of(function), ROOT / "crates" / crate / "proofs"
-    others = [*within.rglob(f"fn/**/{name}/*"), *(it for it in folder.rglob("*") if it.stem not in OWN_PROOFS)]
-    return not others
+    folder, name = ROOT / "crates" / crate, function.rpartition("::")[2]
+    own = [it for it in (folder / proofs_of(function)).rglob("*") if it.stem not in OWN_PROOFS]
+    return not own and not [*(folder / "proofs").rglob(f"fn/**/{name}/*")]
 
 
 def libraries_below():
@@ -157,14 +116,14 @@ def tell(lines, to):
         print("".join(f"{line}\n" for line in lines), end="", file=to, flush=True)
 
 
-def run(words, folder):
+def run(*words, folder=ROOT):
     how = {"stdin": subprocess.DEVNULL, "stdout": subprocess.PIPE, "stderr": subprocess.STDOUT, "text": True}
     return subprocess.run(words, cwd=folder, **how)
 
 
 def toolchain():
     """The module of the toolchain that knows how its prover is called."""
-    sys.path.insert(0, str(pathlib.Path(run(["rt", "doc"], ROOT).stdout.strip()).parent / "bin"))
+    sys.path.insert(0, str(pathlib.Path(run("rt", "doc").stdout.strip()).parent / "bin"))
     import rtlib
 
     return rtlib
@@ -179,26 +138,26 @@ def words_of_check(folder, functions):
 
 
 def check(folder, functions):
-    """What a check of these functions says, and whether it judged them. Its seconds of the processors are noted."""
+    """What a check of these functions says; its seconds of the processors are told."""
     said, seconds = LANES.run(words_of_check(folder, functions), folder)
-    SECONDS.setdefault(folder.name, []).append(seconds)
-    return said, re.search(r"(?m)^only=", said) is not None
+    tell([f"{folder.name}: a check of {len(functions)} functions took {seconds:.0f} s"], sys.stderr)
+    return said
 
 
 def kit():
     """What tells the toolchain from others."""
     rtlib = toolchain()
-    return run(["rt", "version"], ROOT).stdout, *(pathlib.Path(it).read_bytes() for it in (f"{rtlib.KIT}/WHAT", rtlib.__file__))
+    return run("rt", "version").stdout, *(pathlib.Path(it).read_bytes() for it in (f"{rtlib.KIT}/WHAT", rtlib.__file__))
 
 
 def copy_of(crate, built, room):
     """Copies what checks of the crate read, with the proofs that were kept, and links the libraries from their folders."""
+    left_out = shutil.ignore_patterns("out", "wrong-bodies", "must-fail")
+    shutil.copytree(ROOT / "crates", room / "crates", ignore=left_out)
     for name in ("crates.txt", "HANDLES"):
         shutil.copy(ROOT / name, room / name)
-    left_out = shutil.ignore_patterns("out", "wrong-bodies", "must-fail")
-    for other in (ROOT / "crates").iterdir():
-        shutil.copytree(other, room / "crates" / other.name, ignore=left_out)
-        (room / "crates" / other.name / "out").mkdir()
+    for other in (room / "crates").iterdir():
+        (other / "out").mkdir()
     for name, folder in built.items():
         (room / "crates" / name / "out" / "rlib").symlink_to(folder)
     kept = pathlib.Path("crates", crate, "out", "incremental")
@@ -208,32 +167,30 @@ def copy_of(crate, built, room):
 
 
 def parts_of(text, changed, is_alone, found, left):
-    """The pieces of a source file as they are tried, each with the function that is checked in it, if there is one."""
+    """The pieces of a source file as they are tried, each with the function that is checked in it, if there is one. A function
+    of a cycle is never blank, since its cycle names it."""
     parts = []
     for at, piece in enumerate(text):
         is_left = at % 2 and (is_alone or is_in_cycle(piece, text[at - 1]))
         left.update(names_in(piece) if is_left or at in changed else ())
-        for edit, new in changed.get(at, [])[:1]:
-            parts.append((new, edit.function))
-            found[edit.function] = edit
-        for edit, new in changed.get(at, [])[1:]:
-            function = f"{edit.function.rpartition('::')[0]}::{edit.twin}".removeprefix("::")
-            before, twin = twin_of(text[at - 1], new, edit.twin)
-            parts += [(before, None), (twin, function)]
+        for number, (edit, new) in enumerate(changed.get(at, ())):
+            function = edit.function
+            if number:
+                function = f"{edit.function.rpartition('::')[0]}::{edit.twin}".removeprefix("::")
+                before, new = twin_of(text[at - 1], new, edit.twin)
+                parts.append((before, None))
+            parts.append((new, function))
             found[function] = edit
         if at not in changed and at % 2 and not is_left:
-            parts[-1:] = [(without_tactic(piece), None) for piece, _ in parts[-1:]]
-            parts.append((blank(piece), None))
-        elif at not in changed:
-            parts.append((piece, None))
+            parts[-1] = (without_tactic(parts[-1][0]), None)
+            piece = blank(piece)
+        parts += [] if at in changed else [(piece, None)]
     return parts
 
 
 def write(edits, folder, is_alone):
-    """Writes the sources of the copy with these edits. A function of a cycle is never blank, since its cycle names it.
-
-    Gives the edit of each function that is checked, by its path, and where these functions stand: the path for each line of a
-    file, counted from 1."""
+    """Writes the sources of the copy with these edits. Gives the edit of each function that is checked, by its path, and where
+    these functions stand: the path for each line of a file, counted from 1."""
     crate, left, found, stands = ROOT / "crates" / folder.name, set(), {}, {}
     for path in (crate / "src").rglob("*.rt"):
         file, changed, line = path.relative_to(crate), {}, 1
@@ -242,14 +199,23 @@ def write(edits, folder, is_alone):
                 changed.setdefault(at, []).append((edit, new))
         parts = parts_of(pieces(path.read_text()), changed, is_alone, found, left)
         for part, function in parts:
-            lines = part.count("\n")
-            stands.update({(str(file), at): function for at in range(line, line + lines) if function})
-            line += lines
+            end = line + part.count("\n")
+            stands.update({(str(file), at): function for at in range(line, end) if function})
+            line = end
         (folder / file).write_text("".join(part for part, _ in parts))
-    write_proofs(crate, folder, left)
+    write_proofs(crate / "proofs", folder / "proofs", left)
     for function, edit in found.items():
         write_twins_proofs(folder, edit.function, function)
     return found, stands
+
+
+def write_proofs(own, copied, left):
+    """Writes the proofs of the copy: the lemmas, and of functions' own files those of the functions that are left."""
+    shutil.rmtree(copied, ignore_errors=True)
+    if own.is_dir():
+        files = {f"{name}.antt" for name in OWN_PROOFS}
+        is_left = lambda folder: left & {*pathlib.Path(folder).relative_to(own).parts}
+        shutil.copytree(own, copied, ignore=lambda folder, names: () if is_left(folder) else files & {*names})
 
 
 def write_twins_proofs(folder, function, twin):
@@ -263,22 +229,11 @@ def write_twins_proofs(folder, function, twin):
             (folder / proofs_of(twin) / file.name).write_text(text)
 
 
-def write_proofs(crate, folder, left):
-    """Writes the proofs of the copy: the lemmas, and of functions' own files those of the functions that are left."""
-    shutil.rmtree(folder / "proofs", ignore_errors=True)
-    if (crate / "proofs").is_dir():
-        shutil.copytree(crate / "proofs", folder / "proofs")
-        for name in OWN_PROOFS:
-            for file in (folder / "proofs").rglob(f"{name}.antt"):
-                if not left & set(file.relative_to(folder / "proofs").parts):
-                    file.unlink()
-
-
 def try_group(edits, folder, is_alone):
     """What the check of the copy with these edits says: for each edit what its function lacks, or why it isn't refused."""
     found, stands = write(edits, folder, is_alone)
-    said, is_judged = check(folder, found)
-    if not is_judged:
+    said = check(folder, found)
+    if not re.search(r"(?m)^only=", said):
         return {edit: (False, "NOTHING JUDGED, the check said:\n" + said[-2000:]) for edit in edits}
     lacks = lacking(folder.name, said, stands)
     is_whole = lambda function: is_proved(folder.name, function, said)
@@ -287,44 +242,47 @@ def try_group(edits, folder, is_alone):
 
 
 def results_of(edits, built):
-    """What became of some edits of a crate, check by check. They are tried in groups, and alone those that weren't refused in
-    company. The checks follow one another in one copy, so that each begins with the lemmas that those before it proved."""
-    again = []
+    """What became of some edits of a crate, check by check: of all together, but for second edits of a function that has no twin,
+    and then of each that wasn't refused there. The checks follow one another in one copy, so that each begins with the lemmas that
+    those before it proved."""
+    together, taken = [], set()
+    for edit in edits:
+        places = {(edit.file, at) for at in edit.changes}
+        together += [edit] if edit.twin or not places & taken else []
+        taken |= places
     with tempfile.TemporaryDirectory(prefix="wrong-bodies-") as room:
         folder = copy_of(edits[0].crate, built, pathlib.Path(room))
-        for group in groups_of(edits):
-            tried = try_group(group, folder, is_alone=False)
-            again += [edit for edit, (is_refused, _) in tried.items() if not is_refused]
-            yield {edit: result for edit, result in tried.items() if result[0]}
-        for edit in again:
-            yield try_group([edit], folder, is_alone=True)
+        tried = try_group(together, folder, is_alone=False)
+        refused = {edit: result for edit, result in tried.items() if result[0]}
+        yield refused
+        for edit in edits:
+            if edit not in refused:
+                yield try_group([edit], folder, is_alone=True)
 
 
 def try_crate(edits, libraries, kept, show):
     """Tries the edits of a crate once its libraries are there, but for those whose refusal is kept; shows what each check showed."""
-    crate, tried = edits[0].crate, {}
+    tried = {}
+
+    def take(results):
+        tried.update(results)
+        show(results)
+
     try:
-        tried |= {edit: (True, why) for edit, why in kept.known(edits).items()}
-        show(tried)
-        left = [edit for edit in edits if edit not in tried]
-        built = {name: library.result() for name, library in libraries.items()} if left else {}
-        tell([f"{crate}: {len(tried)} of {len(edits)} kept"] if tried else [], sys.stderr)
-        for result in results_of(left, built) if left else ():
-            tried |= result
-            show(result)
-            kept.keep({edit: why for edit, (is_refused, why) in result.items() if is_refused})
-            took = SECONDS[crate]
-            tell([f"{crate}: {len(tried)} of {len(edits)} tried, check {len(took)} took {took[-1]:.0f} s"], sys.stderr)
+        take({edit: (True, why) for edit, why in kept.known(edits).items()})
+        tell([f"{edits[0].crate}: {len(tried)} of {len(edits)} kept"], sys.stderr)
+        if left := [edit for edit in edits if edit not in tried]:
+            for results in results_of(left, {name: library.result() for name, library in libraries.items()}):
+                take(results)
+                kept.keep({edit: why for edit, (is_refused, why) in results.items() if is_refused})
     except Exception as why:
-        result = {edit: (False, f"NOT TRIED: {why}") for edit in edits if edit not in tried}
-        tried |= result
-        show(result)
+        take({edit: (False, f"NOT TRIED: {why}") for edit in edits if edit not in tried})
     return tried
 
 
 def build(crate):
     """Builds a library that checks of other crates stand on, unless it is there, and gives its folder."""
-    ran = run(["rt", "lib"], ROOT / "crates" / crate)
+    ran = run("rt", "lib", folder=ROOT / "crates" / crate)
     if ran.returncode:
         raise RuntimeError(f"{crate} is not proved:\n{ran.stdout[-2000:]}")
     return ROOT / "crates" / crate / "out" / "rlib"
@@ -357,29 +315,23 @@ def read_edits(wanted):
 
 
 def try_all(edits, below, beside, attempt):
-    """Tries the edits of several crates at once. A crate waits for those that it stands on, and for its own library if that is
-    made meanwhile: a folder that is being written can't be copied."""
-    of_crate = lambda crate: [edit for edit in edits if edit.crate == crate]
-    crates, tried = sorted({edit.crate for edit in edits}, key=lambda crate: -len(of_crate(crate))), {}
-    with ThreadPoolExecutor(1) as builder, ThreadPoolExecutor(max(len(crates), 1)) as pool:
+    """Tries the edits of several crates at once, those of most edits first. A crate waits for those that it stands on, and for
+    its own library if that is made meanwhile: a folder that is being written can't be copied."""
+    of_crate, tried = {}, {}
+    for edit in edits:
+        of_crate.setdefault(edit.crate, []).append(edit)
+    with ThreadPoolExecutor(1) as builder, ThreadPoolExecutor(max(len(of_crate), 1)) as pool:
         if beside:
             libraries = {crate: Future() for crate in below}
             threading.Thread(target=hear, args=(libraries, beside)).start()
         else:
-            order = dict.fromkeys(low for edit in edits for low in below[edit.crate])
+            order = dict.fromkeys(low for crate in of_crate for low in below[crate])
             libraries = {crate: builder.submit(build, crate) for crate in order}
         awaited = lambda crate: {low: libraries[low] for low in (*below[crate], crate) if low in libraries}
-        for result in pool.map(lambda crate: attempt(of_crate(crate), awaited(crate)), crates):
+        most_first = sorted(of_crate, key=lambda crate: -len(of_crate[crate]))
+        for result in pool.map(lambda crate: attempt(of_crate[crate], awaited(crate)), most_first):
             tried |= result
     return tried
-
-
-def table(edits):
-    """For each crate its edits, the checks that they took, and the seconds of the processors."""
-    count = lambda crate: sum(edit.crate == crate for edit in edits)
-    rows = [(crate, count(crate), len(seconds), round(sum(seconds))) for crate, seconds in sorted(SECONDS.items())]
-    rows.append(("all", len(edits), sum(row[2] for row in rows), sum(row[3] for row in rows)))
-    return ["{:<22}{:>8}{:>8}{:>10}".format(*row) for row in [("", "edits", "checks", "seconds"), *rows]]
 
 
 def main(words):
@@ -400,7 +352,7 @@ def main(words):
     tried = try_all(edits, below, given.beside, lambda edits, libraries: try_crate(edits, libraries, kept, show))
     refused = sum(is_refused for is_refused, _ in tried.values())
     failed = len(bad) + len(edits) - refused
-    tell([*table(edits), f"{refused} passed, {failed} failed"], sys.stdout)
+    tell([f"{refused} passed, {failed} failed"], sys.stdout)
     return 1 if failed or not refused else 0
 
 

@@ -8,9 +8,7 @@
 //!
 //! The *record* is the list of a crawl's events. A *record prefix* (`RecordPrefix`) is a token that
 //! the record begins with certain events. The *history* is the record as the crate `logbook` keeps
-//! it in proofs: one list that only grows. It has a word of its own because contracts name a crew
-//! by its history, and because an event is in the catalogue's record before it is entered into the
-//! history.
+//! it in proofs: one list that only grows. The history lags behind the record, hence a second name.
 //!
 //! # The way of a found page
 //!

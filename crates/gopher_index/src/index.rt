@@ -288,10 +288,10 @@ impl Index {
         })
     }
 
-    /// Returns the last page if this index is `before` with one loose page more, judged by the
-    /// numbers of its segments and pages.
+    /// Returns the new page, if exactly one was added.
     ///
-    /// Returns `None` if `before` has 512 loose pages, because `add` merges them first.
+    /// It compares the numbers of segments and pages with those of `before`. If `before` has 512
+    /// loose pages, it returns `None`, because `add` merges them first.
     pub fn page_after(&self, before: &Index) -> Option<&Arc<Page>>
         ensures last { IfSome result (λ page. EndsWith self.now (arc_value page.now)) }
         ensures one_more { OnSome result (length self.now ≡ length before.now + 1) }

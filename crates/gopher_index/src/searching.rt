@@ -53,11 +53,8 @@ impl Search {
         })
     }
 
-    /// Does one step. Returns the hits if no step is left, and `None` otherwise.
-    ///
-    /// The first step groups equal terms. Each further step goes through the postings of one group
-    /// of terms in one segment. A large page counts as 2,048 postings. Or a step inserts the
-    /// matching pages of one segment, or up to eight loose pages, among the best.
+    /// Does one step, of the size that the crate's head states. Returns the hits if no step is
+    /// left, and `None` otherwise.
     ///
     /// # Errors
     ///
