@@ -190,9 +190,7 @@ def check_checks(tally, program, folder, root):
     tally.expect("a host that is an address", run(HOST), (f"resolves to: {HOST}:{port}\nsound\n", b"", 0))
     both = f"resolves to: {HOST}:{port}\ncan listen at: {HOST}:{port}\nsound\n"
     tally.expect("an address that can be bound", run(HOST, "--listen"), (both, b"", 0))
-    with socket.socket() as taken:
-        taken.bind((HOST, port))
-        taken.listen()
+    with socket.create_server((HOST, port)):
         lines, error, status = run(HOST, "--listen")
         wanted = rf"resolves to: {HOST}:{port}\ncan't listen at: {HOST}:{port}: Address already in use.*\n"
         found = (re.fullmatch(wanted, lines) is not None, error, status)
@@ -212,9 +210,7 @@ def check_named(tally, run, port):
     name = "no.such.host.invalid"
     wanted = f"can listen at: {OTHER}:{port}\nsound\n"
     tally.expect("a named address", run(name, "--listen", OTHER), (wanted, b"", 0))
-    with socket.socket() as taken:
-        taken.bind((HOST, port))
-        taken.listen()
+    with socket.create_server((HOST, port)):
         lines, error, status = run(name, "--listen", HOST)
         is_told = lines.startswith(f"can't listen at: {HOST}:{port}: Address already in use") and lines.endswith("\nsound\n")
         tally.expect("a named address in use", (is_told, error, status), (True, b"", 0))

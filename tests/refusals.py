@@ -222,25 +222,23 @@ def check_requests(refusals, program, folder, root):
 
 
 def check_crawl(refusals, program, folder, root):
-    """A crawl that is refused its workers: the server answers its requests, of which the crawl makes none, and 90 is told."""
-    ends, more = [], "threads = 1\nworkers = 1\n" + RULES
+    """A crawl that is refused its workers: the server answers its requests, of which the crawl makes none, and 90 is told. The
+    main thread asks for their memory while a server thread asks for its own, so only the main thread's allocations are counted."""
+    more = "threads = 1\nworkers = 1\n" + RULES
 
     def end_of(refused):
-        """Whether both requests were answered, and how the server ended; none if it didn't come to listen."""
-        before = ("env", f"LD_PRELOAD={refusals.library}", f"REFUSED={refused}", f"COUNTED={refusals.counted}")
+        """Whether both requests were answered, and how the server ended."""
+        before = ("env", f"LD_PRELOAD={refusals.library}", "OF_MAIN=1", f"REFUSED={refused}", f"COUNTED={refusals.counted}")
         with Server(program, folder, root, more=more, words=("--requests", "2"), before=before) as server:
-            if not server.started():
-                return None
+            server.started()
             replies = [asked(server.port, b"") for _ in range(2)]
             return replies == [requests(server.port)[b""]] * 2, server.end()
 
     end_of(0)
-    refused = int(refusals.counted.read_text())
-    while refused and (end := end_of(refused)):
-        ends.append(end)
-        refused -= 1
-    is_told = (True, (b"", b"hole: 90\n", 1)) in ends
-    refusals.tally.expect(f"a crawl without workers is told in one of {len(ends)} runs", is_told, True)
+    last = int(refusals.counted.read_text())
+    # the last allocations are those of the crawl and of the end, and those before that of its workers are of the start
+    is_told = any(end_of(number) == (True, (b"", b"hole: 90\n", 1)) for number in range(last, 0, -1))
+    refusals.tally.expect("a crawl without workers is told", is_told, True)
 
 
 def check_growths(refusals):

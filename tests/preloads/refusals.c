@@ -1,6 +1,7 @@
 /* Loaded before a program: refuses allocations, and writes the number of all that it counted to the file that COUNTED
    names, if there is one. Counted are the allocations of at least LEAST bytes, without it all of them. Of these it refuses
-   the one whose number, from 1, is in REFUSED, or each one where REFUSED is `all`.
+   the one whose number, from 1, is in REFUSED, or each one where REFUSED is `all`. With OF_MAIN, only those of the first
+   thread are counted and refused, so that their numbers are the same in each run.
 
    LEFT names a file with a number of 8 bytes. While it is over 0, each allocation counts it down by 1, and the one that
    brings it to 0 is refused. So a test chooses one while the program runs. */
@@ -29,6 +30,7 @@ static int is_refused(size_t size) {
   if (left && atomic_load(left) > 0 && atomic_fetch_sub(left, 1) == 1) return 1;
   const char *refused = getenv("REFUSED"), *least = getenv("LEAST");
   if (least && size < strtoul(least, NULL, 10)) return 0;
+  if (getenv("OF_MAIN") && syscall(SYS_gettid) != getpid()) return 0;
   long number = atomic_fetch_add(&count, 1) + 1;
   return refused && (!strcmp(refused, "all") || number == atol(refused));
 }

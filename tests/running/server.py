@@ -39,10 +39,18 @@ class Tally:
         return 0 if self.passed and not self.failed else 1
 
 
+# Sockets that hold ports, by these.
+HELD = {}
+
+
 def free_port():
-    with socket.socket() as probe:
-        probe.bind((HOST, 0))
-        return probe.getsockname()[1]
+    """A port at which nobody listens. A socket that is bound to it keeps the system from giving it to another process."""
+    held = socket.socket()
+    held.setsockopt(socket.SOL_SOCKET, socket.SO_REUSEADDR, 1)
+    held.bind((HOST, 0))
+    port = held.getsockname()[1]
+    HELD[port] = held
+    return port
 
 
 def connect(port, host=HOST, wait=WAIT):
@@ -124,3 +132,5 @@ class Server:
         if self.process.poll() is None:
             self.process.kill()
         self.process.communicate()
+        if self.port in HELD:
+            HELD.pop(self.port).close()
