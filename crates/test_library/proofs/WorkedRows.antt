@@ -1,5 +1,5 @@
 -- Definitions on worked bytes: each row computes.
-use Rattle.std.specs.Prelude.{◌≡◌, refl, ℕ, List, [], ◌∷◌, codes, None, Some, true, false}
+use Rattle.std.specs.Prelude.{◌≡◌, refl, [], ◌∷◌, codes, None, Some, true, false}
 use Rattle.gopher_bytes.specs.Lines.{any_last_line, lines_of}
 use Rattle.std.specs.declared.cmp.Ordering.TheVariants.{Less, Greater}
 use Rattle.gopher_item.specs.Place.{address_fault, place_cmp, place_of}
@@ -10,9 +10,6 @@ use Rattle.gopher_item.specs.declared.fault.ItemFault.TheVariants.{BadDisplay, B
 use Rattle.gopher_item.specs.declared.menu.Entry.TheVariants.{Item, Odd}
 use Rattle.gopher_text.specs.Text.{text_bytes, text_lines}
 use Rattle.gopher_page.specs.Page.{title_of}
-use Rattle.gopher_page.specs.Counts.{counts_of}
-use Rattle.gopher_page.specs.Query.{matches, query_of, score}
-use Rattle.gopher_page.specs.Words.{words_of}
 use Rattle.gopher_tree.specs.Fault.{files_fault}
 use Rattle.gopher_tree.specs.declared.fault.TreeFault.TheVariants.{BadMenuLine, BadName, Reserved, Twice}
 
@@ -139,55 +136,5 @@ file_and_folder = refl
 folder_and_file : files_fault ((codes "a/b/c", codes "") ∷ (codes "a/b", codes "") ∷ []) ≡ Some (Twice 1)
 folder_and_file = refl
 
--- the title of a file of the host `h` with these lines
-title_at : List ℕ → List (List ℕ) → List ℕ
-title_at selector lines = title_of (place_of 48 selector (codes "h") 70) lines
-
-title_of_words : title_at (codes "/a") (codes "--" ∷ codes "\tHi\x01there " ∷ []) ≡ codes "Hi there"
-title_of_words = refl
-
-title_of_a_selector : title_at (codes "/pics") (codes "--" ∷ []) ≡ codes "/pics"
-title_of_a_selector = refl
-
-title_of_a_host : title_at (codes "") [] ≡ codes "h"
+title_of_a_host : title_of (place_of 48 (codes "") (codes "h") 70) [] ≡ codes "h"
 title_of_a_host = refl
-
--- the counts of the words of a text
-counts_in : List ℕ → List (List ℕ × ℕ)
-counts_in text = counts_of (words_of text)
-
-not_binds_last : matches (query_of (codes "moon or sun not rain")) (counts_in (codes "sun rain")) ≡ false
-not_binds_last = refl
-
-first_of_two : matches (query_of (codes "moon or sun not rain")) (counts_in (codes "moon")) ≡ true
-first_of_two = refl
-
-score_of_first_of_two : score (query_of (codes "moon or sun not rain")) (counts_in (codes "moon")) ≡ 1
-score_of_first_of_two = refl
-
-second_of_two : matches (query_of (codes "moon or sun not rain")) (counts_in (codes "sun")) ≡ true
-second_of_two = refl
-
-score_of_second_of_two : score (query_of (codes "moon or sun not rain")) (counts_in (codes "sun")) ≡ 1
-score_of_second_of_two = refl
-
-first_word_is_a_term : matches (query_of (codes "not moon")) (counts_in (codes "moon")) ≡ false
-first_word_is_a_term = refl
-
-last_operator_counts : matches (query_of (codes "moon and or sun")) (counts_in (codes "sun")) ≡ true
-last_operator_counts = refl
-
-score_of_last_operator_counts : score (query_of (codes "moon and or sun")) (counts_in (codes "sun")) ≡ 1
-score_of_last_operator_counts = refl
-
-operator_at_the_end_is_ignored : matches (query_of (codes "moon or")) (counts_in (codes "moon")) ≡ true
-operator_at_the_end_is_ignored = refl
-
-score_of_operator_at_the_end_is_ignored : score (query_of (codes "moon or")) (counts_in (codes "moon")) ≡ 1
-score_of_operator_at_the_end_is_ignored = refl
-
-without_a_word : matches (query_of (codes "a not b")) (counts_in (codes "a")) ≡ true
-without_a_word = refl
-
-score_of_without_a_word : score (query_of (codes "a not b")) (counts_in (codes "a")) ≡ 1
-score_of_without_a_word = refl

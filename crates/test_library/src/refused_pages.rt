@@ -8,13 +8,6 @@ use gopher_page::{Page, Query, words};
 use gopher_replies::Replies;
 use std::alloc::Global;
 
-// Bytes, and the one word of them, if any.
-const WORDS: &[(&[u8], Option<&[u8]>)] = &[
-    (b"Caf\xc3\xa9", Some(b"caf\xc3\xa9")),
-    (&[b'a'; 40], Some(&[b'a'; 40])),
-    (&[b'a'; 41], None),
-];
-
 // A page, a query that it matches, and the words that are wanted, each with whether it is a prefix.
 const REPLY: &[u8] = b"and andy c";
 
@@ -22,17 +15,11 @@ const QUERY: &[u8] = b"and* not b* or C*";
 
 const WANTED: &[(&[u8], bool)] = &[(b"and", true), (b"c", true)];
 
-fn is_word(alloc: Global, bytes: &[u8], wanted: Option<&[u8]>) -> Checked<()> {
-    let found = at_last(|| words(alloc, bytes).ok()).ok_or(TWICE)?;
-    let is_same = match found.as_slice() {
-        [] => wanted.is_none(),
-        [word] => wanted == Some(word.as_slice()),
-        _ => false,
-    };
-    if is_same {
-        Ok(())
-    } else {
-        Err("bytes have other words")
+fn check_words(alloc: Global) -> Checked<()> {
+    let found = at_last(|| words(alloc, b"(Caf\xc3\xa9)").ok()).ok_or(TWICE)?;
+    match found.as_slice() {
+        [word] if word.as_slice() == b"caf\xc3\xa9".as_slice() => Ok(()),
+        _ => Err("bytes have other words"),
     }
 }
 
@@ -67,9 +54,7 @@ fn is_matched(alloc: Global) -> Checked<()> {
 
 /// Words, and a page and a query.
 pub fn check(alloc: Global) -> Checked<()> {
-    for (bytes, wanted) in WORDS {
-        is_word(alloc, *bytes, *wanted)?;
-    }
+    check_words(alloc)?;
     is_matched(alloc)
 }
 
