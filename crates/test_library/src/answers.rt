@@ -31,10 +31,6 @@ pub const HELLO: &[u8] = b"hello\r\n.\r\n";
 /// The reply to a bad request.
 pub const BAD_REQUEST: &[u8] = b"3Bad request\t\tlocalhost\t7070\r\n.\r\n";
 
-const NOT_FOUND: &[u8] = b"3Not found\t\tlocalhost\t7070\r\n.\r\n";
-
-const NO_WORDS: &[u8] = b"3No words\t\tlocalhost\t7070\r\n.\r\n";
-
 const NO_CATALOGUE: &[u8] = b"3No catalogue\t\tlocalhost\t7070\r\n.\r\n";
 
 const FOUND: &[u8] = b"1Docs\t\tlocalhost\t70\r\n.\r\n";
@@ -46,33 +42,14 @@ const DOCS: &[u8] = b"1Docs\t/docs\tlocalhost\t70\r\n.\r\n";
 const SEARCH: &[u8] = b"/search\tdocs";
 
 const EARLY: Rows = &[
-    (b"", ROOT),
-    (b"/\t+", ROOT),
     (b"/a.txt\t+", HELLO),
-    (b"/b", NOT_FOUND),
-    (b"/search/", NOT_FOUND),
-    (b"/search", NO_WORDS),
-    (b"/search\t -- ", NO_WORDS),
-    (b"/a\0b", BAD_REQUEST),
     (&[b'a'; 256], BAD_REQUEST),
-    (&[b'a'; 1_025], BAD_REQUEST),
-    (&[b'a'; 255], NOT_FOUND),
     (SEARCH, NOTHING),
 ];
 
-const LATE: Rows = &[
-    (SEARCH, FOUND),
-    (b"/search\tDOCS\t+", FOUND),
-    (b"/search\tmars", NOTHING),
-    (b"/search\tmars or a or docs or b or c or d", FOUND),
-    (b"/search", NO_WORDS),
-];
+const LATE: Rows = &[(SEARCH, FOUND), (b"/search\tmars", NOTHING)];
 
-const CLOSED: Rows = &[
-    (SEARCH, NO_CATALOGUE),
-    (b"/search\tx", NO_CATALOGUE),
-    (b"", ROOT),
-];
+const CLOSED: Rows = &[(SEARCH, NO_CATALOGUE), (b"", ROOT)];
 
 // Whether a line has this reply from replies that are kept.
 fn has_reply<C: Crew>(alloc: Global, site: &mut Site<'_, C>, line: &[u8], wanted: &[u8]) -> bool {
@@ -85,14 +62,18 @@ fn has_reply<C: Crew>(alloc: Global, site: &mut Site<'_, C>, line: &[u8], wanted
     }
 }
 
-// Whether each of the lines has its reply from replies that are kept.
-fn answers_all<C: Crew>(alloc: Global, site: &mut Site<'_, C>, rows: Rows) -> bool {
+// Each of the lines has its reply from replies that are kept. Returns the pass.
+fn asks_site<C: Crew, R: Abort + AllocGlobal>(
+    rt: &R,
+    replies: &Replies,
+    pass: Pass<C>,
+    rows: Rows,
+) -> Pass<C> {
+    let mut site = Site::new(replies, pass);
     for (line, wanted) in rows {
-        if !has_reply(alloc, site, *line, *wanted) {
-            return false;
-        }
+        assert!(rt; has_reply(rt.alloc(), &mut site, *line, *wanted));
     }
-    true
+    site.into_pass()
 }
 
 // Whether a line has this reply from the tree.
@@ -109,45 +90,23 @@ fn makes<C: Crew>(
     }
 }
 
-// Whether each of the lines has its reply from the tree.
-fn makes_all<C: Crew>(alloc: Global, replies: &Replies, pass: &mut Pass<C>, rows: Rows) -> bool {
-    for (line, wanted) in rows {
-        if !makes(alloc, replies, pass, *line, *wanted) {
-            return false;
-        }
-    }
-    true
-}
-
-// The lines have their replies from replies that are kept, by the last of the passes.
-fn asks_site<C: Crew, R: Abort + AllocGlobal>(
-    rt: &R,
-    replies: &Replies,
-    passes: &mut Vec<Pass<C>>,
-    rows: Rows,
-) {
-    let Some(pass) = passes.pop() else {
-        panic!(rt; "no pass");
-    };
-    let mut site = Site::new(replies, pass);
-    assert!(rt; answers_all(rt.alloc(), &mut site, rows));
-    let Ok(()) = passes.push(site.into_pass()) else {
-        panic!(rt; "no memory");
-    };
-}
-
-// The lines have their replies, by the last of the passes.
+// Each of the lines has its reply from the tree and from replies that are kept, by the last of the
+// passes.
 fn asks<C: Crew, R: Abort + AllocGlobal>(
     rt: &R,
     replies: &Replies,
     passes: &mut Vec<Pass<C>>,
     rows: Rows,
 ) {
-    let Some(pass) = passes.last_mut() else {
+    let Some(mut pass) = passes.pop() else {
         panic!(rt; "no pass");
     };
-    assert!(rt; makes_all(rt.alloc(), replies, pass, rows));
-    asks_site(rt, replies, passes, rows);
+    for (line, wanted) in rows {
+        assert!(rt; makes(rt.alloc(), replies, &mut pass, *line, *wanted));
+    }
+    let Ok(()) = passes.push(asks_site(rt, replies, pass, rows)) else {
+        panic!(rt; "no memory");
+    };
 }
 
 // How `serve_one` ends over these streams, how much it leaves unread, and how much unsent.
@@ -166,56 +125,40 @@ fn served<C: Crew>(
     (end.err(), given.bytes.len(), taken.left.len())
 }
 
-// What a reader gives and how it goes on; the fault, if there is one, how much is left unread, and
-// how much unsent.
-const SERVED: &[(&[u8], Ending, (Option<ServeFault>, usize, usize))] = &[
-    (b"/a.txt\r\nextra", Ending::Ends, (None, 5, 0)),
+// What a reader gives and how it goes on, and for how much of the reply there is room; the fault, if
+// there is one, how much is left unread, and how much unsent.
+const SERVED: &[(&[u8], Ending, usize, (Option<ServeFault>, usize, usize))] = &[
+    (b"/a.txt\r\nextra", Ending::Ends, 10, (None, 5, 0)),
     (
         &[b'a'; 1_026],
         Ending::Ends,
+        10,
         (Some(ServeFault::LineTooLong), 0, 10),
     ),
     (
         b"/a.t",
         Ending::Fails,
+        10,
         (Some(ServeFault::ReadFailed), 0, 10),
+    ),
+    (
+        b"/a.txt\n",
+        Ending::Ends,
+        7,
+        (Some(ServeFault::WriteFailed), 0, 3),
     ),
 ];
 
-// Whether one line is served and the rest isn't read, and a line too long or a read that fails
-// writes nothing.
+// Whether one line is served and the rest isn't read, and each fault ends a request.
 fn serves<C: Crew>(alloc: Global, replies: &Replies, pass: &mut Pass<C>) -> bool {
-    for (bytes, ending, wanted) in SERVED {
+    for (bytes, ending, room, wanted) in SERVED {
         let reader = Stream::giving(*bytes, 1, *ending);
-        let writer = Stream::taking(HELLO, 100, Ending::Fails);
+        let writer = Stream::taking(HELLO, *room, Ending::Fails);
         if served(alloc, replies, pass, reader, writer) != *wanted {
             return false;
         }
     }
     true
-}
-
-// Whether a writer that fails after this part of the root's menu has got these.
-fn sends_until<C: Crew>(alloc: Global, replies: &Replies, pass: &mut Pass<C>, room: usize) -> bool {
-    let reader = Stream::giving(b"\r\n", 1, Ending::Ends);
-    let writer = Stream::taking(ROOT, room, Ending::Fails);
-    let wanted = if room < ROOT.len() {
-        Some(ServeFault::WriteFailed)
-    } else {
-        None
-    };
-    served(alloc, replies, pass, reader, writer) == (wanted, 0, ROOT.len().saturating_sub(room))
-}
-
-// Requests over streams are served, and writes that fail end them.
-fn serves_all<C: Crew, R: Abort + AllocGlobal>(rt: &R, replies: &Replies, pass: &mut Pass<C>) {
-    assert!(rt; serves(rt.alloc(), replies, pass));
-    for room in 0..=ROOT.len() {
-        assert!(rt;
-            sends_until(rt.alloc(), replies, pass, room),
-            "after {room} bytes"
-        );
-    }
 }
 
 // A search of `docs` finds the root's page, in a record of this length.
@@ -224,21 +167,11 @@ fn finds_docs<C: Crew, R: Abort + AllocGlobal>(rt: &R, pass: &mut Pass<C>, at: u
     assert!(rt; answer.at == at && is_root(&answer.hits));
 }
 
-// Requests are served by the last of the passes.
-fn serves_by_last<C: Crew, R: Abort + AllocGlobal>(
-    rt: &R,
-    replies: &Replies,
-    passes: &mut [Pass<C>],
-) {
-    let Some(pass) = passes.last_mut() else {
-        panic!(rt; "no pass");
-    };
-    serves_all(rt, replies, pass);
-}
-
-// The root's page is found. The last of the passes hears of it, and each finds it.
+// Requests are served by the last of the passes. Then the root's page is found; that pass hears of
+// it, and each finds it.
 fn find_docs<C: Crew, R: Wait + Abort + AllocGlobal>(
     rt: &R,
+    replies: &Replies,
     desk: &Desk<C, &R>,
     passes: &mut [Pass<C>],
     shares: &mut [Share<C>],
@@ -246,6 +179,7 @@ fn find_docs<C: Crew, R: Wait + Abort + AllocGlobal>(
     let (Some(pass), Some(share)) = (passes.last_mut(), shares.first_mut()) else {
         panic!(rt; "no pass or no share");
     };
+    assert!(rt; serves(rt.alloc(), replies, pass));
     takes(rt, desk, share, 0, 2);
     let page = page(rt, b'1', b"", b"localhost", DOCS);
     pass.hear(finds(rt, desk, share, 0, page, 3));
@@ -283,8 +217,7 @@ fn crawl_docs<C: Crew, R: Wait + Abort + AllocGlobal>(
     let begun = catalogue(rt, b"localhost", 10, 1);
     let (desk, mut passes, mut shares) = opened::<C, R>(rt, blank, begun, 2, 1);
     asks(rt, replies, &mut passes, EARLY);
-    serves_by_last(rt, replies, &mut passes);
-    find_docs(rt, &desk, &mut passes, &mut shares);
+    find_docs(rt, replies, &desk, &mut passes, &mut shares);
     asks(rt, replies, &mut passes, LATE);
     fail_directory(rt, &desk, &mut shares);
     let catalogue = closed(rt, desk, shares);

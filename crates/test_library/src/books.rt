@@ -1,10 +1,9 @@
-// A catalogue's opening and its refusals, and a book that takes in the events of a long crawl.
+// A book that takes in the events of a long crawl.
 ghost use Rattle.std.specs.Prelude.{◌≤◌, length};
 
-use crate::opening::{claimed, crawl, page, query, scope, seeds};
+use crate::opening::{claimed, crawl, page, query};
 use crate::tables::is_root;
-use gopher_catalogue::{Book, Catalogue, Event, OpenRefused, Status, Why};
-use gopher_item::Scope;
+use gopher_catalogue::{Book, Catalogue, Event, Why};
 use gopher_page::{Page, Query};
 use std::alloc::Global;
 
@@ -67,42 +66,16 @@ fn is_of(book: &Book, query: &Query, events: usize) -> Option<bool> {
     Some(book.len() == events && if events < 3 { is_empty } else { is_found })
 }
 
-// Whether a book and its clone each have this number of events.
-fn is_cloned(book: &Book, query: &Query, events: usize) -> Option<bool> {
-    let clone = book.clone().ok()?;
-    Some(is_of(book, query, events)? && is_of(&clone, query, events)?)
-}
-
-// Whether a book answers as it should once it took in more events, and a clone of before as before.
-fn leaves(book: &mut Book, clone: &Book, query: &Query, more: &[Event]) -> Option<bool> {
-    let before = book.len();
-    take_in(book, more)?;
-    let after = before.saturating_add(more.len());
-    Some(is_of(clone, query, before)? && is_cloned(book, query, after)?)
-}
-
-// Whether a book goes on, and leaves its clone as it was.
-fn goes_on(book: &mut Book, query: &Query, more: &[Event]) -> Option<bool> {
-    let clone = book.clone().ok()?;
-    leaves(book, &clone, query, more)
-}
-
-// Whether a book answers as it should before these events, after two, after three and after all.
-fn holds_parts(book: &mut Book, query: &Query, events: &[Event]) -> Option<bool> {
-    let (first, others) = events.split_at(events.len().min(2));
-    let (third, rest) = others.split_at(others.len().min(1));
-    Some(
-        is_cloned(book, query, 0)?
-            && goes_on(book, query, first)?
-            && goes_on(book, query, third)?
-            && goes_on(book, query, rest)?,
-    )
-}
-
+// Whether a book answers as it should before the root is found, and then after all events, but a
+// clone of before as before.
 fn holds_all(alloc: Global, events: &[Event]) -> Option<bool> {
     let query = query(alloc, b"docs")?;
+    let (first, rest) = events.split_at(events.len().min(2));
     let mut book = Book::empty(alloc);
-    holds_parts(&mut book, &query, events)
+    take_in(&mut book, first)?;
+    let clone = book.clone().ok()?;
+    take_in(&mut book, rest)?;
+    Some(is_of(&clone, &query, 2)? && is_of(&book, &query, events.len())?)
 }
 
 // Whether the last event, made again, is the last failure.
@@ -127,45 +100,4 @@ fn holds_crawl(alloc: Global) -> Option<bool> {
 #[test]
 fn a_book_of_a_crawl(rt: HostRuntime) {
     assert!(rt; holds_crawl(rt.alloc()) == Some(true));
-}
-
-// Whether a crawl with two seeds knows the first alone.
-fn knows_the_first_alone(catalogue: &Catalogue) -> bool {
-    let status = Status {
-        known: 1,
-        waiting: 1,
-        out: 0,
-        done: 0,
-        dropped: 1,
-    };
-    catalogue.record().len() == 1
-        && catalogue.places().len() == 1
-        && catalogue.opening().seeds().len() == 2
-        && catalogue.status() == status
-}
-
-// Starts that are refused because nothing is allowed, and then because no place may be known.
-fn refused_twice(alloc: Global) -> Option<OpenRefused> {
-    let nothing = Scope::new(Vec::new(alloc), Vec::new(alloc));
-    let refused = Catalogue::open(alloc, nothing, seeds(alloc, HOST, &[b"/b"])?, 0, 1).err()?;
-    if refused.fault.code() != 50 {
-        return None;
-    }
-    let (_, deny) = refused.scope.into_rules();
-    let (allow, _) = scope(alloc, HOST)?.into_rules();
-    Catalogue::open(alloc, Scope::new(allow, deny), refused.seeds, 0, 1).err()
-}
-
-fn starts_at_last(alloc: Global) -> Option<bool> {
-    let refused = refused_twice(alloc)?;
-    if refused.fault.code() != 51 {
-        return None;
-    }
-    let catalogue = Catalogue::open(alloc, refused.scope, refused.seeds, 1, 1).ok()?;
-    Some(knows_the_first_alone(&catalogue))
-}
-
-#[test]
-fn a_start_is_refused_and_tried_again(rt: HostRuntime) {
-    assert!(rt; starts_at_last(rt.alloc()) == Some(true));
 }

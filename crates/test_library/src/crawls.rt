@@ -8,7 +8,7 @@ use crate::tables::{
     are_files, catalogue, closed, hits, opened,
 };
 use gopher_catalogue::{Catalogue, Event, Status, Why};
-use gopher_crew::{Answer, Blank, Calls, Crew, Desk, Share, Stop, WorkEnd, crawl, work};
+use gopher_crew::{Answer, Blank, Calls, Crew, Share, Stop, WorkEnd, crawl};
 use std::marker::Brand;
 use std::process::Abort;
 use std::sync::Wait;
@@ -216,40 +216,4 @@ fn workers_crawl(rt: HostRuntime) {
         let crawled = crawled::<Brand, _>(&rt, Blank::new(), plan);
         has_ended(&rt, &crawled, *wanted);
     }
-}
-
-// One worker works at a desk by itself: it finds three places by three calls.
-fn works_at<C: Crew, R: Wait + Clock + Abort + AllocGlobal>(
-    rt: &R,
-    desk: &Desk<C, &R>,
-    share: Share<C>,
-) {
-    let counter = AtomicU64::new(0);
-    let host = Host {
-        clock: rt,
-        root: TWO_FILES,
-        rest: MOON,
-        fate: Fate::Answered,
-        counter: &counter,
-    };
-    let end = work(rt, rt.alloc(), desk, Fetcher::new(&host, 0), share);
-    has_finished(rt, &end, 3);
-    assert!(rt; (end.found, end.failed, end.share.events()) == (3, 0, 6));
-    assert!(rt; desk.status(rt) == all_done(3));
-}
-
-fn works<C: Crew, R: Wait + Clock + Abort + AllocGlobal>(rt: &R, blank: Blank)
-    requires blank { IsBlankOf C.name C.parts C.history blank }
-    requires begun { blank.begun ≡ [] }
-{
-    let (desk, _passes, mut shares) = opened::<C, R>(rt, blank, catalogue(rt, b"h", 10, 1), 1, 1);
-    let Some(share) = shares.pop() else {
-        panic!(rt; "no share");
-    };
-    works_at(rt, &desk, share);
-}
-
-#[test]
-fn a_worker_finishes(rt: HostRuntime) {
-    works::<Brand, _>(&rt, Blank::new());
 }

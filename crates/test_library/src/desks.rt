@@ -1,5 +1,5 @@
-// A desk by hand: desks that aren't opened or closed, calls that are refused, and what they give
-// back.
+// A desk by hand: a desk that isn't opened, and two shares whose pages are found in another order than
+// they were claimed.
 ghost use Rattle.std.specs.Prelude.{◌≡◌, []};
 ghost use mathlib.Core.List.{IsPrefix};
 ghost use Rattle.gopher_crew.specs.Desk.{IsBlankOf};
@@ -7,7 +7,7 @@ ghost use Rattle.gopher_crew.specs.Desk.{IsBlankOf};
 use crate::tables::{
     MOON, TWO_FILES, all_done, answered, are_files, catalogue, closed, hits, opened, page,
 };
-use gopher_catalogue::{Catalogue, FoundRefused, Turn, Why};
+use gopher_catalogue::{Catalogue, Turn};
 use gopher_crew::{Blank, Crew, Desk, Note, Pass, Share};
 use gopher_page::Page;
 use std::marker::Brand;
@@ -53,18 +53,12 @@ pub fn finds<C: Crew, R: Wait + Abort + AllocGlobal>(
     note
 }
 
-// A desk with one pass and two shares, after one without a pass and one with 17 shares weren't
-// opened; then two shares crawl.
+// A desk with one pass and two shares, after one with 17 shares wasn't opened.
 fn refused_desks<C: Crew, R: Wait + Abort + AllocGlobal>(rt: &R, blank: Blank)
     requires blank { IsBlankOf C.name C.parts C.history blank }
     requires begun { blank.begun ≡ [] }
 {
     let begun = catalogue(rt, b"h", 10, 1);
-    let Err(refused) = Desk::<C, &R>::open(rt, rt.alloc(), begun, 0, 1, blank) else {
-        panic!(rt; "a desk without a pass is opened");
-    };
-    assert!(rt; refused.fault.code() == 60);
-    let (begun, blank) = (refused.catalogue, refused.blank);
     let Err(refused) = Desk::<C, &R>::open(rt, rt.alloc(), begun, 1, 17, blank) else {
         panic!(rt; "a desk with 17 shares is opened");
     };
@@ -79,10 +73,10 @@ fn crawl_by_two<C: Crew, R: Wait + Abort + AllocGlobal>(rt: &R, blank: Blank, be
 {
     let (desk, mut passes, mut shares) = opened::<C, R>(rt, blank, begun, 1, 2);
     call_by_two(rt, &desk, &mut passes, &mut shares);
-    has_both(rt, &closed_at_last(rt, desk, shares));
+    has_both(rt, &closed(rt, desk, shares));
 }
 
-// The first share's calls are refused, but for a claim; the other's find all, as a pass sees.
+// The first share claims the root, and the other finds all, as a pass sees.
 fn call_by_two<C: Crew, R: Wait + Abort + AllocGlobal>(
     rt: &R,
     desk: &Desk<C, &R>,
@@ -92,10 +86,10 @@ fn call_by_two<C: Crew, R: Wait + Abort + AllocGlobal>(
     let (Some(pass), Some((share, others))) = (passes.first_mut(), shares.split_first_mut()) else {
         panic!(rt; "no pass or share");
     };
-    refused_calls(rt, desk, share);
     let Some(other) = others.last_mut() else {
         panic!(rt; "no other share");
     };
+    takes(rt, desk, share, 0, 2);
     find_both(rt, desk, other);
     let answer = answered(rt, pass, b"moon");
     assert!(rt; answer.at == 7 && are_files(&answer.hits, b"ab"));
@@ -114,45 +108,6 @@ fn see_one_record<C: Crew, R: Wait + Abort>(
     assert!(rt; desk.status_for(rt, share) == all_done(3) && pass.begins_share(share));
 }
 
-// Whether a refusal of this number gives back a page that is as this one.
-fn gives_back(refused: &FoundRefused, code: u8, page: &Page) -> bool {
-    let back = &refused.page;
-    refused.fault.code() == code
-        && back.place() == page.place()
-        && back.title() == page.title()
-        && back.counts().len() == page.counts().len()
-        && back.count(b"b") == page.count(b"b")
-}
-
-// The page of a selector is refused as the root's, and given back.
-fn is_refused<C: Crew, R: Wait + Abort + AllocGlobal>(
-    rt: &R,
-    desk: &Desk<C, &R>,
-    share: &mut Share<C>,
-    selector: &[u8],
-    code: u8,
-) {
-    let Err(refused) = desk.found(rt, share, 0, page(rt, b'1', selector, b"h", TWO_FILES)) else {
-        panic!(rt; "a page is taken that is to be refused with {code}");
-    };
-    assert!(rt; gives_back(&refused, code, &page(rt, b'1', selector, b"h", TWO_FILES)));
-}
-
-// Calls of numbers that aren't out, and of another place's page.
-fn refused_calls<C: Crew, R: Wait + Abort + AllocGlobal>(
-    rt: &R,
-    desk: &Desk<C, &R>,
-    share: &mut Share<C>,
-) {
-    let Err(fault) = desk.fail(rt, share, 0, Why::Read) else {
-        panic!(rt; "a place that isn't out fails");
-    };
-    assert!(rt; fault.code() == 52);
-    is_refused(rt, desk, share, b"", 52);
-    takes(rt, desk, share, 0, 2);
-    is_refused(rt, desk, share, b"/a", 53);
-}
-
 // The root that is out is found, then the second of its files, and then the first.
 fn find_both<C: Crew, R: Wait + Abort + AllocGlobal>(
     rt: &R,
@@ -169,38 +124,6 @@ fn find_both<C: Crew, R: Wait + Abort + AllocGlobal>(
     let _note = finds(rt, desk, share, 1, first, 7);
 }
 
-// The catalogue of a desk that isn't closed with one of its two shares, and is with both.
-fn closed_at_last<C: Crew, R: Wait + Abort + AllocGlobal>(
-    rt: &R,
-    desk: Desk<C, &R>,
-    shares: Vec<Share<C>>,
-) -> Catalogue {
-    let mut shares = shares;
-    let Some(withheld) = shares.pop() else {
-        panic!(rt; "no share");
-    };
-    assert!(rt; withheld.events() == 5);
-    let Err(refused) = desk.close(shares) else {
-        panic!(rt; "the desk is closed without a share");
-    };
-    assert!(rt; (refused.code(), refused.events, refused.shares.len()) == (62, 6, 1));
-    closed_with(rt, refused.desk, refused.shares, withheld)
-}
-
-// The catalogue of a desk that is closed with these shares and one more.
-fn closed_with<C: Crew, R: Wait + Abort>(
-    rt: &R,
-    desk: Desk<C, &R>,
-    shares: Vec<Share<C>>,
-    more: Share<C>,
-) -> Catalogue {
-    let mut shares = shares;
-    let Ok(()) = shares.push(more) else {
-        panic!(rt; "no memory");
-    };
-    closed(rt, desk, shares)
-}
-
 // Three places are done, and the files are found.
 fn has_both<R: Abort + AllocGlobal>(rt: &R, catalogue: &Catalogue) {
     assert!(rt; catalogue.status() == all_done(3) && catalogue.record().len() == 7);
@@ -209,6 +132,6 @@ fn has_both<R: Abort + AllocGlobal>(rt: &R, catalogue: &Catalogue) {
 }
 
 #[test]
-fn calls_of_a_desk_are_refused(rt: HostRuntime) {
+fn two_shares_crawl(rt: HostRuntime) {
     refused_desks::<Brand, _>(&rt, Blank::new());
 }

@@ -45,5 +45,3 @@ mod streams;
 mod tables;
 #[cfg(test)]
 mod trees;
-#[cfg(test)]
-mod walks;

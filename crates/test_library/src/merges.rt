@@ -81,21 +81,6 @@ fn loose(alloc: Global, pages: u32) -> Option<Index> {
     Some(index)
 }
 
-// Whether an index has one page more than before, and no longer once its pages are in a segment.
-fn has_one_page_more(alloc: Global) -> Option<bool> {
-    let mut index = loose(alloc, 63)?;
-    let before = index.share(alloc).ok()?;
-    add(alloc, &mut index, 63)?;
-    let has_more = index.page_after(&before).is_some();
-    let count = merges(alloc, &mut index)?;
-    Some(has_more && count == 1 && index.page_after(&before).is_none())
-}
-
-#[test]
-fn an_index_has_one_page_more(rt: HostRuntime) {
-    assert!(rt; has_one_page_more(rt.alloc()) == Some(true));
-}
-
 // The run that is due next, merged.
 fn merged_run(alloc: Global, index: &mut Index) -> Option<Due>
     ensures same { index.new ≡ index.old }

@@ -41,23 +41,18 @@ pub fn scope(alloc: Global, host: &[u8]) -> Option<Scope> {
     Some(Scope::new(allow, deny))
 }
 
-/// The root of a host, and the directories with these selectors.
-pub fn seeds(alloc: Global, host: &[u8], selectors: &[&[u8]]) -> Option<Vec<Place>> {
+/// The root of a host.
+pub fn seeds(alloc: Global, host: &[u8]) -> Option<Vec<Place>> {
     let mut seeds = Vec::new(alloc);
     seeds
         .push(Place::new(alloc, b'1', b"", host, 70).ok()?)
         .ok()?;
-    for selector in selectors {
-        seeds
-            .push(Place::new(alloc, b'1', selector, host, 70).ok()?)
-            .ok()?;
-    }
     Some(seeds)
 }
 
 /// A crawl that begins in the root of a host.
 pub fn crawl(alloc: Global, host: &[u8], places: u32, tries: u32) -> Option<Catalogue> {
-    let seeds = seeds(alloc, host, &[])?;
+    let seeds = seeds(alloc, host)?;
     let scope = scope(alloc, host)?;
     Catalogue::open(alloc, scope, seeds, places, tries).ok()
 }

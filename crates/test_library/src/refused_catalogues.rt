@@ -36,7 +36,7 @@ fn opened_again(alloc: Global, refused: OpenRefused) -> Checked<Catalogue> {
 
 fn opened(alloc: Global) -> Checked<Catalogue> {
     let scope = at_last(|| scope(alloc, b"h")).ok_or(TWICE)?;
-    let seeds = at_last(|| seeds(alloc, b"h", &[])).ok_or(TWICE)?;
+    let seeds = at_last(|| seeds(alloc, b"h")).ok_or(TWICE)?;
     match Catalogue::open(alloc, scope, seeds, 64, 1) {
         Ok(catalogue) => Ok(catalogue),
         Err(refused) => opened_again(alloc, refused),

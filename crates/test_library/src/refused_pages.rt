@@ -8,111 +8,23 @@ use gopher_page::{Page, Query, words};
 use gopher_replies::Replies;
 use std::alloc::Global;
 
-// Bytes, and the one word of them, if any.
-const WORDS: &[(&[u8], Option<&[u8]>)] = &[
-    (b"Caf\xc3\xa9", Some(b"caf\xc3\xa9")),
-    (&[b'a'; 40], Some(&[b'a'; 40])),
-    (&[b'a'; 41], None),
-];
+// A page, a query that it matches, and the words that are wanted, each with whether it is a prefix.
+const REPLY: &[u8] = b"and andy c";
 
-// The selector and the reply of a page, and its title.
-const TITLES: &[(&[u8], &[u8], &[u8])] = &[
-    (b"/a", b"--\r\n\tHi\x01there \r\n.\r\n", b"Hi there"),
-    (
-        b"/b",
-        b"ab ab ab ab ab ab ab ab ab ab ab ab ab ab ab ab ab ab ab ab ab ab ab c\r\n.\r\n",
-        b"ab ab ab ab ab ab ab ab ab ab ab ab ab ab ab ab ab ab ab ab ab ab ab ",
-    ),
-    (b"/pics", b"--\r\n.\r\n", b"/pics"),
-    (b"", b"", b"h"),
-];
+const QUERY: &[u8] = b"and* not b* or C*";
 
-// A query, the reply of a page, the score of the page if it matches, and the words that are wanted,
-// each with whether it is a prefix.
-type Row = (
-    &'static [u8],
-    &'static [u8],
-    Option<u64>,
-    &'static [(&'static [u8], bool)],
-);
+const WANTED: &[(&[u8], bool)] = &[(b"and", true), (b"c", true)];
 
-const ROWS: &[Row] = &[
-    (
-        b"moon or sun not rain",
-        b"sun rain",
-        None,
-        &[(b"moon", false), (b"sun", false)],
-    ),
-    (
-        b"moon or sun not rain",
-        b"moon",
-        Some(1),
-        &[(b"moon", false), (b"sun", false)],
-    ),
-    (
-        b"moon or sun not rain",
-        b"sun",
-        Some(1),
-        &[(b"moon", false), (b"sun", false)],
-    ),
-    (
-        b"not moon",
-        b"moon",
-        None,
-        &[(b"not", false), (b"moon", false)],
-    ),
-    (
-        b"moon and or sun",
-        b"sun",
-        Some(1),
-        &[(b"moon", false), (b"sun", false)],
-    ),
-    (b"moon or", b"moon", Some(1), &[(b"moon", false)]),
-    (b"a not b", b"a", Some(1), &[(b"a", false)]),
-    (
-        b"and* not b* or C*",
-        b"and andy c",
-        Some(3),
-        &[(b"and", true), (b"c", true)],
-    ),
-];
-
-fn is_word(alloc: Global, bytes: &[u8], wanted: Option<&[u8]>) -> Checked<()> {
-    let found = at_last(|| words(alloc, bytes).ok()).ok_or(TWICE)?;
-    let is_same = match found.as_slice() {
-        [] => wanted.is_none(),
-        [word] => wanted == Some(word.as_slice()),
-        _ => false,
-    };
-    if is_same {
-        Ok(())
-    } else {
-        Err("bytes have other words")
+fn check_words(alloc: Global) -> Checked<()> {
+    let found = at_last(|| words(alloc, b"(Caf\xc3\xa9)").ok()).ok_or(TWICE)?;
+    match found.as_slice() {
+        [word] if word.as_slice() == b"caf\xc3\xa9".as_slice() => Ok(()),
+        _ => Err("bytes have other words"),
     }
 }
 
-// The page of a file of the host `h`.
-fn page(alloc: Global, selector: &[u8], reply: &[u8]) -> Option<Page> {
-    if reply.len() > 1_048_576 {
-        return None;
-    }
-    opening::page(alloc, b'0', selector, b"h", reply)
-}
-
-fn query(alloc: Global, text: &[u8]) -> Option<Query> {
-    if text.len() > 1_024 {
-        return None;
-    }
-    opening::query(alloc, text)
-}
-
-fn is_titled(alloc: Global, selector: &[u8], reply: &[u8], title: &[u8]) -> Checked<()> {
-    let page = at_last(|| page(alloc, selector, reply)).ok_or(TWICE)?;
-    if page.title() == title {
-        Ok(())
-    } else {
-        Err("a page has another title")
-    }
+fn page(alloc: Global) -> Option<Page> {
+    opening::page(alloc, b'0', b"/a", b"h", REPLY)
 }
 
 // Whether a query wants these words.
@@ -128,33 +40,22 @@ fn wants(query: &Query, wanted: &[(&[u8], bool)]) -> bool {
     true
 }
 
-fn is_matched(alloc: Global, row: Row) -> Checked<()> {
-    let (text, reply, score, wanted) = row;
-    let query = at_last(|| query(alloc, text)).ok_or(TWICE)?;
-    let page = at_last(|| page(alloc, b"/a", reply)).ok_or(TWICE)?;
-    let is_score = match score {
-        Some(score) => query.matches(&page) && query.score(&page) == score,
-        None => !query.matches(&page),
-    };
-    if is_score && wants(&query, wanted) {
+// The page has its title, and matches the query with a score of 3.
+fn is_matched(alloc: Global) -> Checked<()> {
+    let query = at_last(|| opening::query(alloc, QUERY)).ok_or(TWICE)?;
+    let page = at_last(|| page(alloc)).ok_or(TWICE)?;
+    let is_score = query.matches(&page) && query.score(&page) == 3;
+    if is_score && page.title() == REPLY && wants(&query, WANTED) {
         Ok(())
     } else {
         Err("a query matches in another way")
     }
 }
 
-/// The worked words, titles and queries.
+/// Words, and a page and a query.
 pub fn check(alloc: Global) -> Checked<()> {
-    for (bytes, wanted) in WORDS {
-        is_word(alloc, *bytes, *wanted)?;
-    }
-    for (selector, reply, title) in TITLES {
-        is_titled(alloc, *selector, *reply, *title)?;
-    }
-    for row in ROWS {
-        is_matched(alloc, *row)?;
-    }
-    Ok(())
+    check_words(alloc)?;
+    is_matched(alloc)
 }
 
 // The replies of a tree with one text, made of what comes back if they are refused.

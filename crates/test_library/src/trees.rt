@@ -1,5 +1,6 @@
-// Trees of lists of files, and replies that are kept. What folders are loaded as, and what they
-// reply, is shown by tests/check.py and tests/serving.py.
+// Trees of lists of files, and replies that are kept. The faults of lists are in
+// proofs/WorkedRows.antt; what folders are loaded as, and what they reply, is shown by
+// tests/check.py and tests/serving.py.
 use gopher_item::Home;
 use gopher_replies::{Replies, Reply};
 use gopher_tree::{Node, Tree, TreeFault};
@@ -31,44 +32,6 @@ pub fn tree_of(alloc: Global, files: Rows) -> Result<Tree, TreeFault> {
 pub fn replies_of(alloc: Global, tree: Tree) -> Option<Replies> {
     let home = Home::new(alloc, b"localhost", 7070).ok()?;
     Replies::new(alloc, tree, home).ok()
-}
-
-// Lists of files, and their faults.
-const REFUSED: &[(Rows, TreeFault)] = &[
-    (&[(b"a//b", b"")], TreeFault::BadName { file: 0 }),
-    (&[(b".a", b"")], TreeFault::BadName { file: 0 }),
-    (
-        &[(b"a", b""), (b".menu/a", b"")],
-        TreeFault::BadName { file: 1 },
-    ),
-    (&[(b"search", b"")], TreeFault::Reserved { file: 0 }),
-    (&[(b"search//a", b"")], TreeFault::BadName { file: 0 }),
-    (&[(&[b'a'; 255], b"")], TreeFault::LongSelector { file: 0 }),
-    (
-        &[(b".menu", b"0x\ta\tb")],
-        TreeFault::BadMenuLine { file: 0, line: 1 },
-    ),
-    (&[(b"a", b""), (b"a", b"")], TreeFault::Twice { file: 1 }),
-    (&[(b"a", b""), (b"a/b", b"")], TreeFault::Twice { file: 1 }),
-    (
-        &[(b"a/b/c", b""), (b"a/b", b"")],
-        TreeFault::Twice { file: 1 },
-    ),
-];
-
-// Whether a list of files is refused with this fault.
-fn is_refused(alloc: Global, files: Rows, fault: TreeFault) -> bool {
-    match tree_of(alloc, files) {
-        Ok(_tree) => false,
-        Err(found) => found == fault,
-    }
-}
-
-#[test]
-fn trees_are_refused(rt: HostRuntime) {
-    for (files, fault) in REFUSED {
-        assert!(rt; is_refused(rt.alloc(), files, *fault));
-    }
 }
 
 // Whether the words of a fault begin with the file and line.
@@ -121,28 +84,4 @@ fn a_tree_and_its_kept_replies(rt: HostRuntime) {
     assert!(rt; is_tree(alloc, replies.tree(), replies.home()));
     assert!(rt; keeps(alloc, &replies, b"/a.txt", TEXT) && keeps(alloc, &replies, b"/docs", MENU));
     assert!(rt; keeps(alloc, &replies, b"/docs/b.gif", b"GIF\0.\n"));
-}
-
-// A tree whose top menu is 19 times as large as its file.
-fn large_tree(alloc: Global) -> Option<Tree> {
-    let path = Vec::from_slice(alloc, b".menu").ok()?;
-    let bytes = vec![in alloc; b'\n'; 900_000].ok()?;
-    let mut files = Vec::new(alloc);
-    files.push((path, bytes)).ok()?;
-    Tree::of_files(alloc, files).ok()
-}
-
-// The length of the top menu that is kept, and how many bytes are kept.
-fn kept_len(alloc: Global) -> Option<(usize, usize)> {
-    let replies = replies_of(alloc, large_tree(alloc)?)?;
-    match replies.reply(alloc, b"") {
-        Ok(Reply::Kept(bytes)) => Some((bytes.len(), replies.number_of_bytes())),
-        _ => None,
-    }
-}
-
-#[test]
-fn keeps_large_menus(rt: HostRuntime) {
-    let length = 900_000 * 19 + 3;
-    assert!(rt; kept_len(rt.alloc()) == Some((length, length)));
 }

@@ -1,4 +1,4 @@
-use Rattle.test_library.proofs.desks.calls_of_a_desk_are_refused.Given as goal
+use Rattle.test_library.proofs.desks.two_shares_crawl.Given as goal
 
 -- the names of the blank that was made
 abbrev pub ghosts-refused_desks-C-Ledger : goal.ghosts-refused_desks-C-Ledger
