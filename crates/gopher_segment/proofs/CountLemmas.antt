@@ -77,8 +77,13 @@ counted_alike (suc n) (entry ∷ a) b short same test =
 as_entries : (test : List ℕ → Bool) (page : ℕ) (rows : List (List ℕ × List (ℕ × ℕ))) → count_in page (postings_where test rows) ≡ count_where test (map (λ row. (row.0, count_in page row.1)) rows)
 as_entries test page [] = refl
 as_entries test page (row ∷ rows) =
-    omega (arith, as_entries test page rows, sum_by-cons (λ (e : List ℕ × ℕ). cond (test e.0) e.1 0) (row.0, count_in page row.1) (map (λ (r : List ℕ × List (ℕ × ℕ)). (r.0, count_in page r.1)) rows),
-    count_in-append page (cond (test row.0) row.1 []) (postings_where test rows), of (test row.0))
+    omega (
+      arith,
+      as_entries test page rows,
+      sum_by-cons (λ (e : List ℕ × ℕ). cond (test e.0) e.1 0) (row.0, count_in page row.1) (map (λ (r : List ℕ × List (ℕ × ℕ)). (r.0, count_in page r.1)) rows),
+      count_in-append page (cond (test row.0) row.1 []) (postings_where test rows),
+      of (test row.0),
+    )
   where
     of : (b : Bool) → count_in page (cond b row.1 []) ≡ cond b (count_in page row.1) 0
     of true = refl

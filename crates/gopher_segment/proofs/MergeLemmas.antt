@@ -133,4 +133,3 @@ none_before word zero tables lack = refl
 none_before word (suc first) [] lack = refl
 none_before word (suc first) (rows ∷ tables) lack =
     (λ i. none_taken word rows (lack 0 (omega arith)) i ++ none_before word first tables (λ k below. lack (suc k) (omega (arith, below))) i)
-

@@ -33,8 +33,13 @@ add_to-requires-clause-room c = λ k within.
     let test = is_meant c.args.is_prefix c.args.sought.now in
     let long = cells_long c.args.cells.now c.args.self.now own c.requires (ap (λ (s : SegmentData). s.pages) c.self.view_is) in
     let inside : k < length (pages_in_table own) = omega (arith, within, long) in
-    omega (arith, zero_at c.args.cells.now (length c.args.self.now.pages) k c.requires within, ap (count_in (c.self.inside.first + k)) c.find.ensures,
-    counts_of_page c.self.inside.first (pages_in_table own) c.self.inside.table c.self.invariant.0.table.tell test k inside, counts_few test (pages_in_table own) (small_in_table own c.self.invariant.0.small) k 0 inside)
+    omega (
+      arith,
+      zero_at c.args.cells.now (length c.args.self.now.pages) k c.requires within,
+      ap (count_in (c.self.inside.first + k)) c.find.ensures,
+      counts_of_page c.self.inside.first (pages_in_table own) c.self.inside.table c.self.invariant.0.table.tell test k inside,
+      counts_few test (pages_in_table own) (small_in_table own c.self.invariant.0.small) k 0 inside,
+    )
 
 pub spread_large-requires-clause-cells : goal.spread_large-requires-clause-cells
 unfolding count_meant
