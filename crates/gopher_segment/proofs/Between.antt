@@ -2,16 +2,13 @@
 use Rattle.std.proofs.Common.{◌≡◌, ◌⊎◌, ℕ, zero, suc, ◌+◌, ◌-◌, ◌<◌, ◌≤◌, Bool, true, false, cond, List, [], ◌∷◌, ◌++◌, length, take, drop, refl, sym, ap, subst, ◌∙◌, inl, inr, arith}
 use Rattle.std.proofs.Math.Seq.{take-add}
 use Rattle.std.proofs.lemmas.List.{drop-drop, length-map}
-use Rattle.std.specs.List.{AllByRecursion, flat_map, zip}
-use Rattle.std.specs.Cmp.Lexicographic.{bytes_decides}
-use Rattle.gopher_page.specs.Counts.{is_meant}
-use Rattle.gopher_page.specs.Words.{same_word}
+use Rattle.std.specs.List.{flat_map, zip}
+use Rattle.gopher_page.specs.Counts.{is_meant, AreMeantWords}
 use Rattle.gopher_bytes.specs.Parts.{parts, start_at, AreEnds}
 use Rattle.gopher_bytes.proofs.PartLemmas.{start_le_at}
-use Rattle.gopher_segment.specs.Postings.{ArePackedRuns, AreWithin, count_in, one_run}
-use Rattle.gopher_segment.specs.Rows.{words_of_rows, runs_of_rows, rows_count, rows_meant, postings_of, AreRowsMeant}
-use Rattle.gopher_segment.proofs.PostingLemmas.{count_in-append}
-use Rattle.gopher_segment.proofs.RowSearch.{word_at, nothing_from}
+use Rattle.gopher_segment.specs.Postings.{ArePackedRuns, one_run}
+use Rattle.gopher_segment.specs.Rows.{words_of_rows, runs_of_rows, postings_where, postings_meant}
+use Rattle.gopher_segment.proofs.RowLemmas.{word_at}
 use Rattle.gopher_bytes.proofs.Zips.{length-zip, zip-take, zip-drop}
 
 -- ---- their items
@@ -62,57 +59,30 @@ runs_between pages counts ends start end first last packed forward within from t
     both (suc n) (x ∷ a) [] same = absurd (omega (arith, same))
     both (suc n) (x ∷ a) (y ∷ b) same = both n a b (omega (arith, same))
 
--- ---- what they count
+-- ---- the rows of words that are meant
 
-counts_between : (test : List ℕ → Bool) (page : ℕ) (rows : List (List ℕ × List (ℕ × ℕ))) (start n : ℕ) → ((k : ℕ) → k < start → k < length rows → test (word_at rows k) ≡ false) → ((k : ℕ) → start ≤ k → k < start + n → k < length rows → test (word_at rows k) ≡ true)
-    → ((k : ℕ) → start + n ≤ k → k < length rows → test (word_at rows k) ≡ false) → rows_count test page rows ≡ count_in page (one_run (take n (drop start (runs_of_rows rows))))
-counts_between test page [] zero zero before there after = refl
-counts_between test page [] zero (suc n) before there after = refl
-counts_between test page [] (suc start) zero before there after = refl
-counts_between test page [] (suc start) (suc n) before there after = refl
-counts_between test page (row ∷ rows) zero zero before there after = nothing_from test page 0 (row ∷ rows) (λ k past within. after k (omega arith) within)
-counts_between test page (row ∷ rows) zero (suc n) before there after =
-    let here : cond (test row.0) (count_in page row.1) 0 ≡ count_in page row.1 = ap (λ b. cond b (count_in page row.1) 0) (there 0 (omega arith) (omega arith) (omega arith)) in
-    let rest = counts_between test page rows 0 n (λ k less within. absurd (omega (arith, less))) (λ k past less within. there (suc k) (omega arith) (omega arith) (omega arith)) (λ k past within. after (suc k) (omega arith) (omega arith)) in
-    omega (arith, here, rest, count_in-append page row.1 (one_run (take n (runs_of_rows rows))))
-counts_between test page (row ∷ rows) (suc start) n before there after =
-    let here : cond (test row.0) (count_in page row.1) 0 ≡ 0 = ap (λ b. cond b (count_in page row.1) 0) (before 0 (omega arith) (omega arith)) in
-    let rest = counts_between test page rows start n (λ k less within. before (suc k) (omega arith) (omega arith)) (λ k past less within. there (suc k) (omega arith) (omega arith) (omega arith)) (λ k past within. after (suc k) (omega arith) (omega arith)) in
-    omega (arith, here, rest)
+none_where : (test : List ℕ → Bool) (rows : List (List ℕ × List (ℕ × ℕ))) → ((k : ℕ) → k < length rows → test (word_at rows k) ≡ false) → postings_where test rows ≡ []
+none_where test [] apart = refl
+none_where test (row ∷ rows) apart = λ i. cond (apart 0 (omega arith) i) row.1 [] ++ none_where test rows (λ k within. apart (suc k) (omega arith)) i
 
-pub rows_between : (is_prefix : Bool) (sought : List ℕ) (page : ℕ) (rows : List (List ℕ × List (ℕ × ℕ))) (start end : ℕ) → AreRowsMeant rows is_prefix sought start end → rows_meant rows is_prefix sought page ≡ count_in page (one_run (take (end - start) (drop start (runs_of_rows rows))))
-rows_between is_prefix sought page rows start end are =
+where_between : (test : List ℕ → Bool) (rows : List (List ℕ × List (ℕ × ℕ))) (start n : ℕ) → ((k : ℕ) → k < start → k < length rows → test (word_at rows k) ≡ false) → ((k : ℕ) → start ≤ k → k < start + n → k < length rows → test (word_at rows k) ≡ true)
+    → ((k : ℕ) → start + n ≤ k → k < length rows → test (word_at rows k) ≡ false) → postings_where test rows ≡ one_run (take n (drop start (runs_of_rows rows)))
+where_between test [] zero zero before there after = refl
+where_between test [] zero (suc n) before there after = refl
+where_between test [] (suc start) zero before there after = refl
+where_between test [] (suc start) (suc n) before there after = refl
+where_between test (row ∷ rows) zero zero before there after = none_where test (row ∷ rows) (λ k within. after k (omega arith) within)
+where_between test (row ∷ rows) zero (suc n) before there after =
+    let rest = where_between test rows 0 n (λ k less within. absurd (omega (arith, less))) (λ k past less within. there (suc k) (omega arith) (omega arith) (omega arith)) (λ k past within. after (suc k) (omega arith) (omega arith)) in
+    λ i. cond (there 0 (omega arith) (omega arith) (omega arith) i) row.1 [] ++ rest i
+where_between test (row ∷ rows) (suc start) n before there after =
+    let rest = where_between test rows start n (λ k less within. before (suc k) (omega arith) (omega arith)) (λ k past less within. there (suc k) (omega arith) (omega arith) (omega arith)) (λ k past within. after (suc k) (omega arith) (omega arith)) in
+    λ i. cond (before 0 (omega arith) (omega arith) i) row.1 [] ++ rest i
+
+pub rows_between : (is_prefix : Bool) (sought : List ℕ) (rows : List (List ℕ × List (ℕ × ℕ))) (start end : ℕ) → AreMeantWords (words_of_rows rows) is_prefix sought start end → postings_meant is_prefix sought rows ≡ one_run (take (end - start) (drop start (runs_of_rows rows)))
+rows_between is_prefix sought rows start end are =
     let size : length (words_of_rows rows) ≡ length rows = length-map rows (λ (row : List ℕ × List (ℕ × ℕ)). row.0) in
-    counts_between (is_meant is_prefix sought) page rows start (end - start)
+    where_between (is_meant is_prefix sought) rows start (end - start)
     (λ k less within. are.before k less)
     (λ k past less within. are.meant k past (omega (arith, less, are.forward)))
     (λ k past within. are.others k (omega (arith, past, are.forward)) (omega (arith, within, size)))
-
--- ---- and of which pages they are
-
-all_left : {X : Type 0} (P : X → Type 0) (a b : List X) → AllByRecursion P (a ++ b) → AllByRecursion P a
-all_left P [] b all = tt
-all_left P (x ∷ a) b all = (all.0, all_left P a b all.1)
-
-all_right : {X : Type 0} (P : X → Type 0) (a b : List X) → AllByRecursion P (a ++ b) → AllByRecursion P b
-all_right P [] b all = all
-all_right P (x ∷ a) b all = all_right P a b all.1
-
-all_both : {X : Type 0} (P : X → Type 0) (a b : List X) → AllByRecursion P a → AllByRecursion P b → AllByRecursion P (a ++ b)
-all_both P [] b all more = more
-all_both P (x ∷ a) b all more = (all.0, all_both P a b all.1 more)
-
-module _ (first size : ℕ) where
-  pub within_between : (rows : List (List ℕ × List (ℕ × ℕ))) (start n : ℕ) → ((word : List ℕ) → AreWithin first size (postings_of word rows)) → AreWithin first size (one_run (take n (drop start (runs_of_rows rows))))
-  within_between [] zero zero all = tt
-  within_between [] zero (suc n) all = tt
-  within_between [] (suc start) zero all = tt
-  within_between [] (suc start) (suc n) all = tt
-  within_between (row ∷ rows) zero zero all = tt
-  within_between (row ∷ rows) zero (suc n) all =
-      all_both (λ (posting : ℕ × ℕ). (first ≤ posting.0) × (posting.0 < first + size)) row.1 (one_run (take n (runs_of_rows rows)))
-      (subst (λ b. AreWithin first size (cond b row.1 [])) ((bytes_decides row.0 row.0).1 refl)
-      (all_left (λ (posting : ℕ × ℕ). (first ≤ posting.0) × (posting.0 < first + size)) (cond (same_word row.0 row.0) row.1 []) (postings_of row.0 rows) (all row.0)))
-      (within_between rows 0 n (λ word. all_right (λ (posting : ℕ × ℕ). (first ≤ posting.0) × (posting.0 < first + size)) (cond (same_word word row.0) row.1 []) (postings_of word rows) (all word)))
-  within_between (row ∷ rows) (suc start) n all =
-      within_between rows start n (λ word. all_right (λ (posting : ℕ × ℕ). (first ≤ posting.0) × (posting.0 < first + size)) (cond (same_word word row.0) row.1 []) (postings_of word rows) (all word))

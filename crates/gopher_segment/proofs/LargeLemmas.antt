@@ -65,25 +65,6 @@ none_large index (page ∷ pages) none = by (is_large page) refl none (none_larg
         let behind : pages_in_table pages ≡ pages = rest some in
         λ i. here i ∷ behind i
 
-pub large_behind : (index : ℕ) (pages : List PageData) (page : PageData) → large_from index (pages ++ page ∷ []) ≡ large_from index pages ++ cond (is_large page) ((index + length pages) ∷ []) []
-large_behind index [] page = by (is_large page)
-  where
-    here : index ≡ index + 0
-    here = omega arith
-
-    by : (t : Bool) → cond t (index ∷ []) [] ≡ cond t ((index + 0) ∷ []) []
-    by true = ap (λ n. n ∷ []) here
-    by false = refl
-large_behind index (first ∷ pages) page = by (is_large first) (large_behind (index + 1) pages page ∙ ap (λ n. large_from (index + 1) pages ++ cond (is_large page) (n ∷ []) []) past)
-  where
-    past : index + 1 + length pages ≡ index + suc (length pages)
-    past = omega arith
-
-    by : (t : Bool) → large_from (index + 1) (pages ++ page ∷ []) ≡ large_from (index + 1) pages ++ cond (is_large page) ((index + suc (length pages)) ∷ []) []
-        → cond t (index ∷ large_from (index + 1) (pages ++ page ∷ [])) (large_from (index + 1) (pages ++ page ∷ [])) ≡ cond t (index ∷ large_from (index + 1) pages) (large_from (index + 1) pages) ++ cond (is_large page) ((index + suc (length pages)) ∷ []) []
-    by true rest = ap (λ l. index ∷ l) rest
-    by false rest = rest
-
 -- each is the index of a page
 pub large_within : (index : ℕ) (pages : List PageData) (k d : ℕ) → k < length (large_from index pages) → get_or (large_from index pages) k d < index + length pages
 large_within index [] k d within = absurd (omega (arith, within))

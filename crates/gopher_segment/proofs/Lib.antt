@@ -1,7 +1,6 @@
 pub mod PostingLemmas
 pub mod RunLemmas
 mod RowLemmas
-mod RowSearch
 mod WordOrder
 mod NumberLemmas
 mod MergeLemmas
@@ -12,3 +11,5 @@ pub mod Pieces
 mod WordPostings
 mod Between
 mod RankLemmas
+mod CountLemmas
+pub mod Each

@@ -1,7 +1,7 @@
 -- Numbers of words decide which comes first.
 use Rattle.std.proofs.Common.{◌≡◌, ◌⊎◌, ℕ, Bool, true, false, ◌+◌, ◌-◌, ◌^◌, ◌<◌, ◌≤◌, List, [], ◌∷◌, cond, length, drop, get_or, Option, Some, None, refl, sym, ap, subst, ◌∙◌, inl, inr, arith}
 use Rattle.std.proofs.lemmas.Bool.{both_ways, cases_lt}
-use Rattle.std.proofs.lemmas.List.{drop_more, get_or_default}
+use Rattle.std.proofs.lemmas.List.{get_or_default}
 use Rattle.std.specs.Ordering.{is_lt}
 use Rattle.std.specs.Cmp.Lexicographic.{bytes_decides, nat_list_cmp_total}
 use Rattle.gopher_page.specs.Numbered.{IsNumbered}
@@ -9,7 +9,7 @@ use Rattle.gopher_page.specs.Words.{same_word}
 use Rattle.gopher_page.specs.Counts.{is_before}
 use Rattle.gopher_page.proofs.Order.{before-trans}
 use Rattle.gopher_page.proofs.Leading.{leading_less, leading_below}
-use Rattle.gopher_segment.specs.Rows.{first_word, is_at, LackBefore, is_lower, lower, lowest_from, IsNumberOf}
+use Rattle.gopher_segment.specs.Rows.{first_word, is_at, LackBefore, NoneLower, is_lower, IsNumberOf}
 use Rattle.gopher_segment.proofs.WordOrder.{never_before_itself, less_from_before}
 
 lower_word : (own number : ℕ) (word low : List ℕ) → IsNumbered own word → IsNumbered number low → own < number → is_before word low ≡ true
@@ -32,13 +32,6 @@ never_lower number own (Some low) (Some word) low_is is above = by (is_before wo
     by true e = absurd (not_both word low e (lower_word number own low word low_is is above))
     by false e = refl
 
--- the lower of two words
-lower_is : (low word : Option (List ℕ)) → lower low word ≡ cond (is_lower word low) word low
-lower_is None None = refl
-lower_is None (Some word) = refl
-lower_is (Some low) None = refl
-lower_is (Some low) (Some word) = refl
-
 -- a word that isn't lower than the lowest isn't lower than one below that either
 still_others : (low other : Option (List ℕ)) (word : Option (List ℕ)) → is_lower word low ≡ true → is_lower other low ≡ false → is_lower other word ≡ false
 still_others low None word less from = refl
@@ -59,13 +52,10 @@ lack_other low word (row ∷ rows) less from = by (same_word row.0 word) refl
     by true e = absurd (both_ways _ from (subst (λ w. is_lower (Some w) low ≡ true) (sym ((bytes_decides row.0 word).0 e)) less))
     by false e = refl
 
--- no table's first word before an index is lower than the lowest
-abbrev pub NoneLower : Option (List ℕ) → ℕ → List (List (List ℕ × List (ℕ × ℕ))) → Type 0
-NoneLower low index tables = (k : ℕ) → k < index → is_lower (first_word (get_or tables k [])) low ≡ false
-
-abbrev pub LackLowest : Option (List ℕ) → ℕ → List (List (List ℕ × List (ℕ × ℕ))) → Type 0
-LackLowest None first tables = Unit {0}
-LackLowest (Some word) first tables = LackBefore word first tables
+-- if there is a word, the table at an index is the first that begins with it
+abbrev pub IsFirstAt : Option (List ℕ) → ℕ → List (List (List ℕ × List (ℕ × ℕ))) → Type 0
+IsFirstAt None at tables = Unit {0}
+IsFirstAt (Some word) at tables = (at < length tables) × (first_word (get_or tables at []) ≡ Some word) × LackBefore word at tables
 
 never_itself : (word : Option (List ℕ)) → is_lower word word ≡ false
 never_itself None = refl
@@ -89,20 +79,14 @@ module _ (low : Option (List ℕ)) (tables : List (List (List ℕ × List (ℕ �
       one_more (λ r. is_lower (first_word r) (first_word rows) ≡ false) tables rows i within is
       (λ k below. still_others low (first_word (get_or tables k [])) (first_word rows) less (none k below)) (never_itself (first_word rows))
 
-  pub lack_below : is_lower (first_word rows) low ≡ true → NoneLower low i tables → LackLowest (first_word rows) i tables
-  lack_below less none = by (first_word rows) less
+  pub first_below : is_lower (first_word rows) low ≡ true → NoneLower low i tables → IsFirstAt (first_word rows) i tables
+  first_below less none = by (first_word rows) refl less
     where
-      by : (word : Option (List ℕ)) → is_lower word low ≡ true → LackLowest word i tables
-      by None e = tt
-      by (Some word) e = λ k below. lack_other low word (get_or tables k []) e (none k below)
+      by : (word : Option (List ℕ)) → first_word rows ≡ word → is_lower word low ≡ true → IsFirstAt word i tables
+      by None e lower = tt
+      by (Some word) e lower =
+          (within, ap first_word (sym (is ∙ get_or_default tables i rows [] within)) ∙ e, λ k below. lack_other low word (get_or tables k []) lower (none k below))
 
   -- and one that doesn't
   pub none_beside : is_lower (first_word rows) low ≡ false → NoneLower low i tables → NoneLower low (i + 1) tables
   none_beside from none = one_more (λ r. is_lower (first_word r) low ≡ false) tables rows i within is none from
-
--- one table more
-pub lowest_step : (low : Option (List ℕ)) (tables : List (List (List ℕ × List (ℕ × ℕ)))) (rows : List (List ℕ × List (ℕ × ℕ))) (i : ℕ) → i < length tables → rows ≡ get_or tables i rows
-    → (b : Bool) → is_lower (first_word rows) low ≡ b → lowest_from low (drop i tables) ≡ lowest_from (cond b (first_word rows) low) (drop (i + 1) tables)
-lowest_step low tables rows i within is b e =
-    ap (lowest_from low) (drop_more tables i rows within) ∙ ap (λ r. lowest_from (lower low (first_word r)) (drop (i + 1) tables)) (sym is)
-    ∙ ap (λ o. lowest_from o (drop (i + 1) tables)) (lower_is low (first_word rows) ∙ ap (λ c. cond c (first_word rows) low) e)

@@ -3,6 +3,7 @@ use Rattle.std.proofs.Common.{◌≡◌, ◌∙◌, ℕ, zero, suc, ◌+◌, ◌
 use Rattle.std.proofs.lemmas.Bool.{eq-eqb, ne_eqb}
 use Rattle.std.specs.List.{AllByRecursion}
 use Rattle.gopher_segment.specs.Postings.{count_in, pieces, run_of}
+use Rattle.gopher_segment.proofs.Each.{all_both, all_weaker}
 use Rattle.gopher_segment.proofs.PostingLemmas.{count_in-append, count_in-pieces}
 
 -- the first of the postings of a page, and that the others are of the same page
@@ -27,29 +28,22 @@ pieces_begin number count some = by ((count - 1) / 255) refl
         let large : 255 ≡ min count 255 = omega (arith, e) in
         record { others = replicate q (number, 255) ++ (number, count - 255 * suc q) ∷ []; is = ap (λ n. (number, n) ∷ replicate q (number, 255) ++ (number, count - 255 * suc q) ∷ []) large; same = all_same q (count - 255 * suc q) }
 
+abbrev pub Within : ℕ → ℕ → ℕ × ℕ → Type 0
+Within first size posting = (first ≤ posting.0) × (posting.0 < first + size)
+
 -- the numbers are those of the pages
 pub run_within : (number : ℕ) (counts : List ℕ) → AllByRecursion (λ (posting : ℕ × ℕ). (number ≤ posting.0) × (posting.0 < number + length counts)) (run_of number counts)
 run_within number [] = tt
-run_within number (zero ∷ counts) = wider (run_of (suc number) counts) (run_within (suc number) counts)
-  where
-    wider : (postings : List (ℕ × ℕ)) → AllByRecursion (λ (posting : ℕ × ℕ). (suc number ≤ posting.0) × (posting.0 < suc number + length counts)) postings
-        → AllByRecursion (λ (posting : ℕ × ℕ). (number ≤ posting.0) × (posting.0 < number + length (zero ∷ counts))) postings
-    wider [] all = tt
-    wider (p ∷ postings) all = ((omega (arith, all.0.0), omega (arith, all.0.1)), wider postings all.1)
+run_within number (zero ∷ counts) =
+    all_weaker (Within (suc number) (length counts)) (Within number (length (zero ∷ counts))) (λ p inside. (omega (arith, inside.0), omega (arith, inside.1))) (run_of (suc number) counts) (run_within (suc number) counts)
 run_within number (suc count ∷ counts) =
+    let here : ℕ × ℕ → Type 0 = Within number (length (suc count ∷ counts)) in
     let begins = pieces_begin number (suc count) (omega arith) in
-    subst (λ l. AllByRecursion (λ (posting : ℕ × ℕ). (number ≤ posting.0) × (posting.0 < number + length (suc count ∷ counts))) (l ++ run_of (suc number) counts)) (sym begins.is)
-    ((omega arith, omega arith), both begins.others begins.same (run_of (suc number) counts) (run_within (suc number) counts))
-  where
-    wider : (postings : List (ℕ × ℕ)) → AllByRecursion (λ (posting : ℕ × ℕ). (suc number ≤ posting.0) × (posting.0 < suc number + length counts)) postings
-        → AllByRecursion (λ (posting : ℕ × ℕ). (number ≤ posting.0) × (posting.0 < number + length (suc count ∷ counts))) postings
-    wider [] all = tt
-    wider (p ∷ postings) all = ((omega (arith, all.0.0), omega (arith, all.0.1)), wider postings all.1)
-
-    both : (others : List (ℕ × ℕ)) → AllByRecursion (λ (posting : ℕ × ℕ). posting.0 ≡ number) others → (postings : List (ℕ × ℕ)) → AllByRecursion (λ (posting : ℕ × ℕ). (suc number ≤ posting.0) × (posting.0 < suc number + length counts)) postings
-        → AllByRecursion (λ (posting : ℕ × ℕ). (number ≤ posting.0) × (posting.0 < number + length (suc count ∷ counts))) (others ++ postings)
-    both [] same postings all = wider postings all
-    both (p ∷ others) same postings all = ((omega (arith, same.0), omega (arith, same.0)), both others same.1 postings all)
+    let first : AllByRecursion here (pieces number (suc count)) =
+    subst (AllByRecursion here) (sym begins.is) ((omega arith, omega arith), all_weaker (λ (p : ℕ × ℕ). p.0 ≡ number) here (λ p same. (omega (arith, same), omega (arith, same))) begins.others begins.same)
+    in
+    all_both here (pieces number (suc count)) (run_of (suc number) counts) first
+    (all_weaker (Within (suc number) (length counts)) here (λ p inside. (omega (arith, inside.0), omega (arith, inside.1))) (run_of (suc number) counts) (run_within (suc number) counts))
 
 -- ---- what they count
 

@@ -10,7 +10,7 @@ count_in-append page [] b = omega arith
 count_in-append page (posting ∷ a) b = omega (arith, count_in-append page a b)
 
 -- one more posting of a run
-pub count_in_more : (page : ℕ) (postings : List (ℕ × ℕ)) (i : ℕ) (d : ℕ × ℕ) → i < length postings
+count_in_more : (page : ℕ) (postings : List (ℕ × ℕ)) (i : ℕ) (d : ℕ × ℕ) → i < length postings
     → count_in page (take (i + 1) postings) ≡ count_in page (take i postings) + cond ((get_or postings i d).0 == page) (get_or postings i d).1 0
 count_in_more page postings i d within =
     ap (count_in page) (take_more postings i d within)

@@ -54,7 +54,3 @@ module _ (pages : List PageData) (placed sorted : List (PlaceData × ℕ)) (numb
           (sorted_far (λ (x y : PlaceData × ℕ). is_lt (place_cmp x.0 y.0)) (ranks_by place_cmp_total (λ (x : PlaceData × ℕ). x.0)) sorted rising first.at second.at e
           (earlier first.at second.at (get_or ranks i 0) (get_or ranks j 0) first.rank second.rank below) second.within));
     }
-
-pub ok_from : {A E : Type 0} (result : Result A E) (P Q : A → Type 0) → ((x : A) → P x → Q x) → IfOk result P → IfOk result Q
-ok_from (Ok x) P Q f h = f x h
-ok_from (Err e) P Q f h = h

@@ -3,21 +3,20 @@ use Rattle.std.proofs.Common.{◌≡◌, ◌⊎◌, ℕ, zero, suc, ◌+◌, ◌
 use Rattle.std.proofs.lemmas.Bool.{both_ways}
 use Rattle.std.proofs.lemmas.List.{append-nil}
 use Rattle.std.proofs.lemmas.List.Sums.{sum_by-cons}
+use Rattle.std.proofs.lemmas.Map.Keys.{sorted_head, sorted_tail}
 use Rattle.std.specs.List.{AllByRecursion, flat_map, zip}
 use Rattle.std.specs.List.Sorted.{IsStrictlySortedBy}
-use Rattle.std.specs.Ordering.{nat_cmp, is_lt}
+use Rattle.std.specs.Ordering.{nat_cmp, is_eq}
 use Rattle.std.specs.declared.cmp.Ordering.TheVariants.{Less}
-use Rattle.std.specs.Cmp.Lexicographic.{slice_cmp, bytes_decides, nat_list_cmp_total}
+use Rattle.std.specs.Cmp.Lexicographic.{slice_cmp, bytes_decides, nat_list_cmp_total, texts_ties}
 use Rattle.gopher_page.specs.Words.{same_word}
 use Rattle.gopher_page.specs.Counts.{count_where, count_meant}
 use Rattle.gopher_page.specs.Packed.{AreCounts}
-use Rattle.gopher_page.proofs.Order.{meant_before}
 use Rattle.gopher_segment.specs.Postings.{pieces, run_of}
-use Rattle.gopher_segment.specs.Rows.{words_of_rows, runs_of_rows, AreRowsInOrder, postings_of, page_rows, first_word, passed, taken, lowest_from, AreAllInOrder}
-use Rattle.gopher_segment.proofs.MergeLemmas.{IsFrom, AreFrom, never_none}
-use Rattle.gopher_segment.proofs.RowSearch.{word_at}
+use Rattle.gopher_segment.specs.Rows.{words_of_rows, runs_of_rows, AreRowsInOrder, postings_of, page_rows, first_word, passed, rows_left, taken, AreAllInOrder}
+use Rattle.gopher_segment.proofs.MergeLemmas.{IsFrom, AreFrom}
 use Rattle.gopher_bytes.proofs.Zips.{zip-append}
-use Rattle.gopher_segment.proofs.WordOrder.{never_before_itself, less_from_apart}
+use Rattle.gopher_segment.proofs.WordOrder.{less_from_apart}
 
 -- each of the words comes after another
 abbrev AllAfter : List ℕ → List (List ℕ) → Type 0
@@ -27,23 +26,8 @@ after_all : (word next : List ℕ) (words : List (List ℕ)) → slice_cmp nat_c
 after_all word next [] less after = tt
 after_all word next (later ∷ words) less after = (nat_list_cmp_total.trans word next later less after.0, after_all word next words less after.1)
 
-rest_after : (word : List ℕ) (words : List (List ℕ)) → IsStrictlySortedBy (slice_cmp nat_cmp) (word ∷ words) → AllAfter word words
-unfolding IsStrictlySortedBy
-rest_after word words order = order.0
-
-rest_in_order : (word : List ℕ) (words : List (List ℕ)) → IsStrictlySortedBy (slice_cmp nat_cmp) (word ∷ words) → IsStrictlySortedBy (slice_cmp nat_cmp) words
-unfolding IsStrictlySortedBy
-rest_in_order word words order = order.1
-
-same_as_itself : (word : List ℕ) → same_word word word ≡ true
-same_as_itself word = (bytes_decides word word).1 refl
-
 apart_from_less : (word later : List ℕ) → slice_cmp nat_cmp word later ≡ Less → same_word word later ≡ false
-apart_from_less word later less = by (same_word word later) refl
-  where
-    by : (b : Bool) → same_word word later ≡ b → b ≡ false
-    by true e = absurd (both_ways _ (never_before_itself word) (ap is_lt (subst (λ w. slice_cmp nat_cmp word w ≡ Less) (sym ((bytes_decides word later).0 e)) less)))
-    by false e = refl
+apart_from_less word later less = texts_ties word later ∙ ap is_eq less
 
 -- ---- rows
 
@@ -57,43 +41,12 @@ postings_before : (word : List ℕ) (rows : List (List ℕ × List (ℕ × ℕ))
 postings_before word [] after = refl
 postings_before word (row ∷ rows) after = λ i. cond (apart_from_less word row.0 after.0 i) row.1 [] ++ postings_before word rows after.1 i
 
--- the first row of a word is its only one
-postings_first : (word : List ℕ) (row : List ℕ × List (ℕ × ℕ)) (rows : List (List ℕ × List (ℕ × ℕ))) → AreRowsInOrder (row ∷ rows) → row.0 ≡ word → postings_of word (row ∷ rows) ≡ row.1
-postings_first word row rows order same =
-    let after : AllAfter word (words_of_rows rows) = subst (λ w. AllAfter w (words_of_rows rows)) same (rest_after row.0 (words_of_rows rows) order) in
-    (λ i. cond (same_word word (same i)) row.1 [] ++ postings_before word rows after i)
-    ∙ ap (λ b. cond b row.1 [] ++ []) (same_as_itself word)
-    ∙ append-nil row.1
-
-word_after : (word next : List ℕ) (words : List (List ℕ)) (i : ℕ) → AllAfter word words → slice_get words i ≡ Some next → slice_cmp nat_cmp word next ≡ Less
-word_after word next [] i after e = absurd cc
-word_after word next (first ∷ words) zero after e =
-    let same : first ≡ next = cc in
-    subst (λ w. slice_cmp nat_cmp word w ≡ Less) same after.0
-word_after word next (first ∷ words) (suc i) after e = word_after word next words i after.1 e
-
--- the postings of a row are those of its word
-pub postings_there : (rows : List (List ℕ × List (ℕ × ℕ))) (i : ℕ) (word : List ℕ) (run : List (ℕ × ℕ)) → AreRowsInOrder rows → slice_get (words_of_rows rows) i ≡ Some word → slice_get (runs_of_rows rows) i ≡ Some run → run ≡ postings_of word rows
-postings_there [] i word run order at_word at_run = absurd cc
-postings_there (row ∷ rows) zero word run order at_word at_run =
-    let same_run : row.1 ≡ run = cc in
-    sym same_run ∙ sym (postings_first word row rows order cc)
-postings_there (row ∷ rows) (suc i) word run order at_word at_run =
-    let less : slice_cmp nat_cmp row.0 word ≡ Less = word_after row.0 word (words_of_rows rows) i (rest_after row.0 (words_of_rows rows) order) at_word in
-    postings_there rows i word run (rest_in_order row.0 (words_of_rows rows) order) at_word at_run
-    ∙ ap (λ b. cond b row.1 [] ++ postings_of word rows) (sym (meant_before false word row.0 (ap is_lt less)))
-
--- a word that no row has has none
-pub postings_absent : (rows : List (List ℕ × List (ℕ × ℕ))) (word : List ℕ) → ((k : ℕ) → k < length rows → same_word word (word_at rows k) ≡ false) → postings_of word rows ≡ []
-postings_absent [] word apart = refl
-postings_absent (row ∷ rows) word apart = λ i. cond (apart 0 (omega arith) i) row.1 [] ++ postings_absent rows word (λ k within. apart (suc k) (omega arith)) i
-
 -- ---- merging
 
-pub no_postings_left : (word : List ℕ) (tables : List (List (List ℕ × List (ℕ × ℕ)))) → lowest_from None tables ≡ None → flat_map (postings_of word) tables ≡ []
-no_postings_left word [] e = refl
-no_postings_left word ([] ∷ tables) e = no_postings_left word tables e
-no_postings_left word ((row ∷ rows) ∷ tables) e = absurd (never_none row.0 tables e)
+pub no_postings_left : (word : List ℕ) (tables : List (List (List ℕ × List (ℕ × ℕ)))) → rows_left tables ≡ 0 → flat_map (postings_of word) tables ≡ []
+no_postings_left word [] none = refl
+no_postings_left word ([] ∷ tables) none = no_postings_left word tables (omega (arith, none))
+no_postings_left word ((row ∷ rows) ∷ tables) none = absurd (omega (arith, none))
 
 none_of : (b : Bool) → ◌≡◌ {A = List (ℕ × ℕ)} [] (cond b [] [] ++ [])
 none_of true = refl
@@ -118,12 +71,12 @@ passed_none word [] order from = refl
 passed_none word (row ∷ rows) order from = by (same_word row.0 word) refl
   where
     after : AllAfter row.0 (words_of_rows rows)
-    after = rest_after row.0 (words_of_rows rows) order
+    after = sorted_head (slice_cmp nat_cmp) row.0 (words_of_rows rows) order
 
     by : (b : Bool) → same_word row.0 word ≡ b → postings_of word (cond b rows (row ∷ rows)) ≡ []
     by true e = postings_before word rows (subst (λ w. AllAfter w (words_of_rows rows)) ((bytes_decides row.0 word).0 e) after)
     by false e =
-        let less : slice_cmp nat_cmp word row.0 ≡ Less = less_from_apart row.0 word from (λ same. both_ways _ e ((bytes_decides row.0 word).1 same)) in
+        let less : slice_cmp nat_cmp word row.0 ≡ Less = less_from_apart row.0 word from e in
         postings_before word (row ∷ rows) (less, after_all word row.0 (words_of_rows rows) less after)
 
 pub pass_all : (sought word : List ℕ) (tables : List (List (List ℕ × List (ℕ × ℕ)))) → AreAllInOrder tables → AreFrom word tables
@@ -198,10 +151,10 @@ module _ (number : ℕ) (word : List ℕ) where
       → postings_of word (page_rows number counts) ≡ run_of number (count_where (same_word word) counts ∷ [])
   page_run [] ordered positive = refl
   page_run (entry ∷ counts) ordered positive =
-      by (page_run counts (rest_in_order entry.0 (map (λ e. e.0) counts) ordered) positive.1) (same_word word entry.0) refl (sum_by-cons (λ (e : List ℕ × ℕ). cond (same_word word e.0) e.1 0) entry counts)
+      by (page_run counts (sorted_tail (slice_cmp nat_cmp) entry.0 (map (λ e. e.0) counts) ordered) positive.1) (same_word word entry.0) refl (sum_by-cons (λ (e : List ℕ × ℕ). cond (same_word word e.0) e.1 0) entry counts)
     where
       after : AllAfter entry.0 (map (λ e. e.0) counts)
-      after = rest_after entry.0 (map (λ e. e.0) counts) ordered
+      after = sorted_head (slice_cmp nat_cmp) entry.0 (map (λ e. e.0) counts) ordered
 
       by : postings_of word (page_rows number counts) ≡ run_of number (count_where (same_word word) counts ∷ []) → (b : Bool) → same_word word entry.0 ≡ b
           → count_where (same_word word) (entry ∷ counts) ≡ cond b entry.1 0 + count_where (same_word word) counts

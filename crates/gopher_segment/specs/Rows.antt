@@ -20,32 +20,19 @@ runs_of_rows rows = map (λ row. row.1) rows
 abbrev pub AreRowsInOrder : List (List ℕ × List (ℕ × ℕ)) → Type 0
 AreRowsInOrder rows = IsStrictlySortedBy (slice_cmp nat_cmp) (words_of_rows rows)
 
--- the number of occurrences, in a page, of words that pass a test
-abbrev pub rows_count : (List ℕ → Bool) → ℕ → List (List ℕ × List (ℕ × ℕ)) → ℕ
-rows_count test page [] = 0
-rows_count test page (row ∷ rows) =
-    (if test row.0 then count_in page row.1 else 0) + rows_count test page rows
-
--- the number of occurrences, in a page, of the sought word or, if it is a prefix, of all words
--- that begin with it
-abbrev pub rows_meant : List (List ℕ × List (ℕ × ℕ)) → Bool → List ℕ → ℕ → ℕ
-rows_meant rows is_prefix sought page = rows_count (is_meant is_prefix sought) page rows
+-- the postings of the words that pass a test
+abbrev pub postings_where : (List ℕ → Bool) → List (List ℕ × List (ℕ × ℕ)) → List (ℕ × ℕ)
+postings_where test [] = []
+postings_where test (row ∷ rows) =
+    (if test row.0 then row.1 else []) ++ postings_where test rows
 
 -- the postings of a word; none if no row has the word
 abbrev pub postings_of : List ℕ → List (List ℕ × List (ℕ × ℕ)) → List (ℕ × ℕ)
-postings_of word [] = []
-postings_of word (row ∷ rows) =
-    (if same_word word row.0 then row.1 else []) ++ postings_of word rows
+postings_of word rows = postings_where (same_word word) rows
 
--- each posting of each word is of one of `size` consecutive pages, the first of which has this
--- number
-abbrev pub AreRowsWithin : ℕ → ℕ → List (List ℕ × List (ℕ × ℕ)) → Type 0
-AreRowsWithin first size rows = (word : List ℕ) → AreWithin first size (postings_of word rows)
-
--- exactly the rows from `start` up to, not including, `end` have words that are meant
-abbrev pub AreRowsMeant : List (List ℕ × List (ℕ × ℕ)) → Bool → List ℕ → ℕ → ℕ → Type 0
-AreRowsMeant rows is_prefix sought start end =
-    AreMeantWords (words_of_rows rows) is_prefix sought start end
+-- the postings of the sought word or, if it is a prefix, of all words that begin with it
+abbrev pub postings_meant : Bool → List ℕ → List (List ℕ × List (ℕ × ℕ)) → List (ℕ × ℕ)
+postings_meant is_prefix sought rows = postings_where (is_meant is_prefix sought) rows
 
 -- the rows of one page
 abbrev pub page_rows : ℕ → List (List ℕ × ℕ) → List (List ℕ × List (ℕ × ℕ))
@@ -104,30 +91,21 @@ is_lower None low = false
 is_lower (Some word) None = true
 is_lower (Some word) (Some low) = is_before word low
 
--- the lower of two words, if there are any; the first if they are equal
-abbrev pub lower : Option (List ℕ) → Option (List ℕ) → Option (List ℕ)
-lower None word = word
-lower (Some low) None = Some low
-lower (Some low) (Some word) = if is_before word low then Some word else Some low
+-- no table before an index begins with a word that is lower than another, if there is another
+abbrev pub NoneLower : Option (List ℕ) → ℕ → List (List (List ℕ × List (ℕ × ℕ))) → Type 0
+NoneLower low end tables =
+    (k : ℕ) → k < end → is_lower (first_word (slice_index_or tables k [])) low ≡ false
 
--- the lowest of a word and the first words of tables
-abbrev pub lowest_from : Option (List ℕ) → List (List (List ℕ × List (ℕ × ℕ))) → Option (List ℕ)
-lowest_from low [] = low
-lowest_from low (rows ∷ tables) = lowest_from (lower low (first_word rows)) tables
+-- the table at an index is the first that begins with a word, and no table begins with a lower one
+pub record IsLowest (tables : List (List (List ℕ × List (ℕ × ℕ)))) (at : ℕ) (word : List ℕ)
+    : Type 0 where
+  pub within : at < length tables
+  pub here : first_word (slice_index_or tables at []) ≡ Some word
+  pub lack : LackBefore word at tables
+  pub none : NoneLower (Some word) (length tables) tables
 
 abbrev pub AreAllInOrder : List (List (List ℕ × List (ℕ × ℕ))) → Type 0
-AreAllInOrder [] = Unit {0}
-AreAllInOrder (rows ∷ tables) = AreRowsInOrder rows × AreAllInOrder tables
-
-abbrev pub tables_count : (List ℕ → Bool) → ℕ → List (List (List ℕ × List (ℕ × ℕ))) → ℕ
-tables_count test page [] = 0
-tables_count test page (rows ∷ tables) = rows_count test page rows + tables_count test page tables
-
--- the rows count in each page what the tables together count, for each test of words
-abbrev pub HaveCountsOf : List (List (List ℕ × List (ℕ × ℕ))) → List (List ℕ × List (ℕ × ℕ))
-    → Type 0
-HaveCountsOf tables rows =
-    (test : List ℕ → Bool) (page : ℕ) → rows_count test page rows ≡ tables_count test page tables
+AreAllInOrder tables = AllByRecursion AreRowsInOrder tables
 
 -- the rows have the postings of each word from all tables, in order
 abbrev pub HavePostingsOf : List (List (List ℕ × List (ℕ × ℕ))) → List (List ℕ × List (ℕ × ℕ))
@@ -151,17 +129,13 @@ AllBeforeNext words (Some word) = AllBefore words word
 
 -- all words come before the first word of each table
 abbrev pub ComeBefore : List (List ℕ) → List (List (List ℕ × List (ℕ × ℕ))) → Type 0
-ComeBefore words [] = Unit {0}
-ComeBefore words (rows ∷ tables) = AllBeforeNext words (first_word rows) × ComeBefore words tables
+ComeBefore words tables = AllByRecursion (λ rows. AllBeforeNext words (first_word rows)) tables
 
 -- ---- joining rows
 
--- two lists of rows give equal counts for each page and each test of words, and equal postings of
--- each word
-pub record TellAlike (rows others : List (List ℕ × List (ℕ × ℕ))) : Type 0 where
-  pub counts : (test : List ℕ → Bool) (page : ℕ)
-      → rows_count test page others ≡ rows_count test page rows
-  pub runs : (word : List ℕ) → postings_of word others ≡ postings_of word rows
+-- two lists of rows have equal postings of each word
+abbrev pub TellAlike : List (List ℕ × List (ℕ × ℕ)) → List (List ℕ × List (ℕ × ℕ)) → Type 0
+TellAlike rows others = (word : List ℕ) → postings_of word others ≡ postings_of word rows
 
 -- the rows after neighbours with equal words are joined, beginning with this row
 abbrev pub joined_from : List ℕ × List (ℕ × ℕ) → List (List ℕ × List (ℕ × ℕ))

@@ -1,35 +1,23 @@
 -- The rows of a segment, which say the same as its pages.
 use Rattle.std.specs.Prelude.{ℕ, ◌+◌, ◌≤◌, ◌≡◌, Bool, false, List, [], ◌∷◌, ◌++◌, map, length, ◌==◌, if◌then◌else◌}
-use Rattle.std.specs.List.{sum_by, AllByRecursion}
+use Rattle.std.specs.List.{sum_by, AllByRecursion, AllZip}
 use Rattle.gopher_text.specs.declared.reply_reader.TheConstants.{MAX_REPLY}
 use Rattle.gopher_page.specs.Counts.{count_where}
 use Rattle.gopher_page.specs.Page.{PageData}
 use Rattle.gopher_segment.specs.Large.{in_table, large_from, pages_in_table, segment_in_table}
 use Rattle.gopher_segment.specs.Postings.{run_of}
-use Rattle.gopher_segment.specs.Rows.{AreRowsInOrder, rows_count, page_rows, postings_of}
+use Rattle.gopher_segment.specs.Rows.{AreRowsInOrder, page_rows, postings_of}
 use Rattle.gopher_segment.specs.Segment.{SegmentData, meant_counts}
-
--- the number of occurrences, in the page `number`, of words that pass a test; the first of these
--- pages has the number `first`
-abbrev pub count_at : (List ℕ → Bool) → ℕ → ℕ → List PageData → ℕ
-count_at test number first [] = 0
-count_at test number first (page ∷ pages) =
-    (if first == number then count_where test page.counts else 0)
-    + count_at test number (first + 1) pages
 
 -- no page has more than `MAX_REPLY` words
 abbrev pub AreSmall : List PageData → Type 0
 AreSmall pages =
     AllByRecursion (λ page. sum_by (λ entry. entry.1) page.counts ≤ MAX_REPLY) pages
 
--- for each page and each test of words, rows count what the page counts, and for each word they
--- have its postings in the pages, in order
-pub record Tell (first : ℕ) (pages : List PageData) (rows : List (List ℕ × List (ℕ × ℕ)))
-    : Type 0 where
-  pub counts : (test : List ℕ → Bool) (number : ℕ)
-      → rows_count test number rows ≡ count_at test number first pages
-  pub runs : (word : List ℕ)
-      → postings_of word rows ≡ run_of first (meant_counts false word pages)
+-- for each word, rows have its postings in the pages, in order
+abbrev pub Tell : ℕ → List PageData → List (List ℕ × List (ℕ × ℕ)) → Type 0
+Tell first pages rows =
+    (word : List ℕ) → postings_of word rows ≡ run_of first (meant_counts false word pages)
 
 -- the rows say what these pages count, without the words of large ones
 abbrev pub TellInTable : ℕ → List PageData → List (List ℕ × List (ℕ × ℕ)) → Type 0
@@ -62,11 +50,8 @@ AreConsecutive first (segment ∷ segments) =
 
 -- tables, each of the rows of a segment
 abbrev pub AreTablesOf : List SegmentData → List (List (List ℕ × List (ℕ × ℕ))) → Type 0
-AreTablesOf [] [] = Unit {0}
-AreTablesOf [] (rows ∷ tables) = ⊥
-AreTablesOf (segment ∷ segments) [] = ⊥
-AreTablesOf (segment ∷ segments) (rows ∷ tables) =
-    AreRowsOf segment.first segment.pages rows × AreTablesOf segments tables
+AreTablesOf segments tables =
+    AllZip (λ segment rows. AreRowsOf segment.first segment.pages rows) segments tables
 
 -- tables of segments, which leave out large pages
 abbrev pub AreSegmentTables : List SegmentData → List (List (List ℕ × List (ℕ × ℕ))) → Type 0

@@ -14,41 +14,22 @@ use gopher_page::{Counts, Page};
 use std::alloc::Global;
 use std::sync::Arc;
 
-// Appends the rows of the page `number`.
-fn add_counts<'a>(number: u16, counts: &'a Counts, rows: &mut Vec<Row<'a>>) -> Result<(), NoMemory>
-    ensures rows { OnOk result (rows.new.items ≡ rows.old.items ++ page_rows number counts.now) }
-    ensures sound { AreCounts counts.now }
-{
-    rows.reserve(counts.len())?;
-    for index in 0..counts.len() {
-        let (word, count) = counts.get(index);
-        rows.push_reserved(Row::new(number, word, count));
-    }
-    Ok(())
-}
-
 // Appends the rows of the page `number`, which has none if it is large.
 fn add_page<'a>(number: u16, page: &'a Page, rows: &mut Vec<Row<'a>>) -> Result<(), NoMemory>
     ensures rows { OnOk result (AddsPageRows number page.now rows.old.items rows.new.items) }
     ensures sound { AreCounts page.now.counts }
 {
     let counts = page.counts();
-    // A page without words has no rows either.
-    if counts.len() == 0 || page.is_large() {
+    let len = counts.len();
+    if page.is_large() {
         return Ok(());
     }
-    add_counts(number, counts, rows)
-}
-
-/// Returns the sum of the numbers of distinct words of each page, at most `usize::MAX`.
-pub fn words_len(pages: &[Arc<Page>]) -> usize
-    ensures { result ≡ min (words_count (map arc_value pages.now)) (2 ^ 64 - 1) }
-{
-    let mut words = 0_usize;
-    for page in pages {
-        words = words.saturating_add(page.counts().len());
+    rows.reserve(len)?;
+    for index in 0..len {
+        let (word, count) = counts.get(index);
+        rows.push_reserved(Row::new(number, word, count));
     }
-    words
+    Ok(())
 }
 
 /// Returns the number of rows of all pages, at most `usize::MAX`: one for each distinct word of

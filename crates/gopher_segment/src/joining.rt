@@ -68,6 +68,6 @@ pub(crate) fn join(alloc: Global, rows: Vec<Row<'_>>) -> Result<Table, NoMemory>
     let mut rows = rows;
     // A stable sort by merging: the rows of each page are in order already, and those of an earlier
     // page stay first.
-    rows.sort()?;
+    rows.sort_by(|row, other| row.cmp_word(other))?;
     table_of(alloc, &rows)
 }

@@ -28,7 +28,7 @@ mod sharing;
 mod size;
 mod table;
 
-pub use gathering::{rows_len, words_len};
+pub use gathering::rows_len;
 pub use postings::Postings;
 pub use segment::{Segment, pages_len};
 pub use sharing::{share, shared};

@@ -1,8 +1,8 @@
 //! Merging the tables of consecutive segments into one.
 
-ghost use Rattle.std.specs.Prelude.{◌≡◌, ◌<◌, None, ◌++◌, length, map, drop, option_map, IfOk, IfSome, OnOk};
+ghost use Rattle.std.specs.Prelude.{◌≡◌, ◌<◌, None, ◌++◌, length, map, drop, IfOk, IfSome, OnOk};
 ghost use Rattle.std.specs.Option.{option_copied};
-ghost use Rattle.gopher_segment.specs.Rows.{AreRowsInOrder, first_word, first_run, IsNumberOf, is_at, LackBefore, is_lower, passed, taken, lowest_from, AreAllInOrder, HaveCountsOf, HavePostingsOf, TakesRuns};
+ghost use Rattle.gopher_segment.specs.Rows.{AreRowsInOrder, first_word, first_run, IsLowest, IsNumberOf, is_at, LackBefore, is_lower, passed, rows_left, taken, AreAllInOrder, HavePostingsOf, TakesRuns};
 
 use crate::runs::{Run, Runs};
 use crate::table::Table;
@@ -141,8 +141,8 @@ fn begins_lower(cursor: &Cursor<'_>, lowest: Option<&Numbered<'_>>, number: u64)
 
 // The lowest of the first words, and the index of the first cursor that begins with it.
 fn lowest_word<'a>(cursors: &[Cursor<'a>]) -> Option<(usize, Numbered<'a>)>
-    ensures word { option_map (λ r. r.1) result ≡ lowest_from None cursors.now }
-    ensures first { IfSome result (λ r. LackBefore r.1 r.0 cursors.now) }
+    ensures lowest { IfSome result (λ r. IsLowest cursors.now r.0 r.1) }
+    ensures none { result ≡ None → rows_left cursors.now ≡ 0 }
 {
     let mut lowest: Option<&Numbered<'a>> = None;
     let mut first = 0;
@@ -194,25 +194,15 @@ fn take_runs(
     Ok(())
 }
 
-// The sizes of several tables together, which the merged table doesn't exceed.
-#[derive(Clone, Copy)]
-struct Room {
-    rows: usize,
-    bytes: usize,
-    postings: usize,
-}
-
-fn room_of(cursors: &[Cursor<'_>]) -> Room {
-    let mut room = Room {
-        rows: 0,
-        bytes: 0,
-        postings: 0,
-    };
+// The numbers of rows, of bytes of their words, and of postings of all tables, which the merged
+// table doesn't exceed.
+fn room_of(cursors: &[Cursor<'_>]) -> (usize, usize, usize) {
+    let mut room = (0_usize, 0_usize, 0_usize);
     for cursor in cursors {
         let table = cursor.table;
-        room.rows = room.rows.saturating_add(table.len());
-        room.bytes = room.bytes.saturating_add(table.bytes_len());
-        room.postings = room.postings.saturating_add(table.postings_len());
+        room.0 = room.0.saturating_add(table.len());
+        room.1 = room.1.saturating_add(table.bytes_len());
+        room.2 = room.2.saturating_add(table.postings_len());
     }
     room
 }
@@ -226,12 +216,11 @@ fn room_of(cursors: &[Cursor<'_>]) -> Room {
 pub(crate) fn merge(alloc: Global, cursors: &mut [Cursor<'_>]) -> Result<Table, NoMemory>
     requires { AreAllInOrder cursors.old }
     ensures order { IfOk result (λ table. AreRowsInOrder table) }
-    ensures counts { IfOk result (λ table. HaveCountsOf cursors.old table) }
     ensures runs { IfOk result (λ table. HavePostingsOf cursors.old table) }
 {
-    let room = room_of(cursors);
-    let mut words = ByteStrings::with_capacity(alloc, room.rows, room.bytes)?;
-    let mut runs = Runs::with_capacity(alloc, room.rows, room.postings)?;
+    let (rows, bytes, postings) = room_of(cursors);
+    let mut words = ByteStrings::with_capacity(alloc, rows, bytes)?;
+    let mut runs = Runs::with_capacity(alloc, rows, postings)?;
     while let Some((first, word)) = lowest_word(cursors) {
         words.push(word.word())?;
         take_runs(&word, first, cursors, &mut runs)?;

@@ -1,10 +1,8 @@
 //! The ranks of pages in place order, by which searches compare the places of a segment's pages.
 
-ghost use Rattle.std.specs.Prelude.{Some, map, refl, IfOk};
+ghost use Rattle.std.specs.Prelude.{◌≡◌, map, IfOk};
 ghost use Rattle.std.specs.Arc.{arc_value};
-ghost use Rattle.std.specs.Cmp;
-ghost use Rattle.gopher_item.specs.Laws.{same_place_equiv, place_cmp_total, same_place_ties};
-ghost use Rattle.gopher_item.specs.Place.{place_cmp, same_place};
+ghost use Rattle.gopher_item.specs.Place.{place_cmp};
 ghost use Rattle.gopher_segment.specs.Ranks.{AreNumbered, AreRanks, AreScattered, HaveIndices};
 
 use gopher_bytes::NoMemory;
@@ -15,7 +13,7 @@ use std::cmp::Ordering;
 use std::marker::Model;
 use std::sync::Arc;
 
-/// The place of a page, and the page's index. They are ordered by their places alone.
+// The place of a page, and the page's index.
 #[derive(Debug, Drop)]
 struct Placed<'a> {
     place: &'a Place,
@@ -31,43 +29,10 @@ impl<'a> Model for Placed<'a> {
     ghost view = { λ p. (p.place.now, p.index) };
 }
 
-impl<'a> PartialEq for Placed<'a> {
-    ghost eq = { λ x y. same_place x.0 y.0 };
-
-    ghost laws = { Cmp.on_per (λ placed. placed.0)
-        (Cmp.partial_equiv_from_equiv same_place_equiv) };
-
-    fn eq(&self, other: &Placed<'a>) -> bool {
-        *self.place == *other.place
-    }
-}
-
-impl<'a> Eq for Placed<'a> {
-    ghost laws = { Cmp.on_equiv (λ placed. placed.0) same_place_equiv };
-}
-
-impl<'a> PartialOrd for Placed<'a> {
-    ghost partial_cmp = { λ x y. Some (place_cmp x.0 y.0) };
-
-    ghost laws = { Cmp.on_po (λ placed. placed.0)
-        (Cmp.partial_order_from_own_ties (Cmp.partial_order_from_total place_cmp_total)
-        same_place_ties) };
-
-    fn partial_cmp(&self, other: &Placed<'a>) -> Option<Ordering> {
-        Some(self.cmp(other))
-    }
-}
-
-impl<'a> Ord for Placed<'a> {
-    ghost cmp = { λ x y. place_cmp x.0 y.0 };
-
-    ghost total = { Cmp.on_total (λ placed. placed.0) place_cmp_total };
-
-    ghost matches_partial_cmp = { λ x y. refl };
-
-    ghost matches_eq = { λ x y. same_place_ties x.0 y.0 };
-
-    fn cmp(&self, other: &Placed<'a>) -> Ordering {
+impl<'a> Placed<'a> {
+    fn cmp_place(&self, other: &Placed<'_>) -> Ordering
+        ensures { result ≡ place_cmp self.now.0 other.now.0 }
+    {
         self.place.cmp(other.place)
     }
 }
@@ -104,6 +69,6 @@ pub(crate) fn ranks_of(alloc: Global, pages: &[Arc<Page>]) -> Result<Vec<u16>, N
     ensures { IfOk result (λ ranks. AreRanks (map arc_value pages.now) ranks.items) }
 {
     let mut sorted = placed_of(alloc, pages)?;
-    sorted.sort()?;
+    sorted.sort_by(|placed, other| placed.cmp_place(other))?;
     positions(alloc, &sorted)
 }

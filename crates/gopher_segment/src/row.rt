@@ -1,9 +1,8 @@
 //! A row: one word of one page, with its count.
 
-ghost use Rattle.std.specs.Prelude.{◌≡◌, Some, ◌++◌, nat_eq, refl, OnOk};
+ghost use Rattle.std.specs.Prelude.{◌≡◌, ◌++◌, OnOk};
 ghost use Rattle.std.specs.Ordering.{nat_cmp};
-ghost use Rattle.std.specs.Cmp;
-ghost use Rattle.std.specs.Cmp.Lexicographic.{pointwise, slice_cmp, nat_list_eq_equiv, nat_list_cmp_total, texts_ties, texts_po};
+ghost use Rattle.std.specs.Cmp.Lexicographic.{slice_cmp};
 ghost use Rattle.gopher_page.specs.Words.{same_word};
 ghost use Rattle.gopher_segment.specs.Postings.{pieces};
 
@@ -13,8 +12,7 @@ use gopher_page::Numbered;
 use std::cmp::Ordering;
 use std::marker::Model;
 
-/// A word of a page, with the page's number and its count of the word. Rows are ordered by their
-/// words' bytes alone.
+/// A word of a page, with the page's number and its count of the word.
 #[derive(Debug, Drop)]
 pub(crate) struct Row<'a> {
     word: Numbered<'a>,
@@ -58,6 +56,13 @@ impl<'a> Row<'a> {
         self.word == other.word
     }
 
+    /// Compares the words of both rows by their bytes.
+    pub fn cmp_word(&self, other: &Row<'_>) -> Ordering
+        ensures { result ≡ slice_cmp nat_cmp self.now.0 other.now.0 }
+    {
+        self.word.cmp(&other.word)
+    }
+
     /// Appends the postings of the row to the last run.
     ///
     /// If out of memory, the run can end with some of them.
@@ -66,43 +71,5 @@ impl<'a> Row<'a> {
         ensures begun { OnOk result (runs.new.begun ≡ runs.old.begun ++ self.now.1) }
     {
         runs.push_count(self.number, self.count)
-    }
-}
-
-impl<'a> PartialEq for Row<'a> {
-    ghost eq = { λ x y. pointwise nat_eq x.0 y.0 };
-
-    ghost laws = { Cmp.on_per (λ row. row.0) (Cmp.partial_equiv_from_equiv nat_list_eq_equiv) };
-
-    fn eq(&self, other: &Row<'a>) -> bool {
-        self.is_alike(other)
-    }
-}
-
-impl<'a> Eq for Row<'a> {
-    ghost laws = { Cmp.on_equiv (λ row. row.0) nat_list_eq_equiv };
-}
-
-impl<'a> PartialOrd for Row<'a> {
-    ghost partial_cmp = { λ x y. Some (slice_cmp nat_cmp x.0 y.0) };
-
-    ghost laws = { Cmp.on_po (λ row. row.0) texts_po };
-
-    fn partial_cmp(&self, other: &Row<'a>) -> Option<Ordering> {
-        Some(self.cmp(other))
-    }
-}
-
-impl<'a> Ord for Row<'a> {
-    ghost cmp = { λ x y. slice_cmp nat_cmp x.0 y.0 };
-
-    ghost total = { Cmp.on_total (λ row. row.0) nat_list_cmp_total };
-
-    ghost matches_partial_cmp = { λ x y. refl };
-
-    ghost matches_eq = { λ x y. texts_ties x.0 y.0 };
-
-    fn cmp(&self, other: &Row<'a>) -> Ordering {
-        self.word.cmp(&other.word)
     }
 }

@@ -40,16 +40,6 @@ fn add_count(cells: &mut [u32], first: usize, page: usize, count: u32)
 }
 
 impl<'a> Run<'a> {
-    /// No postings.
-    pub fn none() -> Run<'a>
-        ensures { result ≡ [] }
-    {
-        Run {
-            pages: &[],
-            counts: &[],
-        }
-    }
-
     /// Returns the page numbers and the counts.
     pub fn parts(&self) -> (&'a [u16], &'a [u8])
         ensures whole { zip result.0.now result.1.now ≡ self.now }

@@ -35,10 +35,8 @@ pub struct Segment {
     first: usize,
     pages: Vec<Arc<Page>>,
     ranks: Vec<u16>,
-    // The indices of the large pages, whose words aren't in the table, and the number of these
-    // words.
+    // The indices of the large pages, whose words aren't in the table.
     large: Vec<usize>,
-    large_words: usize,
     table: Table,
 }
 
@@ -60,6 +58,29 @@ impl Model for Segment {
 }
 
 impl Segment {
+    // The segment of pages whose table was made.
+    fn of_table(
+        alloc: Global,
+        first: usize,
+        pages: Vec<Arc<Page>>,
+        table: Table,
+    ) -> Result<Segment, NoMemory>
+        requires table { AreRowsOf first (pages_in_table (map arc_value pages.items)) table }
+        requires small { AreSmall (map arc_value pages.items) }
+        ensures first { IfOk result (λ segment. segment.first ≡ first) }
+        ensures pages { IfOk result (λ segment. segment.pages ≡ map arc_value pages.items) }
+    {
+        let ranks = ranks_of(alloc, &pages)?;
+        let large = large_of(alloc, &pages)?;
+        Ok(Segment {
+            first,
+            pages,
+            ranks,
+            large,
+            table,
+        })
+    }
+
     /// Makes the segment of `pages`. The first page has the number `first`.
     ///
     /// While it runs it allocates up to 83 bytes for each distinct word of each page that isn't
@@ -72,17 +93,7 @@ impl Segment {
         let rows = rows_of(alloc, first, pages)?;
         let table = join(alloc, rows)?;
         let pages = shared(alloc, pages)?;
-        let ranks = ranks_of(alloc, &pages)?;
-        let large = large_of(alloc, &pages)?;
-        let large_words = words_at(&pages, &large);
-        Ok(Segment {
-            first,
-            pages,
-            ranks,
-            large,
-            large_words,
-            table,
-        })
+        Segment::of_table(alloc, first, pages, table)
     }
 
     /// Merges consecutive segments into one. The first page has the number `first`.
@@ -98,17 +109,7 @@ impl Segment {
         let mut cursors = cursors_of(alloc, segments)?;
         let table = merge(alloc, &mut cursors)?;
         let pages = shared_pages(alloc, segments)?;
-        let ranks = ranks_of(alloc, &pages)?;
-        let large = large_of(alloc, &pages)?;
-        let large_words = words_at(&pages, &large);
-        Ok(Segment {
-            first,
-            pages,
-            ranks,
-            large,
-            large_words,
-            table,
-        })
+        Segment::of_table(alloc, first, pages, table)
     }
 
     /// Returns the pages.
@@ -144,7 +145,7 @@ impl Segment {
         ensures counts { cells.new ≡ meant_counts is_prefix sought.now self.now.pages }
         ensures few { All (λ count. count ≤ MAX_REPLY) cells.new }
     {
-        self.table.spread(is_prefix, sought, self.first, cells);
+        self.table.find(is_prefix, sought).add_to(self.first, cells);
         spread_large(&self.pages, &self.large, is_prefix, sought, cells);
     }
 
@@ -158,7 +159,7 @@ impl Segment {
         if self.large_len() > 0 {
             return None;
         }
-        let (numbers, counts) = self.table.find(word).parts();
+        let (numbers, counts) = self.table.find(false, word).parts();
         Some(Postings {
             first: self.first,
             numbers,
@@ -175,7 +176,7 @@ impl Segment {
 
     /// Returns the number of words of the large pages, counted for each page.
     pub(crate) fn large_words(&self) -> usize {
-        self.large_words
+        words_at(&self.pages, &self.large)
     }
 }
 

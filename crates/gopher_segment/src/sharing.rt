@@ -1,25 +1,12 @@
 //! Shared values in several lists.
 
-ghost use Rattle.std.specs.Prelude.{◌≡◌, length, map, take, IfOk, OnOk, OnErr};
+ghost use Rattle.std.specs.Prelude.{◌≡◌, map, IfOk, OnOk, OnErr};
 ghost use Rattle.std.specs.Arc.{arc_value};
 ghost use Rattle.gopher_segment.specs.Sharing.{SharesItems};
 
 use gopher_bytes::NoMemory;
 use std::alloc::Global;
 use std::sync::Arc;
-
-// Appends the items to a list, which then shares them. If out of memory, the list can end with some
-// of them.
-fn push_shared<T: Drop>(items: &[Arc<T>], list: &mut Vec<Arc<T>>) -> Result<(), NoMemory>
-    ensures shared { OnOk result (SharesItems items.now list.old.items list.new.items) }
-    ensures kept { take (length list.old.items) list.new.items ≡ list.old.items }
-{
-    list.reserve(items.len())?;
-    for item in items {
-        list.push(item.clone()?)?;
-    }
-    Ok(())
-}
 
 /// Appends the items to a list, which then shares them.
 ///
@@ -28,11 +15,7 @@ pub fn share<T: Drop>(items: &[Arc<T>], list: &mut Vec<Arc<T>>) -> Result<(), No
     ensures shared { OnOk result (SharesItems items.now list.old.items list.new.items) }
     ensures refused { OnErr result (list.new.items ≡ list.old.items) }
 {
-    let length = list.len();
-    if push_shared(items, list).is_err() {
-        list.truncate(length);
-        return Err(NoMemory);
-    }
+    list.extend_from_slice(items)?;
     Ok(())
 }
 
@@ -41,6 +24,6 @@ pub fn shared<T: Drop>(alloc: Global, items: &[Arc<T>]) -> Result<Vec<Arc<T>>, N
     ensures { IfOk result (λ list. map arc_value list.items ≡ map arc_value items.now) }
 {
     let mut list = Vec::new(alloc);
-    push_shared(items, &mut list)?;
+    share(items, &mut list)?;
     Ok(list)
 }

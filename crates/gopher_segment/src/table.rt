@@ -1,9 +1,8 @@
 //! `Table`, the rows of a segment: each is a word with its postings. Finds the row of a word.
 
-ghost use Rattle.std.specs.Prelude.{◌≡◌, true, ◌<◌, Some, length, slice_get, IfOk};
+ghost use Rattle.std.specs.Prelude.{◌≡◌, ◌<◌, Some, length, slice_get, IfOk};
 ghost use Rattle.std.specs.List.{zip};
-ghost use Rattle.gopher_segment.specs.Cells.{AreRaised, HaveRoom};
-ghost use Rattle.gopher_segment.specs.Rows.{words_of_rows, runs_of_rows, AreRowsInOrder, AreRowsMeant, AreRowsWithin, rows_count, rows_meant, postings_of};
+ghost use Rattle.gopher_segment.specs.Rows.{words_of_rows, runs_of_rows, AreRowsInOrder, postings_meant};
 
 use crate::runs::{Run, Runs};
 use gopher_bytes::{ByteStrings, NoMemory};
@@ -21,21 +20,6 @@ fn numbers_of(alloc: Global, words: &ByteStrings) -> Result<Vec<u64>, NoMemory> 
         numbers.push(Numbered::new(words.get(at)).number())?;
     }
     Ok(numbers)
-}
-
-// How many of the numbers are below `number`, if they are in order.
-fn count_below(numbers: &[u64], number: u64) -> usize {
-    let mut low = 0;
-    let mut high = numbers.len();
-    while low < high {
-        let middle = low + (high - low) / 2;
-        if numbers[middle] < number {
-            low = middle + 1;
-        } else {
-            high = middle;
-        }
-    }
-    low
 }
 
 /// Rows: words, each with its postings.
@@ -109,45 +93,18 @@ impl Table {
         self.runs.get(index)
     }
 
-    // The start and the end of the rows whose words equal `sought` or, if `is_prefix`, begin with
-    // it.
-    fn range(&self, is_prefix: bool, sought: &[u8]) -> (usize, usize)
+    /// Returns the postings of `sought` or, if `is_prefix`, of all words that begin with it, one
+    /// word after another; none if no row has such a word.
+    pub fn find(&self, is_prefix: bool, sought: &[u8]) -> Run<'_>
         requires { AreRowsInOrder self.now }
-        ensures { AreRowsMeant self.now is_prefix sought.now result.0 result.1 }
+        ensures { result ≡ postings_meant is_prefix sought.now self.now }
     {
+        let number = Numbered::new(sought).number();
         // This many blocks probably begin with a word before `sought`.
-        let blocks = count_below(&self.numbers, Numbered::new(sought).number());
+        let blocks = self.numbers.partition_point(|first| *first < number);
         let low = blocks.saturating_sub(1).saturating_mul(BLOCK);
-        range_meant(
-            &self.words,
-            is_prefix,
-            sought,
-            low,
-            blocks.saturating_mul(BLOCK),
-        )
-    }
-
-    /// Returns the postings of a word; none if no row has the word.
-    pub fn find(&self, sought: &[u8]) -> Run<'_>
-        requires { AreRowsInOrder self.now }
-        ensures { result ≡ postings_of sought.now self.now }
-    {
-        let (start, end) = self.range(false, sought);
-        if start < end {
-            return self.run(start);
-        }
-        Run::none()
-    }
-
-    /// Adds to the cell of each page the number of occurrences of `sought` or, if `is_prefix`, of
-    /// all words that begin with it. The first cell is that of page `first`.
-    pub fn spread(&self, is_prefix: bool, sought: &[u8], first: usize, cells: &mut [u32])
-        requires order { AreRowsInOrder self.now }
-        requires within { AreRowsWithin first (length cells.old) self.now }
-        requires fits { HaveRoom first cells.old (λ page. rows_count (λ word. true) page self.now) }
-        ensures { AreRaised first cells.old cells.new (rows_meant self.now is_prefix sought.now) }
-    {
-        let (start, end) = self.range(is_prefix, sought);
-        self.runs.between(start, end).add_to(first, cells);
+        let high = blocks.saturating_mul(BLOCK);
+        let (start, end) = range_meant(&self.words, is_prefix, sought, low, high);
+        self.runs.between(start, end)
     }
 }

@@ -1,17 +1,19 @@
-use Rattle.std.proofs.Common.{◌≡◌, ◌+◌, ◌++◌, ◌∷◌, [], ◌<◌, List, length, map, take, sym, ap, subst, ◌∙◌, arith}
+use Rattle.std.proofs.Common.{◌≡◌, ◌+◌, ◌++◌, ◌∷◌, [], ◌<◌, ◌≤◌, List, length, map, take, refl, sym, ap, subst, ◌∙◌, arith}
 use Rattle.std.proofs.lemmas.List.{map_more, map-append, length-map, length-take-le}
 use Rattle.std.specs.Arc.{arc_value}
+use Rattle.std.specs.List.{sum_by}
 use Rattle.gopher_page.specs.Packed.{AreCounts}
 use Rattle.gopher_page.specs.Page.{PageData}
 use Rattle.gopher_segment.specs.Large.{in_table, pages_in_table}
 use Rattle.gopher_segment.specs.SegmentRows.{AreSmall, Tell}
+use Rattle.gopher_segment.proofs.Each.{all_both}
 use Rattle.gopher_segment.proofs.LargeLemmas.{length_in_table, sound_in_table}
-use Rattle.gopher_segment.proofs.SegmentLemmas.{tell_nothing, page_behind, small_both}
+use Rattle.gopher_segment.proofs.SegmentLemmas.{page_behind}
 use Rattle.gopher_segment.proofs.gathering.rows_of.Goals as goal
 
 pub loop-index-init : goal.loop-index-init
 loop-index-init c = record {
-  tell = subst (Tell c.args.first []) (sym c.in_ok-rows.ensures.items) (tell_nothing c.args.first);
+  tell = subst (Tell c.args.first []) (sym c.in_ok-rows.ensures.items) (λ word. refl);
   small = tt;
 }
 
@@ -30,5 +32,5 @@ loop-index-preserved c =
     record {
       tell = subst (λ l. Tell c.args.first l c.add_page.new.rows.items) (sym (ap pages_in_table grown ∙ map-append in_table so_far (page ∷ [])))
           (page_behind c.args.first (pages_in_table so_far) (in_table page) (c.args.first + c.loop-index.index) c.loop-index.rows.items c.add_page.new.rows.items c.loop-index.invariant.tell (sound_in_table page sound) at c.in_ok-add_page.ensures.rows);
-      small = subst AreSmall (sym grown) (small_both so_far (page ∷ []) c.loop-index.invariant.small (sound.few, tt));
+      small = subst AreSmall (sym grown) (all_both (λ (page : PageData). sum_by (λ entry. entry.1) page.counts ≤ 1048576) so_far (page ∷ []) c.loop-index.invariant.small (sound.few, tt));
     }

@@ -3,7 +3,7 @@ use Rattle.std.proofs.lemmas.List.{length-append, get_or-map}
 use Rattle.std.proofs.lemmas.Result.{IfOk-weaker}
 use Rattle.std.specs.List.{zip}
 use Rattle.gopher_segment.specs.Rows.{joined_rows}
-use Rattle.gopher_segment.proofs.RowSearch.{word_at}
+use Rattle.gopher_segment.proofs.RowLemmas.{word_at}
 use Rattle.gopher_bytes.proofs.Zips.{zip-append}
 use Rattle.gopher_segment.proofs.JoinLemmas.{all_joined}
 use Rattle.gopher_segment.proofs.joining.table_of.Goals as goal

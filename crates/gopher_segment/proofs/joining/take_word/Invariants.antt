@@ -1,6 +1,6 @@
 use Rattle.std.proofs.Common.{◌≡◌, ◌<◌, ◌≤◌, ◌-◌, length, drop}
 use Rattle.gopher_segment.specs.Rows.{joined_from, joined_rows}
-use Rattle.gopher_segment.proofs.RowSearch.{word_at}
+use Rattle.gopher_segment.proofs.RowLemmas.{word_at}
 use Rattle.gopher_segment.proofs.joining.take_word.Given as goal
 
 abbrev pub invariant-loop-end : goal.invariant-loop-end

@@ -1,7 +1,8 @@
-use Rattle.std.proofs.Common.{◌≡◌, ℕ, List, Option, true, false, ◌+◌, ◌<◌, length, drop, sym, ap, subst, ◌∙◌}
+use Rattle.std.proofs.Common.{◌≡◌, ℕ, List, [], Option, None, true, false, ◌+◌, ◌<◌, length, get_or, sym, ap, subst, ◌∙◌, arith}
 use Rattle.std.specs.Option.{option_copied}
-use Rattle.gopher_segment.specs.Rows.{first_word, is_lower, lowest_from, IsNumberOf}
-use Rattle.gopher_segment.proofs.NumberLemmas.{NoneLower, LackLowest, lowest_step, none_below, lack_below, none_beside}
+use Rattle.gopher_segment.specs.Rows.{first_word, is_lower, IsNumberOf, NoneLower}
+use Rattle.gopher_segment.proofs.MergeLemmas.{nothing_left}
+use Rattle.gopher_segment.proofs.NumberLemmas.{IsFirstAt, none_below, first_below, none_beside}
 use Rattle.gopher_segment.proofs.merging.lowest_word.Goals as goal
 use Rattle.gopher_segment.proofs.merging.lowest_word.Goals.{then-begins_lower, else-begins_lower}
 
@@ -17,25 +18,25 @@ loop-index-preserved c =
           let less : is_lower (first_word rows) low ≡ true = sym c.begins_lower.ensures ∙ w.if-begins_lower.true in
           let is : first_word rows ≡ option_copied c.if-begins_lower.lowest = sym (ap option_copied w.lowest-is ∙ w.word-lowest.ensures) in
           record {
-            lowest_so_far =
-                ap (λ o. lowest_from o (drop next tables)) (sym is)
-                ∙ sym (lowest_step low tables rows c.loop-index.index within c.index-cursors-index.is true less)
-                ∙ c.loop-index.invariant.lowest_so_far;
             number_is = subst (λ n. IsNumberOf n (option_copied c.if-begins_lower.lowest)) (sym w.number-is) (subst (IsNumberOf w.number-number.result) is w.number-number.ensures);
             none = subst (λ o. NoneLower o next tables) is (none_below low tables rows c.loop-index.index within c.index-cursors-index.is less c.loop-index.invariant.none);
-            lack = subst (λ n. LackLowest (option_copied c.if-begins_lower.lowest) n tables) (sym w.first-is)
-                (subst (λ o. LackLowest o c.loop-index.index tables) is (lack_below low tables rows c.loop-index.index within c.index-cursors-index.is less c.loop-index.invariant.none));
+            here = subst (λ n. IsFirstAt (option_copied c.if-begins_lower.lowest) n tables) (sym w.first-is)
+                (subst (λ o. IsFirstAt o c.loop-index.index tables) is (first_below low tables rows c.loop-index.index within c.index-cursors-index.is less c.loop-index.invariant.none));
           }
       | else-begins_lower w ↦
           let from : is_lower (first_word rows) low ≡ false = sym c.begins_lower.ensures ∙ w.if-begins_lower.false in
           let is : low ≡ option_copied c.if-begins_lower.lowest = sym (ap option_copied w.lowest-is) in
           record {
-            lowest_so_far =
-                ap (λ o. lowest_from o (drop next tables)) (sym is)
-                ∙ sym (lowest_step low tables rows c.loop-index.index within c.index-cursors-index.is false from)
-                ∙ c.loop-index.invariant.lowest_so_far;
             number_is = subst (λ n. IsNumberOf n (option_copied c.if-begins_lower.lowest)) (sym w.number-is) (subst (IsNumberOf c.loop-index.number) is c.loop-index.invariant.number_is);
             none = subst (λ o. NoneLower o next tables) is (none_beside low tables rows c.loop-index.index within c.index-cursors-index.is from c.loop-index.invariant.none);
-            lack = subst (λ n. LackLowest (option_copied c.if-begins_lower.lowest) n tables) (sym w.first-is) (subst (λ o. LackLowest o c.loop-index.first tables) is c.loop-index.invariant.lack);
+            here = subst (λ n. IsFirstAt (option_copied c.if-begins_lower.lowest) n tables) (sym w.first-is) (subst (λ o. IsFirstAt o c.loop-index.first tables) is c.loop-index.invariant.here);
           }
     ]
+
+pub returns-in-None-clause-none : goal.returns-in-None-clause-none
+returns-in-None-clause-none c = λ is.
+    let tables : List (List (List ℕ × List (ℕ × ℕ))) = c.args.cursors.now in
+    let none : NoneLower None (length tables) tables =
+    λ k below. subst (λ low. is_lower (first_word (get_or tables k [])) (option_copied low) ≡ false) c.in-None.is (c.loop-index.invariant.none k (omega (arith, below)))
+    in
+    nothing_left tables none

@@ -3,7 +3,7 @@ use Rattle.std.specs.List.{flat_map, zip}
 use Rattle.std.specs.List.Sorted.{IsStrictlySortedBy}
 use Rattle.std.specs.Ordering.{nat_cmp}
 use Rattle.std.specs.Cmp.Lexicographic.{slice_cmp}
-use Rattle.gopher_segment.specs.Rows.{rows_count, postings_of, tables_count, rows_left, AreAllInOrder, ComeBefore}
+use Rattle.gopher_segment.specs.Rows.{postings_of, rows_left, AreAllInOrder, ComeBefore}
 use Rattle.gopher_segment.proofs.merging.merge.Given as goal
 
 abbrev pub invariant-loop-first : goal.invariant-loop-first
@@ -13,7 +13,6 @@ invariant-loop-first l = record {
   order : IsStrictlySortedBy (slice_cmp nat_cmp) l.words;
   before : ComeBefore l.words l.cursors;
   orders : AreAllInOrder l.cursors;
-  counts : (test : List ℕ → Bool) (page : ℕ) → rows_count test page (zip l.words l.runs.whole) + tables_count test page l.cursors ≡ tables_count test page l.initial.cursors;
   postings : (word : List ℕ) → postings_of word (zip l.words l.runs.whole) ++ flat_map (postings_of word) l.cursors ≡ flat_map (postings_of word) l.initial.cursors;
 }
 

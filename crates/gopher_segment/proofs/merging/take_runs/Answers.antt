@@ -1,7 +1,8 @@
-use Rattle.std.proofs.Common.{◌≡◌, ℕ, ◌<◌, List, ◌++◌, length, get_or, refl, sym, ap, ◌∙◌, arith}
+use Rattle.std.proofs.Common.{◌≡◌, ℕ, ◌<◌, List, ◌++◌, length, get_or, set, refl, sym, ap, ◌∙◌, arith}
 use Rattle.std.proofs.lemmas.List.{append-nil}
+use Rattle.std.proofs.lemmas.List.Edits.{map_over_more}
 use Rattle.gopher_segment.specs.Rows.{passed, taken}
-use Rattle.gopher_segment.proofs.MergeLemmas.{left_before, none_before, map_step, now_at, flat_step}
+use Rattle.gopher_segment.proofs.MergeLemmas.{left_before, none_before, now_at, flat_step}
 use Rattle.gopher_segment.proofs.merging.take_runs.Goals as goal
 
 pub loop-index-init : goal.loop-index-init
@@ -23,8 +24,8 @@ loop-index-preserved c =
     now_at (passed word) tables c.loop-index.cursors c.loop-index.index rows within c.loop-index.invariant.cursors_so_far in
     record {
       cursors_so_far =
-          map_step (passed word) tables c.loop-index.cursors c.loop-index.index c.take_run.new.cursor rows within c.loop-index.invariant.cursors_so_far
-          c.in_ok-take_run.ensures.cursor;
+          ap (set c.loop-index.cursors c.loop-index.index) (c.in_ok-take_run.ensures.cursor ∙ ap (passed word) (sym c.index-cursors-index.is))
+          ∙ map_over_more (passed word) tables c.loop-index.cursors c.loop-index.index rows within c.loop-index.invariant.cursors_so_far c.index-cursors-index.is;
       whole = c.in_ok-take_run.ensures.whole ∙ c.loop-index.invariant.whole;
       begun =
           c.in_ok-take_run.ensures.begun

@@ -18,5 +18,5 @@ returns-clause-run c =
     let none : large_from 0 c.args.self.now.pages ≡ [] = no_items (large_from 0 c.args.self.now.pages) (omega (arith, c.large_len.ensures)) in
     c.parts.ensures.whole
     ∙ c.find.ensures
-    ∙ c.self.invariant.0.table.tell.runs c.args.word.now
+    ∙ c.self.invariant.0.table.tell c.args.word.now
     ∙ ap (λ pages. run_of c.self.inside.first (meant_counts false c.args.word.now pages)) (none_large 0 own (ap (large_from 0) pages ∙ none) ∙ pages)

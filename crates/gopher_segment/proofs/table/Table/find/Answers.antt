@@ -1,34 +1,25 @@
-use Rattle.std.proofs.Common.{◌≡◌, ℕ, ◌<◌, false, List, length, Some, sym, ap, ⊎_elim, ◌∙◌, arith}
-use Rattle.std.proofs.lemmas.Bool.{cases_lt}
-use Rattle.std.proofs.lemmas.List.{length-map}
-use Rattle.std.proofs.lemmas.Option.{slice_get-get_or}
-use Rattle.std.specs.Cmp.Lexicographic.{bytes_decides}
-use Rattle.gopher_page.specs.Words.{same_word}
-use Rattle.gopher_segment.specs.Rows.{words_of_rows}
-use Rattle.gopher_segment.proofs.RowSearch.{word_at}
-use Rattle.gopher_segment.proofs.WordPostings.{postings_there, postings_absent}
+use Rattle.std.proofs.Common.{◌≡◌, ℕ, List, ◌-◌, length, take, drop, sym, ap, subst, ◌∙◌, arith}
+use Rattle.gopher_bytes.proofs.Zips.{firsts, seconds}
+use Rattle.gopher_page.specs.Counts.{AreInOrder, AreMeantWords}
+use Rattle.gopher_segment.specs.Postings.{one_run}
+use Rattle.gopher_segment.specs.Rows.{words_of_rows, runs_of_rows}
+use Rattle.gopher_segment.proofs.Between.{rows_between}
 use Rattle.gopher_segment.proofs.table.Table.find.Goals as goal
 
-size : (rows : List (List ℕ × List (ℕ × ℕ))) → length (words_of_rows rows) ≡ length rows
-size rows = length-map rows (λ (row : List ℕ × List (ℕ × ℕ)). row.0)
+pub range_meant-start-requires : goal.range_meant-start-requires
+range_meant-start-requires c =
+    let names = sym (ap words_of_rows c.self.view_is) ∙ firsts c.self.inside.words c.self.inside.runs.whole c.self.invariant in
+    subst AreInOrder names c.requires
 
-pub run-requires : goal.run-requires
-run-requires c = omega (arith, c.range-start.ensures.within, size c.args.self.now)
-
-pub returns-then-start-end : goal.returns-then-start-end
-returns-then-start-end c =
-    let rows : List (List ℕ × List (ℕ × ℕ)) = c.args.self.now in
-    let start : ℕ = c.range-start.result.0 in
-    let sought : List ℕ = c.args.sought.now in
-    let within : start < length (words_of_rows rows) = omega (arith, c.range-start.ensures.within) in
-    let is : sought ≡ word_at rows start = (bytes_decides sought (word_at rows start)).0 (c.range-start.ensures.meant start (omega arith) (omega arith)) in
-    postings_there rows start sought c.run.result c.requires (slice_get-get_or (words_of_rows rows) start _ within ∙ ap Some (sym is)) c.run.ensures
+pub between-requires-clause-within : goal.between-requires-clause-within
+between-requires-clause-within c = omega (arith, c.range_meant-start.ensures.within, c.self.invariant)
 
 pub returns : goal.returns
 returns c =
-    let rows : List (List ℕ × List (ℕ × ℕ)) = c.args.self.now in
-    let sought : List ℕ = c.args.sought.now in
-    let start : ℕ = c.range-start.result.0 in
-    let apart : (k : ℕ) → k < length rows → same_word sought (word_at rows k) ≡ false =
-    λ k within. ⊎_elim (λ less. c.range-start.ensures.before k less) (λ past. c.range-start.ensures.others k (omega (arith, past)) (omega (arith, within, size rows))) (cases_lt k start) in
-    c.none.ensures ∙ sym (postings_absent rows sought apart)
+    let start : ℕ = c.range_meant-start.result.0 in
+    let end : ℕ = c.range_meant-start.result.1 in
+    let names = sym (firsts c.self.inside.words c.self.inside.runs.whole c.self.invariant) ∙ ap words_of_rows c.self.view_is in
+    let meant = subst (λ l. AreMeantWords l c.args.is_prefix c.args.sought.now start end) names c.range_meant-start.ensures in
+    let runs = sym (seconds c.self.inside.words c.self.inside.runs.whole c.self.invariant) ∙ ap runs_of_rows c.self.view_is in
+    c.between.ensures ∙ ap (λ l. one_run (take (end - start) (drop start l))) runs
+    ∙ sym (rows_between c.args.is_prefix c.args.sought.now c.args.self.now start end meant)

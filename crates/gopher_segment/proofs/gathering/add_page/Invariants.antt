@@ -1,6 +1,6 @@
 use Rattle.std.proofs.Common.{◌≡◌, ◌≤◌, ◌+◌, ◌-◌, ◌++◌, length, take, vec_len, vec_capacity}
 use Rattle.gopher_segment.specs.Rows.{page_rows}
-use Rattle.gopher_segment.proofs.gathering.add_counts.Given as goal
+use Rattle.gopher_segment.proofs.gathering.add_page.Given as goal
 
 abbrev pub invariant-loop-index : goal.invariant-loop-index
 invariant-loop-index l = record {
