@@ -51,15 +51,11 @@ def command(program, *words):
 def hints(settings, host, port, is_example):
     """How to ask the server."""
     place = f"{f'[{host}]' if ':' in host else host}:{port}"
-    requests = [f"    curl gopher://{place}/"]
-    if is_example:
-        requests.append(f"    curl gopher://{place}/0/frogs/common-frog.txt")
-    if settings.get("seeds") and settings.get("allow"):
-        requests.append(f"    curl 'gopher://{place}/7/search%09{'frog' if is_example else 'WORD'}'")
-    else:
-        requests.append("\nSearches find nothing, because these settings lack [[seeds]] or [[allow]].")
+    search = f"    curl 'gopher://{place}/7/search%09{'frog' if is_example else 'WORD'}'"
+    if not settings.get("seeds") or not settings.get("allow"):
+        search = "\nSearches find nothing, because these settings lack [[seeds]] or [[allow]]."
     head = f"It serves at {host}, port {port}. Ask it from another terminal:\n"
-    return "\n".join([head, *requests, "\nCtrl-C ends it."])
+    return "\n".join([head, f"    curl gopher://{place}/", search, "\nCtrl-C ends it."])
 
 
 def serve(words, place, host, port, hint):

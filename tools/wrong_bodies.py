@@ -144,12 +144,6 @@ def check(folder, functions):
     return said
 
 
-def kit():
-    """What tells the toolchain from others."""
-    rtlib = toolchain()
-    return run("rt", "version").stdout, *(pathlib.Path(it).read_bytes() for it in (f"{rtlib.KIT}/WHAT", rtlib.__file__))
-
-
 def copy_of(crate, built, room):
     """Copies what checks of the crate read, with the proofs that were kept, and links the libraries from their folders."""
     left_out = shutil.ignore_patterns("out", "wrong-bodies", "must-fail")
@@ -346,7 +340,9 @@ def main(words):
     tell(bad, sys.stdout)
     if given.beside:
         LANES.is_quiet.clear()
-    kept = Refusals(ROOT, below, kit(), not given.from_nothing)
+    rtlib = toolchain()
+    kit = run("rt", "version").stdout, *(pathlib.Path(it).read_bytes() for it in (f"{rtlib.KIT}/WHAT", rtlib.__file__))
+    kept = Refusals(ROOT, below, kit, not given.from_nothing)
     lines = lambda result: [f"{it}: {why}" for it, (is_refused, why) in result.items() if given.reasons or not is_refused]
     show = lambda result: tell(lines(result), sys.stdout)
     tried = try_all(edits, below, given.beside, lambda edits, libraries: try_crate(edits, libraries, kept, show))
