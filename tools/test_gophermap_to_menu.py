@@ -141,9 +141,7 @@ def is_menu_line(line):
 
 class GophermapToMenu(unittest.TestCase):
     def setUp(self):
-        room = tempfile.TemporaryDirectory()
-        self.addCleanup(room.cleanup)
-        self.root = pathlib.Path(room.name)
+        self.root = pathlib.Path(self.enterContext(tempfile.TemporaryDirectory()))
         self.write(SITE)
         (self.root / "empty").mkdir()
         (self.root / ".run").chmod(0o755)
