@@ -54,13 +54,7 @@ def lines_of(path):
 
 def one_spelling(selector):
     """The selector as this server spells it: names, each behind one slash."""
-    names = []
-    for name in selector.split(b"/"):
-        if name == b"..":
-            names = names[:-1]
-        elif name not in (b"", b"."):
-            names.append(name)
-    return b"/" + b"/".join(names)
+    return os.path.normpath(b"/" + selector.strip(b"/"))
 
 
 def is_served_name(name):
