@@ -31,20 +31,13 @@ with contextlib.suppress(ProcessLookupError):
 """
 
 
-def is_usable(program):
-    """Whether a program is there, and no source is younger if it is the one that `make build` left."""
-    return os.access(program, os.X_OK) and (program != PROVED or unproved.is_up_to_date())
-
-
-def lacks_program(program):
-    """Whether there is no program and none can be built; standard error then says what is missing."""
-    return not is_usable(program) and unproved.lacks_toolchain()
-
-
 def command(program, *words):
-    """What starts the program with these words, and where."""
-    if is_usable(program):
+    """What starts the program with these words, and where; the one that `make build` left counts only if no source is younger. If
+    there is none and none can be built, a line on standard error says what is missing, and the script ends."""
+    if os.access(program, os.X_OK) and (program != PROVED or unproved.is_up_to_date()):
         return [str(program), *words], ROOT
+    if unproved.lacks_toolchain():
+        sys.exit(1)
     return unproved.command(*words), ROOT / "crates/hole"
 
 
@@ -90,16 +83,14 @@ def main():
     except (OSError, KeyError, tomllib.TOMLDecodeError) as fault:
         print(f"{given}: {fault}", file=sys.stderr)
         return 1
-    if lacks_program(program):
-        return 1
-    if is_up(host, port):
-        print(f"Something listens at port {port} already.", file=sys.stderr)
-        return 1
-    whole_root = f"root = '{pathlib.Path(root if given else ROOT / root).absolute()}'"
     with tempfile.TemporaryDirectory() as folder:
         place = pathlib.Path(folder) / "hole.toml"
-        place.write_text(re.sub(r"(?m)^\s*root\s*=.*$", lambda _: whole_root, text, count=1))
         start, where = command(program, "serve", str(place))
+        if is_up(host, port):
+            print(f"Something listens at port {port} already.", file=sys.stderr)
+            return 1
+        whole_root = f"root = '{pathlib.Path(root if given else ROOT / root).absolute()}'"
+        place.write_text(re.sub(r"(?m)^\s*root\s*=.*$", lambda _: whole_root, text, count=1))
         print("Starting:", " ".join(start[:2]), ".. (without a proved program of these sources this takes 2 minutes)", flush=True)
         return serve(start, where, host, port, hints(settings, host, port, not given))
 
