@@ -32,7 +32,6 @@ from lanes import Lanes
 
 ROOT = pathlib.Path(os.environ.get("ROOT") or pathlib.Path(__file__).resolve().parent.parent)
 LANES = Lanes()
-PRINTING = threading.Lock()
 CLAUSE = re.compile(r"(?m)^ *(?:ensures|requires|ghost)\b.*$")
 OWN_PROOFS = ("Answers", "Invariants", "Proof")
 
@@ -112,8 +111,8 @@ def libraries_below():
 
 def tell(lines, to):
     """Prints whole lines at once, since crates are tried side by side."""
-    with PRINTING:
-        print("".join(f"{line}\n" for line in lines), end="", file=to, flush=True)
+    to.write("".join(f"{line}\n" for line in lines))
+    to.flush()
 
 
 def run(*words, folder=ROOT):
