@@ -4,14 +4,14 @@
     gophermap_to_menu [--root FOLDER] [--port PORT] FILE > .menu.new && mv .menu.new .menu
 
 FOLDER is the folder that is served, from which selectors count. A file whose name begins with a period is a link file. The
-`.menu` (SPECIFICATION.md, section 9) goes to standard output; what is left out or changed, and what a client won't find, is
-told on standard error. The manual has the options and the status, OPERATING.md, section 9, what becomes of what. Beyond that:
+`.menu` (SPECIFICATION.md, section 9) goes to standard output. Standard error tells what is left out or changed, and what a client
+won't find. The manual has the options and the status; OPERATING.md, section 9, tells what becomes of what. Beyond that:
 
 - A line that this server would refuse (24) is left out.
-- A line of an own selector that names nothing that is served stays, and that is told. Selectors of lines of type i and 3, and
-  those that begin with `URL:`, stay as they are.
-- Lines of an included file count from the gophermap's folder. It may include others, to a depth of eight files. `*` ends it and
-  lists nothing; a line that begins with `.` ends the file that it stands in.
+- A line stays if its selector names nothing that is served; that is told. Selectors of lines of type i and 3, and those that
+  begin with `URL:`, stay as they are.
+- Selectors in an included file count from the gophermap's folder. Files may include others, eight files deep. `*` in an included
+  file ends it and lists nothing. A line that begins with `.` ends its file.
 - An empty line ends an entry of a link file, and so does a `#` line behind a `Path=` line. Entries with a positive `Numb=` come
   first, by that number; then those without and the listing, by name; then those with a negative one. `Path=./NAME` of a listed
   name changes its line; other paths are lines of their own.
