@@ -303,8 +303,10 @@ def main(words):
     if {*given.parts} - {*names}:
         options.error(f"the parts are {', '.join(names)}")
     chosen, began = chosen_of(given.parts, given.quick), time.monotonic()
-    with tempfile.TemporaryDirectory(prefix="gate-") as room:
-        program = unproved.Program(pathlib.Path(room)) if given.quick else lambda: (unproved.PROVED, True)
+    with tempfile.TemporaryDirectory(prefix="gate-") as room, ThreadPoolExecutor(1) as builder:
+        program = lambda: (unproved.PROVED, True)
+        if given.quick and any(PROGRAM in it.words for it in chosen):
+            program = builder.submit(unproved.program, pathlib.Path(room)).result
         rows = run_all(chosen, program, 1 if given.parts else AT_ONCE)
     kit = subprocess.run(["rt", "version"], stdout=subprocess.PIPE, text=True).stdout.strip()
     print(f"== with {kit}", *table(rows, (time.monotonic() - began) / 60), sep="\n")

@@ -4,23 +4,21 @@
     gophermap_to_menu [--root FOLDER] [--port PORT] FILE > .menu.new && mv .menu.new .menu
 
 FOLDER is the folder that is served, from which selectors count. A file whose name begins with a period is a link file. The
-`.menu` (SPECIFICATION.md, section 9) goes to standard output; what is left out or changed, and what a client won't find, is
-told on standard error. The manual has the options and the status, OPERATING.md, section 9, what becomes of what. Beyond that:
+`.menu` (SPECIFICATION.md, section 9) goes to standard output. Standard error tells what is left out or changed, and what a client
+won't find. The manual has the options and the status; OPERATING.md, section 9, tells what becomes of what. Beyond that:
 
 - A line that this server would refuse (24) is left out.
-- A line of an own selector that names nothing that is served stays, and that is told. Selectors of lines of type i and 3, and
-  those that begin with `URL:`, stay as they are.
-- Lines of an included file count from the gophermap's folder. It may include others, to a depth of eight files. `*` ends it and
-  lists nothing; a line that begins with `.` ends the file that it stands in.
+- A line stays if its selector names nothing that is served; that is told. Selectors of lines of type i and 3, and those that
+  begin with `URL:`, stay as they are.
+- Selectors in an included file count from the gophermap's folder. Files may include others, eight files deep. `*` in an included
+  file ends it and lists nothing. A line that begins with `.` ends its file.
 - An empty line ends an entry of a link file, and so does a `#` line behind a `Path=` line. Entries with a positive `Numb=` come
   first, by that number; then those without and the listing, by name; then those with a negative one. `Path=./NAME` of a listed
   name changes its line; other paths are lines of their own.
 """
 import argparse
-import functools
 import os
 import sys
-from dataclasses import dataclass
 
 MOST_DEEP = 8
 LONGEST = 255
@@ -37,14 +35,6 @@ class Refused(Exception):
 
 def has_any(text, of):
     return any(byte in of for byte in text)
-
-
-def is_host(text):
-    return len(text) <= LONGEST and not any(byte <= 32 or byte == 127 for byte in text)
-
-
-def is_port(text):
-    return text.isdigit() and len(text.lstrip(b"0")) <= 5 and int(text[-5:]) <= 65535
 
 
 def is_script(path):
@@ -64,13 +54,7 @@ def lines_of(path):
 
 def one_spelling(selector):
     """The selector as this server spells it: names, each behind one slash."""
-    names = []
-    for name in selector.split(b"/"):
-        if name == b"..":
-            names = names[:-1]
-        elif name not in (b"", b"."):
-            names.append(name)
-    return b"/" + b"/".join(names)
+    return os.path.normpath(b"/" + selector.strip(b"/"))
 
 
 def is_served_name(name):
@@ -147,9 +131,9 @@ class Menu:
         port = port or self.port
         if len(selector) > LONGEST:
             return tell(f"left out: its selector has more than {LONGEST} bytes")
-        if host and not is_host(host):
+        if len(host) > LONGEST or any(byte <= 32 or byte == 127 for byte in host):
             return tell("left out: its host isn't one")
-        if host and not is_port(port):
+        if host and not (port.isdigit() and len(port.lstrip(b"0")) <= 5 and int(port[-5:]) <= 65535):
             return tell("left out: its port isn't one")
         self.lines.append(b"\t".join((first, selector, host, port) if host else (first, selector)))
 
@@ -242,42 +226,36 @@ class MapMenu(Menu):
             self.lines.append(b"%s%s\t%s" % (kind, name, selector))
 
 
-@dataclass
-class Entry:
-    """An entry of a link file, or a name of the folder's listing: its first line, and its values by their keys."""
-
-    number: int
-    fields: dict
-
-    def order(self):
-        """Where it stands in the menu: by a positive number, by name, or by a negative number."""
-        place = int(self.fields.get(b"Numb", 0))
-        return (0 if place > 0 else 2 if place < 0 else 1, place, self.fields.get(b"Name", self.fields[b"Path"]))
+def order_of(entry):
+    """Where an entry stands in the menu: by a positive number, by name, or by a negative number."""
+    _, fields = entry
+    place = int(fields.get(b"Numb", 0))
+    return (0 if place > 0 else 2 if place < 0 else 1, place, fields.get(b"Name", fields[b"Path"]))
 
 
 class LinkMenu(Menu):
-    """The menu of a link file, with the folder's listing."""
+    """The menu of a link file, with the folder's listing. An entry is the number of its first line, and its values by their keys."""
 
     def read(self):
         listing = self.listing(self.teller(self.path, 1))
-        listed = {selector: Entry(1, {b"Type": kind, b"Name": name, b"Path": selector}) for kind, name, selector in listing}
+        listed = {selector: (1, {b"Type": kind, b"Name": name, b"Path": selector}) for kind, name, selector in listing}
         own = [entry for entry in self.entries() if not self.is_merged(entry, listed)]
-        for entry in sorted([*listed.values(), *own], key=Entry.order):
-            self.add_entry(entry)
+        for entry in sorted([*listed.values(), *own], key=order_of):
+            self.add_entry(*entry)
 
     def entries(self):
         """The entries that have a path."""
-        entry = Entry(1, {})
+        first, fields = 1, {}
         for number, line in enumerate([*lines_of(self.path), b""], 1):
             line = line.strip()
-            if not line or line.startswith(b"#") and b"Path" in entry.fields:
-                if b"Path" in entry.fields:
-                    yield entry
-                elif entry.fields:
-                    self.teller(self.path, entry.number)("left out: it has no Path")
-                entry = Entry(number + 1, {})
+            if not line or line.startswith(b"#") and b"Path" in fields:
+                if b"Path" in fields:
+                    yield first, fields
+                elif fields:
+                    self.teller(self.path, first)("left out: it has no Path")
+                first, fields = number + 1, {}
             elif not line.startswith(b"#"):
-                self.add_field(entry.fields, line, self.teller(self.path, number))
+                self.add_field(fields, line, self.teller(self.path, number))
 
     @staticmethod
     def add_field(fields, line, tell):
@@ -293,21 +271,20 @@ class LinkMenu(Menu):
 
     def is_merged(self, entry, listed):
         """Whether an entry names a line of the listing, which it then changes or hides."""
-        fields = entry.fields
+        number, fields = entry
         if fields[b"Path"][:2] not in (b"./", b"~/"):
             return False
         selector = fields[b"Path"] = one_spelling(self.selector + b"/" + fields[b"Path"][2:])
-        if selector in listed and fields.get(b"Type", b"")[:1] == b"X":
-            del listed[selector]
-        elif selector in listed:
-            listed[selector] = Entry(entry.number, listed[selector].fields | fields)
-        else:
+        if selector not in listed:
             return False
+        if fields.get(b"Type", b"")[:1] == b"X":
+            del listed[selector]
+        else:
+            listed[selector] = number, listed[selector][1] | fields
         return True
 
-    def add_entry(self, entry):
-        tell, fields = self.teller(self.path, entry.number), entry.fields
-        kind, path = fields.get(b"Type", b"0")[:1], fields[b"Path"]
+    def add_entry(self, number, fields):
+        tell, kind, path = self.teller(self.path, number), fields.get(b"Type", b"0")[:1], fields[b"Path"]
         if kind == b"X":
             return tell("left out: it hides what the folder doesn't have")
         server = [fields[b"Host"], fields.get(b"Port", b"")] if b"Host" in fields else []

@@ -31,35 +31,24 @@ with contextlib.suppress(ProcessLookupError):
 """
 
 
-def is_usable(program):
-    """Whether a program is there, and no source is younger if it is the one that `make build` left."""
-    return os.access(program, os.X_OK) and (program != PROVED or unproved.is_up_to_date())
-
-
-def lacks_program(program):
-    """Whether there is no program and none can be built; standard error then says what is missing."""
-    return not is_usable(program) and unproved.lacks_toolchain()
-
-
 def command(program, *words):
-    """What starts the program with these words, and where."""
-    if is_usable(program):
+    """What starts the program with these words, and where; the one that `make build` left counts only if no source is younger. If
+    there is none and none can be built, a line on standard error says what is missing, and the script ends."""
+    if os.access(program, os.X_OK) and (program != PROVED or unproved.is_up_to_date()):
         return [str(program), *words], ROOT
+    if unproved.lacks_toolchain():
+        sys.exit(1)
     return unproved.command(*words), ROOT / "crates/hole"
 
 
 def hints(settings, host, port, is_example):
     """How to ask the server."""
     place = f"{f'[{host}]' if ':' in host else host}:{port}"
-    requests = [f"    curl gopher://{place}/"]
-    if is_example:
-        requests.append(f"    curl gopher://{place}/0/frogs/common-frog.txt")
-    if settings.get("seeds") and settings.get("allow"):
-        requests.append(f"    curl 'gopher://{place}/7/search%09{'frog' if is_example else 'WORD'}'")
-    else:
-        requests.append("\nSearches find nothing, because these settings lack [[seeds]] or [[allow]].")
+    search = f"    curl 'gopher://{place}/7/search%09{'frog' if is_example else 'WORD'}'"
+    if not settings.get("seeds") or not settings.get("allow"):
+        search = "\nSearches find nothing, because these settings lack [[seeds]] or [[allow]]."
     head = f"It serves at {host}, port {port}. Ask it from another terminal:\n"
-    return "\n".join([head, *requests, "\nCtrl-C ends it."])
+    return "\n".join([head, f"    curl gopher://{place}/", search, "\nCtrl-C ends it."])
 
 
 def serve(words, place, host, port, hint):
@@ -94,16 +83,14 @@ def main():
     except (OSError, KeyError, tomllib.TOMLDecodeError) as fault:
         print(f"{given}: {fault}", file=sys.stderr)
         return 1
-    if lacks_program(program):
-        return 1
-    if is_up(host, port):
-        print(f"Something listens at port {port} already.", file=sys.stderr)
-        return 1
-    whole_root = f"root = '{pathlib.Path(root if given else ROOT / root).absolute()}'"
     with tempfile.TemporaryDirectory() as folder:
         place = pathlib.Path(folder) / "hole.toml"
-        place.write_text(re.sub(r"(?m)^\s*root\s*=.*$", lambda _: whole_root, text, count=1))
         start, where = command(program, "serve", str(place))
+        if is_up(host, port):
+            print(f"Something listens at port {port} already.", file=sys.stderr)
+            return 1
+        whole_root = f"root = '{pathlib.Path(root if given else ROOT / root).absolute()}'"
+        place.write_text(re.sub(r"(?m)^\s*root\s*=.*$", lambda _: whole_root, text, count=1))
         print("Starting:", " ".join(start[:2]), ".. (without a proved program of these sources this takes 2 minutes)", flush=True)
         return serve(start, where, host, port, hints(settings, host, port, not given))
 

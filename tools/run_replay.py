@@ -11,7 +11,7 @@ import pathlib
 import subprocess
 import sys
 
-from run_example import PROVED, command, lacks_program
+from run_example import PROVED, command
 
 
 def main():
@@ -19,10 +19,7 @@ def main():
     words.add_argument("script", metavar="SCRIPT", help="such as examples/first_crawl.script")
     words.add_argument("--program", type=pathlib.Path, default=PROVED, help="what `make build` left without it")
     given = words.parse_args()
-    program = given.program.resolve()
-    if lacks_program(program):
-        return 1
-    start, where = command(program, "replay")
+    start, where = command(given.program.resolve(), "replay")
     try:
         with open(given.script, "rb") as script:
             return subprocess.run(start, cwd=where, stdin=script).returncode

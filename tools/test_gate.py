@@ -62,22 +62,14 @@ class Case(unittest.TestCase):
         """What passed and failed in each row that has something."""
         return {name: (row.passed, row.failed) for name, row in self.rows.items() if row.passed or row.failed}
 
-    def replace(self, module, **values):
-        for name, value in values.items():
-            patch = mock.patch.object(module, name, value)
-            patch.start()
-            self.addCleanup(patch.stop)
-
     def room(self, *files):
         """A folder with these files, which anybody may run."""
-        room = tempfile.TemporaryDirectory()
-        self.addCleanup(room.cleanup)
-        for file in files:
-            path = pathlib.Path(room.name) / file
+        room = pathlib.Path(self.enterContext(tempfile.TemporaryDirectory()))
+        for path in map(room.joinpath, files):
             path.parent.mkdir(parents=True, exist_ok=True)
             path.write_text("statements\n")
             path.chmod(0o755)
-        return pathlib.Path(room.name)
+        return room
 
 
 class Counts(Case):
@@ -146,8 +138,8 @@ class Beside(Case):
 
     def setUp(self):
         root = self.room("crates/low/out/rlib/low.rlib/format", "crates/hole/out/hole", "crates/hole/src/main.rt")
-        self.replace(gate, ROOT=root)
-        self.replace(unproved, PROVED=root / "crates/hole/out/hole")
+        self.enterContext(mock.patch.multiple(gate, ROOT=root))
+        self.enterContext(mock.patch.multiple(unproved, PROVED=root / "crates/hole/out/hole"))
 
     def ci(self, proves):
         script = f"echo rt: {proves} proved\n{self.WAIT}rm -r crates/low/out/rlib; echo rt: last proved; echo 2 passed, 0 failed"
@@ -193,7 +185,7 @@ class Parts(Case):
     def test_a_script_that_is_added_to_tests_is_a_part(self):
         root = self.room("tests/later.py", "tests/model.py", "tests/clients.py", "tests/log.py")
         (root / "tests/model.py").chmod(0o644)
-        self.replace(gate, ROOT=root)
+        self.enterContext(mock.patch.multiple(gate, ROOT=root))
         added = [(it.name, it.is_quick) for it in gate.parts() if it.name in ("later", "model", "clients", "log")]
         self.assertEqual(added, [("log", True), ("later", False)])
 
@@ -209,7 +201,7 @@ class Parts(Case):
 
     def test_a_proved_program_is_taken_unless_a_source_is_younger(self):
         root = self.room("crates.txt", "crates/gopher_low/src/lib.rt", "crates/hole/out/hole")
-        self.replace(unproved, ROOT=root, PROVED=root / "crates/hole/out/hole")
+        self.enterContext(mock.patch.multiple(unproved, ROOT=root, PROVED=root / "crates/hole/out/hole"))
         self.assertTrue(unproved.is_up_to_date())
         unproved.PROVED.chmod(0o644)
         self.assertFalse(unproved.is_up_to_date())

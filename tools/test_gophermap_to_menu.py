@@ -16,75 +16,62 @@ import gophermap_to_menu
 TOOL = TOOLS / "gophermap_to_menu.py"
 LISTED = "changed: this is the folder's listing of now, which doesn't change with the folder"
 NOTHING, REFUSED = "names nothing that is served", "a name that this server refuses"
-NO_HOST = "changed: it has no host, and leads to this server"
+FINDS, NO_HOST = "1: changed: it leads to this server's search", "1: changed: it has no host, and leads to this server"
+LONG = "1: left out: its selector has more than 255 bytes"
 SITE = {
     "a.txt": b"hello\n", "picture.PNG": b"P", "data": b"\0", ".hidden": b"x", "docs/b.txt": b"b\n", "docs/.secret": b"x",
     "docs/part": b"of a part\n0B\tb.txt\n*\nnever shown\n", ".run": b"#!/bin/sh\n", ".round": b"again\n=.round\n",
 }
-# what is shown; a gophermap of the root, or of `docs` if the name says so; its menu; and what is told
+# a gophermap of the root; the lines of its menu, or None; and what is told
 MAPS = (
-    ("text and comments", b"Welcome\r\n\n  two spaces\n# gone\n1no TAB\n", b"Welcome\n\n  two spaces\n1no TAB\n", ()),
-    ("a title", b"!My site\n", b"iMy site\tTITLE\n", ()),
-    (
-        "two to four fields", b"0A\ta.txt\n0a.txt\t\n1Far\t/x\th.example\n1Far\t/x\th.example\t7070\n1Its root\t\th.example\n",
-        b"0A\t/a.txt\n0a.txt\t/a.txt\n1Far\t/x\th.example\t70\n1Far\t/x\th.example\t7070\n1Its root\t\th.example\t70\n", (),
-    ),
-    (
-        "searches without a selector", b"7Find\t\n7Find\t\t\t70\n7Far\t\th.example\t70\n",
-        b"7Find\t/search\n7Find\t/search\n7Far\t\th.example\t70\n",
-        ("1: changed: it leads to this server's search", "2: changed: it leads to this server's search", f"2: {NO_HOST}"),
-    ),
-    (
-        "selectors from docs", b"0B\tb.txt\n0B\t./b.txt\n0A\t../a.txt\n0A\t/a.txt\n1Up\t..\n1Here\t/docs/\n1Here\t//docs\n",
-        b"0B\t/docs/b.txt\n0B\t/docs/b.txt\n0A\t/a.txt\n0A\t/a.txt\n1Up\t/\n1Here\t/docs\n1Here\t/docs\n", (),
-    ),
-    *(
-        ("a selector that stays", line, line, ())
-        for line in (b"hWeb\tURL:http://h/\n", b"iText\tfake\n", b"3Wrong\tx\n", b"0Finger\tuser\th\t79\n", b"7Find\t/search\n")
-    ),
-    (
-        "selectors that name nothing", b"0Gone\tgone.txt\n0Hidden\t.hidden\n1Empty\tempty\n7Query\t/query\n",
-        b"0Gone\t/gone.txt\n0Hidden\t/.hidden\n1Empty\t/empty\n7Query\t/query\n",
-        (f"1: /gone.txt {NOTHING}", f"2: /.hidden {NOTHING}", f"3: /empty {NOTHING}", "4: /query is no search: this server's is /search"),
-    ),
-    ("a period ends it", b"shown\n...\nnever shown\n", b"shown\n", ()),
-    (
-        "a listing without hidden names", b"Files:\n-data\n*\nnever shown\n",
-        b"Files:\n0a.txt\t/a.txt\n1docs\t/docs\nIpicture.PNG\t/picture.PNG\n", (f"3: {LISTED}",),
-    ),
-    (
-        "an included file", b"before\n=docs/part\nafter\n", b"before\nof a part\n0B\t/b.txt\nafter\n",
-        (f"docs/part:2: /b.txt {NOTHING}",),
-    ),
-    (
-        "what is not included", b"=gone\n=.run\n=docs\n=.round\n", b"again\n" * 7,
-        ("1: left out: no file to include", "2: left out: a script", "3: left out: no file to include", ".round:2: left out: it is included too deep"),
-    ),
-    (
-        "no counterpart", b":txt=1\n~\n%\n", b"",
-        ("1: left out: a file's type can't be set", "2: left out: there are no users' folders", "3: left out: there is one host"),
-    ),
-    *(
-        ("a line that the server would refuse", line, b"", (f"1: left out: {why}",))
-        for why, lines in (
-            ("it has no type", (b"\tno type\n", b" \tno type\n")),
-            ("its host isn't one", (b"1A\t/a\th h\n",)),
-            ("its port isn't one", (b"1A\t/a\th\t70x\n", b"1A\t/a\th\t65536\n", b"1A\t/a\th\t" + b"9" * 5_000)),
-            ("it holds a CR or a NUL", (b"te\rxt\n", b"te\0xt\n")),
-            ("its selector has more than 255 bytes", (b"1A\t/" + b"a" * 255 + b"\th\n",)),
-        )
-        for line in lines
-    ),
-    (
-        "a long selector of its own", b"1A\t/" + b"a" * 255, b"",
-        (f"1: /{'a' * 255} {NOTHING}", "1: left out: its selector has more than 255 bytes"),
-    ),
-    (
-        "lines that are changed", b"1Far\t/x\th\t70\t+\n0A\t/a.txt\t\t70\n", b"1Far\t/x\th\t70\n0A\t/a.txt\n",
-        ("1: changed: fields behind the port are left out", f"2: {NO_HOST}"),
-    ),
+    (b"Welcome\r\n\n  two spaces\n# gone\n1no TAB", b"Welcome\n\n  two spaces\n1no TAB"),
+    (b"!My site", b"iMy site\tTITLE"),
+    (b"shown\n...\nnever shown", b"shown"),
+    (b"0A\ta.txt", b"0A\t/a.txt"),
+    (b"0a.txt\t", b"0a.txt\t/a.txt"),
+    (b"0A\t/a.txt\t\t70", b"0A\t/a.txt", NO_HOST),
+    (b"1Far\t/x\th.example", b"1Far\t/x\th.example\t70"),
+    (b"1Far\t/x\th.example\t7070", b"1Far\t/x\th.example\t7070"),
+    (b"1Far\t/x\th\t70\t+", b"1Far\t/x\th\t70", "1: changed: fields behind the port are left out"),
+    (b"1Its root\t\th.example", b"1Its root\t\th.example\t70"),
+    (b"7Find\t", b"7Find\t/search", FINDS),
+    (b"7Find\t\t\t70", b"7Find\t/search", FINDS, NO_HOST),
+    (b"7Find\t/search", b"7Find\t/search"),
+    (b"7Far\t\th.example\t70", b"7Far\t\th.example\t70"),
+    (b"7Query\t/query", b"7Query\t/query", "1: /query is no search: this server's is /search"),
+    (b"hWeb\tURL:http://h/", b"hWeb\tURL:http://h/"),
+    (b"iText\tfake", b"iText\tfake"),
+    (b"3Wrong\tx", b"3Wrong\tx"),
+    (b"0Finger\tuser\th\t79", b"0Finger\tuser\th\t79"),
+    (b"0Gone\tgone.txt", b"0Gone\t/gone.txt", f"1: /gone.txt {NOTHING}"),
+    (b"0Hidden\t.hidden", b"0Hidden\t/.hidden", f"1: /.hidden {NOTHING}"),
+    (b"1Empty\tempty", b"1Empty\t/empty", f"1: /empty {NOTHING}"),
+    (b"Files:\n-data\n*\nnever shown", b"Files:\n0a.txt\t/a.txt\n1docs\t/docs\nIpicture.PNG\t/picture.PNG", f"3: {LISTED}"),
+    (b"before\n=docs/part\nafter", b"before\nof a part\n0B\t/b.txt\nafter", f"docs/part:2: /b.txt {NOTHING}"),
+    (b"=.round", b"\n".join([b"again"] * 7), ".round:2: left out: it is included too deep"),
+    (b"=.run", None, "1: left out: a script"),
+    (b"=gone", None, "1: left out: no file to include"),
+    (b"=docs", None, "1: left out: no file to include"),
+    (b":txt=1", None, "1: left out: a file's type can't be set"),
+    (b"~", None, "1: left out: there are no users' folders"),
+    (b"%", None, "1: left out: there is one host"),
+    (b"\tno type", None, "1: left out: it has no type"),
+    (b" \tno type", None, "1: left out: it has no type"),
+    (b"1A\t/a\th h", None, "1: left out: its host isn't one"),
+    (b"1A\t/a\th\t70x", None, "1: left out: its port isn't one"),
+    (b"1A\t/a\th\t65536", None, "1: left out: its port isn't one"),
+    (b"1A\t/a\th\t" + b"9" * 5_000, None, "1: left out: its port isn't one"),
+    (b"te\rxt", None, "1: left out: it holds a CR or a NUL"),
+    (b"te\0xt", None, "1: left out: it holds a CR or a NUL"),
+    (b"1A\t/" + b"a" * 255 + b"\th", None, LONG),
+    (b"1A\t/" + b"a" * 255, None, f"1: /{'a' * 255} {NOTHING}", LONG),
 )
-# the same of link files, below the line that tells of the listing
+# selectors in a gophermap of docs, and what they become
+IN_DOCS = (
+    (b"b.txt", b"/docs/b.txt"), (b"./b.txt", b"/docs/b.txt"), (b"../a.txt", b"/a.txt"), (b"/a.txt", b"/a.txt"), (b"..", b"/"),
+    (b"/docs/", b"/docs"), (b"//docs", b"/docs"),
+)
+# what is shown; a link file of the root, or of `docs` if the name says so; its menu; and what is told below the listing
 LINKS = (
     (
         "order among the listing, as UMN gopherd has it: positive numbers, names, negative numbers",
@@ -141,9 +128,7 @@ def is_menu_line(line):
 
 class GophermapToMenu(unittest.TestCase):
     def setUp(self):
-        room = tempfile.TemporaryDirectory()
-        self.addCleanup(room.cleanup)
-        self.root = pathlib.Path(room.name)
+        self.root = pathlib.Path(self.enterContext(tempfile.TemporaryDirectory()))
         self.write(SITE)
         (self.root / "empty").mkdir()
         (self.root / ".run").chmod(0o755)
@@ -163,15 +148,16 @@ class GophermapToMenu(unittest.TestCase):
         return b"".join(line + b"\n" for line in menu.lines), told
 
     def test_worked_gophermaps(self):
-        for what, content, menu, told in MAPS:
-            self.assertEqual(self.made(content, "docs/gophermap" if "docs" in what else "gophermap"), (menu, [*told]), what)
+        for content, lines, *told in MAPS:
+            self.assertEqual(self.made(content), (b"" if lines is None else lines + b"\n", told))
+        for selector, own in IN_DOCS:
+            self.assertEqual(self.made(b"0A\t" + selector, "docs/gophermap"), (b"0A\t%s\n" % own, []))
 
     def test_worked_link_files(self):
         for what, content, menu, told in LINKS:
             self.assertEqual(self.made(content, "docs/.Links" if "docs" in what else ".Links"), (menu, [f"1: {LISTED}", *told]), what)
 
-    def test_the_sites_own_port(self):
-        self.assertEqual(self.made(b"1Far\t/x\th.example\n", port=b"7070"), (b"1Far\t/x\th.example\t7070\n", []))
+    def test_the_sites_own_port_in_a_link_file(self):
         self.assertIn(b"0Far\t/x\th.example\t7070\n", self.made(b"Name=Far\nPath=/x\nHost=h.example\n", ".Links", b"7070")[0])
 
     def test_names_of_folders_by_their_tags(self):

@@ -12,13 +12,10 @@ import table
 SERVED = """{0}, {1} a second: 20,000 (C 10,000), quotient 2.00, goal at least 0.90
 {0}, processor microseconds a request: 10 (C 20), quotient 0.50, goal at most 1.25
 """
-READ = """the file {}:
-{}: read at 300 MB/s, written at 747 MB/s
-split in plain C: 600 MB/s
-"""
+READ = "the file {}:\nread at 300 MB/s, written at 747 MB/s\nsplit in plain C: 600 MB/s\n"
 OUTPUT = (
     "".join(SERVED.format(name, unit) for name, _, unit in table.SERVED)
-    + "".join(READ.format(file, file.removeprefix("small_")) for _, file in table.READ)
+    + "".join(READ.format(file) for _, file in table.READ)
     + "".join(f"small menu beside {count} silent clients, requests a second: 9,000 (C 10,000), quotient 0.90\n" for count in table.IDLE)
     + """start of 4094 nodes: 160 ms (find and cat 80), quotient 2.00
 memory at start: 200 bytes, of 100 bytes of files, quotient 2.00

@@ -109,9 +109,7 @@ TACTICS = (
 class Case(unittest.TestCase):
     def repository(self, edits, above=None):
         """Makes a repository of two crates with these edits."""
-        room = tempfile.TemporaryDirectory()
-        self.addCleanup(room.cleanup)
-        self.root = pathlib.Path(room.name)
+        self.root = pathlib.Path(self.enterContext(tempfile.TemporaryDirectory()))
         (self.root / "crates.txt").write_text("small:\nabove: small\n")
         (self.root / "HANDLES").write_text("Handles allowed: none.\n")
         for crate, source, of_crate in (("small", SOURCE, edits), ("above", ABOVE, above or {})):
@@ -122,12 +120,6 @@ class Case(unittest.TestCase):
     def write(self, file, text):
         (self.root / file).parent.mkdir(parents=True, exist_ok=True)
         (self.root / file).write_text(text)
-
-    def replace(self, module, **values):
-        for name, value in values.items():
-            patch = mock.patch.object(module, name, value)
-            patch.start()
-            self.addCleanup(patch.stop)
 
 
 class WrongBodies(Case):
@@ -189,7 +181,7 @@ class Pieces(Case):
 
     def test_a_copy_has_the_places_of_its_edits_and_the_proofs_of_what_is_left(self):
         self.repository({"one": ONE_TOO_MANY, "two": ONE_TOO_FEW_AGAIN})
-        self.replace(wrong_bodies, ROOT=self.root)
+        self.enterContext(mock.patch.multiple(wrong_bodies, ROOT=self.root))
         for name in ("next/Answers", "after_next/Answers", "Lemmas"):
             self.write(f"crates/small/proofs/{name}.antt", "use Rattle.small.proofs.next.Goals as goal\n")
         self.write("copy/small/src/lib.rt", "")
@@ -212,10 +204,8 @@ class Kept(Case):
     def setUp(self):
         self.said, self.kit, self.during = "fn above::third: no proof: `search` did not prove `returns`\n", "13", lambda: None
         self.repository({}, {"one": ONE_TOO_FEW})
-        self.replace(wrong_bodies, ROOT=self.root, check=self.check, tell=lambda *_: None)
-        patch = mock.patch.dict(os.environ, HOLE_GATE_CACHE=str(self.root / "kept"))
-        patch.start()
-        self.addCleanup(patch.stop)
+        self.enterContext(mock.patch.multiple(wrong_bodies, ROOT=self.root, check=self.check, tell=lambda *_: None))
+        self.enterContext(mock.patch.dict(os.environ, HOLE_GATE_CACHE=str(self.root / "kept")))
 
     def check(self, folder, functions):
         self.checks += 1
@@ -271,7 +261,7 @@ class Lanes(Case):
     def test_a_check_that_is_killed_beside_rt_ci_is_run_again_after_it(self):
         lane = lanes.Lanes()
         lane.is_quiet.clear()
-        self.replace(lanes, available=lambda: 1 << 40)
+        self.enterContext(mock.patch.multiple(lanes, available=lambda: 1 << 40))
         with tempfile.TemporaryDirectory() as room:
             wrong_bodies.threading.Timer(0.5, lane.is_quiet.set).start()
             said, _ = lane.run(["sh", "-c", "[ -e killed ] && echo judged; touch killed; kill -9 $$"], room)
@@ -279,11 +269,11 @@ class Lanes(Case):
 
     def test_beside_rt_ci_there_is_less_room(self):
         lane = lanes.Lanes()
-        self.replace(lanes, available=lambda: lanes.MEMORY_OF_A_CHECK + lanes.SPARE - 1)
+        self.enterContext(mock.patch.multiple(lanes, available=lambda: lanes.MEMORY_OF_A_CHECK + lanes.SPARE - 1))
         self.assertTrue(lane.has_room())
         lane.is_quiet.clear()
         self.assertFalse(lane.has_room())
-        self.replace(lanes, available=lambda: 1 << 40)
+        self.enterContext(mock.patch.multiple(lanes, available=lambda: 1 << 40))
         self.assertTrue(lane.has_room())
         lane.running = max(len(os.sched_getaffinity(0)) - 1, 1)
         self.assertFalse(lane.has_room())
@@ -295,8 +285,8 @@ class Heard(Case):
         self.write("low/format", "")
         self.write("crates/program/src/main.rt", "")
         libraries = {crate: wrong_bodies.Future() for crate in ("low", "above", "program", "later")}
-        self.replace(wrong_bodies, ROOT=self.root, build=lambda crate: f"built {crate}")
-        self.replace(sys, stdin=["low\n", "above\n", "program\n"])
+        self.enterContext(mock.patch.multiple(wrong_bodies, ROOT=self.root, build=lambda crate: f"built {crate}"))
+        self.enterContext(mock.patch.multiple(sys, stdin=["low\n", "above\n", "program\n"]))
         wrong_bodies.hear(libraries, self.root)
         results = [libraries[crate].result() for crate in ("low", "above", "program")]
         self.assertEqual(results, [self.root / "low", "built above", self.root / "program"])

@@ -32,7 +32,6 @@ from lanes import Lanes
 
 ROOT = pathlib.Path(os.environ.get("ROOT") or pathlib.Path(__file__).resolve().parent.parent)
 LANES = Lanes()
-PRINTING = threading.Lock()
 CLAUSE = re.compile(r"(?m)^ *(?:ensures|requires|ghost)\b.*$")
 OWN_PROOFS = ("Answers", "Invariants", "Proof")
 
@@ -112,8 +111,8 @@ def libraries_below():
 
 def tell(lines, to):
     """Prints whole lines at once, since crates are tried side by side."""
-    with PRINTING:
-        print("".join(f"{line}\n" for line in lines), end="", file=to, flush=True)
+    to.write("".join(f"{line}\n" for line in lines))
+    to.flush()
 
 
 def run(*words, folder=ROOT):
@@ -142,12 +141,6 @@ def check(folder, functions):
     said, seconds = LANES.run(words_of_check(folder, functions), folder)
     tell([f"{folder.name}: a check of {len(functions)} functions took {seconds:.0f} s"], sys.stderr)
     return said
-
-
-def kit():
-    """What tells the toolchain from others."""
-    rtlib = toolchain()
-    return run("rt", "version").stdout, *(pathlib.Path(it).read_bytes() for it in (f"{rtlib.KIT}/WHAT", rtlib.__file__))
 
 
 def copy_of(crate, built, room):
@@ -346,7 +339,9 @@ def main(words):
     tell(bad, sys.stdout)
     if given.beside:
         LANES.is_quiet.clear()
-    kept = Refusals(ROOT, below, kit(), not given.from_nothing)
+    rtlib = toolchain()
+    kit = run("rt", "version").stdout, *(pathlib.Path(it).read_bytes() for it in (f"{rtlib.KIT}/WHAT", rtlib.__file__))
+    kept = Refusals(ROOT, below, kit, not given.from_nothing)
     lines = lambda result: [f"{it}: {why}" for it, (is_refused, why) in result.items() if given.reasons or not is_refused]
     show = lambda result: tell(lines(result), sys.stdout)
     tried = try_all(edits, below, given.beside, lambda edits, libraries: try_crate(edits, libraries, kept, show))
