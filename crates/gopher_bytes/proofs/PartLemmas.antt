@@ -24,22 +24,6 @@ parts-get items start [] index d within = absurd (omega arith)
 parts-get items start (end ∷ ends) zero d within = refl
 parts-get items start (end ∷ ends) (suc index) d within = parts-get items end ends index d (omega arith)
 
-pub start_le_limit : (start : ℕ) (ends : List ℕ) (limit : ℕ) → AreEnds start ends limit → start ≤ limit
-start_le_limit start [] limit chain = chain
-start_le_limit start (end ∷ ends) limit chain = omega (arith, chain.0, start_le_limit end ends limit chain.1)
-
--- no list starts after its end
-pub start_le_end : (start : ℕ) (ends : List ℕ) (limit index d : ℕ) → AreEnds start ends limit → index < length ends → start_at start ends index ≤ get_or ends index d
-start_le_end start [] limit index d chain within = absurd (omega arith)
-start_le_end start (end ∷ ends) limit zero d chain within = chain.0
-start_le_end start (end ∷ ends) limit (suc index) d chain within = start_le_end end ends limit index d chain.1 (omega arith)
-
--- no list ends past the limit
-pub end_le_limit : (start : ℕ) (ends : List ℕ) (limit index d : ℕ) → AreEnds start ends limit → index < length ends → get_or ends index d ≤ limit
-end_le_limit start [] limit index d chain within = absurd (omega arith)
-end_le_limit start (end ∷ ends) limit zero d chain within = start_le_limit end ends limit chain.1
-end_le_limit start (end ∷ ends) limit (suc index) d chain within = end_le_limit end ends limit index d chain.1 (omega arith)
-
 pub last_le_limit : (start : ℕ) (ends : List ℕ) (limit : ℕ) → AreEnds start ends limit → last_end start ends ≤ limit
 last_le_limit start [] limit chain = chain
 last_le_limit start (end ∷ ends) limit chain = last_le_limit end ends limit chain.1
@@ -52,16 +36,12 @@ start_le_at start [] limit (suc i) chain = omega arith
 start_le_at start (end ∷ ends) limit (suc i) chain = omega (arith, chain.0, start_le_at end ends limit i chain.1)
 
 -- no list starts before an earlier one
-pub starts_forward : (start : ℕ) (ends : List ℕ) (limit i n : ℕ) → AreEnds start ends limit → start_at start ends i ≤ start_at start ends (i + n)
-starts_forward start ends limit zero n chain = start_le_at start ends limit (0 + n) chain
-starts_forward start [] limit (suc i) n chain =
-    let next : suc i + n ≡ suc (i + n) = omega arith in
-    let same : start ≡ start_at start [] (suc i + n) = ap (start_at start []) (sym next) in
-    omega (arith, same)
-starts_forward start (end ∷ ends) limit (suc i) n chain =
-    let next : suc i + n ≡ suc (i + n) = omega arith in
-    let same : start_at end ends (i + n) ≡ start_at start (end ∷ ends) (suc i + n) = ap (start_at start (end ∷ ends)) (sym next) in
-    omega (arith, same, starts_forward end ends limit i n chain.1)
+pub starts_forward : (start : ℕ) (ends : List ℕ) (limit i j : ℕ) → AreEnds start ends limit → i ≤ j → start_at start ends i ≤ start_at start ends j
+starts_forward start ends limit zero j chain forward = start_le_at start ends limit j chain
+starts_forward start [] limit (suc i) zero chain forward = omega arith
+starts_forward start [] limit (suc i) (suc j) chain forward = omega arith
+starts_forward start (end ∷ ends) limit (suc i) zero chain forward = absurd (omega arith)
+starts_forward start (end ∷ ends) limit (suc i) (suc j) chain forward = starts_forward end ends limit i j chain.1 (omega arith)
 
 -- no list starts past the limit
 pub start_within : (start : ℕ) (ends : List ℕ) (limit i : ℕ) → AreEnds start ends limit → start_at start ends i ≤ limit
@@ -69,6 +49,13 @@ start_within start [] limit zero chain = chain
 start_within start [] limit (suc i) chain = chain
 start_within start (end ∷ ends) limit zero chain = omega (arith, chain.0, start_within end ends limit 0 chain.1)
 start_within start (end ∷ ends) limit (suc i) chain = start_within end ends limit i chain.1
+
+-- no list starts after its end, and none ends past the limit
+pub start_le_end : (start : ℕ) (ends : List ℕ) (limit index d : ℕ) → AreEnds start ends limit → index < length ends → start_at start ends index ≤ get_or ends index d
+start_le_end start ends limit index d chain within = omega (arith, start_at-suc start ends index d within, starts_forward start ends limit index (suc index) chain (omega arith))
+
+pub end_le_limit : (start : ℕ) (ends : List ℕ) (limit index d : ℕ) → AreEnds start ends limit → index < length ends → get_or ends index d ≤ limit
+end_le_limit start ends limit index d chain within = omega (arith, start_at-suc start ends index d within, start_within start ends limit (suc index) chain)
 
 -- ---- one more list
 
@@ -88,7 +75,7 @@ last_push start (first ∷ ends) end = last_push first ends end
 pub parts_more : {A : Type 0} (items more : List A) (start : ℕ) (ends : List ℕ) → AreEnds start ends (length items) → parts (items ++ more) start ends ≡ parts items start ends
 parts_more items more start [] chain = refl
 parts_more items more start (end ∷ ends) chain =
-    let within : end ≤ length items = start_le_limit end ends (length items) chain.1 in
+    let within : end ≤ length items = start_within end ends (length items) 0 chain.1 in
     let from : drop start (items ++ more) ≡ drop start items ++ more = drop-append-le start items more (omega (arith, chain.0)) in
     let short : end - start ≤ length (drop start items) = omega (arith, length-drop start items) in
     let kept : take (end - start) (drop start (items ++ more)) ≡ take (end - start) (drop start items) = ap (take (end - start)) from ∙ take-append-le (end - start) (drop start items) more short in
@@ -99,16 +86,17 @@ pub parts_push : {A : Type 0} (items : List A) (start : ℕ) (ends : List ℕ) (
 parts_push items start [] end = refl
 parts_push items start (first ∷ ends) end = ap (λ l. take (first - start) (drop start items) ∷ l) (parts_push items first ends end)
 
-pub packed_push : {A : Type 0} (items more : List A) (ends : List ℕ) (end : ℕ) → ArePacked items ends → end ≡ length (items ++ more) → ArePacked (items ++ more) (ends ++ end ∷ [])
+pub packed_push : {A : Type 0} (items more : List A) (ends : List ℕ) (end : ℕ) → ArePacked items ends → end ≡ length items + length more → ArePacked (items ++ more) (ends ++ end ∷ [])
 packed_push items more ends end packed is =
+    let whole : end ≡ length (items ++ more) = is ∙ sym (length-append items more) in
     record {
-      chain = subst (AreEnds 0 (ends ++ end ∷ [])) is (ends_push 0 ends (length items) end packed.chain (omega (arith, length-append items more)));
-      whole = last_push 0 ends end ∙ is;
+      chain = subst (AreEnds 0 (ends ++ end ∷ [])) whole (ends_push 0 ends (length items) end packed.chain (omega arith));
+      whole = last_push 0 ends end ∙ whole;
     }
 
-pub parts_added : {A : Type 0} (items more : List A) (ends : List ℕ) (end : ℕ) → ArePacked items ends → end ≡ length (items ++ more) → parts (items ++ more) 0 (ends ++ end ∷ []) ≡ parts items 0 ends ++ more ∷ []
+pub parts_added : {A : Type 0} (items more : List A) (ends : List ℕ) (end : ℕ) → ArePacked items ends → end ≡ length items + length more → parts (items ++ more) 0 (ends ++ end ∷ []) ≡ parts items 0 ends ++ more ∷ []
 parts_added items more ends end packed is =
-    let size : end - last_end 0 ends ≡ length more = omega (arith, packed.whole, length-append items more) in
+    let size : end - last_end 0 ends ≡ length more = omega (arith, packed.whole) in
     let from : drop (last_end 0 ends) (items ++ more) ≡ more = drop_at items more (last_end 0 ends) (sym packed.whole) in
     let last : take (end - last_end 0 ends) (drop (last_end 0 ends) (items ++ more)) ≡ more = (λ i. take (size i) (from i)) ∙ take_all (length more) more (omega arith) in
     parts_push (items ++ more) 0 ends end ∙ (λ i. parts_more items more 0 ends packed.chain i ++ last i ∷ [])
@@ -119,7 +107,7 @@ parts_added items more ends end packed is =
 parts_length : (bytes : List ℕ) (start : ℕ) (ends : List ℕ) → AreEnds start ends (length bytes) → start + sum_by length (parts bytes start ends) ≡ last_end start ends
 parts_length bytes start [] chain = omega arith
 parts_length bytes start (end ∷ ends) chain =
-    let within : end ≤ length bytes = start_le_limit end ends (length bytes) chain.1 in
+    let within : end ≤ length bytes = start_within end ends (length bytes) 0 chain.1 in
     let size : length (take (end - start) (drop start bytes)) ≡ end - start = omega (arith, chain.0, length-take (end - start) (drop start bytes), length-drop start bytes) in
     omega (arith, chain.0, size, parts_length bytes end ends chain.1, sum_by-cons length (take (end - start) (drop start bytes)) (parts bytes end ends))
 

@@ -1,14 +1,13 @@
 -- Cutting bytes at the first occurrence of a byte, and the lines of bytes.
-use Rattle.std.proofs.Common.{◌≡◌, ℕ, zero, suc, ◌+◌, ◌-◌, ◌<◌, ◌≤◌, Bool, true, false, ◌||◌, eqb, cond, List, [], ◌∷◌, ◌++◌, add-one, one-add, append_assoc, length, get_or, take, drop, Option, None, Some, is_some, refl, sym, ap, ◌∙◌, arith}
-use Rattle.std.specs.List.{list_any, slice_split}
-use Rattle.std.proofs.lemmas.Bool.{eqb-true}
-use Rattle.std.proofs.lemmas.List.{append-nil, length-drop, take_all}
+use Rattle.std.proofs.Common.{◌≡◌, ℕ, suc, ◌+◌, ◌-◌, ◌<◌, ◌≤◌, Bool, true, false, eqb, cond, List, [], ◌∷◌, ◌++◌, add-one, one-add, append_assoc, length, get_or, take, drop, Option, None, Some, is_some, refl, sym, ap, subst, ◌∙◌, arith}
+use Rattle.std.specs.List.{All, list_any, slice_split}
+use Rattle.std.proofs.lemmas.Bool.{eqb-true, false_from_ne_true}
+use Rattle.std.proofs.lemmas.List.{append-nil, get_or-take, get_or_default, length-drop, length-take, take_all}
 use Rattle.std.proofs.Math.Seq.{split_at}
-use Rattle.std.proofs.lemmas.List.Folds.{list_any_at}
+use Rattle.std.proofs.lemmas.List.Folds.{list_any_at, list_any_none}
 use Rattle.std.specs.Io.BufRead.{drop_through}
 use Rattle.std.specs.Str.Lines.{lines_of_parts, strip_carriage_return}
-use Rattle.std.proofs.lemmas.List.Splits.{slice_split-cons_yes, slice_split-cons_no}
-use Rattle.std.proofs.lemmas.Bool.Decides.{nat_tests}
+use Rattle.std.proofs.lemmas.List.Splits.{length-slice_split, slice_split_at, slice_split_none}
 use Rattle.memchr.specs.Find.{Nowhere, Passes, IsFirstByte, is_byte}
 use Rattle.gopher_bytes.specs.Lines.{IsAround, any_last_line, is_last_line, lines_before_last, lines_of}
 
@@ -16,33 +15,21 @@ use Rattle.gopher_bytes.specs.Lines.{IsAround, any_last_line, is_last_line, line
 abbrev is_cut : ℕ → ℕ → Bool
 is_cut c b = eqb b c
 
-later : (c b : ℕ) (bs : List ℕ) (n : ℕ) → Nowhere (Passes (is_byte c) (b ∷ bs)) 0 (suc n) → Nowhere (Passes (is_byte c) bs) 0 n
-later c b bs n none k low below here = none (suc k) (omega arith) (omega arith) here
-
-not_first : (c b : ℕ) (bs : List ℕ) (n : ℕ) → Nowhere (Passes (is_byte c) (b ∷ bs)) 0 (suc n) → eqb b c ≡ false
-not_first c b bs n none = by (eqb b c) refl
-  where
-    by : (t : Bool) → eqb b c ≡ t → t ≡ false
-    by true e = absurd (none 0 (omega arith) (omega arith) e)
-    by false e = refl
-
-never : (t : Bool) → ¬ (t ≡ true) → t ≡ false
-never true h = absurd (h refl)
-never false h = refl
-
-neither : (s t : Bool) → s ≡ false → t ≡ false → (s || t) ≡ false
-neither s t p q = rw p q
-
 -- if no byte before k passes a test, none of the first k does
+none_before : (test : ℕ → Bool) (bs : List ℕ) (k : ℕ) → k ≤ length bs → Nowhere (Passes test bs) 0 k → All (λ b. test b ≡ false) (take k bs)
+none_before test bs k within none j d low =
+    let less : j < k = omega (arith, length-take k bs) in
+    let same : get_or (take k bs) j d ≡ get_or bs j 0 = get_or-take k bs j d less ∙ get_or_default bs j d 0 (omega arith) in
+    false_from_ne_true (test (get_or (take k bs) j d)) (λ passes. none j (omega arith) less (ap test (sym same) ∙ passes))
+
+none_of : (test : ℕ → Bool) (bs : List ℕ) → Nowhere (Passes test bs) 0 (length bs) → All (λ b. test b ≡ false) bs
+none_of test bs none = subst (All (λ b. test b ≡ false)) (take_all (length bs) bs (omega arith)) (none_before test bs (length bs) (omega arith) none)
+
 pub list_any_before : (test : ℕ → Bool) (bs : List ℕ) (k : ℕ) → k ≤ length bs → Nowhere (Passes test bs) 0 k → list_any test (take k bs) ≡ false
-list_any_before test bs zero within none = refl
-list_any_before test [] (suc k) within none = refl
-list_any_before test (b ∷ bs) (suc k) within none =
-    neither _ _ (never (test b) (none 0 (omega arith) (omega arith)))
-    (list_any_before test bs k (omega arith) (λ j low below passes. none (suc j) (omega arith) (omega arith) passes))
+list_any_before test bs k within none = list_any_none test (take k bs) (none_before test bs k within none)
 
 pub list_any_nowhere : (test : ℕ → Bool) (bs : List ℕ) → Nowhere (Passes test bs) 0 (length bs) → list_any test bs ≡ false
-list_any_nowhere test bs none = ap (list_any test) (sym (take_all (length bs) bs (omega arith))) ∙ list_any_before test bs (length bs) (omega arith) none
+list_any_nowhere test bs none = list_any_none test bs (none_of test bs none)
 
 -- a search finds a byte exactly if one passes its test
 pub list_any_found : (test : ℕ → Bool) (bs : List ℕ) (found : Option ℕ) → IsFirstByte test bs found → list_any test bs ≡ is_some found
@@ -52,42 +39,38 @@ list_any_found test bs (Some k) first = list_any_at test bs k 0 first.0.high fir
 -- bytes are cut at their first `c`
 pub slice_split_at_first : (c : ℕ) (bs : List ℕ) (k : ℕ) → k < length bs → Nowhere (Passes (is_byte c) bs) 0 k → eqb (get_or bs k 0) c ≡ true
     → slice_split (is_cut c) bs ≡ take k bs ∷ slice_split (is_cut c) (drop (suc k) bs)
-slice_split_at_first c [] k within none here = absurd (omega arith)
-slice_split_at_first c (b ∷ bs) zero within none here = slice_split-cons_yes (is_cut c) b bs here
-slice_split_at_first c (b ∷ bs) (suc k) within none here =
-    slice_split-cons_no (is_cut c) b bs (not_first c b bs k none)
-    ∙ rw (slice_split_at_first c bs k (omega arith) (later c b bs k none) here) refl
+slice_split_at_first c bs k within none here =
+    ap (slice_split (is_cut c)) (split_at bs k 0 within)
+    ∙ slice_split_at (is_cut c) (take k bs) (get_or bs k 0) (drop (suc k) bs) (none_before (is_cut c) bs k (omega arith) none) here
 
 -- bytes without `c` are one part
 pub slice_split_nowhere : (c : ℕ) (bs : List ℕ) → Nowhere (Passes (is_byte c) bs) 0 (length bs) → slice_split (is_cut c) bs ≡ bs ∷ []
-slice_split_nowhere c [] none = refl
-slice_split_nowhere c (b ∷ bs) none =
-    slice_split-cons_no (is_cut c) b bs (not_first c b bs (length bs) none)
-    ∙ rw (slice_split_nowhere c bs (later c b bs (length bs) none)) refl
+slice_split_nowhere c bs none = slice_split_none (is_cut c) bs (none_of (is_cut c) bs none)
 
 -- the bytes after the first `c`
+drop_through-append : (c : ℕ) (front bs : List ℕ) → All (λ b. is_cut c b ≡ false) front → drop_through c (front ++ bs) ≡ drop_through c bs
+drop_through-append c [] bs none = refl
+drop_through-append c (b ∷ front) bs none =
+    ap (λ t. cond t (front ++ bs) (drop_through c (front ++ bs))) (none 0 b (omega arith))
+    ∙ drop_through-append c front bs (λ k d low. none (suc k) d (omega arith))
+
 pub drop_through_at_first : (c : ℕ) (bs : List ℕ) (k : ℕ) → k < length bs → Nowhere (Passes (is_byte c) bs) 0 k → eqb (get_or bs k 0) c ≡ true
     → drop_through c bs ≡ drop (suc k) bs
-drop_through_at_first c [] k within none here = absurd (omega arith)
-drop_through_at_first c (b ∷ bs) zero within none here = ap (λ t. cond t bs (drop_through c bs)) here
-drop_through_at_first c (b ∷ bs) (suc k) within none here =
-    ap (λ t. cond t bs (drop_through c bs)) (not_first c b bs k none)
-    ∙ drop_through_at_first c bs k (omega arith) (later c b bs k none) here
+drop_through_at_first c bs k within none here =
+    ap (drop_through c) (split_at bs k 0 within)
+    ∙ drop_through-append c (take k bs) (get_or bs k 0 ∷ drop (suc k) bs) (none_before (is_cut c) bs k (omega arith) none)
+    ∙ ap (λ t. cond t (drop (suc k) bs) (drop_through c (drop (suc k) bs))) here
 
 pub drop_through_nowhere : (c : ℕ) (bs : List ℕ) → Nowhere (Passes (is_byte c) bs) 0 (length bs) → drop_through c bs ≡ []
-drop_through_nowhere c [] none = refl
-drop_through_nowhere c (b ∷ bs) none =
-    ap (λ t. cond t bs (drop_through c bs)) (not_first c b bs (length bs) none)
-    ∙ drop_through_nowhere c bs (later c b bs (length bs) none)
+drop_through_nowhere c bs none = ap (drop_through c) (sym (append-nil bs)) ∙ drop_through-append c bs [] (none_of (is_cut c) bs none)
 
 -- a split has at least one part
 pub some_part : {X : Type 0} (p : X → Bool) (xs : List X) → (first : List X) × (more : List (List X)) × (slice_split p xs ≡ first ∷ more)
-some_part p [] = ([], [], refl)
-some_part {X} p (x ∷ xs) = by (p x) refl (some_part p xs)
+some_part {X} p xs = by (slice_split p xs) (omega (arith, length-slice_split p xs))
   where
-    by : (t : Bool) → p x ≡ t → (first : List X) × (more : List (List X)) × (slice_split p xs ≡ first ∷ more) → (first : List X) × (more : List (List X)) × (slice_split p (x ∷ xs) ≡ first ∷ more)
-    by true e s = ([], slice_split p xs, slice_split-cons_yes p x xs e)
-    by false e s = (x ∷ s.0, s.1, slice_split-cons_no p x xs e ∙ rw s.2 refl)
+    by : (parts : List (List X)) → 0 < length parts → (first : List X) × (more : List (List X)) × (parts ≡ first ∷ more)
+    by [] some = absurd (omega arith)
+    by (part ∷ parts) some = (part, parts, refl)
 
 -- the line before the first LF, and the lines after it
 pub lines_of_cut : (bs line rest : List ℕ) → slice_split (is_cut 10) bs ≡ line ∷ slice_split (is_cut 10) rest → lines_of bs ≡ strip_carriage_return line ∷ lines_of rest

@@ -2,34 +2,25 @@
 use Rattle.std.proofs.Common.{◌≡◌, ℕ, ◌≤◌, Bool, true, false, cond, eqb, ◌||◌, List, [], ◌∷◌, ◌++◌, length, refl, sym, ap, ◌∙◌, arith}
 use Rattle.std.specs.Prelude.{reverse}
 use Rattle.std.specs.List.{list_any}
+use Rattle.std.proofs.lemmas.Bool.{or_parts}
 use Rattle.std.proofs.lemmas.List.{reverse-append, reverse-reverse, length-append, length-reverse}
 use Rattle.std.proofs.lemmas.List.Folds.{list_any-append}
+use Rattle.std.proofs.lemmas.List.Sorted.{IsPermutation-reverse, list_any-IsPermutation}
 use Rattle.gopher_bytes.specs.Trim.{trim_front, trim_spaces}
 
 -- ---- a test that no byte passes
 
-right_false : (s t : Bool) → (s || t) ≡ false → t ≡ false
-right_false true t h = absurd cc
-right_false false t h = h
-
-left_false : (s t : Bool) → (s || t) ≡ false → s ≡ false
-left_false true t h = h
-left_false false t h = refl
-
-both_false : (s t : Bool) → s ≡ false → t ≡ false → (s || t) ≡ false
-both_false s t p q = rw p q
-
 pub none_after : (test : ℕ → Bool) (xs ys : List ℕ) → list_any test (xs ++ ys) ≡ false → list_any test ys ≡ false
-none_after test xs ys h = right_false _ _ (sym (list_any-append test xs ys) ∙ h)
+none_after test xs ys h = (or_parts (list_any test xs) (list_any test ys) (sym (list_any-append test xs ys) ∙ h)).1
 
 pub none_in_reverse : (test : ℕ → Bool) (xs : List ℕ) → list_any test xs ≡ false → list_any test (reverse xs) ≡ false
-none_in_reverse test [] h = h
-none_in_reverse test (x ∷ xs) h =
-    let rest = none_in_reverse test xs (right_false (test x) _ h) in
-    let first : list_any test (x ∷ []) ≡ false = both_false (test x) false (left_false (test x) _ h) refl in
-    ap (list_any test) (reverse-append (x ∷ []) xs) ∙ list_any-append test (reverse xs) (x ∷ []) ∙ both_false _ _ rest first
+none_in_reverse test xs h = sym (list_any-IsPermutation test xs (reverse xs) (IsPermutation-reverse xs)) ∙ h
 
 -- ---- trims
+
+-- a trim at the back drops a space at the end
+pub back_space : (before : List ℕ) → trim_front (reverse (before ++ 32 ∷ [])) ≡ trim_front (reverse before)
+back_space before = ap trim_front (reverse-append before (32 ∷ []))
 
 -- a trim drops only spaces from the front
 trim_front_rest : (xs : List ℕ) → (spaces : List ℕ) × (xs ≡ spaces ++ trim_front xs)

@@ -1,29 +1,19 @@
 -- Two lists side by side, of equal length.
 use Rattle.std.proofs.Common.{◌≡◌, ℕ, zero, suc, ◌<◌, List, [], ◌∷◌, ◌++◌, length, map, take, drop, get_or, slice_get, Some, refl, ap, arith}
 use Rattle.std.specs.List.{zip}
+use Rattle.std.proofs.lemmas.Slice.Zip as lib
 
 pub length-zip : {A B : Type 0} (a : List A) (b : List B) → length b ≡ length a → length (zip a b) ≡ length a
-length-zip [] [] same = refl
-length-zip [] (y ∷ b) same = refl
-length-zip (x ∷ a) [] same = absurd (omega arith)
-length-zip (x ∷ a) (y ∷ b) same = ap suc (length-zip a b (omega arith))
+length-zip a b same = omega (arith, lib.length-zip a b)
 
 pub firsts : {A B : Type 0} (a : List A) (b : List B) → length b ≡ length a → map (λ entry. entry.0) (zip a b) ≡ a
-firsts [] b same = refl
-firsts (x ∷ a) [] same = absurd (omega arith)
-firsts (x ∷ a) (y ∷ b) same = ap (λ l. x ∷ l) (firsts a b (omega arith))
+firsts a b same = lib.firsts-zip a b same
 
 pub seconds : {A B : Type 0} (a : List A) (b : List B) → length b ≡ length a → map (λ entry. entry.1) (zip a b) ≡ b
-seconds [] [] same = refl
-seconds [] (y ∷ b) same = absurd (omega arith)
-seconds (x ∷ a) [] same = refl
-seconds (x ∷ a) (y ∷ b) same = ap (λ l. y ∷ l) (seconds a b (omega arith))
+seconds a b same = lib.seconds-zip a b same
 
 pub get_or-zip : {A B : Type 0} (a : List A) (b : List B) (i : ℕ) (d : A) (e : B) → length b ≡ length a → i < length a → get_or (zip a b) i (d, e) ≡ (get_or a i d, get_or b i e)
-get_or-zip [] b i d e same within = absurd (omega arith)
-get_or-zip (x ∷ a) [] i d e same within = absurd (omega arith)
-get_or-zip (x ∷ a) (y ∷ b) zero d e same within = refl
-get_or-zip (x ∷ a) (y ∷ b) (suc i) d e same within = get_or-zip a b i d e (omega arith) (omega arith)
+get_or-zip a b i d e same within = lib.get_or-zip a b i (d, e) within (omega arith)
 
 pub zip-append : {A B : Type 0} (a more_a : List A) (b more_b : List B) → length b ≡ length a → zip (a ++ more_a) (b ++ more_b) ≡ zip a b ++ zip more_a more_b
 zip-append [] more_a [] more_b same = refl

@@ -2,7 +2,8 @@
 //!
 //! Contracts see a `ByteString` as the list of its bytes, and a `ByteStrings` as the list of its
 //! strings. The crates above also keep packed lists of their own: they use the definitions of
-//! `specs/Parts.antt` and the ranges of `range_at` and `span_at`.
+//! `specs/Parts.antt` and the ranges of `range_at` and `span_at`. Their binary search is
+//! `first_index`.
 //!
 //! Error 90 (`NoMemory`, or `AllocError` in calls that have no other error) means out of memory. A
 //! public call that fails with it leaves its arguments unchanged. Calls that can't fail with it
@@ -18,6 +19,7 @@ mod fault;
 mod line;
 mod number;
 mod parts;
+mod search;
 mod split;
 mod trim;
 
@@ -27,5 +29,6 @@ pub use fault::NoMemory;
 pub use line::{EachLine, MAX_LINE, first_line, is_last_line, lines};
 pub use number::read_number;
 pub use parts::{MAX_PACKED, range_at, span_at};
+pub use search::first_index;
 pub use split::split_once;
 pub use trim::trim_spaces;

@@ -15,12 +15,7 @@ pub fn range_at(ends: &[u32], index: usize) -> (usize, usize)
     ensures forward { (limit : ℕ) → AreEnds 0 ends.now limit → result.0 ≤ result.1 }
     ensures within { (limit : ℕ) → AreEnds 0 ends.now limit → result.1 ≤ limit }
 {
-    let end = ends[index] as usize;
-    if index == 0 {
-        (0, end)
-    } else {
-        (ends[index - 1] as usize, end)
-    }
+    (start_of(ends, index), ends[index] as usize)
 }
 
 // The start of the list at an index, or the end of all if there are as many.

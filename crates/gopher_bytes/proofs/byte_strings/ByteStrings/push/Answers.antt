@@ -1,6 +1,6 @@
 use Rattle.std.proofs.Common.{◌≡◌, ℕ, List, ◌+◌, ◌++◌, ◌∷◌, [], append_assoc, length, sym, ap, ◌∙◌, arith}
 use Rattle.std.proofs.lemmas.Bool.{eqb-true}
-use Rattle.std.proofs.lemmas.List.{append-nil, length-append, nil_from_length}
+use Rattle.std.proofs.lemmas.List.{append-nil, nil_from_length}
 use Rattle.gopher_bytes.proofs.PartLemmas.{packed_push, parts_added}
 use Rattle.gopher_bytes.proofs.byte_strings.ByteStrings.push.Goals as goal
 
@@ -12,36 +12,40 @@ low_pushed low high end none =
 
 pub invariant_of-self-then-is_empty : goal.invariant_of-self-then-is_empty
 invariant_of-self-then-is_empty c =
-    let bytes : List ℕ = c.self.inside.bytes.items in
+    let low : List ℕ = c.self.inside.low.items in
+    let high : List ℕ = c.self.inside.high.items in
     let end : ℕ = c.len-2.result + length c.args.string.now in
-    let is : end ≡ length (bytes ++ c.args.string.now) = omega (arith, c.len-2.ensures, length-append bytes c.args.string.now, c.self.inside.bytes.ok.0) in
-    let none : length c.self.inside.high.items ≡ 0 = sym c.self.inside.high.ok.0 ∙ eqb-true _ 0 (sym c.is_empty.ensures ∙ c.if-is_empty.true) in
-    rw (c.push_reserved.ensures.items, c.in_ok-extend_from_slice.ensures.items, c.reserve.ensures.items, low_pushed c.self.inside.low.items c.self.inside.high.items end none)
-    (packed_push bytes c.args.string.now (c.self.inside.low.items ++ c.self.inside.high.items) end c.self.invariant is)
+    let is : end ≡ length c.self.inside.bytes.items + length c.args.string.now = omega arith in
+    let none : length high ≡ 0 = sym c.self.inside.high.ok.0 ∙ eqb-true _ 0 (sym c.is_empty.ensures ∙ c.if-is_empty.true) in
+    rw (c.push_reserved.ensures.items, c.in_ok-extend_from_slice.ensures.items, c.reserve.ensures.items, low_pushed low high end none)
+    (packed_push c.self.inside.bytes.items c.args.string.now (low ++ high) end c.self.invariant is)
 
 pub invariant_of-self-else-end-lt-LOW_ENDS : goal.invariant_of-self-else-end-lt-LOW_ENDS
 invariant_of-self-else-end-lt-LOW_ENDS c =
-    let bytes : List ℕ = c.self.inside.bytes.items in
+    let low : List ℕ = c.self.inside.low.items in
+    let high : List ℕ = c.self.inside.high.items in
     let end : ℕ = c.len-2.result + length c.args.string.now in
-    let is : end ≡ length (bytes ++ c.args.string.now) = omega (arith, c.len-2.ensures, length-append bytes c.args.string.now, c.self.inside.bytes.ok.0) in
-    rw (c.push_reserved-else-end-lt-LOW_ENDS.ensures.items, c.in_ok-extend_from_slice-2.ensures.items, c.reserve-else-end-lt-LOW_ENDS.ensures.items, ← append_assoc c.self.inside.low.items c.self.inside.high.items (end ∷ []))
-    (packed_push bytes c.args.string.now (c.self.inside.low.items ++ c.self.inside.high.items) end c.self.invariant is)
+    let is : end ≡ length c.self.inside.bytes.items + length c.args.string.now = omega arith in
+    rw (c.push_reserved-else-end-lt-LOW_ENDS.ensures.items, c.in_ok-extend_from_slice-2.ensures.items, c.reserve-else-end-lt-LOW_ENDS.ensures.items, ← append_assoc low high (end ∷ []))
+    (packed_push c.self.inside.bytes.items c.args.string.now (low ++ high) end c.self.invariant is)
 
 pub returns-in_ok-extend_from_slice-clause-added : goal.returns-in_ok-extend_from_slice-clause-added
 returns-in_ok-extend_from_slice-clause-added c =
-    let bytes : List ℕ = c.self.inside.bytes.items in
+    let low : List ℕ = c.self.inside.low.items in
+    let high : List ℕ = c.self.inside.high.items in
     let end : ℕ = c.len-2.result + length c.args.string.now in
-    let is : end ≡ length (bytes ++ c.args.string.now) = omega (arith, c.len-2.ensures, length-append bytes c.args.string.now, c.self.inside.bytes.ok.0) in
-    let none : length c.self.inside.high.items ≡ 0 = sym c.self.inside.high.ok.0 ∙ eqb-true _ 0 (sym c.is_empty.ensures ∙ c.if-is_empty.true) in
-    rw (c.push_reserved.ensures.items, c.in_ok-extend_from_slice.ensures.items, c.reserve.ensures.items, low_pushed c.self.inside.low.items c.self.inside.high.items end none)
-    (parts_added bytes c.args.string.now (c.self.inside.low.items ++ c.self.inside.high.items) end c.self.invariant is)
+    let is : end ≡ length c.self.inside.bytes.items + length c.args.string.now = omega arith in
+    let none : length high ≡ 0 = sym c.self.inside.high.ok.0 ∙ eqb-true _ 0 (sym c.is_empty.ensures ∙ c.if-is_empty.true) in
+    rw (c.push_reserved.ensures.items, c.in_ok-extend_from_slice.ensures.items, c.reserve.ensures.items, low_pushed low high end none)
+    (parts_added c.self.inside.bytes.items c.args.string.now (low ++ high) end c.self.invariant is)
     ∙ ap (λ l. l ++ c.args.string.now ∷ []) c.self.view_is
 
 pub returns-in_ok-extend_from_slice-2-clause-added : goal.returns-in_ok-extend_from_slice-2-clause-added
 returns-in_ok-extend_from_slice-2-clause-added c =
-    let bytes : List ℕ = c.self.inside.bytes.items in
+    let low : List ℕ = c.self.inside.low.items in
+    let high : List ℕ = c.self.inside.high.items in
     let end : ℕ = c.len-2.result + length c.args.string.now in
-    let is : end ≡ length (bytes ++ c.args.string.now) = omega (arith, c.len-2.ensures, length-append bytes c.args.string.now, c.self.inside.bytes.ok.0) in
-    rw (c.push_reserved-else-end-lt-LOW_ENDS.ensures.items, c.in_ok-extend_from_slice-2.ensures.items, c.reserve-else-end-lt-LOW_ENDS.ensures.items, ← append_assoc c.self.inside.low.items c.self.inside.high.items (end ∷ []))
-    (parts_added bytes c.args.string.now (c.self.inside.low.items ++ c.self.inside.high.items) end c.self.invariant is)
+    let is : end ≡ length c.self.inside.bytes.items + length c.args.string.now = omega arith in
+    rw (c.push_reserved-else-end-lt-LOW_ENDS.ensures.items, c.in_ok-extend_from_slice-2.ensures.items, c.reserve-else-end-lt-LOW_ENDS.ensures.items, ← append_assoc low high (end ∷ []))
+    (parts_added c.self.inside.bytes.items c.args.string.now (low ++ high) end c.self.invariant is)
     ∙ ap (λ l. l ++ c.args.string.now ∷ []) c.self.view_is

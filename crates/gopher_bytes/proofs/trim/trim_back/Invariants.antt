@@ -1,0 +1,10 @@
+use Rattle.std.proofs.Common.{◌≡◌, length}
+use Rattle.std.specs.Prelude.{reverse}
+use Rattle.gopher_bytes.specs.Trim.{trim_front}
+use Rattle.gopher_bytes.proofs.trim.trim_back.Given as goal
+
+abbrev pub invariant-loop-rest : goal.invariant-loop-rest
+invariant-loop-rest l = trim_front (reverse l.rest) ≡ trim_front (reverse l.bytes)
+
+abbrev pub decreases-loop-rest : goal.decreases-loop-rest
+decreases-loop-rest l = length l.rest
