@@ -1,28 +1,26 @@
 -- Inserting into a list in its order.
-use Rattle.std.proofs.Common.{◌≡◌, ℕ, zero, suc, ◌<◌, ◌≤◌, Bool, true, false, List, [], ◌∷◌, ◌++◌, length, map, take, drop, slice_get, refl, sym, ap, subst, ◌∙◌, arith}
+use Rattle.std.proofs.Common.{◌≡◌, ℕ, zero, suc, ◌<◌, ◌≤◌, Bool, true, false, List, [], ◌∷◌, ◌++◌, length, map, take, drop, get_or, slice_get, Option, Some, None, refl, sym, ap, subst, ◌∙◌, arith}
 use Rattle.std.specs.Option.{option_map_or}
 use Rattle.std.specs.Ordering.{is_gt, is_eq, match_ordering, ordering_reverse}
 use Rattle.std.specs.declared.cmp.Ordering.{Ordering}
 use Rattle.std.specs.declared.cmp.Ordering.TheVariants.{Less, Equal, Greater}
 use Rattle.std.specs.BTreeSet.{insert_key}
 use Rattle.std.specs.List.{fold, AllByRecursion}
-use Rattle.std.specs.List.Sorted.{IsStrictlySortedBy}
+use Rattle.std.specs.List.Sorted.{IsPartitionPoint, IsPartitionedBy, IsStrictlySortedBy}
 use Rattle.std.specs.Cmp.{IsTotalOrder}
 use Rattle.std.proofs.lemmas.Cmp.{then_total, on_total, back_total, nat_cmp_total}
 use Rattle.gopher_item.specs.Laws.{place_cmp_total}
 use Rattle.gopher_item.specs.Place.{PlaceData}
 use Rattle.gopher_page.specs.Ranking.{scored_cmp}
+use Rattle.gopher_page.proofs.SortedInserts.{flipped, sorted_inserts}
 use Rattle.gopher_index.specs.Answer.{rank_cmp, ranked}
 use Rattle.gopher_index.specs.declared.hit.Hit.{Hit}
 use Rattle.std.proofs.lemmas.Bool.{both_ways}
+use Rattle.std.proofs.lemmas.Option.{get_or_from_slice_get, slice_get-get_or, slice_get_within}
 use Rattle.std.proofs.lemmas.List.Sums.{fold-append}
+use Rattle.std.proofs.Math.Seq.{take-take}
 
 -- ---- the first of a list
-
-take-again : {A : Type 0} (n : ℕ) (ys : List A) → take n (take n ys) ≡ take n ys
-take-again zero ys = refl
-take-again (suc n) [] = refl
-take-again (suc n) (y ∷ ys) = ap (λ zs. y ∷ zs) (take-again n ys)
 
 take-cons : {A : Type 0} (n : ℕ) (y : A) (ys : List A) → take n (y ∷ take n ys) ≡ take n (y ∷ ys)
 take-cons zero y ys = refl
@@ -99,7 +97,7 @@ module _ {A : Type 0} (cmp : A → A → Ordering) (k : A) where
       by : (o : Ordering) → take n (insert_key cmp (take n xs) k) ≡ take n (insert_key cmp xs k)
           → take (suc n) (match_ordering o (k ∷ x ∷ take n xs) (x ∷ take n xs) (x ∷ insert_key cmp (take n xs) k)) ≡ take (suc n) (match_ordering o (k ∷ x ∷ xs) (x ∷ xs) (x ∷ insert_key cmp xs k))
       by Less rest = ap (λ ys. k ∷ ys) (take-cons n x xs)
-      by Equal rest = ap (λ ys. x ∷ ys) (take-again n xs)
+      by Equal rest = ap (λ ys. x ∷ ys) (take-take n n xs (omega arith))
       by Greater rest = ap (λ ys. x ∷ ys) rest
 
 -- ---- a list of candidates, seen through what they are
@@ -110,6 +108,22 @@ module _ {A B : Type 0} (f : A → B) (cmp : B → B → Ordering) (k : A) (xs :
 
   pub inserted_less : n ≤ length xs → option_map_or (λ x. is_eq (cmp (f k) (f x))) (slice_get xs n) false ≡ false → map f (take n xs ++ k ∷ drop n xs) ≡ insert_key cmp (map f xs) (f k)
   inserted_less within apart = ap (map f) (sym (insert_key-less (through f cmp) k xs n within stands apart)) ∙ map-insert_key f cmp xs k
+
+pub get_through : {A B : Type 0} (f : A → B) (P : B → Bool) (d : Bool) (xs : List A) (n : ℕ) → option_map_or (λ x. P (f x)) (slice_get xs n) d ≡ option_map_or P (slice_get (map f xs) n) d
+get_through f P d [] n = refl
+get_through f P d (x ∷ xs) zero = refl
+get_through f P d (x ∷ xs) (suc n) = get_through f P d xs n
+
+-- the place up to which the elements of a list pass a test, by its elements
+pub stands_at : {A : Type 0} (P : A → Bool) (xs : List A) (n : ℕ) → IsPartitionPoint (λ x. P x ≡ true) (λ x. P x ≡ false) xs n → ((i : ℕ) → i < n → option_map_or P (slice_get xs i) true ≡ true) × (option_map_or P (slice_get xs n) false ≡ false)
+stands_at {A} P xs n point = (
+  λ i below. read (slice_get xs i) i true refl (λ x e. ap P (sym (get_or_from_slice_get xs i x x e)) ∙ point.0 i x (omega arith) below),
+  read (slice_get xs n) n false refl (λ x e. ap P (sym (get_or_from_slice_get xs n x x e)) ∙ point.1 n x (omega arith) (slice_get_within xs n x e)),
+)
+  where
+    read : (o : Option A) (i : ℕ) (d : Bool) → slice_get xs i ≡ o → ((x : A) → slice_get xs i ≡ Some x → P x ≡ d) → option_map_or P o d ≡ d
+    read None i d e here = refl
+    read (Some x) i d e here = here x e
 
 -- ---- candidates that come too late
 
@@ -123,29 +137,8 @@ module _ {K : Type 0} (cmp : K → K → Ordering) (total : IsTotalOrder cmp) wh
       by Equal rest = all
       by Greater rest = (all.0, rest)
 
-  less_from_greater : (a b : K) → cmp a b ≡ Greater → cmp b a ≡ Less
-  less_from_greater a b e = total.antisymm b a ∙ ap ordering_reverse e
-
   greater_from_less : (a b : K) → cmp a b ≡ Less → cmp b a ≡ Greater
   greater_from_less a b e = total.antisymm b a ∙ ap ordering_reverse e
-
-  all_above : (k x : K) (xs : List K) → cmp k x ≡ Less → AllByRecursion (λ y. cmp x y ≡ Less) xs → AllByRecursion (λ y. cmp k y ≡ Less) xs
-  all_above k x [] less all = tt
-  all_above k x (y ∷ ys) less all = (total.trans k x y less all.0, all_above k x ys less all.1)
-
-  sorted_insert_key : (xs : List K) (k : K) → IsStrictlySortedBy cmp xs → IsStrictlySortedBy cmp (insert_key cmp xs k)
-  unfolding IsStrictlySortedBy
-  sorted_insert_key [] k sorted = (tt, tt)
-  sorted_insert_key (x ∷ xs) k sorted = by (cmp k x) refl (sorted_insert_key xs k sorted.1)
-    where
-      by : (o : Ordering) → cmp k x ≡ o → IsStrictlySortedBy cmp (insert_key cmp xs k) → IsStrictlySortedBy cmp (match_ordering o (k ∷ x ∷ xs) (x ∷ xs) (x ∷ insert_key cmp xs k))
-      by Less e rest = ((e, all_above k x xs e sorted.0), sorted)
-      by Equal e rest = sorted
-      by Greater e rest = (all_insert_key (λ y. cmp x y ≡ Less) xs k sorted.0 (less_from_greater k x e), rest)
-
-  sorted_fold : (xs ys : List K) → IsStrictlySortedBy cmp ys → IsStrictlySortedBy cmp (fold (insert_key cmp) ys xs)
-  sorted_fold [] ys sorted = sorted
-  sorted_fold (x ∷ xs) ys sorted = sorted_fold xs (insert_key cmp ys x) (sorted_insert_key ys x sorted)
 
   first_below : (x : K) (xs : List K) (n : ℕ) (k : K) → AllByRecursion (λ y. cmp x y ≡ Less) xs → option_map_or (λ y. is_gt (cmp k y)) (slice_get xs n) false ≡ true → cmp k x ≡ Greater
   first_below x [] n k all beyond = absurd (both_ways false refl beyond)
@@ -154,7 +147,7 @@ module _ {K : Type 0} (cmp : K → K → Ordering) (total : IsTotalOrder cmp) wh
       by : (o : Ordering) → cmp k y ≡ o → is_gt o ≡ true → cmp k x ≡ Greater
       by Less e h = absurd (both_ways false refl h)
       by Equal e h = absurd (both_ways false refl h)
-      by Greater e h = greater_from_less x k (total.trans x y k all.0 (less_from_greater k y e))
+      by Greater e h = greater_from_less x k (total.trans x y k all.0 (flipped total k y e))
   first_below x (y ∷ ys) (suc n) k all beyond = first_below x ys n k all.1 beyond
 
   -- a key behind the one of an index is behind each up to it
@@ -165,6 +158,13 @@ module _ {K : Type 0} (cmp : K → K → Ordering) (total : IsTotalOrder cmp) wh
   behind_up_to (x ∷ xs) zero (suc i) k sorted beyond within = absurd (omega (arith, within))
   behind_up_to (x ∷ xs) (suc n) zero k sorted beyond within = ap is_gt (first_below x xs n k sorted.0 beyond)
   behind_up_to (x ∷ xs) (suc n) (suc i) k sorted beyond within = behind_up_to xs n i k sorted.1 beyond (omega (arith, within))
+
+  -- the keys that another one comes after are the first of a list in order
+  pub sorted_parted : {A : Type 0} (f : A → K) (xs : List A) (k : K) → IsStrictlySortedBy cmp (map f xs) → IsPartitionedBy (λ x. is_gt (cmp k (f x))) xs
+  sorted_parted f xs k sorted i j d order within after =
+      let passes : K → Bool = λ y. is_gt (cmp k y) in
+      let there = sym (get_through f passes false xs j) ∙ ap (λ o. option_map_or (λ x. passes (f x)) o false) (slice_get-get_or xs j d within) ∙ after in
+      ap (λ o. option_map_or (λ x. passes (f x)) o true) (sym (slice_get-get_or xs i d (omega (arith, order, within)))) ∙ get_through f passes true xs i ∙ behind_up_to (map f xs) j i k sorted there order
 
   -- a key behind the one of an index isn't among those up to it
   insert_beyond : (xs : List K) (n : ℕ) (k : K) → IsStrictlySortedBy cmp xs → option_map_or (λ y. is_gt (cmp k y)) (slice_get xs n) false ≡ true → take (suc n) (insert_key cmp xs k) ≡ take (suc n) xs
@@ -201,8 +201,8 @@ unfolding ranked
 ranked_push hits hit = fold-append (insert_key rank_cmp) [] hits (hit ∷ [])
 
 ranked_sorted : (hits : List Hit) → IsStrictlySortedBy rank_cmp (ranked hits)
-unfolding ranked IsStrictlySortedBy
-ranked_sorted hits = sorted_fold rank_cmp rank_cmp_total hits [] tt
+unfolding ranked
+ranked_sorted hits = sorted_inserts rank_cmp_total hits
 
 sorted_take : (n : ℕ) (xs : List Hit) → IsStrictlySortedBy rank_cmp xs → IsStrictlySortedBy rank_cmp (take n xs)
 unfolding IsStrictlySortedBy
@@ -230,8 +230,3 @@ best_beyond hits best hit e beyond =
     let there : option_map_or (λ last. is_gt (rank_cmp hit last)) (slice_get (ranked hits) 49) false ≡ true =
     get_in_take rank_cmp rank_cmp_total (λ last. is_gt (rank_cmp hit last)) 50 49 (ranked hits) (subst (λ b. option_map_or (λ last. is_gt (rank_cmp hit last)) (slice_get b 49) false ≡ true) e beyond) in
     e ∙ sym (insert_beyond rank_cmp rank_cmp_total (ranked hits) 49 hit (ranked_sorted hits) there) ∙ ap (take 50) (sym (ranked_push hits hit))
-
-pub get_through : {A B : Type 0} (f : A → B) (P : B → Bool) (d : Bool) (xs : List A) (n : ℕ) → option_map_or (λ x. P (f x)) (slice_get xs n) d ≡ option_map_or P (slice_get (map f xs) n) d
-get_through f P d [] n = refl
-get_through f P d (x ∷ xs) zero = refl
-get_through f P d (x ∷ xs) (suc n) = get_through f P d xs n

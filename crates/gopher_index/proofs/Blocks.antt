@@ -46,8 +46,3 @@ pub span_next : {X : Type 0} (xs : List X) (start end : ℕ) → start ≤ end �
 span_next xs start end forward =
     let whole : end ≡ start + (end - start) = omega arith in
     ap (λ n. take n xs) whole ∙ take-add start (end - start) xs
-
-pub block_next : {X : Type 0} (f : X → PageData) (pages : List X) (start end : ℕ) → start ≤ end → map f (take end pages) ≡ map f (take start pages) ++ map f (take (end - start) (drop start pages))
-block_next f pages start end forward =
-    let whole : end ≡ start + (end - start) = omega arith in
-    ap (λ n. map f (take n pages)) whole ∙ ap (map f) (take-add start (end - start) pages) ∙ map-append f (take start pages) (take (end - start) (drop start pages))

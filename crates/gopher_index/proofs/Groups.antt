@@ -28,37 +28,19 @@ module _ (number last : ℕ) (before : last ≤ 2 * number + 1) where
   is_now : is_match (max last (2 * number + 3)) ≡ true
   is_now = let later : max last (2 * number + 3) ≡ 2 * number + 3 = omega arith in ap is_match later ∙ match_odd number
 
-  decides : (operator : Operator) (holds : Bool) → joined operator (is_match last) holds ≡ is_match (max last (verdict_of operator number holds))
-  decides And true = and_true (is_match last) ∙ open_left
-    where
-      and_true : (truth : Bool) → joined And truth true ≡ truth
-      and_true true = refl
-      and_true false = refl
-  decides And false = and_false (is_match last) ∙ sym no_match
-    where
-      and_false : (truth : Bool) → joined And truth false ≡ false
-      and_false true = refl
-      and_false false = refl
-  decides Or true = or_true (is_match last) ∙ sym is_now
-    where
-      or_true : (truth : Bool) → joined Or truth true ≡ true
-      or_true true = refl
-      or_true false = refl
-  decides Or false = or_false (is_match last) ∙ open_left
-    where
-      or_false : (truth : Bool) → joined Or truth false ≡ truth
-      or_false true = refl
-      or_false false = refl
-  decides Not true = not_true (is_match last) ∙ sym no_match
-    where
-      not_true : (truth : Bool) → joined Not truth true ≡ false
-      not_true true = refl
-      not_true false = refl
-  decides Not false = not_false (is_match last) ∙ open_left
-    where
-      not_false : (truth : Bool) → joined Not truth false ≡ truth
-      not_false true = refl
-      not_false false = refl
+  decides : (operator : Operator) (truth holds : Bool) → is_match last ≡ truth → joined operator truth holds ≡ is_match (max last (verdict_of operator number holds))
+  decides And true true is = sym is ∙ open_left
+  decides And false true is = sym is ∙ open_left
+  decides And true false is = sym no_match
+  decides And false false is = sym no_match
+  decides Or true true is = sym is_now
+  decides Or false true is = sym is_now
+  decides Or true false is = sym is ∙ open_left
+  decides Or false false is = sym is ∙ open_left
+  decides Not true true is = sym no_match
+  decides Not false true is = sym no_match
+  decides Not true false is = sym is ∙ open_left
+  decides Not false false is = sym is ∙ open_left
 
 verdict_below : (operator : Operator) (number : ℕ) (holds : Bool) → verdict_of operator number holds ≤ 2 * number + 3
 verdict_below And number true = omega arith
@@ -95,7 +77,7 @@ one_term_more terms term number old new is groups adds =
       matching = λ counts.
           matches_one_more counts terms term
           ∙ ap (λ truth. joined term.operator truth (nat_lt 0 (count_of_term counts term))) (groups.matching counts)
-          ∙ decides number (verdict old counts) (omega (arith, groups.highest counts, is)) term.operator (nat_lt 0 (count_of_term counts term))
+          ∙ decides number (verdict old counts) (omega (arith, groups.highest counts, is)) term.operator (is_match (verdict old counts)) (nat_lt 0 (count_of_term counts term)) refl
           ∙ ap is_match (sym (adds.verdicts counts));
       scoring = λ counts.
           score_one_more counts terms term
@@ -126,12 +108,6 @@ pub next_group : (groups : List Group) (index : ℕ) (group : Group) → index <
 next_group groups index group within is = take_more groups index group within ∙ ap (λ g. take index groups ++ g ∷ []) (sym is)
 
 module _ (groups : List Group) (index : ℕ) (group : Group) (within : index < length groups) (is : group ≡ get_or groups index group) where
-  pub next_verdict : (counts : List (List ℕ × ℕ)) → verdict (take (index + 1) groups) counts ≡ max (verdict (take index groups) counts) (verdict_by group (count_of_term counts group.term))
-  next_verdict counts = ap (λ l. verdict l counts) (next_group groups index group within is) ∙ verdict_push (take index groups) group counts
-
-  pub next_total : (counts : List (List ℕ × ℕ)) → total (take (index + 1) groups) counts ≡ total (take index groups) counts + group.wanted * count_of_term counts group.term
-  next_total counts = ap (λ l. total l counts) (next_group groups index group within is) ∙ total_push (take index groups) group counts
-
   pub next_wanted : wanted_in (take (index + 1) groups) ≡ wanted_in (take index groups) + group.wanted
   next_wanted = ap wanted_in (next_group groups index group within is) ∙ wanted_push (take index groups) group
 

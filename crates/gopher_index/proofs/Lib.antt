@@ -16,4 +16,3 @@ pub mod NextPages
 pub mod Walking
 pub mod Steps
 pub mod Unwanted
-pub mod EarlyRuns

@@ -1,15 +1,17 @@
--- The pages of segments.
-use Rattle.std.proofs.Common.{◌≡◌, ℕ, ◌+◌, ◌<◌, List, [], ◌∷◌, ◌++◌, length, map, take, get_or, refl, ap, ◌∙◌, arith}
-use Rattle.std.proofs.lemmas.List.{append-nil}
+-- The pages of parts.
+use Rattle.std.proofs.Common.{◌≡◌, ℕ, ◌+◌, ◌<◌, List, [], ◌∷◌, ◌++◌, length, take, get_or, refl, sym, ap, ◌∙◌, arith}
+use Rattle.std.proofs.lemmas.List.{append-nil, take_more}
 use Rattle.std.proofs.lemmas.List.Concat.{flat_map-append}
 use Rattle.gopher_segment.specs.Segment.{SegmentData, pages_of}
-use Rattle.gopher_index.proofs.Lists.{map-next}
 
-pub pages-next : {X : Type 0} (f : X → SegmentData) (xs : List X) (i : ℕ) (x : X) → i < length xs → x ≡ get_or xs i x → pages_of (map f (take (i + 1) xs)) ≡ pages_of (map f (take i xs)) ++ (f x).pages
-pages-next f xs i x within is =
-    ap pages_of (map-next f xs i x within is) ∙ flat_map-append (λ (segment : SegmentData). segment.pages) (map f (take i xs)) (f x ∷ [])
-    ∙ ap (λ l. pages_of (map f (take i xs)) ++ l) (append-nil (f x).pages)
+pub pages_of-append : (a b : List SegmentData) → pages_of (a ++ b) ≡ pages_of a ++ pages_of b
+pages_of-append a b = flat_map-append (λ (part : SegmentData). part.pages) a b
 
-pub pages-none : {X : Type 0} (f : X → SegmentData) (segments : List X) → length segments ≡ 0 → [] ≡ pages_of (map f segments)
-pages-none f [] none = refl
-pages-none f (segment ∷ segments) none = absurd (omega (arith, none))
+pub pages-next : (parts : List SegmentData) (i : ℕ) (part : SegmentData) → i < length parts → part ≡ get_or parts i part → pages_of (take (i + 1) parts) ≡ pages_of (take i parts) ++ part.pages
+pages-next parts i part within is =
+    ap pages_of (take_more parts i part within ∙ ap (λ p. take i parts ++ p ∷ []) (sym is)) ∙ pages_of-append (take i parts) (part ∷ [])
+    ∙ ap (λ l. pages_of (take i parts) ++ l) (append-nil part.pages)
+
+pub pages-none : (parts : List SegmentData) → length parts ≡ 0 → [] ≡ pages_of parts
+pages-none [] none = refl
+pages-none (part ∷ parts) none = absurd (omega (arith, none))

@@ -75,11 +75,6 @@ takes_scored terms page found truth n old new same is holds scored least taken =
     takes_matched terms page old new (sym is ∙ holds) least
     (λ hits e. taken hits e ∙ (λ i. take 50 (ranked (filter (reaches old.least) (hits ++ hit_with (scored i) (same i) ∷ [])))))
 
-pub ok_from_hits : {E : Type 0} (result : Result (Unit {0}) E) (old : BestData) (new : List Hit → Type 0) (P : Type 0) → ((hits : List Hit) → old.hits ≡ take 50 (ranked (filter (reaches old.least) hits)) → OnOk result (new hits))
-    → (((hits : List Hit) → old.hits ≡ take 50 (ranked (filter (reaches old.least) hits)) → new hits) → P) → OnOk result P
-ok_from_hits (Ok x) old new P taken f = f taken
-ok_from_hits (Err e) old new P taken f = tt
-
 -- ---- one more hit among those that reach the least
 
 pub filter_kept : (least : ℕ) (hits : List Hit) (hit : Hit) → reaches least hit ≡ true → filter (reaches least) (hits ++ hit ∷ []) ≡ filter (reaches least) hits ++ hit ∷ []

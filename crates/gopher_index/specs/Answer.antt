@@ -12,8 +12,7 @@ use Rattle.gopher_page.specs.Page.{PageData}
 use Rattle.gopher_page.specs.Query.{TermData, matches, score}
 use Rattle.gopher_page.specs.Ranking.{counted_place, scored_cmp}
 use Rattle.gopher_page.specs.Counts.{count_meant}
-use Rattle.gopher_segment.specs.Segment.{SegmentData, meant_counts}
-use Rattle.gopher_index.specs.Index.{indexed}
+use Rattle.gopher_segment.specs.Segment.{meant_counts}
 use Rattle.gopher_index.specs.declared.hit.Hit.{Hit}
 
 -- ---- searches
@@ -41,11 +40,6 @@ ranked hits = fold (insert_key rank_cmp) [] hits
 unfoldable pub answer_of : List PageData → List TermData → List Hit
 answer_of pages query = take 50 (ranked (hits_among query pages))
 
--- the answer to a query over the pages of an index
-abbrev pub answer_over : {Y Z : Type 0} → List (Arc SegmentData Y) → List (Arc PageData Z)
-    → List TermData → List Hit
-answer_over segments loose query = answer_of (indexed segments loose) query
-
 -- ---- occurrences
 
 -- the place of a page with its number of occurrences of a word, if the page contains the word
@@ -72,11 +66,6 @@ pub record AreOccurrences (pages : List PageData) (word : List ℕ) (list : List
     : Type 0 where
   pub permutation : IsPermutation (occurrences_among word pages) list
   pub sorted : IsSorted occurrence_cmp list
-
--- the list contains the occurrences of a word in the pages of an index
-abbrev pub ListsOccurrences : {Y Z : Type 0} → List (Arc SegmentData Y) → List (Arc PageData Z)
-    → List ℕ → List (PlaceData × ℕ) → Type 0
-ListsOccurrences segments loose word list = AreOccurrences (indexed segments loose) word list
 
 -- the occurrences of a word in these pages are appended to those found before, unless it fails
 abbrev pub FindsIn : {T E : Type 0} → List ℕ → List PageData → List (PlaceData × ℕ)

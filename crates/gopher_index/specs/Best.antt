@@ -48,10 +48,12 @@ is_equal_at candidate best index =
 abbrev pub AreRanked : List Ranked → Type 0
 AreRanked best = IsStrictlySortedBy rank_cmp (map ranked_hit best)
 
--- if the candidates are in order, the first `count` of them rank before this one
+-- if the candidates are in order, the first `count` of them rank before this one, and no others
 abbrev pub RankBefore : Ranked → List Ranked → ℕ → Type 0
 RankBefore candidate best count =
-    AreRanked best → (k : ℕ) → k < count → is_behind_at candidate best k true ≡ true
+    AreRanked best
+    → ((k : ℕ) → k < count → is_behind_at candidate best k true ≡ true)
+    × (is_behind_at candidate best count false ≡ false)
 
 -- if the candidates were in order, this one was inserted at its rank
 abbrev pub Inserts : Ranked → List Ranked → List Ranked → Type 0

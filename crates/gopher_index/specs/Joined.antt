@@ -1,4 +1,4 @@
--- The verdicts and scores of a segment's pages by the first groups of a query's terms.
+-- The verdicts and scores of a part's pages by the first groups of a query's terms.
 use Rattle.std.specs.Prelude.{◌≡◌, ℕ, ◌+◌, ◌*◌, ◌<◌, ◌≤◌, List, [], ◌∷◌, ◌++◌, length, max, nat_lt, take, slice_index_or, if◌then◌else◌, Result, MatchResult}
 use Rattle.std.specs.List.{All, zip}
 use Rattle.gopher_page.specs.Page.{PageData}

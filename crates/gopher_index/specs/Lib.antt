@@ -1,4 +1,5 @@
 pub mod Due
+pub mod Part
 pub mod Index
 pub mod Answer
 pub mod Best
@@ -10,5 +11,4 @@ pub mod Search
 pub mod Ties
 pub mod Begun
 pub mod Joined
-pub mod Loose
 pub mod Progress

@@ -1,26 +1,22 @@
 -- The state of a search that is done in steps.
 use Rattle.std.specs.Prelude.{ℕ, ◌≡◌, ◌<◌, ◌≤◌, ◌+◌, ◌-◌, ◌*◌, List, ◌++◌, length, map, take, slice_index_or, Result, IfOk}
-use Rattle.std.specs.Arc.{arc_value}
-use Rattle.std.specs.Global.{Global, Vec}
-use Rattle.std.specs.declared.sync.Arc.{Arc}
+use Rattle.std.specs.Global.{Vec}
 use Rattle.gopher_page.specs.Page.{PageData}
 use Rattle.gopher_page.specs.Query.{TermData, IsQuery}
 use Rattle.gopher_index.specs.Answer.{answer_of}
 use Rattle.gopher_index.specs.Best.{answer_from, kept_hit}
 use Rattle.gopher_index.specs.Cells.{AreCells}
-use Rattle.gopher_index.specs.Index.{indexed}
 use Rattle.gopher_index.specs.Joined.{AreBegun}
-use Rattle.gopher_index.specs.Plan.{AreTermGroups, IsPlan, is_match}
+use Rattle.gopher_index.specs.Plan.{IsPlan, is_match}
 use Rattle.gopher_index.specs.declared.best.Kept.{Kept}
 use Rattle.gopher_index.specs.declared.hit.Hit.{Hit}
 use Rattle.gopher_index.specs.declared.plan.Group.{Group}
 use Rattle.gopher_index.specs.declared.progress.Progress.{Progress}
-use Rattle.gopher_segment.specs.Segment.{pages_of}
-use Rattle.gopher_segment.specs.declared.segment.Segment.{Segment}
+use Rattle.gopher_segment.specs.Segment.{SegmentData, pages_of}
 
--- the pages of a search: those of its segments, and the loose ones
+-- the pages of a search
 abbrev pub all_pages : Progress → List PageData
-all_pages progress = indexed progress.segments.items progress.loose.items
+all_pages progress = pages_of progress.parts.items
 
 -- the hits that a search finds: the answer over its pages
 abbrev pub search_hits : Progress → List Hit
@@ -28,32 +24,27 @@ search_hits progress = answer_of (all_pages progress) progress.terms.items
 
 -- the pages that were searched
 abbrev pub pages_done : Progress → List PageData
-pages_done progress =
-    pages_of (map arc_value (take progress.segments_done progress.segments.items))
-    ++ map arc_value (take progress.loose_done progress.loose.items)
+pages_done progress = pages_of (take progress.done progress.parts.items)
 
--- the most steps that are left: one for each term in each segment, one for the pages of each
--- segment, one for each loose page, and one that groups the terms
+-- the most steps that are left: one for each term in each part, one for the pages of each part, and
+-- one that groups the terms
 abbrev pub steps_left : Progress → ℕ
 steps_left progress =
-    ((length progress.segments.items - progress.segments_done) * (length progress.terms.items + 1)
+    ((length progress.parts.items - progress.done) * (length progress.terms.items + 1)
     - progress.joined.groups)
-    + (length progress.loose.items - progress.loose_done)
     + (1 - length progress.groups.items)
 
 -- the kept hits are the answer over the pages that were searched, and the cells are those of the
--- current segment by the groups that were joined
+-- current part by the groups that were joined
 pub record IsProgress (progress : Progress) : Type 0 where
   pub query : IsQuery progress.terms.items
   pub plan : 0 < length progress.groups.items → IsPlan progress.terms.items progress.groups.items
-  pub segments_within : progress.segments_done ≤ length progress.segments.items
-  pub loose_within : progress.loose_done ≤ length progress.loose.items
-  pub in_order : 0 < progress.loose_done → progress.segments_done ≡ length progress.segments.items
+  pub within : progress.done ≤ length progress.parts.items
   pub groups_within : progress.joined.groups ≤ length progress.groups.items
-  pub at_rest : progress.segments_done ≡ length progress.segments.items → progress.joined.groups ≡ 0
-  pub under_way : (segment : Arc Segment Global)
-      → segment ≡ slice_index_or progress.segments.items progress.segments_done segment
-      → AreBegun progress.groups.items (arc_value segment).pages progress.joined
+  pub at_rest : progress.done ≡ length progress.parts.items → progress.joined.groups ≡ 0
+  pub under_way : (part : SegmentData)
+      → part ≡ slice_index_or progress.parts.items progress.done part
+      → AreBegun progress.groups.items part.pages progress.joined
   pub best : map kept_hit progress.kept.items
       ≡ answer_from 0 (pages_done progress) progress.terms.items
 
@@ -79,11 +70,4 @@ abbrev pub AddsCells : {E : Type 0} → List PageData → List ℕ → List ℕ 
     → Result (Vec Kept) E → Type 0
 AddsCells pages verdicts scores old result =
     (terms : List TermData) → AreCells terms pages (map is_match verdicts) scores
-    → IfOk result (λ new. AddsPages terms pages old new.items)
-
--- if these are the groups of some terms, the pages are added to the best so far, unless it fails
-abbrev pub AddsByGroups : {E : Type 0} → List Group → List PageData → List Kept
-    → Result (Vec Kept) E → Type 0
-AddsByGroups groups pages old result =
-    (terms : List TermData) → AreTermGroups terms groups
     → IfOk result (λ new. AddsPages terms pages old new.items)

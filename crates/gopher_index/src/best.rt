@@ -49,19 +49,8 @@ fn is_behind(best: &[Ranked], index: usize, candidate: &Ranked) -> bool
 fn count_before(best: &[Ranked], candidate: &Ranked) -> usize
     ensures within { result ≤ length best.now }
     ensures before { RankBefore candidate.now best.now result }
-    ensures here { is_behind_at candidate.now best.now result false ≡ false }
 {
-    let mut low = 0;
-    let mut high = best.len();
-    while low < high {
-        let middle = low + (high - low) / 2;
-        if is_behind(best, middle, candidate) {
-            low = middle + 1;
-        } else {
-            high = middle;
-        }
-    }
-    low
+    best.partition_point(|other| rank(candidate, other).is_gt())
 }
 
 // Returns whether the one at `index` has the same rank as the candidate.

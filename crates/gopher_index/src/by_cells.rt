@@ -1,4 +1,4 @@
-//! Inserting the pages of a segment into the best by their verdicts and scores.
+//! Inserting the pages of a part into the best by their verdicts and scores.
 
 ghost use Rattle.std.specs.Prelude.{◌≡◌, ◌≤◌, length, nat_le, OnOk};
 ghost use Rattle.std.specs.List.{list_any};
@@ -6,10 +6,10 @@ ghost use Rattle.gopher_index.specs.Ties.{AreTies};
 ghost use Rattle.gopher_index.specs.ByCells.{TakesBlock, TakesCells};
 
 use crate::best::Best;
+use crate::part::Part;
 use crate::plan::is_match;
 use crate::ties::Ties;
 use gopher_item::NoMemory;
-use gopher_segment::Segment;
 
 // The number of pages that are skipped at once if none of them can get among the best.
 const BLOCK: usize = 64;
@@ -55,19 +55,19 @@ fn rank_block<'a>(
     Ok(())
 }
 
-/// Inserts the pages of a segment that match into the best. Skips blocks without a score that is
+/// Inserts the pages of a part that match into the best. Skips blocks without a score that is
 /// high enough.
 pub(crate) fn rank_cells<'a>(
-    segment: &'a Segment,
+    part: &'a Part,
     verdicts: &[u16],
     scores: &[u32],
     best: &mut Best<'a>,
 ) -> Result<(), NoMemory>
-    requires verdicts { length verdicts.now ≡ length segment.now.pages }
-    requires scores { length scores.now ≡ length segment.now.pages }
-    ensures { TakesCells segment.now.pages verdicts.now scores.now best.old best.new result }
+    requires verdicts { length verdicts.now ≡ length part.now.pages }
+    requires scores { length scores.now ≡ length part.now.pages }
+    ensures { TakesCells part.now.pages verdicts.now scores.now best.old best.new result }
 {
-    let mut ties = Ties::new(segment);
+    let mut ties = Ties::new(part);
     let mut start = 0;
     while start < scores.len() {
         let end = scores.len().min(start + BLOCK);

@@ -1,4 +1,4 @@
-//! Searching a segment for a single word, through its posting list.
+//! Searching a part for a single word, through its posting list.
 
 ghost use Rattle.std.specs.Prelude.{◌≡◌, ◌<◌, ◌≤◌, ◌∷◌, [], length, map, min, nat_le, OnOk};
 ghost use Rattle.std.specs.Arc.{arc_value};
@@ -9,10 +9,11 @@ ghost use Rattle.gopher_index.specs.ByPostings.{is_again, ArePostingsOf, IsWhole
 ghost use Rattle.gopher_index.specs.Ties.{AreTies};
 
 use crate::best::Best;
+use crate::part::Part;
 use crate::ties::Ties;
 use gopher_item::NoMemory;
 use gopher_page::{Page, Term};
-use gopher_segment::{Postings, Segment};
+use gopher_segment::Postings;
 
 // The number of postings that are skipped at once if none of them can get among the best.
 const BLOCK: usize = 64;
@@ -109,17 +110,17 @@ fn insert_postings<'a>(
 /// Inserts the pages of a posting list into the best. Skips blocks without a count that is high
 /// enough.
 pub(crate) fn rank_postings<'a>(
-    segment: &'a Segment,
+    part: &'a Part,
     term: &Term,
     postings: &Postings,
     best: &mut Best<'a>,
 ) -> Result<(), NoMemory>
     requires and { term.now.operator ≡ And }
     requires beside { length postings.now.counts.now ≡ length postings.now.numbers.now }
-    requires run { ArePostingsOf term.now segment.now.pages postings.now }
-    ensures { OnOk result (TakesIn (term.now ∷ []) segment.now.pages best.old best.new) }
+    requires run { ArePostingsOf term.now part.now.pages postings.now }
+    ensures { OnOk result (TakesIn (term.now ∷ []) part.now.pages best.old best.new) }
 {
-    let mut ties = Ties::new(segment);
+    let mut ties = Ties::new(part);
     let mut start = 0;
     while start < postings.numbers.len() {
         let end = postings.numbers.len().min(start + BLOCK);

@@ -1,4 +1,4 @@
-//! The pages that a crawl found: those in segments, then the loose ones.
+//! The pages that a crawl found, in parts: segments, and single pages after and between them.
 
 ghost use Rattle.std.specs.Prelude.{◌≡◌, ◌+◌, ◌<◌, ◌≤◌, [], length, IfOk, IfSome, OnSome};
 ghost use Rattle.std.specs.Arc.{arc_value};
@@ -9,14 +9,15 @@ ghost use Rattle.gopher_index.specs.Index.{EndsWith, IsSliceOf, AppendsPage};
 use crate::begun::Begun;
 use crate::due::Due;
 use crate::hit::Hit;
-use crate::installing::{put_for_loose, put_for_segments, ready};
+use crate::installing::put_part;
 use crate::occurrences::occurrences;
-use crate::picking::{due_loose, due_span};
+use crate::part::{Part, copies};
+use crate::picking::due_span;
 use crate::search::search;
 use crate::searching::Search;
 use gopher_item::{NoMemory, Place};
 use gopher_page::{Page, Query, Term};
-use gopher_segment::{Segment, pages_len, shared};
+use gopher_segment::Segment;
 use std::alloc::Global;
 use std::marker::Model;
 use std::sync::Arc;
@@ -52,43 +53,47 @@ fn is_light(terms: &[Term], words: usize, large: usize) -> bool {
 }
 
 // Returns the number of large pages in segments.
-fn large_len(segments: &[Arc<Segment>]) -> usize {
+fn large_len(parts: &[Part]) -> usize {
     let mut large = 0_usize;
-    for segment in segments {
-        large = large.saturating_add(segment.large_len());
+    for part in parts {
+        if let Some(segment) = part.as_segment() {
+            large = large.saturating_add(segment.large_len());
+        }
     }
     large
+}
+
+// Returns the number of parts that are single pages.
+fn loose_len(parts: &[Part]) -> usize {
+    parts
+        .iter()
+        .filter(|part| part.as_segment().is_none())
+        .count()
 }
 
 /// A list of pages that can be searched.
 #[derive(Debug, Drop)]
 pub struct Index {
-    segments: Vec<Arc<Segment>>,
-    loose: Vec<Arc<Page>>,
-    settled: usize,
-    // The numbers of the first pages of runs that are being merged, or are in `early`.
+    parts: Vec<Part>,
+    // The number of pages.
+    count: usize,
+    // The numbers of the first pages of runs that are being merged.
     taken: Vec<usize>,
-    // Merged runs that wait until the pages before them are in segments.
-    early: Vec<Due>,
     // The number of words of all pages, counted for each page.
     words: usize,
 }
 
 impl Model for Index {
-    ghost use Rattle.std.specs.Prelude.{List, ◌++◌, map};
-    ghost use Rattle.std.specs.Arc.{arc_value};
+    ghost use Rattle.std.specs.Prelude.{List};
     ghost use Rattle.gopher_page.specs.Page.{PageData};
     ghost use Rattle.gopher_segment.specs.Segment.{pages_of};
-    ghost use Rattle.gopher_index.specs.Index.{IsIndex, AllStandIn};
+    ghost use Rattle.gopher_index.specs.Index.{IsIndex};
 
     ghost Value = { List PageData };
 
-    ghost view = { λ i. pages_of (map arc_value i.segments.items) ++ map arc_value i.loose.items };
+    ghost view = { λ i. pages_of i.parts.items };
 
-    ghost invariant = { λ i.
-        IsIndex (map arc_value i.segments.items) (map arc_value i.loose.items) i.settled
-        × AllStandIn (pages_of (map arc_value i.segments.items) ++ map arc_value i.loose.items)
-        i.early.items };
+    ghost invariant = { λ i. IsIndex i.parts.items i.count };
 }
 
 impl Index {
@@ -97,11 +102,9 @@ impl Index {
         ensures { result ≡ [] }
     {
         Index {
-            segments: Vec::new(alloc),
-            loose: Vec::new(alloc),
-            settled: 0,
+            parts: Vec::new(alloc),
+            count: 0,
             taken: Vec::new(alloc),
-            early: Vec::new(alloc),
             words: 0,
         }
     }
@@ -110,7 +113,7 @@ impl Index {
     pub fn len(&self) -> usize
         ensures { result ≡ length self.now }
     {
-        self.settled + self.loose.len()
+        self.count
     }
 
     /// Appends a page. The index has at most 65,535 pages before.
@@ -121,7 +124,7 @@ impl Index {
         requires { length self.old < 65536 }
         ensures { AppendsPage (arc_value page) self.old self.new result }
     {
-        if self.loose.len() >= MOST_LOOSE {
+        if self.parts.len() >= MOST_LOOSE && loose_len(&self.parts) >= MOST_LOOSE {
             self.taken.clear();
             self.settle();
         }
@@ -134,7 +137,8 @@ impl Index {
         ensures { AppendsPage (arc_value page) self.old self.new result }
     {
         let words = page.counts().len();
-        self.loose.push(page)?;
+        self.parts.push(Part::page(self.count, page))?;
+        self.count += 1;
         self.words = self.words.saturating_add(words);
         Ok(())
     }
@@ -143,16 +147,15 @@ impl Index {
     fn untaken(&self) -> Result<Option<Due>, NoMemory>
         ensures { IfOk result (λ due. IfSome due (λ run. IsSliceOf run self.now)) }
     {
-        let alloc = *self.loose.allocator();
-        if let Some((start, end)) = due_loose(self.settled, self.loose.len(), &self.taken) {
-            let due = Due::of_loose(alloc, self.settled + start, &self.loose[start..end])?;
-            return Ok(Some(due));
-        }
-        let Some((start, end)) = due_span(&self.segments, &self.taken) else {
+        let Some((start, end)) = due_span(&self.parts, &self.taken) else {
             return Ok(None);
         };
-        let first = pages_len(&self.segments[..start]);
-        let due = Due::of_segments(alloc, first, &self.segments[start..end])?;
+        let part = &self.parts[start];
+        let due = Due::new(
+            *self.parts.allocator(),
+            part.first(),
+            &self.parts[start..end],
+        )?;
         Ok(Some(due))
     }
 
@@ -160,9 +163,9 @@ impl Index {
     /// until `install`.
     ///
     /// Two kinds of runs are due: 64 loose pages, and four segments of the same number of pages.
-    /// The first segment must begin at a multiple of four times that number, and one segment must
-    /// be able to hold all four. If they have 1,024 pages or more, a fifth of their size must
-    /// follow. So if nothing is due, the sizes of the segments follow from the number of pages
+    /// The first page must have a multiple of the number of all these pages, and one segment must
+    /// be able to hold them all. If the segments have 1,024 pages or more, a fifth of their size
+    /// must follow. So if nothing is due, the sizes of the segments follow from the number of pages
     /// alone.
     pub fn due(&mut self) -> Result<Option<Due>, NoMemory>
         ensures same { self.new ≡ self.old }
@@ -178,54 +181,14 @@ impl Index {
     /// Puts a merged run in the place of its pages. A run that wasn't merged becomes due again. The
     /// pages are what they were.
     ///
-    /// If pages before the run aren't in a segment yet, the index holds it until they are. When out
-    /// of memory, or if its pages were merged with others meanwhile, the run is dropped.
+    /// When out of memory, or if its pages were merged with others meanwhile, the run is dropped.
     pub fn install(&mut self, due: Due)
-        requires { IsSliceOf due self.old }
-        ensures { self.new ≡ self.old }
-    {
-        if due.merged.is_some() && due.first > self.settled {
-            self.hold(due);
-            return;
-        }
-        self.put_run(due);
-        for _run in 0..self.early.len() {
-            let Some(due) = self.take_early() else {
-                return;
-            };
-            self.put_run(due);
-        }
-    }
-
-    // Holds a merged run until the pages before it are in segments. When out of memory, it is due
-    // again.
-    fn hold(&mut self, due: Due)
-        requires { IsSliceOf due self.old }
-        ensures { self.new ≡ self.old }
-    {
-        let first = due.first;
-        if self.early.push(due).is_err() {
-            self.taken.retain(|other| *other != first);
-        }
-    }
-
-    // Takes a run out of `early` if the pages before it are in segments.
-    fn take_early(&mut self) -> Option<Due>
-        ensures same { self.new ≡ self.old }
-        ensures stands { IfSome result (λ due. IsSliceOf due self.old) }
-    {
-        let at = ready(&self.early, self.settled)?;
-        Some(self.early.swap_remove(at))
-    }
-
-    // Puts a merged run in its place, and leaves one that wasn't merged to be due again.
-    fn put_run(&mut self, due: Due)
         requires { IsSliceOf due self.old }
         ensures { self.new ≡ self.old }
     {
         let Due {
             first,
-            run: _run,
+            parts: _parts,
             merged,
         } = due;
         self.taken.retain(|other| *other != first);
@@ -241,20 +204,15 @@ impl Index {
         requires stands { IsSliceOf (arc_value merged) self.old }
         ensures { self.new ≡ self.old }
     {
-        let alloc = *self.loose.allocator();
-        if first == self.settled && merged.pages().len() <= self.loose.len() {
-            let _put = put_for_loose(alloc, merged, &mut self.segments, &mut self.loose);
-            self.settled = pages_len(&self.segments);
-            return;
-        }
-        let _put = put_for_segments(alloc, first, merged, &mut self.segments);
+        let alloc = *self.parts.allocator();
+        let _put = put_part(alloc, Part::segment(first, merged), &mut self.parts);
     }
 
     // Merges one run that is due. Returns whether it did.
     fn settle_one(&mut self) -> bool
         ensures { self.new ≡ self.old }
     {
-        let alloc = *self.loose.allocator();
+        let alloc = *self.parts.allocator();
         let Ok(Some(mut due)) = self.due() else {
             return false;
         };
@@ -279,31 +237,26 @@ impl Index {
         ensures { IfOk result (λ index. index ≡ self.now) }
     {
         Ok(Index {
-            segments: shared(alloc, &self.segments)?,
-            loose: shared(alloc, &self.loose)?,
-            settled: self.settled,
+            parts: copies(alloc, &self.parts)?,
+            count: self.count,
             taken: Vec::new(alloc),
-            early: Vec::new(alloc),
             words: self.words,
         })
     }
 
-    /// Returns the new page, if exactly one was added.
-    ///
-    /// It compares the numbers of segments and pages with those of `before`. If `before` has 512
-    /// loose pages, it returns `None`, because `add` merges them first.
+    /// Returns the new page, if exactly one was added and nothing was merged meanwhile. It compares the
+    /// numbers of parts and pages with those of `before`.
     pub fn page_after(&self, before: &Index) -> Option<&Arc<Page>>
         ensures last { IfSome result (λ page. EndsWith self.now (arc_value page.now)) }
         ensures one_more { OnSome result (length self.now ≡ length before.now + 1) }
     {
-        if self.settled != before.settled || self.segments.len() != before.segments.len() {
+        if self.count != before.count + 1 || self.parts.len() != before.parts.len() + 1 {
             return None;
         }
-        let loose = before.loose.len();
-        if loose >= MOST_LOOSE || self.loose.len() != loose + 1 {
+        let Some(part) = self.parts.last() else {
             return None;
-        }
-        self.loose.last()
+        };
+        part.pages().last()
     }
 
     /// Begins a search. Returns the hits if the search is short, and otherwise a `Search` that
@@ -315,11 +268,11 @@ impl Index {
         ensures { IfOk result (λ begun. begun_hits begun ≡ answer_of self.now query.now) }
     {
         let terms = query.terms();
-        if is_light(terms, self.words, large_len(&self.segments)) {
-            let hits = search(alloc, &self.segments, &self.loose, terms)?;
+        if is_light(terms, self.words, large_len(&self.parts)) {
+            let hits = search(alloc, &self.parts, terms)?;
             return Ok(Begun::Found(hits));
         }
-        let search = Search::new(alloc, &self.segments, &self.loose, terms)?;
+        let search = Search::new(alloc, &self.parts, terms)?;
         Ok(Begun::Searching(search))
     }
 
@@ -338,6 +291,6 @@ impl Index {
     pub fn occurrences(&self, alloc: Global, word: &[u8]) -> Result<Vec<(Place, u32)>, NoMemory>
         ensures { IfOk result (λ list. AreOccurrences self.now word.now list.items) }
     {
-        occurrences(alloc, &self.segments, &self.loose, word)
+        occurrences(alloc, &self.parts, word)
     }
 }

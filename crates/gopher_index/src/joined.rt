@@ -1,6 +1,6 @@
-//! The verdicts and scores of a segment's pages, joined group by group of a query's terms.
+//! The verdicts and scores of a part's pages, joined group by group of a query's terms.
 
-ghost use Rattle.std.specs.Prelude.{None, ◌≡◌, ◌+◌, ◌*◌, ◌^◌, ◌≤◌, ◌<◌, ◌==◌, ◌∷◌, [], length, map, replicate, if◌then◌else◌, IfSome, OnOk};
+ghost use Rattle.std.specs.Prelude.{None, ◌≡◌, ◌+◌, ◌*◌, ◌^◌, ◌≤◌, ◌<◌, ◌==◌, ◌∷◌, [], length, map, replicate, if◌then◌else◌, IfSome, OnErr, OnOk};
 ghost use Rattle.std.specs.List.{All};
 ghost use Rattle.gopher_index.specs.Cells.{RisesAtMost, term_counts, zipped};
 ghost use Rattle.gopher_index.specs.Joined.{AreBegun, AreJoined, AddsOne, HasCells, IsUnwantedList, JoinsOne, RaisesEach, posted, posted_count, raised_verdicts};
@@ -8,21 +8,22 @@ ghost use Rattle.gopher_segment.specs.Postings.{AreWithin};
 ghost use Rattle.gopher_index.specs.Plan.{AreGroupCells, wanted_in};
 
 use crate::likely::Highest;
+use crate::part::Part;
 use crate::plan::{Group, higher, verdict_for};
 use gopher_item::{MAX_LINE, NoMemory};
 use gopher_page::Term;
-use gopher_segment::{Postings, Segment};
+use gopher_segment::Postings;
 use std::alloc::Global;
 
-/// The verdicts and scores of a segment's pages by the first groups of a query's terms.
+/// The verdicts and scores of a part's pages by the first groups of a query's terms.
 ///
-/// Its memory is used for one segment after another.
+/// Its memory is used for one part after another.
 #[derive(Debug, Drop)]
 pub(crate) struct Joined {
     counts: Vec<u32>,
     pub verdicts: Vec<u16>,
     pub scores: Vec<u32>,
-    /// The number of groups that were joined. At 0, the cells belong to no segment.
+    /// The number of groups that were joined. At 0, the cells belong to no part.
     pub groups: usize,
 }
 
@@ -80,13 +81,13 @@ fn add_wanted(times: u32, scores: &mut [u32], counts: &[u32])
 }
 
 /// Writes how often the words that a term matches occur in each page.
-fn spread_term(segment: &Segment, term: &Term, counts: &mut [u32])
-    requires { length counts.old ≡ length segment.now.pages }
-    ensures counts { counts.new ≡ term_counts term.now segment.now.pages }
+fn spread_term(part: &Part, term: &Term, counts: &mut [u32])
+    requires { length counts.old ≡ length part.now.pages }
+    ensures counts { counts.new ≡ term_counts term.now part.now.pages }
     ensures few { All (λ count. count ≤ 1048576) counts.new }
 {
     counts.fill(0);
-    segment.spread(term.is_prefix(), term.word(), counts);
+    part.spread(term.is_prefix(), term.word(), counts);
 }
 
 // Multiplies each score.
@@ -104,27 +105,27 @@ fn multiply(times: u32, scores: &mut [u32])
 }
 
 // Joins the first group. Its counts are written to the scores directly.
-fn join_first(segment: &Segment, group: &Group, verdicts: &mut [u16], scores: &mut [u32])
+fn join_first(part: &Part, group: &Group, verdicts: &mut [u16], scores: &mut [u32])
     requires times { group.now.wanted ≤ MAX_LINE }
-    requires verdicts { verdicts.old ≡ replicate (length segment.now.pages) 1 }
-    requires scores { scores.old ≡ replicate (length segment.now.pages) 0 }
-    ensures cells { AreGroupCells (group.now ∷ []) segment.now.pages verdicts.new scores.new }
+    requires verdicts { verdicts.old ≡ replicate (length part.now.pages) 1 }
+    requires scores { scores.old ≡ replicate (length part.now.pages) 0 }
+    ensures cells { AreGroupCells (group.now ∷ []) part.now.pages verdicts.new scores.new }
     ensures few { All (λ score. score ≤ 1048576 * group.now.wanted) scores.new }
 {
-    segment.spread(group.term.is_prefix(), group.term.word(), scores);
+    part.spread(group.term.is_prefix(), group.term.word(), scores);
     raise_verdicts(group, verdicts, scores);
     multiply(group.wanted, scores);
 }
 
-// Returns the posting list of a group of `not` and one word, if the segment has lists. No page
+// Returns the posting list of a group of `not` and one word, if the part has lists. No page
 // changes that the list doesn't have.
-fn unwanted_list<'a>(segment: &'a Segment, group: &Group) -> Option<Postings<'a>>
-    ensures { IfSome result (IsUnwantedList group.now segment.now.pages) }
+fn unwanted_list<'a>(part: &'a Part, group: &Group) -> Option<Postings<'a>>
+    ensures { IfSome result (IsUnwantedList group.now part.now.pages) }
 {
     if group.wanted > 0 || group.fails > 0 || group.term.is_prefix() {
         return None;
     }
-    segment.postings(group.term.word())
+    part.postings(group.term.word())
 }
 
 // Raises the verdict of a page for one of its postings. The first verdict is that of page `first`.
@@ -157,25 +158,25 @@ fn raise_listed(postings: &Postings, holds: u16, verdicts: &mut [u16])
 
 // Joins a group to the groups before it. May overwrite `counts`.
 fn join_group(
-    segment: &Segment,
+    part: &Part,
     group: &Group,
     counts: &mut [u32],
     verdicts: &mut [u16],
     scores: &mut [u32],
 )
     requires times { group.now.wanted ≤ MAX_LINE }
-    requires counts { length counts.old ≡ length segment.now.pages }
-    requires verdicts { length verdicts.old ≡ length segment.now.pages }
-    requires scores { length scores.old ≡ length segment.now.pages }
+    requires counts { length counts.old ≡ length part.now.pages }
+    requires verdicts { length verdicts.old ≡ length part.now.pages }
+    requires scores { length scores.old ≡ length part.now.pages }
     requires room { All (λ score. score ≤ 2 ^ 31) scores.old }
-    ensures cells { AddsOne group.now segment.now verdicts.old scores.old verdicts.new scores.new }
+    ensures cells { AddsOne group.now part.now verdicts.old scores.old verdicts.new scores.new }
     ensures few { RisesAtMost (1048576 * group.now.wanted) scores.old scores.new }
 {
-    if let Some(postings) = unwanted_list(segment, group) {
+    if let Some(postings) = unwanted_list(part, group) {
         raise_listed(&postings, group.holds, verdicts);
         return;
     }
-    spread_term(segment, &group.term, counts);
+    spread_term(part, &group.term, counts);
     raise_verdicts(group, verdicts, counts);
     add_wanted(group.wanted, scores, counts);
 }
@@ -208,31 +209,31 @@ impl Joined {
         Ok(())
     }
 
-    // Joins the first group of a segment. After an error no group is joined.
-    fn start(&mut self, segment: &Segment, groups: &[Group]) -> Result<(), NoMemory>
+    // Joins the first group of a part. After an error no group is joined.
+    fn start(&mut self, part: &Part, groups: &[Group]) -> Result<(), NoMemory>
         requires few { wanted_in groups.now ≤ MAX_LINE }
         requires some { 0 < length groups.now }
         requires none { self.old.groups ≡ 0 }
-        ensures cells { OnOk result (AreJoined groups.now segment.now.pages self.new) }
+        ensures cells { OnOk result (AreJoined groups.now part.now.pages self.new) }
         ensures one { JoinsOne self.old self.new result }
     {
-        self.clear(segment.pages().len())?;
+        self.clear(part.pages().len())?;
         let Joined {
             verdicts,
             scores,
             ..
         } = self;
-        join_first(segment, &groups[0], verdicts, scores);
+        join_first(part, &groups[0], verdicts, scores);
         self.groups = 1;
         Ok(())
     }
 
     // Joins the next group.
-    fn join(&mut self, segment: &Segment, groups: &[Group])
+    fn join(&mut self, part: &Part, groups: &[Group])
         requires few { wanted_in groups.now ≤ MAX_LINE }
         requires ahead { self.old.groups < length groups.now }
-        requires joined { AreJoined groups.now segment.now.pages self.old }
-        ensures cells { AreJoined groups.now segment.now.pages self.new }
+        requires joined { AreJoined groups.now part.now.pages self.old }
+        ensures cells { AreJoined groups.now part.now.pages self.new }
         ensures one { self.new.groups ≡ self.old.groups + 1 }
     {
         let next = self.groups;
@@ -242,40 +243,43 @@ impl Joined {
             scores,
             ..
         } = self;
-        join_group(segment, &groups[next], counts, verdicts, scores);
+        join_group(part, &groups[next], counts, verdicts, scores);
         self.groups = next + 1;
     }
 
     /// Joins the next group. After an error no group is joined.
-    pub fn advance(&mut self, segment: &Segment, groups: &[Group]) -> Result<(), NoMemory>
+    pub fn advance(&mut self, part: &Part, groups: &[Group]) -> Result<(), NoMemory>
         requires few { wanted_in groups.now ≤ MAX_LINE }
         requires ahead { self.old.groups < length groups.now }
-        requires begun { AreBegun groups.now segment.now.pages self.old }
-        ensures cells { OnOk result (AreJoined groups.now segment.now.pages self.new) }
+        requires begun { AreBegun groups.now part.now.pages self.old }
+        ensures cells { OnOk result (AreJoined groups.now part.now.pages self.new) }
         ensures one { JoinsOne self.old self.new result }
     {
         if self.groups == 0 {
-            return self.start(segment, groups);
+            return self.start(part, groups);
         }
-        self.join(segment, groups);
+        self.join(part, groups);
         Ok(())
     }
 
     /// Joins all groups.
-    pub fn fill(&mut self, segment: &Segment, groups: &[Group]) -> Result<(), NoMemory>
+    pub fn fill(&mut self, part: &Part, groups: &[Group]) -> Result<(), NoMemory>
         requires few { wanted_in groups.now ≤ MAX_LINE }
         requires some { 0 < length groups.now }
-        ensures { OnOk result (HasCells groups.now segment.now.pages self.new) }
+        ensures cells { OnOk result (HasCells groups.now part.now.pages self.new) }
+        ensures joined { OnOk result (AreJoined groups.now part.now.pages self.new) }
+        ensures all { OnOk result (self.new.groups ≡ length groups.now) }
+        ensures none { OnErr result (self.new.groups ≡ 0) }
     {
         self.groups = 0;
-        self.start(segment, groups)?;
+        self.start(part, groups)?;
         while self.groups < groups.len() {
-            self.join(segment, groups);
+            self.join(part, groups);
         }
         Ok(())
     }
 
-    /// Guesses a score that `wanted` pages of the segment reach; 0 if nothing is wanted.
+    /// Guesses a score that `wanted` pages of the part reach; 0 if nothing is wanted.
     pub fn likely_score(&self, wanted: Option<usize>) -> u64
         requires { length self.now.scores.items ≡ length self.now.verdicts.items }
         ensures { wanted ≡ None → result ≡ 0 }

@@ -6,29 +6,29 @@
 //!
 //! # Pages
 //!
-//! An added page is *loose*. A run of pages is due to be merged when there are 64 loose ones, or
-//! four segments of one size (`picking`). Segments have 64 pages, then 256 and so on up to 16,384,
-//! or fewer if one can't hold all their words. `due` shares the pages of a run, so `merging` works
-//! without the index. `installing` puts the new segment in place of its pages. Runs that are being
-//! merged are marked, and several can be merged at once. A segment can't follow loose pages, so the
-//! index holds one that is merged too early. At 512 loose pages, `add` merges everything that is
-//! due itself and forgets all marks. Single-threaded callers call `settle` to merge segments.
+//! An index is a list of parts (`part`): segments, and *loose* pages, which `add` appends one by
+//! one. A run of parts is due to be merged when it is 64 loose pages, or four segments of one size
+//! (`picking`). Segments have 64 pages, then 256 and so on up to 16,384, or fewer if one can't hold
+//! all their words. `due` shares the pages of a run, so `merging` works without the index.
+//! `installing` puts the new segment in place of its pages. Runs that are being merged are marked,
+//! and several can be merged at once. At 512 loose pages, `add` merges everything that is due
+//! itself and forgets all marks. Single-threaded callers call `settle` to merge segments.
 //!
 //! # Searches
 //!
 //! `Index::begin` runs a short search to its end (`search`): one of at most four terms that go
 //! through at most 16,777,216 postings together. For this limit a prefix goes through all postings,
 //! and a large page counts as 2,048 for each term. A search groups equal terms (`plan`) and goes
-//! through the segments in order. In each it spreads the counts of one group after another over an
+//! through the parts in order. In each it spreads the counts of one group after another over an
 //! array with one element for each page, and joins them to the matches and the scores so far
 //! (`joined`). A group of `not` and a word goes through the word's posting list, since it changes
 //! no other page. For a single word it goes through the posting list instead, and skips blocks of
-//! 64 postings that can't reach the best 50, and such postings in other blocks (`by_postings`). A
-//! segment with large pages has no lists, so its counts are spread for a single word too. Pages
-//! that reach the lowest of the best scores are inserted among them (`by_cells`, `best`). If a page
-//! of that score isn't among them, no page of the segment with that score and a later place is, and
-//! the ranks of places in the segment show which these are (`ties`). So most pages of one score are
-//! never read. Loose pages are searched by their own counts (`loose`).
+//! 64 postings that can't reach the best 50, and such postings in other blocks (`by_postings`).
+//! Loose pages, and segments with large pages, have no lists, so their counts are spread for a
+//! single word too. Pages that reach the lowest of the best scores are inserted among them
+//! (`by_cells`, `best`). If a page of that score isn't among them, no page of the segment with that
+//! score and a later place is, and the ranks of places in the segment show which these are
+//! (`ties`). So most pages of one score are never read.
 //!
 //! A query has at most as many terms as its line has bytes, 1,024 (`MAX_LINE`). So scores fit in a
 //! `u32`, and verdicts in a `u16`.
@@ -38,10 +38,10 @@
 //! depends on the guess.
 //!
 //! Any other search becomes a `Search`, which shares the pages and goes on in steps (`progress`).
-//! Its first step groups the terms. Each further step does one of three things. It joins one group
-//! in one segment: it goes through at most all postings of the segment, and 2,048 for each of its
-//! large pages. A word of a large page counts as a posting. Or it inserts the pages of a segment
-//! that match among the best. Or it inserts up to eight loose pages.
+//! Its first step groups the terms. Each further step does one of two things. It joins one group in
+//! one segment: it goes through at most all postings of the segment, and 2,048 for each of its
+//! large pages. A word of a large page counts as a posting. In a loose page it joins all groups. Or
+//! it inserts the pages of a part that match among the best.
 //!
 //! # Errors
 //!
@@ -58,9 +58,9 @@ mod index;
 mod installing;
 mod joined;
 mod likely;
-mod loose;
 mod merging;
 mod occurrences;
+mod part;
 mod picking;
 mod plan;
 mod progress;

@@ -1,13 +1,12 @@
 //! Listing the pages that contain a word.
 
-ghost use Rattle.std.specs.Prelude.{◌≡◌, length, map, IfOk};
-ghost use Rattle.std.specs.Arc.{arc_value};
-ghost use Rattle.gopher_index.specs.Answer.{FindsCounted, FindsIn, ListsOccurrences};
-ghost use Rattle.gopher_index.specs.Index.{pages_in};
+ghost use Rattle.std.specs.Prelude.{◌≡◌, length, IfOk};
+ghost use Rattle.gopher_index.specs.Answer.{AreOccurrences, FindsCounted, FindsIn};
+ghost use Rattle.gopher_segment.specs.Segment.{pages_of};
 
+use crate::part::Part;
 use gopher_item::{NoMemory, Place};
 use gopher_page::{Page, push_page};
-use gopher_segment::Segment;
 use std::alloc::Global;
 use std::sync::Arc;
 
@@ -25,59 +24,32 @@ fn push_counted(
     Ok(())
 }
 
-fn push_segment(
+fn push_part(
     alloc: Global,
-    segment: &Segment,
+    part: &Part,
     word: &[u8],
     found: &mut Vec<(Place, u32)>,
 ) -> Result<(), NoMemory>
-    ensures { FindsIn word.now segment.now.pages found.old.items found.new.items result }
+    ensures { FindsIn word.now part.now.pages found.old.items found.new.items result }
 {
-    let pages = segment.pages();
+    let pages = part.pages();
     let mut counts = vec![in alloc; 0; pages.len()]?;
-    segment.spread(false, word, &mut counts);
+    part.spread(false, word, &mut counts);
     push_counted(pages, &counts, found)
 }
 
-fn push_segments(
-    alloc: Global,
-    segments: &[Arc<Segment>],
-    word: &[u8],
-    found: &mut Vec<(Place, u32)>,
-) -> Result<(), NoMemory>
-    ensures { FindsIn word.now (pages_in segments.now) found.old.items found.new.items result }
-{
-    for segment in segments {
-        push_segment(alloc, segment, word, found)?;
-    }
-    Ok(())
-}
-
-fn push_loose(
-    pages: &[Arc<Page>],
-    word: &[u8],
-    found: &mut Vec<(Place, u32)>,
-) -> Result<(), NoMemory>
-    ensures { FindsIn word.now (map arc_value pages.now) found.old.items found.new.items result }
-{
-    for page in pages {
-        push_page(page, page.count(word), found)?;
-    }
-    Ok(())
-}
-
-/// Lists the occurrences of a word in the pages of segments and in the loose pages after them.
+/// Lists the occurrences of a word in the pages of parts.
 pub(crate) fn occurrences(
     alloc: Global,
-    segments: &[Arc<Segment>],
-    loose: &[Arc<Page>],
+    parts: &[Part],
     word: &[u8],
 ) -> Result<Vec<(Place, u32)>, NoMemory>
-    ensures { IfOk result (λ list. ListsOccurrences segments.now loose.now word.now list.items) }
+    ensures { IfOk result (λ list. AreOccurrences (pages_of parts.now) word.now list.items) }
 {
     let mut found = Vec::new(alloc);
-    push_segments(alloc, segments, word, &mut found)?;
-    push_loose(loose, word, &mut found)?;
+    for part in parts {
+        push_part(alloc, part, word, &mut found)?;
+    }
     found.sort()?;
     Ok(found)
 }

@@ -1,10 +1,10 @@
-//! Picking the pages that are due to be merged.
+//! Picking the parts that are due to be merged.
 
-ghost use Rattle.std.specs.Prelude.{◌≡◌, ◌≤◌, true, length, IfSome};
+ghost use Rattle.std.specs.Prelude.{◌<◌, ◌≤◌, length, IfSome};
 ghost use Rattle.gopher_index.specs.Index.{IsSpan};
 
-use gopher_segment::{Segment, Size};
-use std::sync::Arc;
+use crate::part::Part;
+use gopher_segment::Size;
 
 // The number of segments that are merged into one.
 const MERGED: usize = 4;
@@ -20,75 +20,72 @@ fn is_taken(taken: &[usize], first: usize) -> bool {
     taken.iter().any(|other| *other == first)
 }
 
-/// Returns the start and the end of the first 64 loose pages that are due to be merged, if there
-/// are any.
-///
-/// The start is a multiple of 64. `settled` is the number of the first loose page, and `taken`
-/// contains the numbers of the first pages of runs that are being merged.
-pub(crate) fn due_loose(settled: usize, loose: usize, taken: &[usize]) -> Option<(usize, usize)>
-    ensures { IfSome result (IsSpan loose) }
+// Returns how many parts must follow each other, if `merged` of `pages` pages each are to be merged
+// into one.
+fn needed(pages: usize, merged: usize) -> usize
+    ensures { merged ≤ result }
 {
-    for run in 0..loose / MERGED_LOOSE {
-        let start = run * MERGED_LOOSE;
-        if !is_taken(taken, settled.saturating_add(start)) {
-            return Some((start, start + MERGED_LOOSE));
-        }
-    }
-    None
-}
-
-// Returns whether each segment has `pages` pages.
-fn are_alike(segments: &[Arc<Segment>], pages: usize) -> bool {
-    segments
-        .iter()
-        .all(|segment| segment.pages().len() == pages)
-}
-
-// Returns whether one segment can hold the contents of all of these.
-fn fit(segments: &[Arc<Segment>], size: Size) -> bool {
-    let mut sum = size;
-    for segment in segments {
-        sum = sum.with(Size::of(segment));
-    }
-    sum.fits()
-}
-
-// Returns whether the first of these segments is due to be merged with the next three. `first` is
-// the number of its first page. All have the same number of pages, so the sizes of merged segments
-// follow from the number of pages alone.
-fn is_due(first: usize, segments: &[Arc<Segment>]) -> bool
-    ensures { result ≡ true → 4 ≤ length segments.now }
-{
-    if segments.len() < MERGED {
-        return false;
-    }
-    let size = Size::of(&segments[0]);
-    let together = size.pages.saturating_mul(MERGED);
-    if first.checked_rem(together) != Some(0) {
-        return false;
-    }
-    let needed = if size.pages < LARGE {
-        MERGED
+    if pages < LARGE {
+        merged
     } else {
-        MERGED + 1
-    };
-    if segments.len() < needed {
-        return false;
+        merged.saturating_add(1)
     }
-    are_alike(&segments[1..needed], size.pages) && fit(&segments[1..MERGED], size)
 }
 
-/// Returns the start and the end of the first four segments that are due to be merged, if there are
-/// any. `taken` contains the numbers of the first pages of runs that are being merged.
-pub(crate) fn due_span(segments: &[Arc<Segment>], taken: &[usize]) -> Option<(usize, usize)>
-    ensures { IfSome result (IsSpan (length segments.now)) }
+// Returns whether each part has `pages` pages.
+fn are_alike(parts: &[Part], pages: usize) -> bool {
+    parts.iter().all(|part| part.pages().len() == pages)
+}
+
+// Returns whether one segment can hold the contents of all of these segments. Single pages always
+// fit.
+fn fit(parts: &[Part]) -> bool {
+    let mut sum: Option<Size> = None;
+    for part in parts {
+        let Some(segment) = part.as_segment() else {
+            return true;
+        };
+        let size = Size::of(segment);
+        sum = Some(match sum {
+            Some(sum) => sum.with(size),
+            None => size,
+        });
+    }
+    sum.is_none_or(|sum| sum.fits())
+}
+
+// Returns how many parts from the first one on are due to be merged, if they are. All have the same
+// number of pages, so the sizes of merged segments follow from the number of pages alone.
+fn due_len(parts: &[Part]) -> Option<usize>
+    ensures some { IfSome result (λ merged. 0 < merged) }
+    ensures most { IfSome result (λ merged. merged ≤ length parts.now) }
 {
-    let mut first = 0_usize;
-    for (start, segment) in segments.iter().enumerate() {
-        if !is_taken(taken, first) && is_due(first, &segments[start..]) {
-            return Some((start, start + MERGED));
+    let part = parts.first()?;
+    let pages = part.pages().len();
+    let merged = if pages == 1 { MERGED_LOOSE } else { MERGED };
+    let needed = needed(pages, merged);
+    if parts.len() < needed || part.first().checked_rem(pages.saturating_mul(merged)) != Some(0) {
+        return None;
+    }
+    if are_alike(&parts[..needed], pages) && fit(&parts[..merged]) {
+        Some(merged)
+    } else {
+        None
+    }
+}
+
+/// Returns the start and the end of the first parts that are due to be merged, if there are any.
+/// `taken` contains the numbers of the first pages of runs that are being merged.
+pub(crate) fn due_span(parts: &[Part], taken: &[usize]) -> Option<(usize, usize)>
+    ensures { IfSome result (IsSpan (length parts.now)) }
+{
+    for (start, part) in parts.iter().enumerate() {
+        if is_taken(taken, part.first()) {
+            continue;
         }
-        first = first.saturating_add(segment.pages().len());
+        if let Some(merged) = due_len(&parts[start..]) {
+            return Some((start, start + merged));
+        }
     }
     None
 }

@@ -2,10 +2,10 @@
 
 ghost use Rattle.std.specs.Prelude.{◌≡◌, ◌+◌, ◌≤◌, ◌<◌, true, max, length, nat_lt, if◌then◌else◌, IfOk, IfSome, OnOk};
 ghost use Rattle.gopher_page.specs.Query.{IsQuery};
-ghost use Rattle.gopher_index.specs.Plan.{verdict_of, verdict, total, is_match, wanted_in, AddsTerm, IsGroupOf, IsPlan, Joins, SayAlike, MatchAlike};
+ghost use Rattle.gopher_index.specs.Plan.{verdict_of, is_match, wanted_in, AddsTerm, IsGroupOf, IsPlan, Joins, SayAlike, MatchAlike};
 
 use gopher_item::{MAX_LINE, NoMemory};
-use gopher_page::{Operator, Page, Term};
+use gopher_page::{Operator, Term};
 use std::alloc::Global;
 
 // Returns the verdict of a term on a page. `number` is the term's index, and `holds` says whether
@@ -147,20 +147,4 @@ pub(crate) fn copied(alloc: Global, terms: &[Term]) -> Result<Vec<Term>, NoMemor
         copy.push(term.clone()?)?;
     }
     Ok(copy)
-}
-
-/// Returns whether a page matches, and its score, from the groups of a query's terms.
-pub(crate) fn weigh_by_groups(groups: &[Group], page: &Page) -> (bool, u64)
-    requires { wanted_in groups.now ≤ MAX_LINE }
-    ensures truth { result.0 ≡ is_match (verdict groups.now page.now.counts) }
-    ensures score { result.1 ≡ total groups.now page.now.counts }
-{
-    let mut verdict = 1;
-    let mut total = 0;
-    for group in groups {
-        let count = group.term.count_in(page);
-        verdict = higher(verdict, verdict_for(group.holds, group.fails, count));
-        total += u64::from(group.wanted) * u64::from(count);
-    }
-    (is_match(verdict), total)
 }

@@ -1,123 +1,70 @@
 //! The state of a search that is done in steps: the pages that it shares, its terms, and the best
 //! of the pages that were searched.
 
-ghost use Rattle.std.specs.Prelude.{◌≡◌, ◌≤◌, ◌<◌, None, Ok, length, map, IfOk, IfSome, OnErr, OnOk};
-ghost use Rattle.std.specs.Arc.{arc_value};
+ghost use Rattle.std.specs.Prelude.{◌≡◌, ◌<◌, None, Ok, length, IfOk, IfSome, OnErr, OnOk};
 ghost use Rattle.gopher_page.specs.Query.{IsQuery};
-ghost use Rattle.gopher_index.specs.Plan.{wanted_in};
-ghost use Rattle.gopher_index.specs.Progress.{all_pages, steps_left, HasAsManySteps, IsProgress, IsSameSearch, AddsByGroups, AddsCells, search_hits};
-ghost use Rattle.gopher_index.specs.Index.{indexed};
+ghost use Rattle.gopher_segment.specs.Segment.{pages_of};
+ghost use Rattle.gopher_index.specs.Progress.{all_pages, steps_left, HasAsManySteps, IsProgress, IsSameSearch, AddsCells, search_hits};
 
 use crate::best::{Best, Kept};
 use crate::by_cells::rank_cells;
 use crate::hit::Hit;
 use crate::joined::Joined;
-use crate::loose::rank_pages_by_groups;
+use crate::part::{Part, copies};
 use crate::plan::{Group, copied, groups_of};
-use gopher_item::{MAX_LINE, NoMemory};
-use gopher_page::{Page, Term};
-use gopher_segment::{Segment, shared};
+use gopher_item::NoMemory;
+use gopher_page::Term;
 use std::alloc::Global;
-use std::sync::Arc;
-
-// The most loose pages that a step searches.
-const MOST_PAGES: usize = 8;
-
-// The most words of these pages together, unless one page alone has more.
-const MOST_WORDS: usize = 65_536;
 
 /// The pages and terms of a search, and its state between two steps.
 ///
 /// The first step groups the terms. `new` doesn't, because the time grows with the square of their
-/// number, and beginning a search must be quick. The next steps go through the segments in order:
-/// they join one group after another, then rank the segment's pages. The last steps search the
-/// loose pages.
+/// number, and beginning a search must be quick. The next steps go through the parts in order: they
+/// join one group after another, or all groups in a single page, then rank the part's pages.
 #[derive(Debug, Drop)]
 pub(crate) struct Progress {
     alloc: Global,
-    segments: Vec<Arc<Segment>>,
-    loose: Vec<Arc<Page>>,
+    parts: Vec<Part>,
     terms: Vec<Term>,
     groups: Vec<Group>,
     kept: Vec<Kept>,
     joined: Joined,
-    segments_done: usize,
-    loose_done: usize,
+    done: usize,
 }
 
-// Returns the best of the kept candidates and the pages of a segment.
+// Returns the best of the kept candidates and the pages of a part.
 fn kept_with_cells(
     alloc: Global,
     kept: &[Kept],
-    segment: &Segment,
+    part: &Part,
     verdicts: &[u16],
     scores: &[u32],
 ) -> Result<Vec<Kept>, NoMemory>
-    requires verdicts { length verdicts.now ≡ length segment.now.pages }
-    requires scores { length scores.now ≡ length segment.now.pages }
-    ensures { AddsCells segment.now.pages verdicts.now scores.now kept.now result }
+    requires verdicts { length verdicts.now ≡ length part.now.pages }
+    requires scores { length scores.now ≡ length part.now.pages }
+    ensures { AddsCells part.now.pages verdicts.now scores.now kept.now result }
 {
     let mut best = Best::of(alloc, kept)?;
-    rank_cells(segment, verdicts, scores, &mut best)?;
+    rank_cells(part, verdicts, scores, &mut best)?;
     best.kept(alloc)
-}
-
-// Returns the best of the kept candidates and some loose pages.
-fn kept_with_pages(
-    alloc: Global,
-    kept: &[Kept],
-    pages: &[Arc<Page>],
-    groups: &[Group],
-) -> Result<Vec<Kept>, NoMemory>
-    requires { wanted_in groups.now ≤ MAX_LINE }
-    ensures { AddsByGroups groups.now (map arc_value pages.now) kept.now result }
-{
-    let mut best = Best::of(alloc, kept)?;
-    rank_pages_by_groups(pages, groups, &mut best)?;
-    best.kept(alloc)
-}
-
-// Returns the index after the last loose page that one step searches from `start` on.
-fn pages_end(loose: &[Arc<Page>], start: usize) -> usize
-    requires { start < length loose.now }
-    ensures forward { start < result }
-    ensures within { result ≤ length loose.now }
-{
-    let mut words = loose[start].counts().len();
-    let mut end = start + 1;
-    while end < loose.len() && end - start < MOST_PAGES {
-        words = words.saturating_add(loose[end].counts().len());
-        if words > MOST_WORDS {
-            break;
-        }
-        end += 1;
-    }
-    end
 }
 
 impl Progress {
     /// Starts a search for the terms of a query. Shares the pages.
-    pub fn new(
-        alloc: Global,
-        segments: &[Arc<Segment>],
-        loose: &[Arc<Page>],
-        terms: &[Term],
-    ) -> Result<Progress, NoMemory>
+    pub fn new(alloc: Global, parts: &[Part], terms: &[Term]) -> Result<Progress, NoMemory>
         requires { IsQuery terms.now }
         ensures is { IfOk result IsProgress }
-        ensures pages { IfOk result (λ new. all_pages new ≡ indexed segments.now loose.now) }
+        ensures pages { IfOk result (λ progress. all_pages progress ≡ pages_of parts.now) }
         ensures terms { IfOk result (λ progress. progress.terms.items ≡ terms.now) }
     {
         Ok(Progress {
             alloc,
-            segments: shared(alloc, segments)?,
-            loose: shared(alloc, loose)?,
+            parts: copies(alloc, parts)?,
             terms: copied(alloc, terms)?,
             groups: Vec::new(alloc),
             kept: Vec::new(alloc),
             joined: Joined::new(alloc),
-            segments_done: 0,
-            loose_done: 0,
+            done: 0,
         })
     }
 
@@ -133,66 +80,50 @@ impl Progress {
         Ok(())
     }
 
-    // Joins the next group in the current segment.
+    // Joins the next group in the current part, or all groups if it is a single page.
     fn join_group(&mut self) -> Result<(), NoMemory>
         requires is { IsProgress self.old }
-        requires segments { self.old.segments_done < length self.old.segments.items }
+        requires ahead { self.old.done < length self.old.parts.items }
         requires groups { self.old.joined.groups < length self.old.groups.items }
         ensures same { IsSameSearch self.old self.new }
         ensures fewer { OnOk result (steps_left self.new < steps_left self.old) }
         ensures refused { OnErr result (steps_left self.new ≡ steps_left self.old) }
     {
-        let segment = &self.segments[self.segments_done];
-        self.joined.advance(segment, &self.groups)?;
+        let part = &self.parts[self.done];
+        if self.joined.groups == 0 && part.as_segment().is_none() {
+            self.joined.fill(part, &self.groups)?;
+        } else {
+            self.joined.advance(part, &self.groups)?;
+        }
         Ok(())
     }
 
-    // Inserts the matching pages of the current segment, in which all groups were joined, into the
-    // best.
-    fn rank_joined_segment(&mut self) -> Result<(), NoMemory>
+    // Inserts the matching pages of the current part into the best. All groups were joined in it.
+    fn rank_joined_part(&mut self) -> Result<(), NoMemory>
         requires is { IsProgress self.old }
-        requires segments { self.old.segments_done < length self.old.segments.items }
+        requires ahead { self.old.done < length self.old.parts.items }
         requires planned { 0 < length self.old.groups.items }
         requires groups { self.old.joined.groups ≡ length self.old.groups.items }
         ensures same { IsSameSearch self.old self.new }
         ensures fewer { OnOk result (steps_left self.new < steps_left self.old) }
         ensures refused { OnErr result (steps_left self.new ≡ steps_left self.old) }
     {
-        let segment = &self.segments[self.segments_done];
+        let part = &self.parts[self.done];
         let Joined {
             verdicts,
             scores,
             ..
         } = &self.joined;
-        self.kept = kept_with_cells(self.alloc, &self.kept, segment, verdicts, scores)?;
-        self.segments_done += 1;
+        self.kept = kept_with_cells(self.alloc, &self.kept, part, verdicts, scores)?;
+        self.done += 1;
         self.joined.groups = 0;
-        Ok(())
-    }
-
-    // Searches the next loose pages.
-    fn rank_next_loose(&mut self) -> Result<(), NoMemory>
-        requires is { IsProgress self.old }
-        requires segments { self.old.segments_done ≡ length self.old.segments.items }
-        requires planned { 0 < length self.old.groups.items }
-        requires loose { self.old.loose_done < length self.old.loose.items }
-        ensures same { IsSameSearch self.old self.new }
-        ensures fewer { OnOk result (steps_left self.new < steps_left self.old) }
-        ensures refused { OnErr result (steps_left self.new ≡ steps_left self.old) }
-    {
-        let start = self.loose_done;
-        let end = pages_end(&self.loose, start);
-        let pages = &self.loose[start..end];
-        self.kept = kept_with_pages(self.alloc, &self.kept, pages, &self.groups)?;
-        self.loose_done = end;
         Ok(())
     }
 
     // Returns the hits of all pages.
     fn hits(&self) -> Result<Vec<Hit>, NoMemory>
         requires is { IsProgress self.now }
-        requires segments { self.now.segments_done ≡ length self.now.segments.items }
-        requires loose { self.now.loose_done ≡ length self.now.loose.items }
+        requires all { self.now.done ≡ length self.now.parts.items }
         ensures { IfOk result (λ hits. hits.items ≡ search_hits self.now) }
     {
         Best::of(self.alloc, &self.kept)?.hits(self.alloc)
@@ -211,16 +142,12 @@ impl Progress {
             self.plan()?;
             return Ok(None);
         }
-        if self.segments_done < self.segments.len() {
+        if self.done < self.parts.len() {
             if self.joined.groups < self.groups.len() {
                 self.join_group()?;
             } else {
-                self.rank_joined_segment()?;
+                self.rank_joined_part()?;
             }
-            return Ok(None);
-        }
-        if self.loose_done < self.loose.len() {
-            self.rank_next_loose()?;
             return Ok(None);
         }
         Ok(Some(self.hits()?))

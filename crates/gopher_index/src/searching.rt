@@ -2,16 +2,16 @@
 
 ghost use Rattle.std.specs.Prelude.{◌≡◌, ◌<◌, None, Ok, IfOk, IfSome, OnErr};
 ghost use Rattle.gopher_page.specs.Query.{IsQuery};
-ghost use Rattle.gopher_index.specs.Answer.{answer_over};
+ghost use Rattle.gopher_index.specs.Answer.{answer_of};
+ghost use Rattle.gopher_segment.specs.Segment.{pages_of};
 
 use crate::hit::Hit;
+use crate::part::Part;
 use crate::progress::Progress;
 use gopher_item::NoMemory;
-use gopher_page::{Page, Term};
-use gopher_segment::Segment;
+use gopher_page::Term;
 use std::alloc::Global;
 use std::marker::Model;
-use std::sync::Arc;
 
 /// A search that is done in steps, so that a thread can serve others in between.
 ///
@@ -37,24 +37,22 @@ impl Model for Search {
 }
 
 impl Search {
-    /// Starts a search for the terms of a query in the pages of segments and the loose pages after
-    /// them.
-    pub(crate) fn new(
-        alloc: Global,
-        segments: &[Arc<Segment>],
-        loose: &[Arc<Page>],
-        terms: &[Term],
-    ) -> Result<Search, NoMemory>
+    /// Starts a search for the terms of a query in the pages of parts.
+    pub(crate) fn new(alloc: Global, parts: &[Part], terms: &[Term]) -> Result<Search, NoMemory>
         requires { IsQuery terms.now }
-        ensures { IfOk result (λ new. new.hits ≡ answer_over segments.now loose.now terms.now) }
+        ensures { IfOk result (λ new. new.hits ≡ answer_of (pages_of parts.now) terms.now) }
     {
         Ok(Search {
-            progress: Progress::new(alloc, segments, loose, terms)?,
+            progress: Progress::new(alloc, parts, terms)?,
         })
     }
 
-    /// Does one step, of the size that the crate's head states. Returns the hits if no step is
-    /// left, and `None` otherwise.
+    /// Does one step. Returns the hits if no step is left, and `None` otherwise.
+    ///
+    /// The first step groups equal terms. Each further step goes through the postings of one group
+    /// of terms in one segment, or of all groups in a page that isn't in a segment. A large page
+    /// counts as 2,048 postings. Or a step inserts the matching pages of a segment, or such a page,
+    /// among the best.
     ///
     /// # Errors
     ///

@@ -8,12 +8,12 @@ ghost use Rattle.gopher_index.specs.Ties.{is_covered, AreTies, TakesPageAt};
 ghost use Rattle.gopher_segment.specs.Ranks.{AreRanks};
 
 use crate::best::Best;
+use crate::part::Part;
 use gopher_item::NoMemory;
 use gopher_page::Page;
-use gopher_segment::Segment;
 use std::sync::Arc;
 
-/// The pages of a segment, and one of them that can't get among the best.
+/// The pages of a part, and one of them that can't get among the best.
 ///
 /// A page with a higher rank and a score below `below` can't get among them either: its place
 /// doesn't come before the place of that page.
@@ -30,20 +30,20 @@ pub(crate) struct Ties<'a> {
 
 impl<'a> Ties<'a> {
     /// Starts with no page that can't get among the best.
-    pub fn new(segment: &'a Segment) -> Ties<'a>
-        ensures pages { map arc_value result.pages.now ≡ segment.now.pages }
+    pub fn new(part: &'a Part) -> Ties<'a>
+        ensures pages { map arc_value result.pages.now ≡ part.now.pages }
         ensures ties { (best : BestData) → AreTies result best }
     {
         Ties {
-            pages: segment.pages(),
-            ranks: segment.ranks(),
+            pages: part.pages(),
+            ranks: part.ranks(),
             tied: 0,
             score: 0,
             below: 0,
         }
     }
 
-    /// Returns the page at an index of the segment.
+    /// Returns the page at an index of the part.
     pub fn page(&self, index: usize) -> &'a Arc<Page>
         requires { index < length self.now.pages.now }
         ensures { slice_get (map arc_value self.now.pages.now) index ≡ Some (arc_value result.now) }
@@ -94,7 +94,7 @@ impl<'a> Ties<'a> {
         Ok(())
     }
 
-    /// Inserts the page at an index of the segment, with its score, into the best. The page is read
+    /// Inserts the page at an index of the part, with its score, into the best. The page is read
     /// only if it isn't known that it can't get among them.
     pub fn insert(&mut self, index: usize, score: u64, best: &mut Best<'a>) -> Result<(), NoMemory>
         requires within { index < length self.old.pages.now }

@@ -29,7 +29,7 @@ loop-start-preserved-in_ok-rank_block c =
 
 pub loop-start-preserved : goal.loop-start-preserved
 loop-start-preserved c =
-    let pages = c.args.segment.now.pages in
+    let pages = c.args.part.now.pages in
     let size = c.min-end.result - c.loop-start.start in
     let forward : c.loop-start.start ≤ c.min-end.result = omega arith in
     let low : c.min-lowest.result ≤ lowest_score c.loop-start.best = omega (arith, c.min-lowest.ensures, c.lowest_score.ensures) in

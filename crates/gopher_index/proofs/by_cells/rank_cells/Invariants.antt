@@ -11,9 +11,9 @@ abbrev pub invariant-loop-start : goal.invariant-loop-start
 invariant-loop-start l =
     record {
       within : l.start ≤ length l.scores;
-      pages : map arc_value l.ties.pages.now ≡ l.segment.pages;
+      pages : map arc_value l.ties.pages.now ≡ l.part.pages;
       ties : AreTies l.ties l.best;
-      taken : (terms : List TermData) → AreCells terms l.segment.pages (map is_match l.verdicts) l.scores → TakesIn terms (take l.start l.segment.pages) l.initial.best l.best;
+      taken : (terms : List TermData) → AreCells terms l.part.pages (map is_match l.verdicts) l.scores → TakesIn terms (take l.start l.part.pages) l.initial.best l.best;
     }
 
 abbrev pub decreases-loop-start : goal.decreases-loop-start

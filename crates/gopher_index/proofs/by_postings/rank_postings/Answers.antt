@@ -9,7 +9,7 @@ loop-start-init c = record {
   within = omega arith;
   pages = c.new-ties.ensures.pages;
   ties = c.new-ties.ensures.ties c.args.best.now;
-  walk = walk_start c.args.term.now c.requires.and c.args.postings.now.first c.args.segment.now.pages c.args.postings.now.numbers.now c.args.postings.now.counts.now c.requires.beside c.args.best.now c.requires.run;
+  walk = walk_start c.args.term.now c.requires.and c.args.postings.now.first c.args.part.now.pages c.args.postings.now.numbers.now c.args.postings.now.counts.now c.requires.beside c.args.best.now c.requires.run;
 }
 
 pub loop-start-preserved : goal.loop-start-preserved
@@ -22,8 +22,8 @@ loop-start-preserved c =
       pages = c.loop-start.invariant.pages;
       ties = c.loop-start.invariant.ties;
       walk =
-          subst (λ index. Walk c.args.term.now c.args.postings.now.first c.args.segment.now.pages c.args.postings.now.numbers.now c.args.postings.now.counts.now c.args.best.now c.loop-start.best index) forward
-          (walk_block c.args.term.now c.requires.and c.args.postings.now.first c.args.segment.now.pages c.args.postings.now.numbers.now c.args.postings.now.counts.now c.requires.beside c.args.best.now c.loop-start.best
+          subst (λ index. Walk c.args.term.now c.args.postings.now.first c.args.part.now.pages c.args.postings.now.numbers.now c.args.postings.now.counts.now c.args.best.now c.loop-start.best index) forward
+          (walk_block c.args.term.now c.requires.and c.args.postings.now.first c.args.part.now.pages c.args.postings.now.numbers.now c.args.postings.now.counts.now c.requires.beside c.args.best.now c.loop-start.best
           c.loop-start.start (c.min-end.result - c.loop-start.start) (omega arith)
           (λ k less.
           let below : get_or c.args.postings.now.counts.now (c.loop-start.start + k) 0 < c.lowest_count.result =
@@ -34,5 +34,5 @@ loop-start-preserved c =
 
 pub returns : goal.returns
 returns c =
-    walk_end c.args.term.now c.requires.and c.args.postings.now.first c.args.segment.now.pages c.args.postings.now.numbers.now c.args.postings.now.counts.now c.requires.beside c.args.best.now c.loop-start.best
+    walk_end c.args.term.now c.requires.and c.args.postings.now.first c.args.part.now.pages c.args.postings.now.numbers.now c.args.postings.now.counts.now c.requires.beside c.args.best.now c.loop-start.best
     c.loop-start.start (omega arith) c.loop-start.invariant.walk

@@ -8,9 +8,9 @@ abbrev pub invariant-loop-start : goal.invariant-loop-start
 invariant-loop-start l =
     record {
       within : l.start ≤ length l.postings.numbers.now;
-      pages : map arc_value l.ties.pages.now ≡ l.segment.pages;
+      pages : map arc_value l.ties.pages.now ≡ l.part.pages;
       ties : AreTies l.ties l.best;
-      walk : Walk l.term l.postings.first l.segment.pages l.postings.numbers.now l.postings.counts.now l.initial.best l.best l.start;
+      walk : Walk l.term l.postings.first l.part.pages l.postings.numbers.now l.postings.counts.now l.initial.best l.best l.start;
     }
 
 abbrev pub decreases-loop-start : goal.decreases-loop-start

@@ -13,7 +13,7 @@ use Rattle.gopher_index.proofs.joined.join_first.Goals as goal
 pub returns-clause-cells : goal.returns-clause-cells
 returns-clause-cells c =
     let group = c.args.group.now in
-    let pages = c.args.segment.now.pages in
+    let pages = c.args.part.now.pages in
     let counted : c.spread.new.cells ≡ term_counts group.term pages =
     c.spread.ensures.counts ∙ (λ i. meant_counts (c.is_prefix.ensures i) (c.word.ensures i) pages) ∙ meant_is_term group.term pages in
     let long : length c.spread.new.cells ≡ length pages = ap length counted ∙ length-map pages (λ (page : PageData). count_of_term page.counts group.term) in

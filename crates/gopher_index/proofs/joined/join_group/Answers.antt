@@ -7,20 +7,20 @@ use Rattle.gopher_index.proofs.joined.join_group.Goals as goal
 
 pub raise_listed-requires-clause-within : goal.raise_listed-requires-clause-within
 raise_listed-requires-clause-within c =
-    listed_within c.args.group.now c.args.segment.now.pages c.in-Some.postings c.in-Some.ensures c.args.verdicts.now c.requires.verdicts
+    listed_within c.args.group.now c.args.part.now.pages c.in-Some.postings c.in-Some.ensures c.args.verdicts.now c.requires.verdicts
 
 pub returns-in-Some-clause-cells : goal.returns-in-Some-clause-cells
 returns-in-Some-clause-cells c = λ groups cells.
-    one_group groups c.args.group.now c.args.segment.now.pages (term_counts c.args.group.now.term c.args.segment.now.pages) refl c.args.verdicts.now c.raise_listed.new.verdicts c.args.scores.now c.args.scores.now
-    (listed_raises c.args.group.now c.args.segment.now.pages c.in-Some.postings c.in-Some.ensures c.args.verdicts.now c.raise_listed.new.verdicts c.requires.verdicts (omega arith) c.raise_listed.ensures)
-    (unwanted_adds c.args.group.now c.args.segment.now.pages c.in-Some.postings c.in-Some.ensures c.args.scores.now) cells
+    one_group groups c.args.group.now c.args.part.now.pages (term_counts c.args.group.now.term c.args.part.now.pages) refl c.args.verdicts.now c.raise_listed.new.verdicts c.args.scores.now c.args.scores.now
+    (listed_raises c.args.group.now c.args.part.now.pages c.in-Some.postings c.in-Some.ensures c.args.verdicts.now c.raise_listed.new.verdicts c.requires.verdicts (omega arith) c.raise_listed.ensures)
+    (unwanted_adds c.args.group.now c.args.part.now.pages c.in-Some.postings c.in-Some.ensures c.args.scores.now) cells
 
 pub returns-in-Some-clause-few : goal.returns-in-Some-clause-few
 returns-in-Some-clause-few c = λ bound few. λ k d less. omega (arith, few k d less)
 
 pub returns-clause-cells : goal.returns-clause-cells
 returns-clause-cells c = λ groups cells.
-    one_group groups c.args.group.now c.args.segment.now.pages c.spread_term.new.counts c.spread_term.ensures.counts c.args.verdicts.now c.raise_verdicts.new.verdicts c.args.scores.now c.add_wanted.new.scores
+    one_group groups c.args.group.now c.args.part.now.pages c.spread_term.new.counts c.spread_term.ensures.counts c.args.verdicts.now c.raise_verdicts.new.verdicts c.args.scores.now c.add_wanted.new.scores
     c.raise_verdicts.ensures c.add_wanted.ensures cells
 
 pub returns-clause-few : goal.returns-clause-few

@@ -5,5 +5,5 @@ use Rattle.gopher_index.proofs.joined.spread_term.Goals as goal
 
 pub returns-clause-counts : goal.returns-clause-counts
 returns-clause-counts c =
-    c.spread.ensures.counts ∙ (λ i. meant_counts (c.is_prefix.ensures i) (c.word.ensures i) c.args.segment.now.pages)
-    ∙ meant_is_term c.args.term.now c.args.segment.now.pages
+    c.spread.ensures.counts ∙ (λ i. meant_counts (c.is_prefix.ensures i) (c.word.ensures i) c.args.part.now.pages)
+    ∙ meant_is_term c.args.term.now c.args.part.now.pages

@@ -1,17 +1,18 @@
-use Rattle.std.proofs.Common.{◌++◌, map, sym, ap, subst, ◌∙◌}
-use Rattle.std.specs.Arc.{arc_value}
+use Rattle.std.proofs.Common.{[], ◌++◌, take, sym, ap, subst, ◌∙◌, arith}
+use Rattle.std.proofs.lemmas.List.{take_all}
 use Rattle.std.specs.List.Sorted.{IsPermutation}
 use Rattle.gopher_index.specs.Answer.{occurrences_among}
 use Rattle.gopher_segment.specs.Segment.{pages_of}
-use Rattle.gopher_index.proofs.Found.{found_both}
+use Rattle.gopher_index.proofs.Found.{found_none, found_both}
+use Rattle.gopher_index.proofs.Segments.{pages-next}
 use Rattle.gopher_index.proofs.occurrences.occurrences.Goals as goal
 
-pub returns : goal.returns
-returns c = record {
-  permutation =
-      subst (λ list. IsPermutation list c.sort.new.self.items)
-      (c.in_ok-push_loose.ensures ∙ ap (λ l. l ++ occurrences_among c.args.word.now (map arc_value c.args.loose.now)) (c.in_ok-push_segments.ensures ∙ ap (λ l. l ++ occurrences_among c.args.word.now (pages_of (map arc_value c.args.segments.now))) c.new-found.ensures.items)
-      ∙ sym (found_both c.args.word.now (pages_of (map arc_value c.args.segments.now)) (map arc_value c.args.loose.now)))
-      c.sort.ensures.permutation;
-  sorted = c.in_ok-sort.ensures.sorted;
-}
+pub loop-part-init : goal.loop-part-init
+loop-part-init c = c.new-found.ensures.items ∙ sym (found_none c.args.word.now)
+
+pub loop-part-preserved : goal.loop-part-preserved
+loop-part-preserved c =
+    let done = pages_of (take c.loop-part.part-index c.args.parts.now) in
+    c.in_ok-push_part.ensures ∙ ap (λ l. l ++ occurrences_among c.args.word.now c.part-item.result.pages) c.loop-part.invariant
+    ∙ sym (found_both c.args.word.now done c.part-item.result.pages)
+    ∙ ap (occurrences_among c.args.word.now) (sym (pages-next c.args.parts.now c.loop-part.part-index c.part-item.result (omega arith) c.part-item.is))

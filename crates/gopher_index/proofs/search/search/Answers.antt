@@ -1,6 +1,4 @@
-use Rattle.std.proofs.Common.{◌≡◌, List, ◌++◌, map, refl, sym, ap, ◌∙◌}
-use Rattle.std.specs.Arc.{arc_value}
-use Rattle.gopher_page.specs.Page.{PageData}
+use Rattle.std.proofs.Common.{◌≡◌, refl, sym, ap, ◌∙◌}
 use Rattle.gopher_index.specs.Answer.{answer_of}
 use Rattle.gopher_index.specs.Best.{answer_from}
 use Rattle.gopher_segment.specs.Segment.{pages_of}
@@ -10,13 +8,13 @@ use Rattle.gopher_index.proofs.search.search.Goals as goal
 
 pub returns-then-is_whole : goal.returns-then-is_whole
 returns-then-is_whole c =
-    let pages : List PageData = pages_of (map arc_value c.args.segments.now) ++ map arc_value c.args.loose.now in
-    let whole : c.in_ok-best.best.hits ≡ answer_of pages c.args.terms.now = answer_of_whole c.in_ok-best.best pages c.args.terms.now (sym c.is_whole.ensures ∙ c.if-is_whole.true) c.in_ok-best.ensures.best in
+    let pages = pages_of c.args.parts.now in
+    let whole = answer_of_whole c.in_ok-best.best pages c.args.terms.now (sym c.is_whole.ensures ∙ c.if-is_whole.true) c.in_ok-best.ensures.best in
     ok_from c.hits.result (λ hits. hits.items ≡ c.in_ok-best.best.hits) (λ hits. hits.items ≡ answer_of pages c.args.terms.now) (λ hits e. e ∙ whole) c.hits.ensures
 
 pub returns : goal.returns
 returns c =
-    let pages : List PageData = pages_of (map arc_value c.args.segments.now) ++ map arc_value c.args.loose.now in
+    let pages = pages_of c.args.parts.now in
     let whole : c.in_ok-best-2.best.hits ≡ answer_of pages c.args.terms.now =
     c.in_ok-best-2.ensures.best ∙ ap (λ least. answer_from least pages c.args.terms.now) (c.in_ok-best-2.ensures.plain refl) ∙ answer_from_0 pages c.args.terms.now in
     ok_from c.hits-2.result (λ hits. hits.items ≡ c.in_ok-best-2.best.hits) (λ hits. hits.items ≡ answer_of pages c.args.terms.now) (λ hits e. e ∙ whole) c.hits-2.ensures

@@ -14,11 +14,11 @@ join_group-requires-clause-times c =
 
 pub join_group-requires-clause-verdicts : goal.join_group-requires-clause-verdicts
 join_group-requires-clause-verdicts c =
-    ap length (c.deref_mut-2.ensures.value ∙ c.requires.joined.cells.deciding) ∙ length-map c.args.segment.now.pages (λ (page : PageData). verdict (take c.args.self.now.groups c.args.groups.now) page.counts)
+    ap length (c.deref_mut-2.ensures.value ∙ c.requires.joined.cells.deciding) ∙ length-map c.args.part.now.pages (λ (page : PageData). verdict (take c.args.self.now.groups c.args.groups.now) page.counts)
 
 pub join_group-requires-clause-scores : goal.join_group-requires-clause-scores
 join_group-requires-clause-scores c =
-    ap length (c.deref_mut-3.ensures.value ∙ c.requires.joined.cells.scoring) ∙ length-map c.args.segment.now.pages (λ (page : PageData). total (take c.args.self.now.groups c.args.groups.now) page.counts)
+    ap length (c.deref_mut-3.ensures.value ∙ c.requires.joined.cells.scoring) ∙ length-map c.args.part.now.pages (λ (page : PageData). total (take c.args.self.now.groups c.args.groups.now) page.counts)
 
 pub join_group-requires-clause-room : goal.join_group-requires-clause-room
 join_group-requires-clause-room c =
@@ -29,7 +29,7 @@ pub returns-clause-cells : goal.returns-clause-cells
 returns-clause-cells c =
     let base = c.requires.joined in
     let groups = c.args.groups.now in
-    let pages = c.args.segment.now.pages in
+    let pages = c.args.part.now.pages in
     let next = c.args.self.now.groups in
     let group = c.index-groups-next.result in
     let done : List Group = take next groups in

@@ -8,11 +8,9 @@ pub returns-clause-is : goal.returns-clause-is
 returns-clause-is c = record {
   query = subst IsQuery (sym c.in_ok-copied.ensures) c.requires;
   plan = λ more. absurd (omega (arith, more, ap length c.new.ensures.items));
-  segments_within = omega arith;
-  loose_within = omega arith;
-  in_order = λ more. absurd (omega (arith, more));
+  within = omega arith;
   groups_within = omega (arith, c.new-3.ensures);
   at_rest = λ all. c.new-3.ensures;
-  under_way = λ segment at more. absurd (omega (arith, more, c.new-3.ensures));
+  under_way = λ part at more. absurd (omega (arith, more, c.new-3.ensures));
   best = ap (map kept_hit) c.new-2.ensures.items ∙ answer_of_none 0 c.in_ok-copied.field-0.items;
 }

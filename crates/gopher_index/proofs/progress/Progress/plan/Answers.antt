@@ -10,12 +10,10 @@ returns-clause-same c =
       is = record {
         query = c.requires.is.query;
         plan = λ more. subst (λ terms. IsPlan terms c.in_ok-self.field-0.items) c.deref.ensures.value c.in_ok-self.ensures;
-        segments_within = c.requires.is.segments_within;
-        loose_within = c.requires.is.loose_within;
-        in_order = c.requires.is.in_order;
+        within = c.requires.is.within;
         groups_within = omega (arith, none);
         at_rest = c.requires.is.at_rest;
-        under_way = λ segment at more. absurd (omega (arith, more, none));
+        under_way = λ part at more. absurd (omega (arith, more, none));
         best = c.requires.is.best;
       };
       pages = refl;
