@@ -1,13 +1,13 @@
 -- Inserting places into a set one by one keeps each once, in the order of first mention.
 use Rattle.std.proofs.Common.{◌≡◌, Bool, true, false, cond, ◌||◌, not, List, [], ◌∷◌, ◌++◌, Option, filter, refl, sym, ap, subst, ◌∙◌, arith}
 use Rattle.std.proofs.lemmas.List.{append-nil, append_assoc}
-use Rattle.std.proofs.lemmas.Bool.{both_ways}
 use Rattle.std.proofs.lemmas.List.Elements.{filter-append, filter_map-append}
 use Rattle.std.proofs.lemmas.List.Sums.{fold-append}
 use Rattle.std.specs.List.{filter_map}
 use Rattle.indexmap.specs.IndexSet.{insert_key, insert_all}
 use Rattle.gopher_item.specs.Place.{PlaceData, same_place, is_among, distinct}
-use Rattle.gopher_item.proofs.PlaceLemmas.{same_place-refl, same_place-true}
+use Rattle.gopher_item.specs.Laws.{same_place_equiv}
+use Rattle.gopher_item.proofs.PlaceLemmas.{same_place-true}
 
 -- two filters in sequence are one filter whose test joins theirs
 filter_both : {X : Type 0} (p q r : X → Bool) → ((x : X) → r x ≡ cond (q x) (p x) false) → (xs : List X) → filter p (filter q xs) ≡ filter r xs
@@ -17,15 +17,6 @@ filter_both {X} p q r joins (x ∷ xs) = by (q x) (filter_both p q r joins xs) (
     by : (b : Bool) → filter p (filter q xs) ≡ filter r xs → r x ≡ cond b (p x) false → filter p (cond b (x ∷ filter q xs) (filter q xs)) ≡ cond (r x) (x ∷ filter r xs) (filter r xs)
     by true rest e = ap (λ l. cond (p x) (x ∷ l) l) rest ∙ ap (λ b. cond b (x ∷ filter r xs) (filter r xs)) (sym e)
     by false rest e = rest ∙ ap (λ b. cond b (x ∷ filter r xs) (filter r xs)) (sym e)
-
-same_place-symm : (a b : PlaceData) → same_place a b ≡ same_place b a
-same_place-symm a b = by (same_place a b) (same_place b a) refl refl
-  where
-    by : (x y : Bool) → same_place a b ≡ x → same_place b a ≡ y → x ≡ y
-    by true true e f = refl
-    by false false e f = refl
-    by true false e f = absurd (both_ways (same_place b a) f (subst (λ p. same_place p a ≡ true) (same_place-true a b e) (same_place-refl a)))
-    by false true e f = absurd (both_ways (same_place a b) e (subst (λ p. same_place p b ≡ true) (same_place-true b a f) (same_place-refl b)))
 
 -- a place is among these and one more if it is among these or is the same as that one
 is_among-push : (places : List PlaceData) (place other : PlaceData) → is_among (places ++ place ∷ []) other ≡ (is_among places other || same_place other place)
@@ -42,7 +33,7 @@ new_apart-held held place there other = by (same_place place other) refl
 
 -- a place is new to a list and one more place
 new_apart-push : (held : List PlaceData) (place other : PlaceData) → not (is_among (held ++ place ∷ []) other) ≡ cond (not (same_place place other)) (not (is_among held other)) false
-new_apart-push held place other = rw (is_among-push held place other, same_place-symm other place) (by (is_among held other) (same_place place other))
+new_apart-push held place other = rw (is_among-push held place other, same_place_equiv.symm other place) (by (is_among held other) (same_place place other))
   where
     by : (a b : Bool) → not (a || b) ≡ cond (not b) (not a) false
     by true true = refl

@@ -1,16 +1,15 @@
 -- The lengths of the runs of words in byte order are their counts.
 use Rattle.std.proofs.Common.{◌≡◌, ℕ, suc, ◌+◌, ◌-◌, ◌<◌, ◌≤◌, Bool, true, false, cond, ◌||◌, List, [], ◌∷◌, ◌++◌, length, map, drop, get_or, count_by, sum_by, refl, sym, ap, subst, ◌∙◌, add-zero, arith}
-use Rattle.std.proofs.lemmas.Bool.{both_ways}
 use Rattle.std.proofs.lemmas.List.{append-nil, get_or-map, length-map, drop_more, drop_all}
 use Rattle.std.proofs.lemmas.List.Sums.{sum_by-cons}
-use Rattle.std.specs.List.{list_any, AllByRecursion}
+use Rattle.std.proofs.lemmas.List.Kept.{IsStrictlySortedBy-dedup}
+use Rattle.std.specs.List.{list_any, dedup_from, AllByRecursion}
 use Rattle.std.specs.List.Sorted.{IsStrictlySortedBy, IsSorted, IsPermutation}
 use Rattle.std.proofs.lemmas.List.Sorted.{sum_by-IsPermutation}
 use denote.Ref.{Bor}
-use Rattle.std.specs.Ordering.{is_lt}
 use Rattle.std.specs.declared.cmp.Ordering.{Ordering}
 use Rattle.std.specs.declared.cmp.Ordering.TheVariants.{Less, Equal, Greater}
-use Rattle.std.specs.Cmp.Lexicographic.{bytes_decides, nat_list_cmp_total}
+use Rattle.std.specs.Cmp.Lexicographic.{bytes_decides, nat_list_cmp_total, nat_list_eq_equiv, texts_ties}
 use Rattle.gopher_page.specs.Words.{same_word}
 use Rattle.gopher_page.specs.Counts.{counts_of, sorted_words, joined_run, run_lengths, run_values}
 use Rattle.gopher_page.specs.Packed.{AreCounts}
@@ -70,22 +69,9 @@ one_word_other words start end within apart so_far =
     let word : List ℕ = get_or words start [] in
     let other : List ℕ = get_or words end [] in
     let cut : run_lengths (drop end words) ≡ joined_run other 1 (run_lengths (drop (end + 1) words)) = ap run_lengths (drop_more words end [] within) in
-    so_far ∙ ap (joined_run word (end - start)) cut ∙ joined_other word (end - start) other 1 _ (flip apart) ∙ ap (λ l. (word, end - start) ∷ l) (sym cut)
-  where
-    flip : same_word (get_or words end []) (get_or words start []) ≡ false → same_word (get_or words start []) (get_or words end []) ≡ false
-    flip e = by (same_word (get_or words start []) (get_or words end [])) refl
-      where
-        by : (t : Bool) → same_word (get_or words start []) (get_or words end []) ≡ t → t ≡ false
-        by true g = absurd (both_ways _ (subst (λ w. same_word w (get_or words start []) ≡ false) (sym ((bytes_decides (get_or words start []) (get_or words end [])).0 g)) e) (itself (get_or words start [])))
-        by false g = refl
+    so_far ∙ ap (joined_run word (end - start)) cut ∙ joined_other word (end - start) other 1 _ (nat_list_eq_equiv.symm word other ∙ apart) ∙ ap (λ l. (word, end - start) ∷ l) (sym cut)
 
 -- ---- words in order
-
--- each word is equal to the one before it or comes after it
-abbrev pub Rise : List (List ℕ) → Type 0
-Rise [] = Unit {0}
-Rise (word ∷ []) = Unit {0}
-Rise (word ∷ next ∷ words) = (is_lt (compare next word) ≡ false) × Rise (next ∷ words)
 
 abbrev keys : List (List ℕ × ℕ) → List (List ℕ)
 keys runs = map (λ run. run.0) runs
@@ -99,35 +85,27 @@ first_run word n (run ∷ runs) = by (same_word word run.0)
     by true = (n + run.1, runs, refl)
     by false = (n, run ∷ runs, refl)
 
-less_from : (a b : List ℕ) → is_lt (compare b a) ≡ false → same_word a b ≡ false → compare a b ≡ Less
-less_from a b rises apart = by (compare b a) refl rises
+-- the words of the runs are the words without repetitions
+keys_from : (word : List ℕ) (words : List (List ℕ)) → keys (run_lengths (word ∷ words)) ≡ dedup_from same_word word words
+keys_from word [] = refl
+keys_from word (next ∷ words) = by (same_word next word) refl (sym (ap keys first.2) ∙ keys_from next words)
   where
-    by : (r : Ordering) → compare b a ≡ r → is_lt r ≡ false → compare a b ≡ Less
-    by Less e g = absurd (both_ways _ g refl)
-    by Equal e g = absurd (both_ways _ apart (subst (λ w. same_word a w ≡ true) (sym (equal_words b a e)) (itself a)))
-    by Greater e g = flipped nat_list_cmp_total b a e
+    first : (m : ℕ) × (more : List (List ℕ × ℕ)) × (run_lengths (next ∷ words) ≡ (next, m) ∷ more)
+    first = first_run next 1 (run_lengths words)
 
-ordered_with : (word next : List ℕ) (n m : ℕ) (more : List (List ℕ × ℕ)) → is_lt (compare next word) ≡ false → IsStrictlySortedBy compare (keys ((next, m) ∷ more)) → IsStrictlySortedBy compare (keys (joined_run word n ((next, m) ∷ more)))
-unfolding IsStrictlySortedBy
-ordered_with word next n m more rises sorted = by (same_word word next) refl
-  where
-    by : (t : Bool) → same_word word next ≡ t → IsStrictlySortedBy compare (keys (cond t ((word, n + m) ∷ more) ((word, n) ∷ (next, m) ∷ more)))
-    by true e = subst (λ w. IsStrictlySortedBy compare (w ∷ keys more)) (sym ((bytes_decides word next).0 e)) sorted
-    by false e =
-        let less : compare word next ≡ Less = less_from word next rises e in
-        ((less, all_after nat_list_cmp_total word next (keys more) less sorted.0), sorted)
+    shown : (b : Bool) → same_word next word ≡ b → keys (run_lengths (word ∷ next ∷ words)) ≡ keys (cond b ((word, 1 + first.0) ∷ first.1) ((word, 1) ∷ (next, first.0) ∷ first.1))
+    shown b e =
+        ap (λ runs. keys (joined_run word 1 runs)) first.2
+        ∙ ap (λ t. keys (cond t ((word, 1 + first.0) ∷ first.1) ((word, 1) ∷ (next, first.0) ∷ first.1))) (nat_list_eq_equiv.symm word next ∙ e)
 
-ordered_one : (word : List ℕ) (n : ℕ) → IsStrictlySortedBy compare (keys ((word, n) ∷ []))
-unfolding IsStrictlySortedBy
-ordered_one word n = (tt, tt)
+    by : (b : Bool) → same_word next word ≡ b → next ∷ keys first.1 ≡ dedup_from same_word next words → keys (run_lengths (word ∷ next ∷ words)) ≡ cond b (dedup_from same_word word words) (word ∷ dedup_from same_word next words)
+    by true e rest = shown true e ∙ subst (λ w. w ∷ keys first.1 ≡ dedup_from same_word w words) ((bytes_decides next word).0 e) rest
+    by false e rest = shown false e ∙ ap (λ l. word ∷ l) rest
 
-pub ordered_lengths : (words : List (List ℕ)) → Rise words → IsStrictlySortedBy compare (keys (run_lengths words))
-ordered_lengths [] rise = sorted_inserts nat_list_cmp_total []
-ordered_lengths (word ∷ []) rise = ordered_one word 1
-ordered_lengths (word ∷ next ∷ words) rise =
-    let first = first_run next 1 (run_lengths words) in
-    let sorted : IsStrictlySortedBy compare (keys ((next, first.0) ∷ first.1)) = subst (λ runs. IsStrictlySortedBy compare (keys runs)) first.2 (ordered_lengths (next ∷ words) rise.1) in
-    subst (λ runs. IsStrictlySortedBy compare (keys (joined_run word 1 runs))) (sym first.2) (ordered_with word next 1 first.0 first.1 rise.0 sorted)
+pub ordered_lengths : (words : List (List ℕ)) → IsSorted compare words → IsStrictlySortedBy compare (keys (run_lengths words))
+ordered_lengths [] sorted = sorted_inserts nat_list_cmp_total []
+ordered_lengths (word ∷ words) sorted =
+    subst (IsStrictlySortedBy compare) (sym (keys_from word words)) (IsStrictlySortedBy-dedup nat_list_cmp_total {E = same_word} texts_ties (word ∷ words) sorted)
 
 -- ---- sizes
 
@@ -155,9 +133,9 @@ pub positive_lengths : (words : List (List ℕ)) → AllByRecursion (λ run. 0 <
 positive_lengths [] = tt
 positive_lengths (word ∷ words) = positive_joined word 1 (run_lengths words) (omega arith) (positive_lengths words)
 
-pub are_counts : (words : List (List ℕ)) → Rise words → length words ≤ 1048576 → AreCounts (run_lengths words)
-are_counts words rise few = record {
-  ordered = ordered_lengths words rise;
+pub are_counts : (words : List (List ℕ)) → IsSorted compare words → length words ≤ 1048576 → AreCounts (run_lengths words)
+are_counts words sorted few = record {
+  ordered = ordered_lengths words sorted;
   positive = positive_lengths words;
   few = omega (arith, size_lengths words);
 }
@@ -259,10 +237,10 @@ counted_alike (first ∷ left) (run ∷ right) a b p q same = by (compare first.
         λ i. (word i, count i) ∷ rest others i
 
 -- the runs of words in order count them, and count the same words in any order
-pub counted_in_order : (sorted words : List (List ℕ)) → Rise sorted → ((sought : List ℕ) → count_by (same_word sought) sorted ≡ count_by (same_word sought) words) → run_lengths sorted ≡ counts_of words
+pub counted_in_order : (sorted words : List (List ℕ)) → IsSorted compare sorted → ((sought : List ℕ) → count_by (same_word sought) sorted ≡ count_by (same_word sought) words) → run_lengths sorted ≡ counts_of words
 unfolding counts_of
-counted_in_order sorted words rise same =
-    counted_alike (run_lengths sorted) (counts_of words) (ordered_lengths sorted rise) ordered (positive_lengths sorted) (positive_counts words)
+counted_in_order sorted words order same =
+    counted_alike (run_lengths sorted) (counts_of words) (ordered_lengths sorted order) ordered (positive_lengths sorted) (positive_counts words)
     (λ sought. amount_lengths sought sorted ∙ same sought ∙ sym (amount_counts sought words))
   where
     key_of : (value : List ℕ → ℕ) (some : List (List ℕ)) → keys (with_values value some) ≡ some
@@ -274,21 +252,10 @@ counted_in_order sorted words rise same =
 
 -- ---- words that were sorted
 
-pub rises : (words : List (List ℕ)) → IsSorted compare words → Rise words
-rises [] sorted = tt
-rises (word ∷ []) sorted = tt
-rises (word ∷ next ∷ words) sorted = (
-  sorted 0 word (omega arith) (omega arith),
-  rises (next ∷ words)
-      (λ k d low within.
-      let more : suc k + 1 ≡ suc (k + 1) = omega arith in
-      subst (λ n. is_lt (compare (get_or (word ∷ next ∷ words) n d) (get_or (word ∷ next ∷ words) (suc k) d)) ≡ false) more (sorted (suc k) d (omega arith) (omega arith))),
-)
-
-pub counted_sorted : (words sorted : List (List ℕ)) → IsPermutation words sorted → Rise sorted → counts_of sorted ≡ counts_of words
-counted_sorted words sorted moved rise =
-    sym (counted_in_order sorted sorted rise (λ sought. refl))
-    ∙ counted_in_order sorted words rise (λ sought. sum_by-IsPermutation (λ word. cond (same_word sought word) 1 0) words sorted moved)
+pub counted_sorted : (words sorted : List (List ℕ)) → IsPermutation words sorted → IsSorted compare sorted → counts_of sorted ≡ counts_of words
+counted_sorted words sorted moved order =
+    sym (counted_in_order sorted sorted order (λ sought. refl))
+    ∙ counted_in_order sorted words order (λ sought. sum_by-IsPermutation (λ word. cond (same_word sought word) 1 0) words sorted moved)
 
 -- ---- runs that were found, and those from an index on
 

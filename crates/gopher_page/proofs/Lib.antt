@@ -15,6 +15,4 @@ pub mod Terms
 pub mod OneMoreTerm
 mod Short
 mod Lowered
-mod Titles
 mod Pages
-mod WordBytes

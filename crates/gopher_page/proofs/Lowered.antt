@@ -1,6 +1,6 @@
 -- The words of lines are the words of the joined lines in lower case; their number and their bytes.
-use Rattle.std.proofs.Common.{◌≡◌, ℕ, ◌+◌, ◌≤◌, Bool, true, false, cond, ◌&&◌, leb, ltb, List, [], ◌∷◌, ◌++◌, length, map, filter, sum_by, refl, sym, ap, ◌∙◌, append_assoc, arith}
-use Rattle.std.proofs.lemmas.Bool.{ltb-true}
+use Rattle.std.proofs.Common.{◌≡◌, ℕ, ◌+◌, ◌<◌, ◌≤◌, Bool, true, false, cond, ◌&&◌, leb, ltb, List, [], ◌∷◌, ◌++◌, length, map, filter, sum_by, refl, sym, ap, ◌∙◌, append_assoc, arith}
+use Rattle.std.proofs.lemmas.Bool.{both_ways}
 use Rattle.std.proofs.lemmas.Bool.Decides.{nat_tests}
 use Rattle.std.proofs.lemmas.List.{length-append, length-map, map-append}
 use Rattle.std.proofs.lemmas.List.Elements.{filter-append}
@@ -9,7 +9,8 @@ use Rattle.std.specs.List.{slice_split, onto_first, flat_map}
 use Rattle.gopher_bytes.proofs.Splits.{some_part}
 use Rattle.gopher_bytes.specs.Case.{lower_case}
 use Rattle.gopher_page.specs.Words.{is_gap, is_word, bare_words, words_of}
-use Rattle.gopher_page.proofs.Short.{split_size, filter_size, map_size}
+use Rattle.gopher_page.proofs.Tokens.{bare_words-parts}
+use Rattle.gopher_page.proofs.Short.{split_size, filter_size, filter_count, map_size}
 
 -- ---- lower case
 
@@ -52,8 +53,8 @@ filter_lower (part ∷ parts) =
     by false = refl
 
 pub bare_words-lower : (bytes : List ℕ) → bare_words (map lower_case bytes) ≡ words_of bytes
-unfolding bare_words words_of
-bare_words-lower bytes = ap (filter is_word) (split_lower bytes) ∙ filter_lower (slice_split is_gap bytes)
+unfolding words_of
+bare_words-lower bytes = bare_words-parts (map lower_case bytes) ∙ ap (filter is_word) (split_lower bytes) ∙ filter_lower (slice_split is_gap bytes)
 
 -- ---- lines
 
@@ -94,23 +95,15 @@ words_of_lines lines = bare_words-lower (flat_map (λ line. line ++ 10 ∷ []) l
 
 -- ---- sizes
 
-both_first : (a b : Bool) → (a && b) ≡ true → a ≡ true
-both_first true b e = refl
-both_first false b e = e
-
 -- each word has at least one byte
-filter_count : (parts : List (List ℕ)) → length (filter is_word parts) ≤ sum_by length parts
-filter_count [] = omega arith
-filter_count (part ∷ parts) = by (is_word part) refl (filter_count parts)
-  where
-    by : (t : Bool) → is_word part ≡ t → length (filter is_word parts) ≤ sum_by length parts → length (cond t (part ∷ filter is_word parts) (filter is_word parts)) ≤ sum_by length (part ∷ parts)
-    by true e rest = omega (arith, rest, ltb-true 0 (length part) (both_first (ltb 0 (length part)) (leb (length part) 40) e), sum_by-cons (length {A = ℕ}) part parts)
-    by false e rest = omega (arith, rest, sum_by-cons (length {A = ℕ}) part parts)
+some_byte : (part : List ℕ) → is_word part ≡ true → 0 < length part
+some_byte [] none = absurd (both_ways false refl none)
+some_byte (byte ∷ part) word = omega arith
 
 words_count : (bytes : List ℕ) → length (words_of bytes) ≤ length bytes
 unfolding words_of
 words_count bytes =
-    omega (arith, length-map (filter is_word (slice_split is_gap bytes)) (map lower_case), filter_count (slice_split is_gap bytes), split_size is_gap bytes)
+    omega (arith, length-map (filter is_word (slice_split is_gap bytes)) (map lower_case), filter_count is_word some_byte (slice_split is_gap bytes), split_size is_gap bytes)
 
 pub lines_words_count : (lines : List (List ℕ)) → length (flat_map words_of lines) ≤ sum_by length lines
 lines_words_count [] = omega arith

@@ -1,6 +1,7 @@
 -- The lines of a page have at most as many bytes as its reply.
-use Rattle.std.proofs.Common.{ℕ, suc, ◌-◌, ◌≤◌, Bool, true, false, ◌&&◌, ◌||◌, cond, eqb, not, List, [], ◌∷◌, length, map, filter, take, get_or, Option, None, Some, sum_by, arith}
+use Rattle.std.proofs.Common.{◌≡◌, ℕ, suc, ◌-◌, ◌<◌, ◌≤◌, Bool, true, false, ◌&&◌, ◌||◌, cond, eqb, not, List, [], ◌∷◌, length, map, filter, take, get_or, Option, None, Some, sum_by, refl, arith}
 use Rattle.std.proofs.lemmas.List.{length-take}
+use Rattle.std.proofs.lemmas.List.Filters.{sum_by-filter_both}
 use Rattle.std.proofs.lemmas.List.Sums.{sum_by-cons, sum_by-take-le}
 use Rattle.std.specs.List.{slice_split, onto_first, prefix_len, list_any}
 use Rattle.std.specs.Option.{option_map, option_map_or}
@@ -45,18 +46,22 @@ lines_of_size : (bytes : List ℕ) → sum_by length (lines_of bytes) ≤ length
 lines_of_size bytes = omega (arith, lines_size (slice_split (λ b. eqb b 10) bytes), split_size (λ b. eqb b 10) bytes)
 
 pub filter_size : (test : List ℕ → Bool) (lines : List (List ℕ)) → sum_by length (filter test lines) ≤ sum_by length lines
-filter_size test [] = omega arith
-filter_size test (line ∷ lines) = by (test line) (filter_size test lines)
+filter_size test lines = omega (arith, sum_by-filter_both test (λ line. not (test line)) (λ line. refl) (length {A = ℕ}) lines)
+
+-- lines that pass a test are no more than the bytes if each has one
+pub filter_count : (test : List ℕ → Bool) → ((line : List ℕ) → test line ≡ true → 0 < length line) → (lines : List (List ℕ)) → length (filter test lines) ≤ sum_by length lines
+filter_count test some [] = omega arith
+filter_count test some (line ∷ lines) = by (test line) refl (filter_count test some lines)
   where
-    by : (b : Bool) → sum_by length (filter test lines) ≤ sum_by length lines → sum_by length (cond b (line ∷ filter test lines) (filter test lines)) ≤ sum_by length (line ∷ lines)
-    by true rest = omega (arith, rest, sum_by-cons (length {A = ℕ}) line (filter test lines), sum_by-cons (length {A = ℕ}) line lines)
-    by false rest = omega (arith, rest, sum_by-cons (length {A = ℕ}) line lines)
+    by : (b : Bool) → test line ≡ b → length (filter test lines) ≤ sum_by length lines → length (cond b (line ∷ filter test lines) (filter test lines)) ≤ sum_by length (line ∷ lines)
+    by true e rest = omega (arith, rest, some line e, sum_by-cons (length {A = ℕ}) line lines)
+    by false e rest = omega (arith, rest, sum_by-cons (length {A = ℕ}) line lines)
 
 pub map_size : (f : List ℕ → List ℕ) → ((line : List ℕ) → length (f line) ≤ length line) → (lines : List (List ℕ)) → sum_by length (map f lines) ≤ sum_by length lines
 map_size f shorter [] = omega arith
 map_size f shorter (line ∷ lines) = omega (arith, shorter line, map_size f shorter lines, sum_by-cons (length {A = ℕ}) (f line) (map f lines), sum_by-cons (length {A = ℕ}) line lines)
 
-before_last_size : (bytes : List ℕ) → sum_by length (lines_before_last (lines_of bytes)) ≤ length bytes
+pub before_last_size : (bytes : List ℕ) → sum_by length (lines_before_last (lines_of bytes)) ≤ length bytes
 before_last_size bytes =
     omega (arith, lines_of_size bytes, sum_by-take-le (length {A = ℕ}) (lines_of bytes) (prefix_len (λ line. not (is_last_line line)) (lines_of bytes)))
 

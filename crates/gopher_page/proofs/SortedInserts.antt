@@ -1,5 +1,7 @@
 -- Lists in strict order stay in strict order when elements are inserted one by one.
 use Rattle.std.proofs.Common.{◌≡◌, List, [], ◌∷◌, refl, ◌∙◌, ap}
+use Rattle.std.proofs.lemmas.List.Elements.{All-from_recursion, recursion_from_All}
+use Rattle.std.proofs.lemmas.Map.Views.{All-insert_key}
 use Rattle.std.specs.List.{fold, AllByRecursion}
 use Rattle.std.specs.List.Sorted.{IsStrictlySortedBy}
 use Rattle.std.specs.Ordering.{match_ordering, ordering_reverse}
@@ -17,13 +19,9 @@ module _ {K : Type 0} {R : K → K → Ordering} (o : IsTotalOrder R) where
   all_after a b (x ∷ xs) less all = (o.trans a b x less all.0, all_after a b xs less all.1)
 
   all_with : (a k : K) (xs : List K) → R a k ≡ Less → AllByRecursion (λ y. R a y ≡ Less) xs → AllByRecursion (λ y. R a y ≡ Less) (insert_key R xs k)
-  all_with a k [] less all = (less, tt)
-  all_with a k (x ∷ xs) less all = by (R k x) (all_with a k xs less all.1)
-    where
-      by : (r : Ordering) → AllByRecursion (λ y. R a y ≡ Less) (insert_key R xs k) → AllByRecursion (λ y. R a y ≡ Less) (match_ordering r (k ∷ x ∷ xs) (x ∷ xs) (x ∷ insert_key R xs k))
-      by Less rest = (less, all)
-      by Equal rest = all
-      by Greater rest = (all.0, rest)
+  all_with a k xs less all =
+      let after : K → Type 0 = λ y. R a y ≡ Less in
+      recursion_from_All after (insert_key R xs k) (All-insert_key R k after xs (All-from_recursion after xs all) less)
 
   sorted_with : (xs : List K) (k : K) → IsStrictlySortedBy R xs → IsStrictlySortedBy R (insert_key R xs k)
   unfolding IsStrictlySortedBy

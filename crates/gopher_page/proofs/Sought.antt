@@ -1,65 +1,71 @@
 -- Words in byte order by index: which of them come before the sought one, and which are meant.
-use Rattle.std.proofs.Common.{◌≡◌, ◌⊎◌, ℕ, ◌+◌, ◌<◌, ◌≤◌, Bool, true, false, List, [], length, get_or, refl, sym, ap, subst, inl, inr, arith}
-use Rattle.std.proofs.lemmas.Bool.{both_ways, cases_lt}
+use Rattle.std.proofs.Common.{◌≡◌, ◌⊎◌, ℕ, ◌+◌, ◌-◌, ◌<◌, ◌≤◌, Bool, true, false, List, [], length, get_or, sym, ap, subst, inl, inr, arith}
+use Rattle.std.proofs.lemmas.Bool.{both_ways, cases_eq, cases_lt, true_from_ne_false}
 use Rattle.std.proofs.lemmas.Map.Keys.{Less-from_sorted}
 use Rattle.std.specs.Ordering.{nat_cmp, is_lt}
 use Rattle.std.specs.Cmp.Lexicographic.{slice_cmp}
-use Rattle.gopher_page.specs.Counts.{is_before, is_meant, AreInOrder, AreMeantFrom, AreWordsBefore, NoneBefore, NoneMeant}
-use Rattle.gopher_page.proofs.Order.{before-trans, meant_past, not_before-trans, word_past}
+use Rattle.gopher_page.specs.Counts.{is_before, is_meant, AreInOrder, AreMeantWords, IsLastBefore, IsNotBefore, IsNotMeant}
+use Rattle.gopher_page.proofs.Order.{before-trans, meant_before, meant_past, not_before-trans, word_past}
+
+-- a fact of a bound of a search holds where the search ends, if it does there by a test elsewhere
+pub settled : (P : ℕ → Type 0) (bound end : ℕ) → P bound → ((end ≡ bound → ⊥) → P end) → P end
+settled P bound end holds tested = by (cases_eq end bound)
+  where
+    by : (end ≡ bound) ⊎ (end ≡ bound → ⊥) → P end
+    by (inl same) = subst P (sym same) holds
+    by (inr apart) = tested apart
 
 module _ (words : List (List ℕ)) (sorted : AreInOrder words) (sought : List ℕ) where
-  in_order : (i j : ℕ) → i < j → j < length words → is_before (get_or words i []) (get_or words j []) ≡ true
+  abbrev word : ℕ → List ℕ
+  word k = get_or words k []
+
+  in_order : (i j : ℕ) → i < j → j < length words → is_before (word i) (word j) ≡ true
   in_order i j less within = ap is_lt (Less-from_sorted (slice_cmp nat_cmp) words i j [] sorted less within)
 
-  -- if one word comes before the sought one, so does each word up to it
-  pub all_before : (middle : ℕ) → middle < length words → is_before (get_or words middle []) sought ≡ true → AreWordsBefore words (middle + 1) sought
-  all_before middle within here k below = by (cases_lt k middle)
+  -- a test that fails at an index and then at each word after one at which it fails
+  from_index : (test : List ℕ → Bool) (i : ℕ) → (i < length words → test (word i) ≡ false)
+      → ((k : ℕ) → i < k → k < length words → test (word i) ≡ false → test (word k) ≡ false) → (k : ℕ) → i ≤ k → k < length words → test (word k) ≡ false
+  from_index test i here later k from within = by (cases_lt i k)
     where
-      by : (k < middle) ⊎ (middle ≤ k) → is_before (get_or words k []) sought ≡ true
-      by (inl less) = before-trans (get_or words k []) (get_or words middle []) sought (in_order k middle less within) here
-      by (inr past) =
-          let same : middle ≡ k = omega arith in
-          subst (λ i. is_before (get_or words i []) sought ≡ true) same here
+      by : (i < k) ⊎ (k ≤ i) → test (word k) ≡ false
+      by (inl less) = later k less within (here (omega arith))
+      by (inr up_to) =
+          let same : i ≡ k = omega arith in
+          subst (λ j. test (word j) ≡ false) same (here (omega arith))
 
-  -- if one word doesn't come before the sought one, neither does any word after it
-  pub none_before_from : (middle : ℕ) → is_before (get_or words middle []) sought ≡ false → NoneBefore words middle sought
-  none_before_from middle here k from within = by (cases_lt middle k)
+  none_before_from : (i : ℕ) → IsNotBefore words i sought → (k : ℕ) → i ≤ k → k < length words → is_before (word k) sought ≡ false
+  none_before_from i here = from_index (λ w. is_before w sought) i here (λ k less within fails. not_before-trans (word i) (word k) sought fails (in_order i k less within))
+
+  all_before : (end : ℕ) → end ≤ length words → IsLastBefore words end sought → (k : ℕ) → k < end → is_before (word k) sought ≡ true
+  all_before end within last k below =
+      true_from_ne_false (is_before (word k) sought) (λ e. both_ways _ (none_before_from k (λ inside. e) (end - 1) (omega arith) (omega arith)) (last (omega arith)))
+
+  -- no word before the sought one lies after one that isn't
+  pub bounds_forward : (low high : ℕ) → low ≤ length words → IsLastBefore words low sought → IsNotBefore words high sought → low ≤ high
+  bounds_forward low high within last here = by (cases_lt high low)
     where
-      by : (middle < k) ⊎ (k ≤ middle) → is_before (get_or words k []) sought ≡ false
-      by (inl less) = not_before-trans (get_or words middle []) (get_or words k []) sought here (in_order middle k less within)
-      by (inr past) =
-          let same : middle ≡ k = omega arith in
-          subst (λ i. is_before (get_or words i []) sought ≡ false) same here
+      by : (high < low) ⊎ (low ≤ high) → low ≤ high
+      by (inl less) = absurd (both_ways _ (here (omega arith)) (all_before low within last high less))
+      by (inr forward) = forward
 
-  module _ (is_prefix : Bool) (start : ℕ) (after : NoneBefore words start sought) where
+  module _ (is_prefix : Bool) (start : ℕ) (start_is : IsNotBefore words start sought) where
     -- after a word that isn't meant, no word is
-    pub none_meant_from : (middle : ℕ) → start ≤ middle → is_meant is_prefix sought (get_or words middle []) ≡ false → NoneMeant words middle is_prefix sought
-    none_meant_from middle forward fails k past within = by (cases_lt middle k)
-      where
-        by : (middle < k) ⊎ (k ≤ middle) → is_meant is_prefix sought (get_or words k []) ≡ false
-        by (inl less) = meant_past is_prefix sought (get_or words middle []) (get_or words k []) (after middle forward (omega arith)) fails (in_order middle k less within)
-        by (inr up_to) =
-            let same : middle ≡ k = omega arith in
-            subst (λ j. is_meant is_prefix sought (get_or words j []) ≡ false) same fails
+    none_meant_from : (i : ℕ) → start ≤ i → IsNotMeant words i is_prefix sought → (k : ℕ) → i ≤ k → k < length words → is_meant is_prefix sought (word k) ≡ false
+    none_meant_from i forward here =
+        from_index (is_meant is_prefix sought) i here
+        (λ k less within fails. meant_past is_prefix sought (word i) (word k) (none_before_from start start_is i forward (omega arith)) fails (in_order i k less within))
 
-    -- up to a word that is meant, each word is
-    pub all_meant_to : (middle : ℕ) → middle < length words → is_meant is_prefix sought (get_or words middle []) ≡ true → AreMeantFrom words start (middle + 1) is_prefix sought
-    all_meant_to middle within holds k forward up_to = by (is_meant is_prefix sought (get_or words k [])) refl
-      where
-        by : (b : Bool) → is_meant is_prefix sought (get_or words k []) ≡ b → b ≡ true
-        by true e = refl
-        by false e = absurd (both_ways _ (none_meant_from k forward e middle (omega arith) within) holds)
+    pub meant_words : (end : ℕ) → start ≤ end → end ≤ length words → IsLastBefore words start sought → (start < end → is_meant is_prefix sought (word (end - 1)) ≡ true)
+        → IsNotMeant words end is_prefix sought → AreMeantWords words is_prefix sought start end
+    meant_words end forward within last holds here = record {
+      forward = forward;
+      within = within;
+      before = λ k less. meant_before is_prefix sought (word k) (all_before start (omega arith) last k less);
+      meant = λ k from below.
+          true_from_ne_false (is_meant is_prefix sought (word k)) (λ e. both_ways _ (none_meant_from k from (λ inside. e) (end - 1) (omega arith) (omega arith)) (holds (omega arith)));
+      others = none_meant_from end forward here;
+    }
 
-    -- only the first word can equal the sought one
-    pub one_word_meant : is_prefix ≡ false → NoneMeant words (start + 1) is_prefix sought
-    one_word_meant is_word k past within =
-        let other = word_past sought (get_or words start []) (get_or words k []) (after start (omega arith) (omega arith)) (in_order start k (omega arith) within) in
-        subst (λ b. is_meant b sought (get_or words k []) ≡ false) (sym is_word) other
-
--- no word up to which all words come before the sought one lies after one from which on none does
-pub bounds_forward : (words : List (List ℕ)) (sought : List ℕ) (low high : ℕ) → low ≤ length words → AreWordsBefore words low sought → NoneBefore words high sought → low ≤ high
-bounds_forward words sought low high within before after = by (cases_lt high low)
-  where
-    by : (high < low) ⊎ (low ≤ high) → low ≤ high
-    by (inl less) = absurd (both_ways _ (after high (omega arith) (omega arith)) (before high less))
-    by (inr forward) = forward
+  -- only the first word can equal the sought one
+  pub one_word_meant : (start : ℕ) → IsNotBefore words start sought → IsNotMeant words (start + 1) false sought
+  one_word_meant start here within = word_past sought (word start) (word (start + 1)) (here (omega arith)) (in_order start (start + 1) (omega arith) within)

@@ -1,22 +1,16 @@
 -- The effects of the terms of a query, one by one.
-use Rattle.std.proofs.Common.{◌≡◌, ◌⊎◌, ℕ, zero, suc, ◌+◌, ◌-◌, ◌<◌, ◌≤◌, Bool, true, false, cond, not, ◌||◌, ◌&&◌, List, [], ◌∷◌, ◌++◌, length, filter, take, drop, get_or, slice_get, Some, None, count_by, sum_by, refl, sym, ap, ◌∙◌, inl, inr, arith}
+use Rattle.std.proofs.Common.{◌≡◌, ◌⊎◌, ℕ, zero, suc, ◌+◌, ◌-◌, ◌<◌, ◌≤◌, Bool, true, false, cond, not, ◌||◌, ◌&&◌, List, [], ◌∷◌, ◌++◌, length, map, filter, take, drop, get_or, slice_get, Some, None, count_by, refl, sym, ap, ◌∙◌, inl, inr, arith}
 use Rattle.std.specs.Prelude.{nat_lt}
-use Rattle.std.proofs.lemmas.List.{append-nil, take_more, take_all, drop_more, drop_all}
+use Rattle.std.proofs.Math.Bool.{or-false}
+use Rattle.std.proofs.lemmas.Bool.{and_parts, or_right}
+use Rattle.std.proofs.lemmas.List.{take_all, drop_more, drop_all}
 use Rattle.std.proofs.lemmas.List.Elements.{filter-append}
-use Rattle.std.proofs.lemmas.List.Sums.{fold_more, sum_by_push, length-filter}
+use Rattle.std.proofs.lemmas.List.Sums.{fold_more, length-filter}
 use Rattle.std.specs.List.{fold, list_any}
 use Rattle.gopher_page.specs.declared.query.Operator.{Operator}
 use Rattle.gopher_page.specs.declared.query.Operator.TheVariants.{And, Or, Not}
-use Rattle.gopher_page.specs.Query.{TermData, BeginsWithAnd, HasWanted, count_of_term, joined, is_not, wanted, matches, score, query_of, terms_of}
-use Rattle.gopher_page.specs.Words.{Token, tokens_of}
-
-pub both_left : (a b : Bool) → (a && b) ≡ true → a ≡ true
-both_left true b h = refl
-both_left false b h = h
-
-pub only_left : (a : Bool) → (a || false) ≡ true → a ≡ true
-only_left true h = refl
-only_left false h = h
+use Rattle.gopher_page.specs.Query.{TermData, BeginsWithAnd, HasWanted, count_of_term, joined, is_not, wanted, matches, query_of, terms_of}
+use Rattle.gopher_page.specs.Words.{token_of, word_runs}
 
 module _ (counts : List (List ℕ × ℕ)) where
   -- if the first term is without `not` and matches, some term without `not` matches
@@ -30,12 +24,8 @@ module _ (counts : List (List ℕ × ℕ)) where
   unfolding wanted
   any_later term terms later = by (not (is_not term.operator))
     where
-      either : (b : Bool) → list_any (λ t. nat_lt 0 (count_of_term counts t)) (filter (λ t. not (is_not t.operator)) terms) ≡ true → (b || list_any (λ t. nat_lt 0 (count_of_term counts t)) (filter (λ t. not (is_not t.operator)) terms)) ≡ true
-      either true h = refl
-      either false h = h
-
       by : (b : Bool) → list_any (λ t. nat_lt 0 (count_of_term counts t)) (cond b (term ∷ filter (λ t. not (is_not t.operator)) terms) (filter (λ t. not (is_not t.operator)) terms)) ≡ true
-      by true = either (nat_lt 0 (count_of_term counts term)) later
+      by true = or_right (nat_lt 0 (count_of_term counts term)) _ later
       by false = later
 
   -- if the terms match in the end, the terms before matched or a term without `not` does
@@ -46,10 +36,10 @@ module _ (counts : List (List ℕ × ℕ)) where
     where
       first : (operator : Operator) (b : Bool) → term.operator ≡ operator → nat_lt 0 (count_of_term counts term) ≡ b → joined operator truth b ≡ true
           → (truth ≡ true) ⊎ (list_any (λ t. nat_lt 0 (count_of_term counts t)) (wanted (term ∷ terms)) ≡ true)
-      first And b o e g = inl (both_left truth b g)
+      first And b o e g = inl (and_parts truth b g).0
       first Or true o e g = inr (any_here term terms (ap (λ p. not (is_not p)) o) e)
-      first Or false o e g = inl (only_left truth g)
-      first Not b o e g = inl (both_left truth (not b) g)
+      first Or false o e g = inl (sym (or-false truth) ∙ g)
+      first Not b o e g = inl (and_parts truth (not b) g).0
 
       by : (joined term.operator truth (nat_lt 0 (count_of_term counts term)) ≡ true) ⊎ (list_any (λ t. nat_lt 0 (count_of_term counts t)) (wanted terms) ≡ true)
           → (truth ≡ true) ⊎ (list_any (λ t. nat_lt 0 (count_of_term counts t)) (wanted (term ∷ terms)) ≡ true)
@@ -100,22 +90,6 @@ matches_more counts terms i term truth within is so_far =
     (λ j. joined (is j).operator (so_far j) (nat_lt 0 (count_of_term counts (is j))))
     ∙ sym (fold_more (λ t term'. joined term'.operator t (nat_lt 0 (count_of_term counts term'))) true terms i term within)
 
-wanted_more : (terms : List TermData) (i : ℕ) (term : TermData) → i < length terms → term ≡ get_or terms i term → wanted (take (i + 1) terms) ≡ wanted (take i terms) ++ wanted (term ∷ [])
-wanted_more terms i term within is =
-    ap wanted (take_more terms i term within ∙ ap (λ t. take i terms ++ t ∷ []) (sym is)) ∙ wanted_push (take i terms) term
-
-pub score_kept : (counts : List (List ℕ × ℕ)) (terms : List TermData) (i : ℕ) (term : TermData) (total : ℕ) → i < length terms → term ≡ get_or terms i term
-    → total ≡ sum_by (count_of_term counts) (wanted (take i terms)) → not (is_not term.operator) ≡ true → total + count_of_term counts term ≡ sum_by (count_of_term counts) (wanted (take (i + 1) terms))
-score_kept counts terms i term total within is so_far kept =
-    let last : wanted (take (i + 1) terms) ≡ wanted (take i terms) ++ term ∷ [] = wanted_more terms i term within is ∙ ap (λ l. wanted (take i terms) ++ l) (wanted_kept term [] kept ∙ ap (λ l. term ∷ l) wanted_none) in
-    ap (λ n. n + count_of_term counts term) so_far ∙ sym (ap (sum_by (count_of_term counts)) last ∙ sum_by_push (count_of_term counts) (wanted (take i terms)) term)
-
-pub score_passed : (counts : List (List ℕ × ℕ)) (terms : List TermData) (i : ℕ) (term : TermData) (total : ℕ) → i < length terms → term ≡ get_or terms i term
-    → total ≡ sum_by (count_of_term counts) (wanted (take i terms)) → not (is_not term.operator) ≡ false → total ≡ sum_by (count_of_term counts) (wanted (take (i + 1) terms))
-score_passed counts terms i term total within is so_far passed =
-    let last : wanted (take (i + 1) terms) ≡ wanted (take i terms) ++ [] = wanted_more terms i term within is ∙ ap (λ l. wanted (take i terms) ++ l) (wanted_passed term [] passed ∙ wanted_none) in
-    so_far ∙ ap (sum_by (count_of_term counts)) (sym (append-nil (wanted (take i terms))) ∙ sym last)
-
 -- the rest of the terms begins with the next one
 rest_at : (terms : List TermData) (i : ℕ) (term : TermData) → i < length terms → term ≡ get_or terms i term → drop i terms ≡ term ∷ drop (i + 1) terms
 rest_at terms i term within is = drop_more terms i term within ∙ ap (λ t. t ∷ drop (i + 1) terms) (sym is)
@@ -148,20 +122,13 @@ wanted_end terms i left index past within same =
 
 -- ---- reading
 
-pub query_of-tokens : (text : List ℕ) (tokens : List Token) → tokens_of text ≡ tokens → query_of text ≡ terms_of tokens
+pub query_of-runs : (text : List ℕ) (runs : List (List ℕ × Bool)) → word_runs text ≡ runs → query_of text ≡ terms_of (map token_of runs)
 unfolding query_of
-query_of-tokens text tokens e = ap terms_of e
+query_of-runs text runs e = ap (λ r. terms_of (map token_of r)) e
 
 pub matches_all : (terms : List TermData) (counts : List (List ℕ × ℕ)) (i : ℕ) → length terms ≤ i → fold (λ t term. joined term.operator t (nat_lt 0 (count_of_term counts term))) true (take i terms) ≡ matches terms counts
 unfolding matches
 matches_all terms counts i past = ap (fold (λ t term. joined term.operator t (nat_lt 0 (count_of_term counts term))) true) (take_all i terms past)
-
-pub score_all : (terms : List TermData) (counts : List (List ℕ × ℕ)) (i : ℕ) → length terms ≤ i → sum_by (count_of_term counts) (wanted (take i terms)) ≡ score terms counts
-unfolding score
-score_all terms counts i past = ap (λ l. sum_by (count_of_term counts) (wanted l)) (take_all i terms past)
-
-pub score_none : (counts : List (List ℕ × ℕ)) → 0 ≡ sum_by (count_of_term counts) (wanted [])
-score_none counts = sym (ap (sum_by (count_of_term counts)) wanted_none)
 
 pub length-wanted : (terms : List TermData) → count_by (λ term. not (is_not term.operator)) terms ≡ length (wanted terms)
 unfolding wanted

@@ -62,24 +62,23 @@ AreInOrder words = IsStrictlySortedBy (slice_cmp nat_cmp) words
 abbrev pub word_at : List (List ℕ) → ℕ → List ℕ
 word_at words index = slice_index_or words index []
 
--- the words before this index come before the sought one
-abbrev pub AreWordsBefore : List (List ℕ) → ℕ → List ℕ → Type 0
-AreWordsBefore words end sought = (k : ℕ) → k < end → is_before (word_at words k) sought ≡ true
+-- the last word before this index comes before the sought one
+abbrev pub IsLastBefore : List (List ℕ) → ℕ → List ℕ → Type 0
+IsLastBefore words end sought = 0 < end → is_before (word_at words (end - 1)) sought ≡ true
 
--- no word from this index on comes before the sought one
-abbrev pub NoneBefore : List (List ℕ) → ℕ → List ℕ → Type 0
-NoneBefore words start sought =
-    (k : ℕ) → start ≤ k → k < length words → is_before (word_at words k) sought ≡ false
+-- the word at this index doesn't come before the sought one
+abbrev pub IsNotBefore : List (List ℕ) → ℕ → List ℕ → Type 0
+IsNotBefore words index sought =
+    index < length words → is_before (word_at words index) sought ≡ false
 
--- the words from `start` up to, not including, `end` are meant
-abbrev pub AreMeantFrom : List (List ℕ) → ℕ → ℕ → Bool → List ℕ → Type 0
-AreMeantFrom words start end is_prefix sought =
-    (k : ℕ) → start ≤ k → k < end → is_meant is_prefix sought (word_at words k) ≡ true
+-- the last word before this index is meant
+abbrev pub is_meant_last : Bool → List ℕ → List (List ℕ) → ℕ → Bool
+is_meant_last is_prefix sought words end = is_meant is_prefix sought (word_at words (end - 1))
 
--- no word from this index on is meant
-abbrev pub NoneMeant : List (List ℕ) → ℕ → Bool → List ℕ → Type 0
-NoneMeant words start is_prefix sought =
-    (k : ℕ) → start ≤ k → k < length words → is_meant is_prefix sought (word_at words k) ≡ false
+-- the word at this index isn't meant
+abbrev pub IsNotMeant : List (List ℕ) → ℕ → Bool → List ℕ → Type 0
+IsNotMeant words index is_prefix sought =
+    index < length words → is_meant is_prefix sought (word_at words index) ≡ false
 
 -- exactly the words from `start` up to, not including, `end` are meant
 pub record AreMeantWords (words : List (List ℕ)) (is_prefix : Bool) (sought : List ℕ)
@@ -87,5 +86,7 @@ pub record AreMeantWords (words : List (List ℕ)) (is_prefix : Bool) (sought : 
   pub forward : start ≤ end
   pub within : end ≤ length words
   pub before : (k : ℕ) → k < start → is_meant is_prefix sought (word_at words k) ≡ false
-  pub meant : AreMeantFrom words start end is_prefix sought
-  pub others : NoneMeant words end is_prefix sought
+  pub meant :
+      (k : ℕ) → start ≤ k → k < end → is_meant is_prefix sought (word_at words k) ≡ true
+  pub others :
+      (k : ℕ) → end ≤ k → k < length words → is_meant is_prefix sought (word_at words k) ≡ false

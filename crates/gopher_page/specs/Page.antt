@@ -1,5 +1,5 @@
 -- A page: what a catalogue keeps of a reply.
-use Rattle.std.specs.Prelude.{◌≡◌, ℕ, Bool, List, [], ◌∷◌, length, take, reverse, map, filter, Option, None, ◌==◌, nat_lt, if◌then◌else◌}
+use Rattle.std.specs.Prelude.{◌≡◌, ℕ, Bool, List, [], ◌∷◌, length, take, map, filter, Option, None, ◌==◌, nat_lt, if◌then◌else◌}
 use Rattle.std.specs.List.{filter_map, find, flat_map, sum_by}
 use Rattle.std.specs.Option.{option_map_or}
 use Rattle.std.specs.Arc.{arc_value}
@@ -7,7 +7,7 @@ use Rattle.std.specs.declared.sync.Arc.{Arc}
 use Rattle.gopher_item.specs.Special.{is_control}
 use Rattle.gopher_bytes.specs.Lines.{lines_of}
 use Rattle.gopher_item.specs.Place.{PlaceData, same_place, distinct}
-use Rattle.gopher_bytes.specs.Trim.{trim_front, trim_spaces}
+use Rattle.gopher_bytes.specs.Trim.{trim_spaces}
 use Rattle.gopher_item.specs.MenuLine.{place_named}
 use Rattle.gopher_item.specs.Menu.{entries_of}
 use Rattle.gopher_item.specs.declared.menu.Entry.{Entry}
@@ -96,10 +96,6 @@ plain_byte byte = if is_control byte then 32 else byte
 -- dropped; RFC 1436, section 3.9, asks for display strings under 70
 abbrev pub title_text : List ℕ → List ℕ
 title_text bytes = take MAX_TITLE (trim_spaces (map plain_byte bytes))
-
--- bytes without the spaces at their end
-abbrev pub trim_back : List ℕ → List ℕ
-trim_back bytes = reverse (trim_front (reverse bytes))
 
 abbrev pub has_word : List ℕ → Bool
 has_word line = nat_lt 0 (length (words_of line))

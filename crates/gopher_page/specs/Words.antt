@@ -28,10 +28,6 @@ is_gap byte = not (is_word_byte byte)
 abbrev pub is_word : List ℕ → Bool
 is_word run = nat_lt 0 (length run) && nat_le (length run) MAX_WORD
 
--- the words of bytes in order, with their letters unchanged
-unfoldable pub bare_words : List ℕ → List (List ℕ)
-bare_words bytes = filter is_word (slice_split is_gap bytes)
-
 -- the words of bytes in order, in lower case
 unfoldable pub words_of : List ℕ → List (List ℕ)
 words_of bytes = map (map lower_case) (filter is_word (slice_split is_gap bytes))
@@ -52,9 +48,17 @@ runs_of text =
 abbrev pub token_of : List ℕ × Bool → Token
 token_of run = record { word = map lower_case run.0; is_prefix = run.1 }
 
+-- the runs of a text that are words, in order
+unfoldable pub word_runs : List ℕ → List (List ℕ × Bool)
+word_runs text = filter (λ run. is_word run.0) (runs_of text)
+
+-- the words of bytes in order, with their letters unchanged
+abbrev pub bare_words : List ℕ → List (List ℕ)
+bare_words bytes = map (λ run. run.0) (word_runs bytes)
+
 -- the tokens of a query's text in order: its words, each a prefix if a `*` directly follows it
-unfoldable pub tokens_of : List ℕ → List Token
-tokens_of text = map token_of (filter (λ run. is_word run.0) (runs_of text))
+abbrev pub tokens_of : List ℕ → List Token
+tokens_of text = map token_of (word_runs text)
 
 -- ---- cuts
 
@@ -66,13 +70,9 @@ IsOneRun bytes = runs_of bytes ≡ (bytes, false) ∷ []
 abbrev pub IsCutAtGap : List ℕ → Bor (List ℕ) × ℕ × Bor (List ℕ) → Type 0
 IsCutAtGap bytes cut = runs_of bytes ≡ (cut.0.now, cut.1 == 42) ∷ runs_of cut.2.now
 
--- the first word of a query's text, whether a `*` directly follows it, and the text after it
-abbrev pub IsFirstToken : List ℕ → Bor (List ℕ) × Bool × Bor (List ℕ) → Type 0
-IsFirstToken text found = tokens_of text ≡ token_of (found.0.now, found.1) ∷ tokens_of found.2.now
-
--- the first word of bytes with its letters unchanged, and the bytes after it
+-- the first word of a text and whether a `*` directly follows it, and the text after it
 abbrev pub IsFirstWord : List ℕ → Bor (List ℕ) × Bool × Bor (List ℕ) → Type 0
-IsFirstWord bytes found = bare_words bytes ≡ found.0.now ∷ bare_words found.2.now
+IsFirstWord text found = word_runs text ≡ (found.0.now, found.1) ∷ word_runs found.2.now
 
 -- both parts together are shorter than the bytes, or no longer than they
 abbrev pub LeavesLess : List ℕ → Bor (List ℕ) × ℕ × Bor (List ℕ) → Type 0

@@ -1,6 +1,6 @@
 //! The links of a menu: `links_of_entries`.
 
-ghost use Rattle.std.specs.Prelude.{◌≡◌, ◌++◌, IfOk, OnOk};
+ghost use Rattle.std.specs.Prelude.{◌≡◌, IfOk, OnOk};
 ghost use Rattle.gopher_page.specs.Page.{place_of_entry, links_in, with_entries, with_entry};
 
 use gopher_item::{Entry, ItemFault, NoMemory, Place, Places, Scope};
@@ -55,22 +55,14 @@ fn add_links(
     Ok(())
 }
 
-// Takes the places that are left, and appends each to the list `out`.
-fn push_links(left: &mut IntoIter<Place>, out: &mut Places) -> Result<(), NoMemory>
-    ensures { OnOk result (out.new ≡ out.old ++ left.old) }
-{
-    while let Some(place) = left.next() {
-        out.push(&place)?;
-    }
-    Ok(())
-}
-
 // Takes the places that are left, and returns them packed.
 fn packed(alloc: Global, places: &mut IntoIter<Place>) -> Result<Places, NoMemory>
     ensures { IfOk result (λ links. links ≡ places.old) }
 {
     let mut links = Places::new(alloc);
-    push_links(places, &mut links)?;
+    while let Some(place) = places.next() {
+        links.push(&place)?;
+    }
     links.shrink_to_fit();
     Ok(links)
 }

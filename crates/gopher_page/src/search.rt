@@ -1,14 +1,16 @@
 //! Searching words in byte order: `range_meant`.
 
-ghost use Rattle.std.specs.Prelude.{◌≡◌, ◌<◌, ◌≤◌, length};
-ghost use Rattle.gopher_page.specs.Counts.{is_meant, is_before, word_at, AreInOrder, AreMeantWords, AreMeantFrom, AreWordsBefore, NoneBefore, NoneMeant};
+ghost use Rattle.std.specs.Prelude.{◌≡◌, ◌<◌, ◌≤◌, true, length};
+ghost use Rattle.gopher_page.specs.Counts.{is_meant, is_meant_last, is_before, word_at, AreInOrder, AreMeantWords, IsLastBefore, IsNotBefore, IsNotMeant};
 
-use gopher_bytes::ByteStrings;
+use gopher_bytes::{ByteStrings, first_index};
 
-// Whether `word` equals `sought` or, if `is_prefix`, begins with it.
-fn is_meant(is_prefix: bool, sought: &[u8], word: &[u8]) -> bool
-    ensures { result ≡ is_meant is_prefix sought.now word.now }
+// Whether the word at an index equals `sought` or, if `is_prefix`, begins with it.
+fn is_meant_at(words: &ByteStrings, is_prefix: bool, sought: &[u8], index: usize) -> bool
+    requires { index < length words.now }
+    ensures { result ≡ is_meant is_prefix sought.now (word_at words.now index) }
 {
+    let word = words.get(index);
     if is_prefix {
         word.starts_with(sought)
     } else {
@@ -26,9 +28,8 @@ fn is_before_at(words: &ByteStrings, sought: &[u8], index: usize) -> bool
 // An index up to which all words come before `sought`: the one after `index` if the word there
 // does, or else 0.
 fn low_bound(words: &ByteStrings, sought: &[u8], index: usize) -> usize
-    requires { AreInOrder words.now }
     ensures within { result ≤ length words.now }
-    ensures before { AreWordsBefore words.now result sought.now }
+    ensures before { IsLastBefore words.now result sought.now }
 {
     if index < words.len() && is_before_at(words, sought, index) {
         return index + 1;
@@ -39,9 +40,8 @@ fn low_bound(words: &ByteStrings, sought: &[u8], index: usize) -> usize
 // An index from which on no word comes before `sought`: `index` if the word there doesn't, or else
 // the number of words.
 fn high_bound(words: &ByteStrings, sought: &[u8], index: usize) -> usize
-    requires { AreInOrder words.now }
     ensures within { result ≤ length words.now }
-    ensures after { NoneBefore words.now result sought.now }
+    ensures here { IsNotBefore words.now result sought.now }
 {
     if index < words.len() && !is_before_at(words, sought, index) {
         return index;
@@ -54,62 +54,36 @@ fn high_bound(words: &ByteStrings, sought: &[u8], index: usize) -> usize
 fn words_before(words: &ByteStrings, sought: &[u8], low_guess: usize, high_guess: usize) -> usize
     requires { AreInOrder words.now }
     ensures within { result ≤ length words.now }
-    ensures before { AreWordsBefore words.now result sought.now }
-    ensures after { NoneBefore words.now result sought.now }
+    ensures before { IsLastBefore words.now result sought.now }
+    ensures here { IsNotBefore words.now result sought.now }
 {
-    let mut low = low_bound(words, sought, low_guess);
-    let mut high = high_bound(words, sought, high_guess);
-    while low < high {
-        let middle = low + (high - low) / 2;
-        if is_before_at(words, sought, middle) {
-            low = middle + 1;
-        } else {
-            high = middle;
-        }
-    }
-    low
+    let low = low_bound(words, sought, low_guess);
+    let high = high_bound(words, sought, high_guess);
+    first_index(low, high, |index| !is_before_at(words, sought, index))
 }
 
-// An index from which on no word equals or begins with `sought`. At most one word equals it.
-fn meant_bound(words: &ByteStrings, is_prefix: bool, sought: &[u8], start: usize) -> usize
-    requires order { AreInOrder words.now }
-    requires start { start ≤ length words.now }
-    requires from { NoneBefore words.now start sought.now }
-    ensures forward { start ≤ result }
-    ensures within { result ≤ length words.now }
-    ensures others { NoneMeant words.now result is_prefix sought.now }
-{
-    if is_prefix {
-        return words.len();
-    }
-    if start < words.len() {
-        start + 1
-    } else {
-        start
-    }
-}
-
-// The end of the words that equal or begin with `sought`, which begin at `start`.
+// The end of the words that equal or begin with `sought`, which begin at `start`. At most one word
+// equals it.
 fn end_of_meant(words: &ByteStrings, is_prefix: bool, sought: &[u8], start: usize) -> usize
     requires order { AreInOrder words.now }
     requires start { start ≤ length words.now }
-    requires from { NoneBefore words.now start sought.now }
+    requires here { IsNotBefore words.now start sought.now }
     ensures forward { start ≤ result }
     ensures within { result ≤ length words.now }
-    ensures meant { AreMeantFrom words.now start result is_prefix sought.now }
-    ensures others { NoneMeant words.now result is_prefix sought.now }
+    ensures meant { start < result → is_meant_last is_prefix sought.now words.now result ≡ true }
+    ensures others { IsNotMeant words.now result is_prefix sought.now }
 {
-    let mut low = start;
-    let mut high = meant_bound(words, is_prefix, sought, start);
-    while low < high {
-        let middle = low + (high - low) / 2;
-        if is_meant(is_prefix, sought, words.get(middle)) {
-            low = middle + 1;
-        } else {
-            high = middle;
-        }
+    if is_prefix {
+        return first_index(
+            start,
+            words.len(),
+            |index| !is_meant_at(words, true, sought, index),
+        );
     }
-    low
+    if start < words.len() && is_meant_at(words, false, sought, start) {
+        return start + 1;
+    }
+    start
 }
 
 /// Returns the start and the end of the words that equal `sought` or, if `is_prefix`, begin with

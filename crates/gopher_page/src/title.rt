@@ -1,15 +1,15 @@
 //! The title of a page: `title_of`.
 
-ghost use Rattle.std.specs.Prelude.{◌≡◌, ◌==◌, map, take, IfOk};
+ghost use Rattle.std.specs.Prelude.{◌≡◌, take, IfOk};
 ghost use Rattle.std.specs.List.{find};
 ghost use Rattle.std.specs.Option.{option_map};
-ghost use Rattle.gopher_bytes.specs.Trim.{trim_front};
 ghost use Rattle.gopher_page.specs.Words.{texts};
-ghost use Rattle.gopher_page.specs.Page.{plain_byte, trim_back, title_text, has_word, place_title, title_of};
+ghost use Rattle.gopher_page.specs.Page.{plain_byte, title_text, has_word, place_title, title_of};
 
 use crate::word::next_token;
+use gopher_bytes::trim_spaces;
 use gopher_item::{ByteString, NoMemory, Place, is_control};
-use std::alloc::{AllocError, Global};
+use std::alloc::Global;
 
 /// The most bytes of a title.
 pub const MAX_TITLE: usize = 69;
@@ -20,59 +20,17 @@ fn plain_byte(byte: u8) -> u8
     if is_control(byte) { b' ' } else { byte }
 }
 
-fn plain(alloc: Global, bytes: &[u8]) -> Result<Vec<u8>, AllocError>
-    ensures { IfOk result (λ text. text.items ≡ map plain_byte bytes.now) }
-{
-    bytes.iter().map(|byte| plain_byte(*byte)).collect(alloc)
-}
-
-// Whether a title shows the byte as a space.
-fn is_blank(byte: u8) -> bool
-    ensures { result ≡ (plain_byte byte == 32) }
-{
-    plain_byte(byte) == b' '
-}
-
-#[tactic(auto, using(crate::proofs::Titles::fronts))]
-fn without_front(bytes: &[u8]) -> &[u8]
-    ensures { map plain_byte result.now ≡ trim_front (map plain_byte bytes.now) }
-{
-    let mut rest = bytes;
-    while let [first, after @ ..] = rest {
-        if !is_blank(*first) {
-            return rest;
-        }
-        rest = after;
-    }
-    rest
-}
-
-#[tactic(auto, using(crate::proofs::Titles::backs))]
-fn without_back(bytes: &[u8]) -> &[u8]
-    ensures { map plain_byte result.now ≡ trim_back (map plain_byte bytes.now) }
-{
-    let mut rest = bytes;
-    while let [before @ .., last] = rest {
-        if !is_blank(*last) {
-            return rest;
-        }
-        rest = before;
-    }
-    rest
-}
-
 fn first_bytes(bytes: &[u8]) -> &[u8]
     ensures { result.now ≡ take MAX_TITLE bytes.now }
 {
     &bytes[..bytes.len().min(MAX_TITLE)]
 }
 
-#[tactic(auto, using(crate::proofs::Titles::shown))]
 fn title_text(alloc: Global, bytes: &[u8]) -> Result<ByteString, NoMemory>
     ensures { IfOk result (λ title. title ≡ title_text bytes.now) }
 {
-    let shown = first_bytes(without_back(without_front(bytes)));
-    Ok(ByteString::from(plain(alloc, shown)?))
+    let text: Vec<u8> = bytes.iter().map(|byte| plain_byte(*byte)).collect(alloc)?;
+    ByteString::from_slice(alloc, first_bytes(trim_spaces(&text)))
 }
 
 fn has_word(line: &[u8]) -> bool

@@ -1,7 +1,7 @@
 //! Words, the runs of letters, digits and bytes of 128 or more: `words`, `next_token`.
 
 ghost use Rattle.std.specs.Prelude.{◌≡◌, ◌<◌, [], length, position, IfOk, IfSome, MatchOption};
-ghost use Rattle.gopher_page.specs.Words.{is_gap, is_word_byte, is_word, bare_words, words_of, tokens_of, IsOneRun, IsCutAtGap, IsFirstToken, IsFirstWord, LeavesLess, LeavesNoMore};
+ghost use Rattle.gopher_page.specs.Words.{is_gap, is_word_byte, is_word, words_of, word_runs, IsOneRun, IsCutAtGap, IsFirstWord, LeavesLess, LeavesNoMore};
 
 use gopher_item::{ByteString, NoMemory};
 use std::alloc::Global;
@@ -51,8 +51,7 @@ fn split_at_gap(bytes: &[u8]) -> Option<(&[u8], u8, &[u8])>
 /// Returns the first word of a text with its letters unchanged, whether `*` directly follows it,
 /// and the text after it; `None` if the text contains no word.
 pub fn next_token(text: &[u8]) -> Option<(&[u8], bool, &[u8])>
-    ensures tokens { MatchOption result (tokens_of text.now ≡ []) (IsFirstToken text.now) }
-    ensures bare { MatchOption result (bare_words text.now ≡ []) (IsFirstWord text.now) }
+    ensures word { MatchOption result (word_runs text.now ≡ []) (IsFirstWord text.now) }
     ensures some { IfSome result (λ found. 0 < length found.0.now) }
     ensures shorter { IfSome result (LeavesNoMore text.now) }
 {

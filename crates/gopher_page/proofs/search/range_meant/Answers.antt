@@ -1,12 +1,7 @@
-use Rattle.std.proofs.Common.{[], get_or}
-use Rattle.gopher_page.proofs.Order.{meant_before}
+use Rattle.gopher_page.proofs.Sought.{meant_words}
 use Rattle.gopher_page.proofs.search.range_meant.Goals as goal
 
 pub returns : goal.returns
-returns c = record {
-  forward = c.end_of_meant.ensures.forward;
-  within = c.end_of_meant.ensures.within;
-  before = λ k less. meant_before c.args.is_prefix c.args.sought.now (get_or c.args.words.now k []) (c.words_before-start.ensures.before k less);
-  meant = c.end_of_meant.ensures.meant;
-  others = c.end_of_meant.ensures.others;
-}
+returns c =
+    meant_words c.args.words.now c.requires c.args.sought.now c.args.is_prefix c.words_before-start.result c.words_before-start.ensures.here c.end_of_meant.result
+    c.end_of_meant.ensures.forward c.end_of_meant.ensures.within c.words_before-start.ensures.before c.end_of_meant.ensures.meant c.end_of_meant.ensures.others

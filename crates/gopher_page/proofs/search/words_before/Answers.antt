@@ -1,32 +1,24 @@
-use Rattle.std.proofs.Common.{◌+◌, ◌-◌, ◌/◌, ◌<◌, ◌∙◌, length, sym, arith}
-use Rattle.gopher_page.proofs.Sought.{all_before, bounds_forward, none_before_from}
+use Rattle.std.proofs.Common.{◌≡◌, ◌-◌, ◌<◌, true, false, arith, rules}
+use Rattle.gopher_page.specs.Counts.{is_before, word_at, IsLastBefore, IsNotBefore}
+use Rattle.gopher_page.proofs.Sought.{bounds_forward, settled}
 use Rattle.gopher_page.proofs.search.words_before.Goals as goal
 
-pub loop-low-init : goal.loop-low-init
-loop-low-init c = record {
-  forward = bounds_forward c.args.words.now c.args.sought.now c.low_bound-low.result c.high_bound-high.result c.low_bound-low.ensures.within c.low_bound-low.ensures.before c.high_bound-high.ensures.after;
-  within = c.high_bound-high.ensures.within;
-  before = c.low_bound-low.ensures.before;
-  after = c.high_bound-high.ensures.after;
-}
+pub first_index-requires-clause-order : goal.first_index-requires-clause-order
+first_index-requires-clause-order c =
+    bounds_forward c.args.words.now c.requires c.args.sought.now c.low_bound-low.result c.high_bound-high.result c.low_bound-low.ensures.within c.low_bound-low.ensures.before c.high_bound-high.ensures.here
 
-pub loop-low-preserved-then-is_before_at : goal.loop-low-preserved-then-is_before_at
-loop-low-preserved-then-is_before_at c =
-    let middle = c.loop-low.low + (c.loop-low.high - c.loop-low.low) / 2 in
-    let within : middle < length c.args.words.now = omega (arith, c.loop-low.invariant.within, c.loop-low-test.true) in
-    record {
-      forward = omega (arith, c.loop-low-test.true);
-      within = c.loop-low.invariant.within;
-      before = all_before c.args.words.now c.requires c.args.sought.now middle within (sym c.is_before_at.ensures ∙ c.if-is_before_at.true);
-      after = c.loop-low.invariant.after;
-    }
+before1 : (c : goal.After-first_index) → c.low_bound-low.result < c.first_index.result → is_before (word_at c.args.words.now (c.first_index.result - 1)) c.args.sought.now ≡ true
+before1 c more = search rules
 
-pub loop-low-preserved : goal.loop-low-preserved
-loop-low-preserved c =
-    let middle = c.loop-low.low + (c.loop-low.high - c.loop-low.low) / 2 in
-    record {
-      forward = omega arith;
-      within = omega (arith, c.loop-low.invariant.within, c.loop-low-test.true);
-      before = c.loop-low.invariant.before;
-      after = none_before_from c.args.words.now c.requires c.args.sought.now middle (sym c.is_before_at.ensures ∙ c.if-is_before_at.false);
-    }
+here1 : (c : goal.After-first_index) → c.first_index.result < c.high_bound-high.result → is_before (word_at c.args.words.now c.first_index.result) c.args.sought.now ≡ false
+here1 c less = search rules
+
+pub returns-clause-before : goal.returns-clause-before
+returns-clause-before c =
+    settled (λ k. IsLastBefore c.args.words.now k c.args.sought.now) c.low_bound-low.result c.first_index.result c.low_bound-low.ensures.before
+    (λ apart some. before1 c (omega (arith, apart, c.first_index.ensures.forward)))
+
+pub returns-clause-here : goal.returns-clause-here
+returns-clause-here c =
+    settled (λ k. IsNotBefore c.args.words.now k c.args.sought.now) c.high_bound-high.result c.first_index.result c.high_bound-high.ensures.here
+    (λ apart inside. here1 c (omega (arith, apart, c.first_index.ensures.within)))

@@ -6,7 +6,7 @@ use Rattle.std.specs.List.Sorted.{IsSorted}
 use Rattle.gopher_bytes.specs.Case.{lower_case}
 use Rattle.gopher_page.specs.Words.{bare_words, words_of}
 use Rattle.gopher_page.specs.Counts.{counts_of}
-use Rattle.gopher_page.proofs.Lengths.{rises, counted_sorted}
+use Rattle.gopher_page.proofs.Lengths.{counted_sorted}
 use Rattle.gopher_page.proofs.AddedWords.{compare}
 use Rattle.gopher_page.proofs.Lowered.{words_of_lines, lines_words_count}
 use Rattle.gopher_page.proofs.tally.count_words.Goals as goal
@@ -33,6 +33,6 @@ returns c =
     let sorted : List (List ℕ) = c.sort_unstable.new.self.items in
     let found : words ≡ flat_map words_of lines = c.in_ok-words.ensures ∙ ap bare_words (c.as_slice.ensures ∙ c.in_ok-lowered.ensures ∙ ap (map lower_case) (c.deref.ensures.value ∙ c.in_ok-text.ensures)) ∙ words_of_lines lines in
     let all : counts_of c.deref-2.result.now ≡ counts_of (flat_map words_of lines) =
-    ap counts_of c.deref-2.ensures.value ∙ counted_sorted words sorted c.sort_unstable.ensures.permutation (rises sorted c.sort_unstable.ensures.sorted) ∙ ap counts_of found
+    ap counts_of c.deref-2.ensures.value ∙ counted_sorted words sorted c.sort_unstable.ensures.permutation c.sort_unstable.ensures.sorted ∙ ap counts_of found
     in
     IfOk-weaker c.packed.result (λ counts. counts ≡ counts_of c.deref-2.result.now) (λ counts. counts ≡ counts_of (flat_map words_of lines)) (λ counts is. is ∙ all) c.packed.ensures

@@ -8,9 +8,9 @@ pub loop-word-preserved : goal.loop-word-preserved
 loop-word-preserved c =
     let rest = words_of c.in-Some.after.now in
     ap (λ l. l ++ rest) c.in_ok-push.ensures.items ∙ append_assoc c.loop-word.found.items _ rest
-    ∙ ap (λ l. c.loop-word.found.items ++ l) (ap (λ word. word ∷ rest) c.in_ok-lower_cased.ensures ∙ sym (words_of-next c.loop-word.rest.now c.in-Some.after.now _ c.in-Some.ensures.tokens))
+    ∙ ap (λ l. c.loop-word.found.items ++ l) (ap (λ word. word ∷ rest) c.in_ok-lower_cased.ensures ∙ sym (words_of-next c.loop-word.rest.now c.in-Some.after.now _ c.in-Some.ensures.word))
     ∙ c.loop-word.invariant
 
 pub returns : goal.returns
 returns c =
-    sym (append-nil _) ∙ ap (λ l. c.loop-word.found.items ++ l) (sym (words_of-none c.loop-word.rest.now c.in_default.ensures.tokens)) ∙ c.loop-word.invariant
+    sym (append-nil _) ∙ ap (λ l. c.loop-word.found.items ++ l) (sym (words_of-none c.loop-word.rest.now c.in_default.ensures.word)) ∙ c.loop-word.invariant

@@ -3,7 +3,7 @@ use Rattle.std.specs.List.{zip}
 use Rattle.std.proofs.lemmas.List.{length-append}
 use Rattle.gopher_bytes.proofs.Zips.{zip-append}
 use Rattle.gopher_page.specs.Counts.{run_lengths, run_values}
-use Rattle.gopher_page.proofs.Lengths.{rises, are_counts, counted_in_order, size_lengths, next_run, next_count, no_more_runs}
+use Rattle.gopher_page.proofs.Lengths.{are_counts, counted_in_order, size_lengths, next_run, next_count, no_more_runs}
 use Rattle.gopher_page.proofs.counts.Counts.packed.Goals as goal
 
 pub loop-word-init : goal.loop-word-init
@@ -45,7 +45,7 @@ invariant_of-result c =
     rw (c.shrink_to_fit.ensures, c.shrink_to_fit-2.ensures)
     (record {
       same = c.loop-word.invariant.same;
-      sound = rw whole (are_counts words (rises words c.requires.sorted) (omega (arith, c.requires.few)));
+      sound = rw whole (are_counts words c.requires.sorted (omega (arith, c.requires.few)));
     })
 
 pub returns : goal.returns
@@ -53,4 +53,4 @@ returns c =
     let words : List (List ℕ) = c.args.words.now in
     let whole : zip c.loop-word.distinct c.loop-word.counts ≡ run_lengths words = no_more_runs c.deref-word-items.result.now c.loop-word.word-index (omega (arith, c.loop-word-test.false)) _ ∙ c.loop-word.invariant.packed in
     (λ i. zip (c.shrink_to_fit.ensures i) (c.shrink_to_fit-2.ensures i)) ∙ whole
-    ∙ counted_in_order words words (rises words c.requires.sorted) (λ sought. refl)
+    ∙ counted_in_order words words c.requires.sorted (λ sought. refl)

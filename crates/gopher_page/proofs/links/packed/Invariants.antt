@@ -1,9 +1,8 @@
 use Rattle.std.proofs.Common.{◌≡◌, ◌++◌, length}
-use Rattle.gopher_page.proofs.links.push_links.Given as goal
+use Rattle.gopher_page.proofs.links.packed.Given as goal
 
 abbrev pub invariant-loop-place : goal.invariant-loop-place
-invariant-loop-place l =
-    l.out ++ l.left ≡ l.fn.out ++ l.fn.left
+invariant-loop-place l = l.links ++ l.places ≡ l.fn.places
 
 abbrev pub decreases-loop-place : goal.decreases-loop-place
-decreases-loop-place l = length l.left
+decreases-loop-place l = length l.places
