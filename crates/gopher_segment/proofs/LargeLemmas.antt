@@ -5,9 +5,8 @@ use Rattle.std.specs.List.{sum_by}
 use Rattle.std.specs.List.Sorted.{IsStrictlySortedBy}
 use Rattle.gopher_page.specs.Packed.{AreCounts}
 use Rattle.gopher_page.specs.Page.{PageData, is_large, page_with}
-use Rattle.gopher_segment.specs.Large.{in_table, pages_in_table, segment_in_table, large_from}
-use Rattle.gopher_segment.specs.Segment.{SegmentData, pages_of}
-use Rattle.gopher_segment.specs.SegmentRows.{AreSmall, AreConsecutive}
+use Rattle.gopher_segment.specs.Large.{in_table, pages_in_table, large_from}
+use Rattle.gopher_segment.specs.SegmentRows.{AreSmall}
 
 -- ---- a page as a table has it
 
@@ -38,18 +37,6 @@ sound_in_table page sound = by (is_large page)
 
 pub length_in_table : (pages : List PageData) → length (pages_in_table pages) ≡ length pages
 length_in_table pages = length-map pages in_table
-
--- ---- segments
-
-pub consecutive_in_table : (first : ℕ) (segments : List SegmentData) → AreConsecutive first segments → AreConsecutive first (map segment_in_table segments)
-consecutive_in_table first [] consecutive = tt
-consecutive_in_table first (segment ∷ segments) consecutive =
-    (consecutive.0, subst (λ n. AreConsecutive (first + n) (map segment_in_table segments)) (sym (length_in_table segment.pages)) (consecutive_in_table (first + length segment.pages) segments consecutive.1))
-
-pub pages_of_in_table : (segments : List SegmentData) → pages_of (map segment_in_table segments) ≡ pages_in_table (pages_of segments)
-pages_of_in_table [] = refl
-pages_of_in_table (segment ∷ segments) =
-    ap (λ l. pages_in_table segment.pages ++ l) (pages_of_in_table segments) ∙ sym (map-append in_table segment.pages (pages_of segments))
 
 -- ---- the indices of large pages
 

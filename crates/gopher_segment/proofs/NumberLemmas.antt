@@ -9,26 +9,20 @@ use Rattle.gopher_page.specs.Words.{same_word}
 use Rattle.gopher_page.specs.Counts.{is_before}
 use Rattle.gopher_page.proofs.Order.{before-trans}
 use Rattle.gopher_page.proofs.Leading.{leading_less, leading_below}
-use Rattle.gopher_segment.specs.Rows.{first_word, is_at, LackBefore, NoneLower, is_lower, IsNumberOf}
+use Rattle.gopher_segment.specs.Rows.{first_word, is_at, LackBefore, NoneLower, is_lower}
 use Rattle.gopher_segment.proofs.WordOrder.{never_before_itself, less_from_before}
 
 lower_word : (own number : ℕ) (word low : List ℕ) → IsNumbered own word → IsNumbered number low → own < number → is_before word low ≡ true
 lower_word own number word low is low_is below = ap is_lt (leading_less 8 word low is.bytes low_is.bytes (omega (arith, is.number_is, low_is.number_is)))
 
--- the last number of all is past each word's, or that of a word of eight bytes 255
-most : (number : ℕ) (word : List ℕ) → IsNumbered number word → number ≤ 2 ^ 64 - 1
-most number word is = omega (arith, is.number_is, leading_below 8 word is.bytes)
-
 not_both : (word low : List ℕ) → is_before word low ≡ true → is_before low word ≡ true → ⊥
 not_both word low a b = both_ways _ (never_before_itself word) (ap is_lt (nat_list_cmp_total.trans word low word (less_from_before word low a) (less_from_before low word b)))
 
 -- a word with a higher number isn't lower
-pub never_lower : (number own : ℕ) (low word : Option (List ℕ)) → IsNumberOf number low → IsNumberOf own word → number < own → false ≡ is_lower word low
-never_lower number own low None low_is is above = refl
-never_lower number own None (Some word) low_is is above = absurd (omega (arith, low_is, most own word is))
-never_lower number own (Some low) (Some word) low_is is above = by (is_before word low) refl
+pub never_lower : (own number : ℕ) (word low : List ℕ) → IsNumbered own word → IsNumbered number low → number < own → is_before word low ≡ false
+never_lower own number word low is low_is above = by (is_before word low) refl
   where
-    by : (b : Bool) → is_before word low ≡ b → false ≡ b
+    by : (b : Bool) → is_before word low ≡ b → b ≡ false
     by true e = absurd (not_both word low e (lower_word number own low word low_is is above))
     by false e = refl
 

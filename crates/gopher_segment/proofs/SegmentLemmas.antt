@@ -5,10 +5,12 @@ use Rattle.std.specs.List.{flat_map}
 use Rattle.gopher_page.specs.Counts.{count_meant}
 use Rattle.gopher_page.specs.Packed.{AreCounts}
 use Rattle.gopher_page.specs.Page.{PageData}
+use Rattle.gopher_segment.specs.Large.{in_table, pages_in_table}
 use Rattle.gopher_segment.specs.Postings.{run_of}
 use Rattle.gopher_segment.specs.Rows.{postings_of, page_rows, AreAllInOrder}
 use Rattle.gopher_segment.specs.Segment.{SegmentData, pages_of, meant_counts}
-use Rattle.gopher_segment.specs.SegmentRows.{Tell, AreRowsOf, AreConsecutive, AreTablesOf}
+use Rattle.gopher_segment.specs.SegmentRows.{Tell, AreRowsOf, AreConsecutive, AreSegmentTables}
+use Rattle.gopher_segment.proofs.LargeLemmas.{length_in_table}
 use Rattle.gopher_segment.proofs.WordPostings.{postings_of-append, page_postings, run_of-append}
 
 run_both : (first : ℕ) (word : List ℕ) (pages more : List PageData) → run_of first (meant_counts false word pages) ++ run_of (first + length pages) (meant_counts false word more) ≡ run_of first (meant_counts false word (pages ++ more))
@@ -30,24 +32,27 @@ page_behind first pages page at rows newer told sound here is = λ word.
 -- ---- segments
 
 module _ (word : List ℕ) where
-  pub tables_runs : (first : ℕ) (segments : List SegmentData) (tables : List (List (List ℕ × List (ℕ × ℕ)))) → AreConsecutive first segments → AreTablesOf segments tables
-      → flat_map (postings_of word) tables ≡ run_of first (meant_counts false word (pages_of segments))
+  pub tables_runs : (first : ℕ) (segments : List SegmentData) (tables : List (List (List ℕ × List (ℕ × ℕ)))) → AreConsecutive first segments → AreSegmentTables segments tables
+      → flat_map (postings_of word) tables ≡ run_of first (meant_counts false word (pages_in_table (pages_of segments)))
   tables_runs first [] [] consecutive are = refl
   tables_runs first [] (rows ∷ tables) consecutive are = absurd are
   tables_runs first (segment ∷ segments) [] consecutive are = absurd are
   tables_runs first (segment ∷ segments) (rows ∷ tables) consecutive are =
-      let here : postings_of word rows ≡ run_of first (meant_counts false word segment.pages) = are.0.tell word ∙ ap (λ n. run_of n (meant_counts false word segment.pages)) consecutive.0 in
-      let rest = tables_runs (first + length segment.pages) segments tables consecutive.1 are.1 in
-      (λ i. here i ++ rest i) ∙ run_both first word segment.pages (pages_of segments)
+      let own : List PageData = pages_in_table segment.pages in
+      let left : List PageData = pages_in_table (pages_of segments) in
+      let here : postings_of word rows ≡ run_of first (meant_counts false word own) = are.0.tell word ∙ ap (λ n. run_of n (meant_counts false word own)) consecutive.0 in
+      let rest : flat_map (postings_of word) tables ≡ run_of (first + length own) (meant_counts false word left) =
+      tables_runs (first + length segment.pages) segments tables consecutive.1 are.1 ∙ ap (λ n. run_of (first + n) (meant_counts false word left)) (sym (length_in_table segment.pages)) in
+      (λ i. here i ++ rest i) ∙ run_both first word own left ∙ ap (λ l. run_of first (meant_counts false word l)) (sym (map-append in_table segment.pages (pages_of segments)))
 
-pub tables_order : (segments : List SegmentData) (tables : List (List (List ℕ × List (ℕ × ℕ)))) → AreTablesOf segments tables → AreAllInOrder tables
+pub tables_order : (segments : List SegmentData) (tables : List (List (List ℕ × List (ℕ × ℕ)))) → AreSegmentTables segments tables → AreAllInOrder tables
 tables_order [] [] are = tt
 tables_order [] (rows ∷ tables) are = absurd are
 tables_order (segment ∷ segments) [] are = absurd are
 tables_order (segment ∷ segments) (rows ∷ tables) are = (are.0.order, tables_order segments tables are.1)
 
-pub tables_push : (segments : List SegmentData) (tables : List (List (List ℕ × List (ℕ × ℕ)))) (segment : SegmentData) (rows : List (List ℕ × List (ℕ × ℕ))) → AreTablesOf segments tables → AreRowsOf segment.first segment.pages rows
-    → AreTablesOf (segments ++ segment ∷ []) (tables ++ rows ∷ [])
+pub tables_push : (segments : List SegmentData) (tables : List (List (List ℕ × List (ℕ × ℕ)))) (segment : SegmentData) (rows : List (List ℕ × List (ℕ × ℕ))) → AreSegmentTables segments tables → AreRowsOf segment.first (pages_in_table segment.pages) rows
+    → AreSegmentTables (segments ++ segment ∷ []) (tables ++ rows ∷ [])
 tables_push [] [] segment rows are one = (one, tt)
 tables_push [] (first ∷ tables) segment rows are one = absurd are
 tables_push (first ∷ segments) [] segment rows are one = absurd are

@@ -1,7 +1,7 @@
 -- Large pages: a segment's table leaves out their words.
 use Rattle.std.specs.Prelude.{◌≡◌, ℕ, ◌+◌, Bool, List, [], ◌∷◌, map, slice_index_or, slice_set, if◌then◌else◌}
 use Rattle.gopher_page.specs.Page.{PageData, is_large, page_with}
-use Rattle.gopher_segment.specs.Segment.{SegmentData, meant_counts}
+use Rattle.gopher_segment.specs.Segment.{meant_counts}
 
 -- a page as the table of its segment has it: without its words if it is large
 abbrev pub in_table : PageData → PageData
@@ -9,11 +9,6 @@ in_table page = if is_large page then page_with page.place page.title page.links
 
 abbrev pub pages_in_table : List PageData → List PageData
 pages_in_table pages = map in_table pages
-
--- a segment with its pages as its table has them
-abbrev pub segment_in_table : SegmentData → SegmentData
-segment_in_table segment =
-    record { first = segment.first; pages = pages_in_table segment.pages }
 
 -- the indices of the large pages, if the first page has the index `index`
 abbrev pub large_from : ℕ → List PageData → List ℕ

@@ -7,7 +7,6 @@ use Rattle.std.specs.Cmp.Lexicographic.{slice_cmp}
 use Rattle.std.specs.declared.cmp.Ordering.TheVariants.{Less}
 use Rattle.gopher_page.specs.Words.{same_word}
 use Rattle.gopher_page.specs.Counts.{is_before, is_meant, AreMeantWords}
-use Rattle.gopher_page.specs.Numbered.{IsNumbered}
 use Rattle.gopher_segment.specs.Postings.{AreWithin, RunsData, count_in, pieces}
 
 abbrev pub words_of_rows : List (List ℕ × List (ℕ × ℕ)) → List (List ℕ)
@@ -45,17 +44,11 @@ abbrev pub first_word : List (List ℕ × List (ℕ × ℕ)) → Option (List �
 first_word [] = None
 first_word (row ∷ rows) = Some row.0
 
--- the leading number of a word, or 2^64 - 1 for no word
-abbrev pub IsNumberOf : ℕ → Option (List ℕ) → Type 0
-IsNumberOf number None = number ≡ 2 ^ 64 - 1
-IsNumberOf number (Some word) = IsNumbered number word
-
--- a cursor at a row of a table or past all rows, with the word of that row and its leading number
-pub record IsCursor (rows : List (List ℕ × List (ℕ × ℕ))) (at number : ℕ) (word : Option (List ℕ))
+-- a cursor at a row of a table or past all rows, with the word of that row
+pub record IsCursor (rows : List (List ℕ × List (ℕ × ℕ))) (at : ℕ) (word : Option (List ℕ))
     : Type 0 where
   pub within : at ≤ length rows
   pub word_is : word ≡ first_word (drop at rows)
-  pub number_is : IsNumberOf number (first_word (drop at rows))
 
 abbrev pub first_run : List (List ℕ × List (ℕ × ℕ)) → List (ℕ × ℕ)
 first_run [] = []

@@ -4,7 +4,7 @@ use Rattle.std.specs.List.{sum_by, AllByRecursion, AllZip}
 use Rattle.gopher_text.specs.declared.reply_reader.TheConstants.{MAX_REPLY}
 use Rattle.gopher_page.specs.Counts.{count_where}
 use Rattle.gopher_page.specs.Page.{PageData}
-use Rattle.gopher_segment.specs.Large.{in_table, large_from, pages_in_table, segment_in_table}
+use Rattle.gopher_segment.specs.Large.{in_table, large_from, pages_in_table}
 use Rattle.gopher_segment.specs.Postings.{run_of}
 use Rattle.gopher_segment.specs.Rows.{AreRowsInOrder, page_rows, postings_of}
 use Rattle.gopher_segment.specs.Segment.{SegmentData, meant_counts}
@@ -48,11 +48,8 @@ AreConsecutive first [] = Unit {0}
 AreConsecutive first (segment ∷ segments) =
     (segment.first ≡ first) × AreConsecutive (first + length segment.pages) segments
 
--- tables, each of the rows of a segment
-abbrev pub AreTablesOf : List SegmentData → List (List (List ℕ × List (ℕ × ℕ))) → Type 0
-AreTablesOf segments tables =
-    AllZip (λ segment rows. AreRowsOf segment.first segment.pages rows) segments tables
-
--- tables of segments, which leave out large pages
+-- tables, each of the rows of a segment, which leave out large pages
 abbrev pub AreSegmentTables : List SegmentData → List (List (List ℕ × List (ℕ × ℕ))) → Type 0
-AreSegmentTables segments tables = AreTablesOf (map segment_in_table segments) tables
+AreSegmentTables segments tables =
+    AllZip (λ segment rows. AreRowsOf segment.first (pages_in_table segment.pages) rows) segments
+    tables

@@ -2,7 +2,7 @@
 
 ghost use Rattle.std.specs.Prelude.{◌≡◌, ◌<◌, None, ◌++◌, length, map, drop, IfOk, IfSome, OnOk};
 ghost use Rattle.std.specs.Option.{option_copied};
-ghost use Rattle.gopher_segment.specs.Rows.{AreRowsInOrder, first_word, first_run, IsLowest, IsNumberOf, is_at, LackBefore, is_lower, passed, rows_left, taken, AreAllInOrder, HavePostingsOf, TakesRuns};
+ghost use Rattle.gopher_segment.specs.Rows.{AreRowsInOrder, first_word, first_run, IsLowest, is_at, LackBefore, is_lower, passed, rows_left, taken, AreAllInOrder, HavePostingsOf, TakesRuns};
 
 use crate::runs::{Run, Runs};
 use crate::table::Table;
@@ -22,25 +22,13 @@ fn word_at<'a>(table: &'a Table, at: usize) -> Option<Numbered<'a>>
     }
 }
 
-// The leading number of a word, or `u64::MAX` for no word.
-fn number_of(word: &Option<Numbered<'_>>) -> u64
-    ensures { IsNumberOf result word.now }
-{
-    match word {
-        Some(word) => word.number(),
-        None => u64::MAX,
-    }
-}
-
 /// The rows of a table that aren't merged yet.
 ///
-/// The first row's word is kept, because it is compared many times, with its leading number, which
-/// decides most of the comparisons.
+/// The first row's word is kept, because it is compared many times.
 #[derive(Debug, Drop)]
 pub(crate) struct Cursor<'a> {
     table: &'a Table,
     at: usize,
-    number: u64,
     word: Option<Numbered<'a>>,
 }
 
@@ -52,7 +40,7 @@ impl<'a> Model for Cursor<'a> {
 
     ghost view = { λ c. drop c.at c.table.now };
 
-    ghost invariant = { λ c. IsCursor c.table.now c.at c.number c.word };
+    ghost invariant = { λ c. IsCursor c.table.now c.at c.word };
 }
 
 impl<'a> Cursor<'a> {
@@ -60,20 +48,11 @@ impl<'a> Cursor<'a> {
     pub fn new(table: &'a Table) -> Cursor<'a>
         ensures { result ≡ table.now }
     {
-        let word = word_at(table, 0);
         Cursor {
             table,
             at: 0,
-            number: number_of(&word),
-            word,
+            word: word_at(table, 0),
         }
-    }
-
-    // The leading number of the first row's word, or `u64::MAX` without a row.
-    fn number(&self) -> u64
-        ensures { IsNumberOf result (first_word self.now) }
-    {
-        self.number
     }
 
     // The word of the first row, if there is a row.
@@ -87,9 +66,6 @@ impl<'a> Cursor<'a> {
     fn is_at(&self, word: &Numbered<'_>) -> bool
         ensures { result ≡ is_at word.now self.now }
     {
-        if self.number() != word.number() {
-            return false;
-        }
         match self.word() {
             Some(own) => own == word,
             None => false,
@@ -111,7 +87,6 @@ impl<'a> Cursor<'a> {
         if self.at < self.table.len() {
             self.at += 1;
             self.word = word_at(self.table, self.at);
-            self.number = number_of(&self.word);
         }
     }
 }
@@ -121,22 +96,11 @@ fn is_lower(word: Option<&Numbered<'_>>, lowest: Option<&Numbered<'_>>) -> bool
     ensures { result ≡ is_lower (option_copied word.entry) (option_copied lowest.entry) }
 {
     match (word, lowest) {
-        (Some(word), Some(low)) => word.cmp(low).is_lt(),
+        // Their numbers decide most comparisons.
+        (Some(word), Some(low)) => word.number() <= low.number() && word.cmp(low).is_lt(),
         (Some(_), None) => true,
         (None, _) => false,
     }
-}
-
-// Whether the cursor has a row whose word comes before the lowest one, whose leading number is
-// `number`.
-fn begins_lower(cursor: &Cursor<'_>, lowest: Option<&Numbered<'_>>, number: u64) -> bool
-    requires { IsNumberOf number (option_copied lowest) }
-    ensures { result ≡ is_lower (first_word cursor.now) (option_copied lowest.entry) }
-{
-    if cursor.number() > number {
-        return false;
-    }
-    is_lower(cursor.word(), lowest)
 }
 
 // The lowest of the first words, and the index of the first cursor that begins with it.
@@ -146,12 +110,11 @@ fn lowest_word<'a>(cursors: &[Cursor<'a>]) -> Option<(usize, Numbered<'a>)>
 {
     let mut lowest: Option<&Numbered<'a>> = None;
     let mut first = 0;
-    let mut number = u64::MAX;
     for index in 0..cursors.len() {
         let cursor = &cursors[index];
-        if begins_lower(cursor, lowest, number) {
-            lowest = cursor.word();
-            number = cursor.number();
+        let word = cursor.word();
+        if is_lower(word, lowest) {
+            lowest = word;
             first = index;
         }
     }

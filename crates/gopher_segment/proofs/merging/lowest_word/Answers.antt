@@ -1,10 +1,10 @@
 use Rattle.std.proofs.Common.{◌≡◌, ℕ, List, [], Option, None, true, false, ◌+◌, ◌<◌, length, get_or, sym, ap, subst, ◌∙◌, arith}
 use Rattle.std.specs.Option.{option_copied}
-use Rattle.gopher_segment.specs.Rows.{first_word, is_lower, IsNumberOf, NoneLower}
+use Rattle.gopher_segment.specs.Rows.{first_word, is_lower, NoneLower}
 use Rattle.gopher_segment.proofs.MergeLemmas.{nothing_left}
 use Rattle.gopher_segment.proofs.NumberLemmas.{IsFirstAt, none_below, first_below, none_beside}
 use Rattle.gopher_segment.proofs.merging.lowest_word.Goals as goal
-use Rattle.gopher_segment.proofs.merging.lowest_word.Goals.{then-begins_lower, else-begins_lower}
+use Rattle.gopher_segment.proofs.merging.lowest_word.Goals.{then-is_lower, else-is_lower}
 
 pub loop-index-preserved : goal.loop-index-preserved
 loop-index-preserved c =
@@ -13,23 +13,21 @@ loop-index-preserved c =
     let next : ℕ = c.loop-index.index + 1 in
     let low : Option (List ℕ) = option_copied c.loop-index.lowest in
     let within : c.loop-index.index < length tables = c.loop-index-test.true in
-    elim c.if-begins_lower.branch [
-      | then-begins_lower w ↦
-          let less : is_lower (first_word rows) low ≡ true = sym c.begins_lower.ensures ∙ w.if-begins_lower.true in
-          let is : first_word rows ≡ option_copied c.if-begins_lower.lowest = sym (ap option_copied w.lowest-is ∙ w.word-lowest.ensures) in
+    elim c.if-is_lower.branch [
+      | then-is_lower w ↦
+          let less : is_lower (first_word rows) low ≡ true = ap (λ o. is_lower o low) (sym c.word-word.ensures) ∙ sym c.is_lower.ensures ∙ w.if-is_lower.true in
+          let is : first_word rows ≡ option_copied c.if-is_lower.lowest = sym (ap option_copied w.lowest-is ∙ c.word-word.ensures) in
           record {
-            number_is = subst (λ n. IsNumberOf n (option_copied c.if-begins_lower.lowest)) (sym w.number-is) (subst (IsNumberOf w.number-number.result) is w.number-number.ensures);
             none = subst (λ o. NoneLower o next tables) is (none_below low tables rows c.loop-index.index within c.index-cursors-index.is less c.loop-index.invariant.none);
-            here = subst (λ n. IsFirstAt (option_copied c.if-begins_lower.lowest) n tables) (sym w.first-is)
+            here = subst (λ n. IsFirstAt (option_copied c.if-is_lower.lowest) n tables) (sym w.first-is)
                 (subst (λ o. IsFirstAt o c.loop-index.index tables) is (first_below low tables rows c.loop-index.index within c.index-cursors-index.is less c.loop-index.invariant.none));
           }
-      | else-begins_lower w ↦
-          let from : is_lower (first_word rows) low ≡ false = sym c.begins_lower.ensures ∙ w.if-begins_lower.false in
-          let is : low ≡ option_copied c.if-begins_lower.lowest = sym (ap option_copied w.lowest-is) in
+      | else-is_lower w ↦
+          let from : is_lower (first_word rows) low ≡ false = ap (λ o. is_lower o low) (sym c.word-word.ensures) ∙ sym c.is_lower.ensures ∙ w.if-is_lower.false in
+          let is : low ≡ option_copied c.if-is_lower.lowest = sym (ap option_copied w.lowest-is) in
           record {
-            number_is = subst (λ n. IsNumberOf n (option_copied c.if-begins_lower.lowest)) (sym w.number-is) (subst (IsNumberOf c.loop-index.number) is c.loop-index.invariant.number_is);
             none = subst (λ o. NoneLower o next tables) is (none_beside low tables rows c.loop-index.index within c.index-cursors-index.is from c.loop-index.invariant.none);
-            here = subst (λ n. IsFirstAt (option_copied c.if-begins_lower.lowest) n tables) (sym w.first-is) (subst (λ o. IsFirstAt o c.loop-index.first tables) is c.loop-index.invariant.here);
+            here = subst (λ n. IsFirstAt (option_copied c.if-is_lower.lowest) n tables) (sym w.first-is) (subst (λ o. IsFirstAt o c.loop-index.first tables) is c.loop-index.invariant.here);
           }
     ]
 

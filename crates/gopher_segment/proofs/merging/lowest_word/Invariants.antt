@@ -1,11 +1,10 @@
 use Rattle.std.specs.Option.{option_copied}
-use Rattle.gopher_segment.specs.Rows.{IsNumberOf, NoneLower}
+use Rattle.gopher_segment.specs.Rows.{NoneLower}
 use Rattle.gopher_segment.proofs.NumberLemmas.{IsFirstAt}
 use Rattle.gopher_segment.proofs.merging.lowest_word.Given as goal
 
 abbrev pub invariant-loop-index : goal.invariant-loop-index
 invariant-loop-index l = record {
-  number_is : IsNumberOf l.number (option_copied l.lowest);
   none : NoneLower (option_copied l.lowest) l.index l.cursors;
   here : IsFirstAt (option_copied l.lowest) l.first l.cursors;
 }

@@ -1,7 +1,6 @@
 use Rattle.std.proofs.Common.{◌≡◌, ℕ, List, ◌+◌, ◌<◌, ◌++◌, ◌∷◌, [], length, map, take, sym, ap, ◌∙◌, arith}
-use Rattle.std.proofs.lemmas.List.{map_more, map-append}
+use Rattle.std.proofs.lemmas.List.{map_more}
 use Rattle.std.specs.Arc.{arc_value}
-use Rattle.gopher_segment.specs.Large.{segment_in_table}
 use Rattle.gopher_segment.specs.Segment.{SegmentData}
 use Rattle.gopher_segment.proofs.SegmentLemmas.{tables_push}
 use Rattle.gopher_segment.proofs.segment.cursors_of.Goals as goal
@@ -18,6 +17,4 @@ loop-segment-preserved c =
     map_more arc_value c.args.segments.now c.loop-segment.segment-index c.segment-item.result within
     ∙ ap (λ s. before ++ arc_value s ∷ []) (sym c.segment-item.is)
     ∙ ap (λ s. before ++ s ∷ []) (sym c.deref.ensures) in
-    let shown : map segment_in_table (map arc_value (take (c.loop-segment.segment-index + 1) c.args.segments.now)) ≡ map segment_in_table before ++ segment_in_table segment ∷ [] =
-    ap (map segment_in_table) seen ∙ map-append segment_in_table before (segment ∷ []) in
-    rw (grown, shown) (tables_push (map segment_in_table before) done (segment_in_table segment) rows c.loop-segment.invariant c.table.ensures)
+    rw (grown, seen) (tables_push before done segment rows c.loop-segment.invariant c.table.ensures)

@@ -1,11 +1,10 @@
 use Rattle.std.proofs.Common.{false, map, ap, sym, subst, ◌∙◌}
 use Rattle.std.specs.Arc.{arc_value}
 use Rattle.std.specs.List.{flat_map}
-use Rattle.gopher_segment.specs.Large.{pages_in_table, segment_in_table}
+use Rattle.gopher_segment.specs.Large.{pages_in_table}
 use Rattle.gopher_segment.specs.Postings.{run_of}
 use Rattle.gopher_segment.specs.Rows.{AreAllInOrder, postings_of}
 use Rattle.gopher_segment.specs.Segment.{meant_counts}
-use Rattle.gopher_segment.proofs.LargeLemmas.{consecutive_in_table, pages_of_in_table}
 use Rattle.gopher_segment.proofs.SegmentLemmas.{tables_order, tables_runs}
 use Rattle.gopher_segment.proofs.segment.Segment.merged.Goals as goal
 
@@ -13,14 +12,11 @@ pub merge-requires : goal.merge-requires
 merge-requires c = subst AreAllInOrder (sym c.deref_mut.ensures.value) (tables_order _ _ c.in_ok-cursors.ensures)
 
 pub of_table-requires-clause-table : goal.of_table-requires-clause-table
-of_table-requires-clause-table c =
-    let segments = map arc_value c.args.segments.now in
-    let pages = pages_of_in_table segments ∙ ap pages_in_table (sym c.in_ok-pages.ensures.pages) in
-    record {
-      order = c.in_ok-table.ensures.order;
-      tell = λ word.
-          c.in_ok-table.ensures.runs word
-          ∙ ap (flat_map (postings_of word)) c.deref_mut.ensures.value
-          ∙ tables_runs word c.args.first (map segment_in_table segments) _ (consecutive_in_table c.args.first segments c.requires) c.in_ok-cursors.ensures
-          ∙ ap (λ pages. run_of c.args.first (meant_counts false word pages)) pages;
-    }
+of_table-requires-clause-table c = record {
+  order = c.in_ok-table.ensures.order;
+  tell = λ word.
+      c.in_ok-table.ensures.runs word
+      ∙ ap (flat_map (postings_of word)) c.deref_mut.ensures.value
+      ∙ tables_runs word c.args.first (map arc_value c.args.segments.now) _ c.requires c.in_ok-cursors.ensures
+      ∙ ap (λ pages. run_of c.args.first (meant_counts false word (pages_in_table pages))) (sym c.in_ok-pages.ensures.pages);
+}
