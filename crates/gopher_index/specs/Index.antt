@@ -47,6 +47,8 @@ AppendsPage page old new result = MatchResult result (λ _. new ≡ old ++ page 
 abbrev pub Replaces : ℕ → ℕ → SegmentData → List SegmentData → List SegmentData → Type 0
 Replaces start end merged old new = new ≡ take start old ++ merged ∷ drop end old
 
--- if the pages of a run are pages of the old parts, the new parts have the same pages
-abbrev pub KeepsPages : SegmentData → List SegmentData → List SegmentData → Type 0
-KeepsPages run old new = IsSliceOf run (pages_of old) → pages_of new ≡ pages_of old
+-- the new parts are consecutive, and if the pages of a run are pages of the old parts, then both
+-- have the same pages
+pub record KeepsPages (run : SegmentData) (old new : List SegmentData) : Type 0 where
+  pub consecutive : AreConsecutive 0 new
+  pub pages : IsSliceOf run (pages_of old) → pages_of new ≡ pages_of old

@@ -42,10 +42,6 @@ abbrev pub wanted_in : List Group → ℕ
 wanted_in [] = 0
 wanted_in (group ∷ groups) = group.wanted + wanted_in groups
 
--- both terms are of the same word, or of the same prefix
-abbrev pub MatchAlike : TermData → TermData → Type 0
-MatchAlike a b = (a.word ≡ b.word) × (a.is_prefix ≡ b.is_prefix)
-
 -- the groups match and score each page as the terms do
 pub record AreTermGroups (terms : List TermData) (groups : List Group) : Type 0 where
   pub matching : (counts : List (List ℕ × ℕ))

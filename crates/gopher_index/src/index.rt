@@ -17,7 +17,6 @@ use crate::search::search;
 use crate::searching::Search;
 use gopher_item::{NoMemory, Place};
 use gopher_page::{Page, Query, Term};
-use gopher_segment::Segment;
 use std::alloc::Global;
 use std::marker::Model;
 use std::sync::Arc;
@@ -193,19 +192,9 @@ impl Index {
         } = due;
         self.taken.retain(|other| *other != first);
         if let Some(merged) = merged {
-            self.put(first, merged);
+            let alloc = *self.parts.allocator();
+            let _put = put_part(alloc, Part::segment(first, merged), &mut self.parts);
         }
-    }
-
-    // Replaces pages by the segment that they were merged into.
-    fn put(&mut self, first: usize, merged: Arc<Segment>)
-        requires first { (arc_value merged).first ≡ first }
-        requires bound { first + length (arc_value merged).pages ≤ 65536 }
-        requires stands { IsSliceOf (arc_value merged) self.old }
-        ensures { self.new ≡ self.old }
-    {
-        let alloc = *self.parts.allocator();
-        let _put = put_part(alloc, Part::segment(first, merged), &mut self.parts);
     }
 
     // Merges one run that is due. Returns whether it did.

@@ -53,8 +53,7 @@ fn with_one(
 pub(crate) fn put_part(alloc: Global, merged: Part, parts: &mut Vec<Part>) -> Result<(), NoMemory>
     requires bound { merged.first + length merged.pages ≤ 65536 }
     requires consecutive { AreConsecutive 0 parts.old.items }
-    ensures consecutive { AreConsecutive 0 parts.new.items }
-    ensures pages { KeepsPages merged parts.old.items parts.new.items }
+    ensures { KeepsPages merged parts.old.items parts.new.items }
 {
     let Some(start) = border(parts, merged.first()) else {
         return Ok(());

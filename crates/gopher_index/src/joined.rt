@@ -2,7 +2,7 @@
 
 ghost use Rattle.std.specs.Prelude.{None, ◌≡◌, ◌+◌, ◌*◌, ◌^◌, ◌≤◌, ◌<◌, ◌==◌, ◌∷◌, [], length, map, replicate, if◌then◌else◌, IfSome, OnErr, OnOk};
 ghost use Rattle.std.specs.List.{All};
-ghost use Rattle.gopher_index.specs.Cells.{RisesAtMost, term_counts, zipped};
+ghost use Rattle.gopher_index.specs.Cells.{RisesAtMost, zipped};
 ghost use Rattle.gopher_index.specs.Joined.{AreBegun, AreJoined, AddsOne, HasCells, IsUnwantedList, JoinsOne, RaisesEach, posted, posted_count, raised_verdicts};
 ghost use Rattle.gopher_segment.specs.Postings.{AreWithin};
 ghost use Rattle.gopher_index.specs.Plan.{AreGroupCells, wanted_in};
@@ -11,7 +11,6 @@ use crate::likely::Highest;
 use crate::part::Part;
 use crate::plan::{Group, higher, verdict_for};
 use gopher_item::{MAX_LINE, NoMemory};
-use gopher_page::Term;
 use gopher_segment::Postings;
 use std::alloc::Global;
 
@@ -78,16 +77,6 @@ fn add_wanted(times: u32, scores: &mut [u32], counts: &[u32])
         1 => add_counts(scores, counts),
         _ => add_times(times, scores, counts),
     }
-}
-
-/// Writes how often the words that a term matches occur in each page.
-fn spread_term(part: &Part, term: &Term, counts: &mut [u32])
-    requires { length counts.old ≡ length part.now.pages }
-    ensures counts { counts.new ≡ term_counts term.now part.now.pages }
-    ensures few { All (λ count. count ≤ 1048576) counts.new }
-{
-    counts.fill(0);
-    part.spread(term.is_prefix(), term.word(), counts);
 }
 
 // Multiplies each score.
@@ -176,7 +165,8 @@ fn join_group(
         raise_listed(&postings, group.holds, verdicts);
         return;
     }
-    spread_term(part, &group.term, counts);
+    counts.fill(0);
+    part.spread(group.term.is_prefix(), group.term.word(), counts);
     raise_verdicts(group, verdicts, counts);
     add_wanted(group.wanted, scores, counts);
 }

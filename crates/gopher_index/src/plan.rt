@@ -1,8 +1,8 @@
 //! Groups of equal terms, so that a search counts the words of each group once.
 
-ghost use Rattle.std.specs.Prelude.{◌≡◌, ◌+◌, ◌≤◌, ◌<◌, true, max, length, nat_lt, if◌then◌else◌, IfOk, IfSome, OnOk};
+ghost use Rattle.std.specs.Prelude.{◌≡◌, ◌+◌, ◌≤◌, ◌<◌, max, length, nat_lt, if◌then◌else◌, IfOk, IfSome, OnOk};
 ghost use Rattle.gopher_page.specs.Query.{IsQuery};
-ghost use Rattle.gopher_index.specs.Plan.{verdict_of, is_match, wanted_in, AddsTerm, IsGroupOf, IsPlan, Joins, SayAlike, MatchAlike};
+ghost use Rattle.gopher_index.specs.Plan.{verdict_of, is_match, wanted_in, AddsTerm, IsGroupOf, IsPlan, Joins, SayAlike};
 
 use gopher_item::{MAX_LINE, NoMemory};
 use gopher_page::{Operator, Term};
@@ -77,17 +77,12 @@ impl Group {
     }
 }
 
-fn is_same(a: &Term, b: &Term) -> bool
-    ensures { result ≡ true → MatchAlike a.now b.now }
-{
-    a.is_prefix() == b.is_prefix() && a.word() == b.word()
-}
-
 fn find(groups: &[Group], term: &Term) -> Option<usize>
     ensures { IfSome result (IsGroupOf term.now groups.now) }
 {
     for (index, group) in groups.iter().enumerate() {
-        if is_same(&group.term, term) {
+        let own = &group.term;
+        if own.is_prefix() == term.is_prefix() && own.word() == term.word() {
             return Some(index);
         }
     }

@@ -6,8 +6,8 @@ use Rattle.gopher_segment.specs.SegmentRows.{AreConsecutive}
 use Rattle.gopher_index.proofs.SettlingLemmas.{put_consecutive, put_pages}
 use Rattle.gopher_index.proofs.installing.put_part.Goals as goal
 
-pub returns-clause-consecutive : goal.returns-clause-consecutive
-returns-clause-consecutive c =
+pub returns : goal.returns
+returns c =
     let merged = c.args.merged in
     let start = c.in-Some.start in
     let end = c.in-Some-border.end in
@@ -16,16 +16,8 @@ returns-clause-consecutive c =
     let seen : c.in_ok-parts.field-0.items ≡ take start parts ++ merged ∷ drop end parts = c.in_ok-parts.ensures ∙ ap (λ l. take start l ++ merged ∷ drop end l) c.deref-3.ensures.value in
     let here : length (pages_of (take start parts)) ≡ merged.first = ap (λ l. length (pages_of (take start l))) (sym c.deref.ensures.value) ∙ c.in-Some.ensures.1 ∙ c.first.ensures in
     let there : length (pages_of (take end parts)) ≡ c.first-2.result + length c.pages.result.now = ap (λ l. length (pages_of (take end l))) (sym c.deref-2.ensures.value) ∙ c.in-Some-border.ensures.1 in
-    subst (AreConsecutive 0) (sym seen) (put_consecutive parts start end merged here (omega (arith, there, size, c.first-2.ensures)) c.requires.consecutive)
-
-pub returns-clause-pages : goal.returns-clause-pages
-returns-clause-pages c = λ stands.
-    let merged = c.args.merged in
-    let start = c.in-Some.start in
-    let end = c.in-Some-border.end in
-    let parts = c.args.parts.now.items in
-    let size : length c.pages.result.now ≡ length merged.pages = sym (length-map c.pages.result.now arc_value) ∙ ap length c.pages.ensures in
-    let seen : c.in_ok-parts.field-0.items ≡ take start parts ++ merged ∷ drop end parts = c.in_ok-parts.ensures ∙ ap (λ l. take start l ++ merged ∷ drop end l) c.deref-3.ensures.value in
-    let here : length (pages_of (take start parts)) ≡ merged.first = ap (λ l. length (pages_of (take start l))) (sym c.deref.ensures.value) ∙ c.in-Some.ensures.1 ∙ c.first.ensures in
-    let there : length (pages_of (take end parts)) ≡ c.first-2.result + length c.pages.result.now = ap (λ l. length (pages_of (take end l))) (sym c.deref-2.ensures.value) ∙ c.in-Some-border.ensures.1 in
-    ap pages_of seen ∙ put_pages parts start end merged here (omega (arith, there, size, c.first-2.ensures)) stands
+    let after : length (pages_of (take end parts)) ≡ merged.first + length merged.pages = omega (arith, there, size, c.first-2.ensures) in
+    record {
+      consecutive = subst (AreConsecutive 0) (sym seen) (put_consecutive parts start end merged here after c.requires.consecutive);
+      pages = λ stands. ap pages_of seen ∙ put_pages parts start end merged here after stands;
+    }
