@@ -1,14 +1,12 @@
 -- The pages of a record: after one more event, their number, and that the index contains all of
 -- them.
-use Rattle.std.proofs.Common.{◌≡◌, ℕ, suc, zero, ◌≤◌, ◌<◌, List, [], ◌∷◌, ◌++◌, length, take, append_assoc, inl, inr, refl, sym, ◌∙◌, ap, arith}
+use Rattle.std.proofs.Common.{◌≡◌, ℕ, suc, zero, ◌≤◌, ◌<◌, List, [], ◌∷◌, ◌++◌, length, take, append_assoc, refl, sym, ◌∙◌, ap, arith}
 use Rattle.std.specs.Arc.{arc_value}
 use Rattle.std.specs.List.{flat_map}
 use Rattle.std.specs.declared.sync.Arc.{Arc}
 use Rattle.std.specs.Global.{Global}
-use Rattle.std.proofs.lemmas.Bool.{cases_lt}
 use Rattle.std.proofs.lemmas.Grind.{flat_map-append}
 use Rattle.std.proofs.lemmas.List.{append-nil, length_push, length-take, take_all, take_at}
-use Rattle.std.proofs.lemmas.List.Concat.{flat_map-cons}
 use mathlib.Core.List.{IsPrefix}
 use Rattle.gopher_page.specs.Page.{PageData}
 use Rattle.gopher_segment.specs.Segment.{SegmentData}
@@ -16,27 +14,15 @@ use Rattle.gopher_index.specs.Index.{IsSliceOf}
 use Rattle.gopher_catalogue.specs.declared.event.Event.{Event}
 use Rattle.gopher_catalogue.specs.declared.event.Event.TheVariants.{Opened as OpenedEvent, Claimed as ClaimedEvent, Found as FoundEvent, Failed as FailedEvent}
 use Rattle.gopher_catalogue.specs.EventOf.{event_data}
-use Rattle.gopher_catalogue.specs.Event.{OpeningData, EventData, Opened, Claimed, Found, Failed}
-use Rattle.gopher_catalogue.specs.Frontier.{claims, done}
-use Rattle.gopher_catalogue.specs.Legal.{MayFollow, FollowEachOther, IsLegal}
+use Rattle.gopher_catalogue.specs.Event.{EventData, Opened, Claimed, Found, Failed}
+use Rattle.gopher_catalogue.specs.Legal.{IsLegal}
 use Rattle.gopher_catalogue.specs.Pages.{page_of_event, pages_found, pages_indexed}
-use Rattle.gopher_catalogue.proofs.Legal.{legal_ind}
-use Rattle.gopher_catalogue.proofs.Steps.{length-known}
-use Rattle.gopher_catalogue.proofs.StateSizes.{state_sizes}
+use Rattle.gopher_catalogue.proofs.Steps.{pages_push, length-known}
 use Rattle.gopher_catalogue.proofs.FinalAnswers.{pages_found-opened}
-use Rattle.gopher_catalogue.proofs.LegalSizes.{legal_claim-done, legal_found-done, legal_failed_again-done, legal_failed_last-done}
+use Rattle.gopher_catalogue.proofs.Legal.{legal_record}
+use Rattle.gopher_catalogue.proofs.LegalSizes.{found_by, found_most}
 
 -- ---- one more event
-
-pages-none : pages_found [] ≡ []
-unfolding pages_found
-pages-none = refl
-
-pub pages-push : (events : List EventData) (event : EventData) → pages_found (events ++ event ∷ []) ≡ pages_found events ++ page_of_event event
-unfolding pages_found
-pages-push events event =
-    flat_map-append page_of_event events (event ∷ [])
-    ∙ ap (λ l. flat_map page_of_event events ++ l) (flat_map-cons page_of_event event [] ∙ append-nil (page_of_event event))
 
 pages-append : (events more : List EventData) → pages_found (events ++ more) ≡ pages_found events ++ pages_found more
 unfolding pages_found
@@ -68,11 +54,11 @@ unfolding pages_found
 indexed-none = refl
 
 pub indexed-push : (events : List EventData) (event : EventData) → pages_indexed (events ++ event ∷ []) ≡ take 65536 (pages_indexed events ++ page_of_event event)
-indexed-push events event = ap (take 65536) (pages-push events event) ∙ take-more 65536 (pages_found events) (page_of_event event)
+indexed-push events event = ap (take 65536) (pages_push events event) ∙ take-more 65536 (pages_found events) (page_of_event event)
 
 -- an event without a page doesn't change the index
 pub indexed-no_page : (events : List EventData) (event : EventData) → page_of_event event ≡ [] → pages_indexed (events ++ event ∷ []) ≡ pages_indexed events
-indexed-no_page events event none = ap (take 65536) (pages-push events event ∙ ap (λ l. pages_found events ++ l) none ∙ append-nil (pages_found events))
+indexed-no_page events event none = ap (take 65536) (pages_push events event ∙ ap (λ l. pages_found events ++ l) none ∙ append-nil (pages_found events))
 
 pub few_indexed : (events : List EventData) → length (pages_indexed events) ≤ 65536
 few_indexed events = omega (arith, length-take 65536 (pages_found events))
@@ -100,32 +86,18 @@ module _ (event : Event) (pages : List PageData) where
 
 -- ---- the number of pages
 
-none_found : (events : List EventData) (event : EventData) → page_of_event event ≡ [] → length (pages_found (events ++ event ∷ [])) ≡ length (pages_found events)
-none_found events event none = ap length (pages-push events event ∙ ap (λ l. pages_found events ++ l) none ∙ append-nil (pages_found events))
-
--- a record finds at most as many pages as places are done
-pub pages_are_done : (opening : OpeningData) (events : List EventData) → IsLegal (Opened opening ∷ events) → length (pages_found events) ≤ length (done opening events)
-pages_are_done opening events legal = legal_ind (λ es. length (pages_found es) ≤ length (done opening es)) opening base step events legal.1 where
-  base : length (pages_found []) ≤ length (done opening [])
-  base = rw pages-none (omega arith)
-
-  step : (es : List EventData) (e : EventData) → FollowEachOther opening es → MayFollow opening es e → length (pages_found es) ≤ length (done opening es) → length (pages_found (es ++ e ∷ [])) ≤ length (done opening (es ++ e ∷ []))
-  step es (Opened other) follows may ih = absurd may
-  step es (Claimed n) follows may ih = omega (arith, ih, none_found es (Claimed n) refl, legal_claim-done opening es n)
-  step es (Found n page) follows may ih =
-      omega (arith, ih, ap length (pages-push es (Found n page)), length_push (pages_found es) page, legal_found-done opening es n page (legal.0, follows) may.0.is_out)
-  step es (Failed n why) follows may ih =
-      elim (cases_lt (claims es n) opening.tries) as (λ c. length (pages_found (es ++ Failed n why ∷ [])) ≤ length (done opening (es ++ Failed n why ∷ []))) [
-        | inl left ↦ omega (arith, ih, none_found es (Failed n why) refl, legal_failed_again-done opening es n why (legal.0, follows) may.is_out left)
-        | inr last ↦ omega (arith, ih, none_found es (Failed n why) refl, legal_failed_last-done opening es n why (legal.0, follows) may.is_out last)
-      ]
+-- a record finds one page for each of its finds
+pages_size : (events : List EventData) → length (pages_found events) ≡ length (flat_map found_by events)
+unfolding pages_found
+pages_size [] = refl
+pages_size (Opened opening ∷ events) = pages_size events
+pages_size (Claimed n ∷ events) = pages_size events
+pages_size (Found n page ∷ events) = ap suc (pages_size events)
+pages_size (Failed n why ∷ events) = pages_size events
 
 -- the index contains each page that a legal record found
 pub all_indexed : (events : List EventData) → IsLegal events → pages_indexed events ≡ pages_found events
-all_indexed [] legal = absurd legal
-all_indexed (Opened opening ∷ events) legal =
-    take_all 65536 (pages_found (Opened opening ∷ events))
-    (omega (arith, pages_are_done opening events legal, state_sizes opening events legal, length-known opening events, legal.0.few_places, ap length (pages_found-opened opening events)))
-all_indexed (Claimed number ∷ events) legal = absurd legal
-all_indexed (Found number page ∷ events) legal = absurd legal
-all_indexed (Failed number why ∷ events) legal = absurd legal
+all_indexed =
+    legal_record (λ r. pages_indexed r ≡ pages_found r)
+    (λ opening events legal. take_all 65536 (pages_found (Opened opening ∷ events))
+    (omega (arith, pages_size events, found_most opening events legal, length-known opening events, legal.0.few_places, ap length (pages_found-opened opening events))))

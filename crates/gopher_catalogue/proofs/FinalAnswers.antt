@@ -1,5 +1,5 @@
 -- A finished crawl gives the final answers.
-use Rattle.std.proofs.Common.{◌≡◌, ℕ, List, [], ◌∷◌, get_or, Some, ◌↔◌, refl, sym, ◌∙◌, ap, subst, arith}
+use Rattle.std.proofs.Common.{◌≡◌, ℕ, List, ◌∷◌, get_or, Some, ◌↔◌, refl, sym, ◌∙◌, ap, subst, arith}
 use Rattle.std.specs.Prelude.{Result, Ok, Err, IfOk}
 use Rattle.std.specs.List.{slice_get, Contains, IsDistinct}
 use Rattle.std.proofs.lemmas.Bool.{false_from_ne_true}
@@ -7,20 +7,19 @@ use Rattle.std.proofs.lemmas.Map.Keys.{IsDistinct-from_apart}
 use Rattle.std.proofs.lemmas.Option.{slice_get-get_or, same_Some}
 use Rattle.gopher_item.specs.Place.{PlaceData}
 use Rattle.gopher_item.proofs.PlaceLemmas.{same_place-true}
-use Rattle.gopher_item.specs.Scope.{ScopeData}
 use Rattle.gopher_page.specs.Page.{PageData}
 use Rattle.gopher_page.specs.Query.{TermData}
 use Rattle.gopher_index.specs.declared.hit.Hit.{Hit}
-use Rattle.gopher_catalogue.specs.Event.{OpeningData, EventData, Opened, Claimed, Found, Failed}
+use Rattle.gopher_catalogue.specs.Event.{OpeningData, EventData, Opened}
 use Rattle.gopher_catalogue.specs.Legal.{IsLegal}
 use Rattle.gopher_catalogue.specs.Pages.{pages_found}
-use Rattle.gopher_catalogue.specs.Closure.{OutcomeTable, IsReachedPage, Agrees, IsComplete, HoldsReachOnceComplete, SamePlaces}
+use Rattle.gopher_catalogue.specs.Closure.{OutcomeTable, IsReachedPage, Agrees, IsComplete, HoldsReachOnceComplete}
 use Rattle.gopher_index.specs.Answer.{answer_of, occurrences_of, AreOccurrences}
-use Rattle.gopher_catalogue.specs.FinalAnswer.{IsAnswerAmong, AreOccurrencesAmong, FinalAnswer, FinalOccurrences, IsFinalOnceComplete, AreFinalOnceComplete}
+use Rattle.gopher_catalogue.specs.FinalAnswer.{IsAnswerAmong, AreOccurrencesAmong, FinalAnswer, FinalOccurrences, IsFinalOnceComplete, AreFinalOnceComplete, FinishedCrawlsAnswerAlike}
+use Rattle.gopher_catalogue.proofs.Legal.{legal_record}
 use Rattle.gopher_catalogue.proofs.Reach.{holds_reach}
 use Rattle.gopher_catalogue.proofs.FinishedCrawls.{page_once, same_reached_pages}
-use Rattle.gopher_catalogue.proofs.AnswerMembers.{IsOnePerPlace, answer_among, answer_same, answer_one}
-use Rattle.gopher_catalogue.proofs.OccurrenceMembers.{of_same_place, occurrences_are, occurrences_inserted, occurrences_same, occurrences_one}
+use Rattle.gopher_catalogue.proofs.PageLists.{IsOnePerPlace, answer_among, answer_same, answer_one, of_same_place, occurrences_are, occurrences_inserted, occurrences_same, occurrences_one}
 
 -- ---- the pages of a whole record
 
@@ -54,12 +53,12 @@ pub answers_hold : (opening : OpeningData) (events : List EventData) → IsLegal
 answers_hold opening events legal query = answer_among (pages_found events) query (one_per_place opening events legal)
 
 pub occurrences_hold : (opening : OpeningData) (events : List EventData) → IsLegal (Opened opening ∷ events) → (word : List ℕ) → AreOccurrencesAmong (Contains (pages_found events)) word (occurrences_of (pages_found events) word)
-occurrences_hold opening events legal word = occurrences_inserted (pages_found events) word (one_per_place opening events legal)
+occurrences_hold opening events legal word = occurrences_inserted word (pages_found events) (one_per_place opening events legal)
 
 -- the occurrences in place order
 sorted_occurrences : (opening : OpeningData) (events : List EventData) → IsLegal (Opened opening ∷ events) → (word : List ℕ) (list : List (PlaceData × ℕ)) → AreOccurrences (pages_found events) word list → list ≡ occurrences_of (pages_found events) word
 sorted_occurrences opening events legal word list are =
-    occurrences_one (Contains (pages_found events)) word list (occurrences_of (pages_found events) word) (occurrences_are (pages_found events) word list (pages_distinct opening events legal) are)
+    occurrences_one word (Contains (pages_found events)) list (occurrences_of (pages_found events) word) (occurrences_are (pages_found events) word list (pages_distinct opening events legal) are)
     (occurrences_hold opening events legal word)
 
 -- ---- the answers at the end
@@ -71,7 +70,7 @@ final_answer opening events table query legal complete agrees =
 
 final_occurrences : (opening : OpeningData) (events : List EventData) (table : OutcomeTable) (word : List ℕ) → IsLegal (Opened opening ∷ events) → IsComplete (Opened opening ∷ events) → Agrees opening events table → FinalOccurrences opening.scope opening.seeds table word (occurrences_of (pages_found events) word)
 final_occurrences opening events table word legal complete agrees =
-    occurrences_same (Contains (pages_found events)) (IsReachedPage opening.scope opening.seeds table) word (occurrences_of (pages_found events) word)
+    occurrences_same word (Contains (pages_found events)) (IsReachedPage opening.scope opening.seeds table) (occurrences_of (pages_found events) word)
     (holds_reach opening events table legal complete agrees).pages_reached (occurrences_hold opening events legal word)
 
 -- ---- over whole records
@@ -97,11 +96,8 @@ record_final_occurrences record_ word legal opening events table is complete agr
 -- the occurrences of a word in a record, in place order
 pub record_occurrences : (record_ : List EventData) (word : List ℕ) (list : List (PlaceData × ℕ)) → IsLegal record_ → AreOccurrences (pages_found record_) word list → list ≡ occurrences_of (pages_found record_) word
 unfolding pages_found
-record_occurrences (Opened opening ∷ events) word list legal are = sorted_occurrences opening events legal word list are
-record_occurrences [] word list legal are = absurd legal
-record_occurrences (Claimed n ∷ events) word list legal are = absurd legal
-record_occurrences (Found n page ∷ events) word list legal are = absurd legal
-record_occurrences (Failed n why ∷ events) word list legal are = absurd legal
+record_occurrences record_ word list legal =
+    legal_record (λ r. AreOccurrences (pages_found r) word list → list ≡ occurrences_of (pages_found r) word) (λ opening events legal are. sorted_occurrences opening events legal word list are) record_ legal
 
 -- ---- the results of calls on a record
 
@@ -125,16 +121,7 @@ occurrences_final items record_ word (Err e) legal is = tt
 
 -- ---- two crawls
 
-pub answer_alike : (scope : ScopeData) (seeds seeds' : List PlaceData) (table : OutcomeTable) (limit tries limit' tries' : ℕ) (events events' : List EventData) →
-    let opening : OpeningData = record { scope = scope; seeds = seeds; limit = limit; tries = tries } in
-    let opening' : OpeningData = record { scope = scope; seeds = seeds'; limit = limit'; tries = tries' } in
-    let pages : List PageData = pages_found (Opened opening ∷ events) in
-    let pages' : List PageData = pages_found (Opened opening' ∷ events') in
-    SamePlaces seeds seeds' →
-    IsLegal (Opened opening ∷ events) → IsComplete (Opened opening ∷ events) → Agrees opening events table →
-    IsLegal (Opened opening' ∷ events') → IsComplete (Opened opening' ∷ events') → Agrees opening' events' table →
-    ((query : List TermData) → answer_of pages query ≡ answer_of pages' query) ×
-    ((word : List ℕ) → occurrences_of pages word ≡ occurrences_of pages' word)
+pub answer_alike : FinishedCrawlsAnswerAlike
 answer_alike scope seeds seeds' table limit tries limit' tries' events events' same legal complete agrees legal' complete' agrees' =
     let opening : OpeningData = record { scope = scope; seeds = seeds; limit = limit; tries = tries } in
     let opening' : OpeningData = record { scope = scope; seeds = seeds'; limit = limit'; tries = tries' } in
@@ -145,8 +132,8 @@ answer_alike scope seeds seeds' table limit tries limit' tries' events events' s
           (record_final_answer one query legal opening events table refl complete agrees)
           (answer_same (IsReachedPage scope seeds' table) (IsReachedPage scope seeds table) query (answer_of (pages_found two) query) pages
           (record_final_answer two query legal' opening' events' table refl complete' agrees')),
-      λ word. occurrences_one (IsReachedPage scope seeds table) word (occurrences_of (pages_found one) word) (occurrences_of (pages_found two) word)
+      λ word. occurrences_one word (IsReachedPage scope seeds table) (occurrences_of (pages_found one) word) (occurrences_of (pages_found two) word)
           (record_final_occurrences one word legal opening events table refl complete agrees)
-          (occurrences_same (IsReachedPage scope seeds' table) (IsReachedPage scope seeds table) word (occurrences_of (pages_found two) word) pages
+          (occurrences_same word (IsReachedPage scope seeds' table) (IsReachedPage scope seeds table) (occurrences_of (pages_found two) word) pages
           (record_final_occurrences two word legal' opening' events' table refl complete' agrees')),
     )

@@ -1,20 +1,20 @@
 -- Finished crawls with one table agree; a place has one page; with one try all outcomes are last
 -- outcomes.
 use Rattle.std.proofs.Common.{◌≡◌, ℕ, ◌≤◌, List, [], ◌∷◌, ◌++◌, inl, inr, ◌↔◌, Option, Some, None, refl, sym, ◌∙◌, ap, subst, arith}
-use Rattle.std.specs.List.{slice_get, flat_map, Contains}
+use Rattle.std.specs.List.{slice_get}
 use Rattle.std.proofs.lemmas.Bool.{eq-eqb}
 use Rattle.std.proofs.lemmas.List.{append-nil}
-use Rattle.std.proofs.lemmas.List.Concat.{flat_map-append}
 use Rattle.gopher_item.specs.Place.{PlaceData, is_among}
 use Rattle.gopher_item.specs.Scope.{ScopeData}
 use Rattle.gopher_page.specs.Page.{PageData}
 use Rattle.gopher_catalogue.specs.Event.{OpeningData, EventData, Opened, Claimed, Found, Failed}
 use Rattle.gopher_catalogue.specs.Frontier.{known, finds}
 use Rattle.gopher_catalogue.specs.Legal.{MayFollow, FollowEachOther, IsLegal}
-use Rattle.gopher_catalogue.specs.Pages.{page_of_event, pages_found}
-use Rattle.gopher_catalogue.specs.Closure.{OutcomeTable, IsReachable, seed, link, IsReachedPage, last_outcome, IsTold, Agrees, GivesEachOutcome, IsComplete, SamePlaces}
+use Rattle.gopher_catalogue.specs.Pages.{pages_found}
+use Rattle.gopher_catalogue.specs.Closure.{OutcomeTable, IsReachable, seed, link, IsReachedPage, last_outcome, IsTold, Agrees, GivesEachOutcome, SamePlaces, FinishedCrawlsAgree}
 use Rattle.gopher_catalogue.proofs.Lists.{slice_get_push_cases}
 use Rattle.gopher_catalogue.proofs.Legal.{legal_ind}
+use Rattle.gopher_catalogue.proofs.Steps.{pages_push}
 use Rattle.gopher_catalogue.proofs.Places.{bools_agree}
 use Rattle.gopher_catalogue.proofs.KnownPlaces.{known-distinct}
 use Rattle.gopher_catalogue.proofs.States.{out_at}
@@ -43,14 +43,7 @@ same_reached_pages scope seeds seeds' table same page = (
   reached_page_same scope seeds' seeds table (λ place. sym (same place)) page,
 )
 
-pub crawls_agree : (scope : ScopeData) (seeds seeds' : List PlaceData) (table : OutcomeTable) (limit tries limit' tries' : ℕ) (events events' : List EventData) →
-    let opening : OpeningData = record { scope = scope; seeds = seeds; limit = limit; tries = tries } in
-    let opening' : OpeningData = record { scope = scope; seeds = seeds'; limit = limit'; tries = tries' } in
-    SamePlaces seeds seeds' →
-    IsLegal (Opened opening ∷ events) → IsComplete (Opened opening ∷ events) → Agrees opening events table →
-    IsLegal (Opened opening' ∷ events') → IsComplete (Opened opening' ∷ events') → Agrees opening' events' table →
-    SamePlaces (known opening events) (known opening' events') ×
-    ((page : PageData) → Contains (pages_found events) page ↔ Contains (pages_found events') page)
+pub crawls_agree : FinishedCrawlsAgree
 crawls_agree scope seeds seeds' table limit tries limit' tries' events events' same legal complete agrees legal' complete' agrees' =
     let opening : OpeningData = record { scope = scope; seeds = seeds; limit = limit; tries = tries } in
     let opening' : OpeningData = record { scope = scope; seeds = seeds'; limit = limit'; tries = tries' } in
@@ -67,10 +60,6 @@ crawls_agree scope seeds seeds' table limit tries limit' tries' events events' s
     )
 
 -- ---- a place has one page
-
-pages_found_push : (events : List EventData) (e : EventData) → pages_found (events ++ e ∷ []) ≡ pages_found events ++ page_of_event e
-unfolding pages_found
-pages_found_push events e = flat_map-append page_of_event events (e ∷ []) ∙ ap (λ ps. flat_map page_of_event events ++ ps) (append-nil (page_of_event e))
 
 IsOnce : List PageData → Type 0
 IsOnce pages = (i j : ℕ) (page other : PageData) → slice_get pages i ≡ Some page → slice_get pages j ≡ Some other → page.place ≡ other.place → i ≡ j
@@ -94,9 +83,9 @@ page_once opening events i j page other legal h k same =
   where
     step : (es : List EventData) (e : EventData) → FollowEachOther opening es → MayFollow opening es e → IsOnce (pages_found es) → IsOnce (pages_found (es ++ e ∷ []))
     step es (Opened x) follows may ih = absurd may
-    step es (Claimed n) follows may ih = subst IsOnce (sym (pages_found_push es (Claimed n) ∙ append-nil (pages_found es))) ih
+    step es (Claimed n) follows may ih = subst IsOnce (sym (pages_push es (Claimed n) ∙ append-nil (pages_found es))) ih
     step es (Found n new) follows may ih =
-        subst IsOnce (sym (pages_found_push es (Found n new)))
+        subst IsOnce (sym (pages_push es (Found n new)))
         (λ i j page other h k same.
         elim (slice_get_push_cases (pages_found es) new i page h) as (λ q. i ≡ j) [
           | inl old ↦ elim (slice_get_push_cases (pages_found es) new j other k) as (λ q. i ≡ j) [
@@ -108,7 +97,7 @@ page_once opening events i j page other legal h k same =
             | inr last' ↦ last.0 ∙ sym last'.0
           ]
         ])
-    step es (Failed n why) follows may ih = subst IsOnce (sym (pages_found_push es (Failed n why) ∙ append-nil (pages_found es))) ih
+    step es (Failed n why) follows may ih = subst IsOnce (sym (pages_push es (Failed n why) ∙ append-nil (pages_found es))) ih
 
 -- ---- one try
 

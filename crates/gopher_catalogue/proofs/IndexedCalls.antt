@@ -1,9 +1,10 @@
 -- The tables of the catalogue at each call, and that they are those of the record after it.
-use Rattle.std.proofs.Common.{◌≡◌, ◌≢◌, ℕ, ◌+◌, ◌-◌, ◌^◌, ◌≤◌, ◌<◌, Bool, true, false, ◌&&◌, List, [], ◌∷◌, ◌++◌, filter, length, replicate, not, position, Option, Some, None, slice_get, inl, inr, refl, sym, ◌∙◌, ap, subst, arith, leb, if◌then◌else◌}
-use Rattle.std.specs.List.{list_all, prefix_len}
+use Rattle.std.proofs.Common.{◌≡◌, ◌≢◌, ℕ, ◌+◌, ◌-◌, ◌^◌, ◌≤◌, ◌<◌, Bool, true, false, ◌&&◌, List, [], ◌∷◌, ◌++◌, filter, length, replicate, not, position, get_or, Option, Some, None, slice_get, inl, inr, refl, sym, ◌∙◌, ap, subst, arith, leb, if◌then◌else◌}
+use Rattle.std.specs.List.{list_all, position_or_len}
+use Rattle.std.proofs.lemmas.List.Sums.{fails_before_first, list_all-from_AllPass}
 use Rattle.std.specs.Prelude.{Result, Ok, Err, OnErr}
 use Rattle.std.specs.Option.{option_map_or}
-use Rattle.std.proofs.lemmas.Bool.{cases_lt, lt-ltb, le-ltb, leb-true, and_parts}
+use Rattle.std.proofs.lemmas.Bool.{cases_Bool, cases_lt, lt-ltb, le-ltb, leb-true, and_parts}
 use Rattle.std.proofs.lemmas.Option.{slice_get_within}
 use Rattle.gopher_item.specs.Place.{PlaceData, same_place}
 use Rattle.gopher_item.specs.Scope.{ScopeData, allows}
@@ -25,9 +26,11 @@ use Rattle.gopher_catalogue.specs.Tables.{FrontierData, KeepsFrontier, Learned, 
 use Rattle.gopher_catalogue.specs.History.{RecordData, IsOpened, opening_in, later_in}
 use Rattle.gopher_catalogue.specs.Indexed.{standing_of, Tells, IsIndexed}
 use Rattle.gopher_catalogue.proofs.Lists.{slice_get-append_left}
-use Rattle.gopher_catalogue.proofs.States.{place_waiting}
+use Rattle.gopher_catalogue.proofs.Legal.{IsLegal-push, IsLegal-opened, legal_record}
+use Rattle.gopher_catalogue.proofs.Steps.{length-known}
+use Rattle.gopher_catalogue.proofs.States.{WaitsNow, waits_at, place_waiting}
+use Rattle.gopher_catalogue.proofs.LegalSizes.{state_sizes, few_events, out_push}
 use Rattle.gopher_catalogue.proofs.Calls.{turn-take, turn-idle, turn-finished, is_out_in_is, place_from_test}
-use Rattle.gopher_catalogue.proofs.CallSteps.{ClaimStep, claim_step, fail_step, found_step, begin_step, few_known, few_waiting, few_events, few_out, few_done}
 use Rattle.gopher_catalogue.proofs.IndexedLemmas.{Tells-begin, Tells-claim, Tells-failure, Tells-find, places-found, dropped-found, standing_at, standing_known}
 
 pub on_err : {T E : Type 0} (r : Result T E) (P : Type 0) → P → OnErr r P
@@ -41,11 +44,7 @@ learned_of limit limit' scope scope' links links' before after dropped_now e f g
 
 -- a legal record begins with its opening
 pub opened : (events : List EventData) → IsLegal events → IsOpened events
-opened [] legal = absurd legal
-opened (Opened opening ∷ events) legal = refl
-opened (Claimed number ∷ events) legal = absurd legal
-opened (Found number page ∷ events) legal = absurd legal
-opened (Failed number why ∷ events) legal = absurd legal
+opened = legal_record IsOpened (λ opening events legal. refl)
 
 -- the tables belong to a record that is equal
 indexed : (opening : OpeningData) (events : List EventData) (record_ : RecordData) (frontier : FrontierData) → record_.events ≡ Opened opening ∷ events → IsLegal (Opened opening ∷ events) → Tells opening events frontier → frontier.out ≤ record_.room → frontier.out ≤ frontier.room
@@ -90,19 +89,19 @@ module _ (record_ : RecordData) (frontier : FrontierData) (is : IsIndexed record
   limit_fits = legal.0.few_places
 
   pub places_within : length frontier.places ≤ opening.limit
-  places_within = omega (arith, few_known opening later, ap length is.tells.places_is)
+  places_within = omega (arith, length-known opening later, ap length is.tells.places_is)
 
   pub places_fit : length frontier.places ≤ 65536
   places_fit = omega (arith, places_within, limit_fits)
 
-  pub waiting_fits : length frontier.waiting ≤ 327680
-  waiting_fits = omega (arith, few_waiting opening later legal, ap length is.tells.waiting_is)
+  pub waiting_fits : length frontier.waiting ≤ 65536
+  waiting_fits = omega (arith, state_sizes opening later legal, length-known opening later, limit_fits, ap length is.tells.waiting_is)
 
   pub out_fits : frontier.out ≤ 65536
-  out_fits = omega (arith, few_out opening later, few_known opening later, limit_fits, is.tells.out_is)
+  out_fits = omega (arith, state_sizes opening later legal, length-known opening later, limit_fits, is.tells.out_is)
 
   pub done_fits : frontier.done ≤ 65536
-  done_fits = omega (arith, few_done opening later, few_known opening later, limit_fits, is.tells.done_is)
+  done_fits = omega (arith, state_sizes opening later legal, length-known opening later, limit_fits, is.tells.done_is)
 
   pub dropped_fits : frontier.dropped + 1048576 < 2 ^ 64
   dropped_fits = omega (arith, is.tells.few_dropped, few_events opening later legal, is.few_seeds)
@@ -130,18 +129,21 @@ module _ (record_ : RecordData) (frontier : FrontierData) (is : IsIndexed record
     first_waits : slice_get (waiting opening later) 0 ≡ Some n
     first_waits = ap (λ l. slice_get l 0) (sym is.tells.waiting_is) ∙ first
 
-    first_step : ClaimStep opening later n
-    first_step = claim_step opening later n legal first_waits
+    first_state : WaitsNow opening later legal n
+    first_state = waits_at opening later legal 0 n first_waits
+
+    pub first_legal : IsLegal (Opened opening ∷ (later ++ Claimed n ∷ []))
+    first_legal = IsLegal-push opening later (Claimed n) legal first_waits
 
     pub first_stands : slice_get frontier.standings n ≡ Some (standing_of later n)
-    first_stands = standing_at opening later frontier is.tells n first_step.is_known
+    first_stands = standing_at opening later frontier is.tells n first_state.is_known
 
     pub first_known : n < length frontier.places
-    first_known = omega (arith, first_step.is_known, ap length is.tells.places_is)
+    first_known = omega (arith, first_state.is_known, ap length is.tells.places_is)
 
     pub first_tries : (standing : Standing) → slice_get frontier.standings n ≡ Some standing → standing.claims < 5
     first_tries standing at' =
-        omega (arith, first_step.few_claims, legal.0.few_tries, ap (λ s. s.claims) (standing_known opening later frontier is.tells n standing at').1)
+        omega (arith, first_state.tries_left, legal.0.few_tries, ap (λ s. s.claims) (standing_known opening later frontier is.tells n standing at').1)
 
     pub first_turn : (place : PlaceData) → slice_get frontier.places n ≡ Some place → turn_of record_.events ≡ Take n place
     first_turn place at' = ap turn_of begins ∙ turn-take opening later n place first_waits (ap (λ l. slice_get l n) (sym is.tells.places_is) ∙ at')
@@ -187,7 +189,7 @@ module _ (record_ : RecordData) (frontier : FrontierData) (is : IsIndexed record
     out_tested = sym (out_shown n) ∙ ap (λ o. option_map_or (λ standing. standing.is_out) o false) at' ∙ outside
 
     pub some_out : 0 < frontier.out
-    some_out = omega (arith, (fail_step opening later n Read legal is_out_now).out_size, is.tells.out_is)
+    some_out = omega (arith, out_push opening later (Failed n Read) legal (IsLegal-push opening later (Failed n Read) legal is_out_now), is.tells.out_is)
 
   place_is : (n : ℕ) (place : PlaceData) → option_map_or (λ other. same_place other place) (slice_get frontier.places n) false ≡ is_place_in (Opened opening ∷ later) n place
   unfolding is_place_in
@@ -215,7 +217,7 @@ module _ (record_ : RecordData) (frontier : FrontierData) (is : IsIndexed record
   after_claimed h1 h2 f1 f2 n standing first at' l1 r1 keeps q1 e2 l2 r2 =
       let tells = Tells-keeps opening later frontier f1 is.tells keeps in
       let tells2 = Tells-claim opening later f1 n standing legal tells (ap (λ l. slice_get l 0) keeps.counts.waiting ∙ first) (ap (λ l. slice_get l n) keeps.standings ∙ at') in
-      indexed opening (later ++ Claimed n ∷ []) h2 f2 (l2 ∙ ap (λ l. l ++ Claimed n ∷ []) (l1 ∙ begins)) (first_step n first).legal (subst (Tells opening (later ++ Claimed n ∷ [])) (sym e2) tells2)
+      indexed opening (later ++ Claimed n ∷ []) h2 f2 (l2 ∙ ap (λ l. l ++ Claimed n ∷ []) (l1 ∙ begins)) (first_legal n first) (subst (Tells opening (later ++ Claimed n ∷ [])) (sym e2) tells2)
       (omega (arith, ap (λ f. f.out) e2, keeps.counts.out)) (omega (arith, ap (λ f. f.out) e2, ap (λ f. f.room) e2, keeps.counts.out)) is.few_seeds
 
   pub after_failed : (h1 : RecordData) (f1 : FrontierData) (n : ℕ) (standing : Standing) (why : Why) → slice_get frontier.standings n ≡ Some standing → standing.is_out ≡ true → f1 ≡ after_failure frontier n standing opening.tries
@@ -229,7 +231,7 @@ module _ (record_ : RecordData) (frontier : FrontierData) (is : IsIndexed record
         | inl left ↦ rw (lt-ltb standing.claims opening.tries left) (omega (arith, is.queue_room))
         | inr last ↦ rw (le-ltb standing.claims opening.tries last) (omega (arith, is.queue_room))
       ] in
-      indexed opening (later ++ Failed n why ∷ []) h1 f1 (l1 ∙ ap (λ l. l ++ Failed n why ∷ []) begins) (fail_step opening later n why legal gone).legal (subst (Tells opening (later ++ Failed n why ∷ [])) (sym e1) tells1) (omega (arith, ap (λ f. f.out) e1, is.record_room))
+      indexed opening (later ++ Failed n why ∷ []) h1 f1 (l1 ∙ ap (λ l. l ++ Failed n why ∷ []) begins) (IsLegal-push opening later (Failed n why) legal gone) (subst (Tells opening (later ++ Failed n why ∷ [])) (sym e1) tells1) (omega (arith, ap (λ f. f.out) e1, is.record_room))
       (omega (arith, ap (λ f. f.out) e1, ap (λ f. f.room) e1, room)) is.few_seeds
 
   -- ---- a find
@@ -262,32 +264,23 @@ module _ (record_ : RecordData) (frontier : FrontierData) (is : IsIndexed record
         let there = right_place right in
         let tells2 = Tells-find opening later frontier f1 n standing page added.dropped learned legal is.tells gone there (still_stands at') few in
         let made : f2 ≡ after_find f1 n standing (length frontier.places) added.dropped = e2 ∙ ap (λ k. after_find f1 n standing k added.dropped) size in
-        indexed opening (later ++ Found n page ∷ []) h1 f2 (l1 ∙ ap (λ l. l ++ Found n page ∷ []) begins) (found_step opening later n page legal gone there).legal (subst (Tells opening (later ++ Found n page ∷ [])) (sym made) tells2)
+        indexed opening (later ++ Found n page ∷ []) h1 f2 (l1 ∙ ap (λ l. l ++ Found n page ∷ []) begins) (IsLegal-push opening later (Found n page) legal (gone, there)) (subst (Tells opening (later ++ Found n page ∷ [])) (sym made) tells2)
         (omega (arith, ap (λ f. f.out) made, learned.keeps.out, is.record_room)) (omega (arith, ap (λ f. f.out) made, ap (λ f. f.room) made, learned.keeps.out)) is.few_seeds
 
 -- ---- the beginning
 
-all_allowed : (test : PlaceData → Bool) (seeds : List PlaceData) → length seeds ≤ prefix_len (λ seed. not (not (test seed))) seeds → list_all test seeds ≡ true
-all_allowed test [] h = refl
-all_allowed test (seed ∷ seeds) h = by (test seed) refl (all_allowed test seeds) where
-  by : (b : Bool) → test seed ≡ b → (length seeds ≤ prefix_len (λ seed. not (not (test seed))) seeds → list_all test seeds ≡ true) → (test seed && list_all test seeds) ≡ true
-  by true e more =
-      let long : prefix_len (λ seed. not (not (test seed))) (seed ∷ seeds) ≡ 1 + prefix_len (λ seed. not (not (test seed))) seeds = rw e refl in
-      let rest : list_all test seeds ≡ true = more (omega (arith, h, long)) in
-      rw (e, rest) refl
-  by false e more = let none : prefix_len (λ seed. not (not (test seed))) (seed ∷ seeds) ≡ 0 = rw e refl in absurd (omega (arith, h, none))
-
 none_refused : (test : PlaceData → Bool) (seeds : List PlaceData) → position (λ seed. not (test seed)) seeds ≡ None → list_all test seeds ≡ true
 none_refused test seeds h =
-    elim (cases_lt (prefix_len (λ seed. not (not (test seed))) seeds) (length seeds)) as (λ c. list_all test seeds ≡ true) [
-      | inl some ↦
-          let there : position (λ seed. not (test seed)) seeds ≡ Some (prefix_len (λ seed. not (not (test seed))) seeds) = rw (lt-ltb (prefix_len (λ seed. not (not (test seed))) seeds) (length seeds) some) refl in
-          absurd (none_not_some (position (λ seed. not (test seed)) seeds) (prefix_len (λ seed. not (not (test seed))) seeds) h there)
-      | inr none ↦ all_allowed test seeds none
-    ]
-  where
-    none_not_some : (o : Option ℕ) (k : ℕ) → o ≡ None → o ≡ Some k → ⊥
-    none_not_some o k e f = cc
+    let refuses : PlaceData → Bool = λ seed. not (test seed) in
+    list_all-from_AllPass test seeds (λ k d within.
+    elim (cases_Bool (test (get_or seeds k d))) as (λ c. test (get_or seeds k d) ≡ true) [
+      | inl passes ↦ passes
+      | inr misses ↦
+          elim (cases_lt (position_or_len refuses seeds) (length seeds)) as (λ c. test (get_or seeds k d) ≡ true) [
+            | inl some ↦ let there : position refuses seeds ≡ Some (position_or_len refuses seeds) = rw (lt-ltb (position_or_len refuses seeds) (length seeds) some) refl in cc
+            | inr none ↦ let fails = fails_before_first refuses seeds k d (omega arith) in let passes : not (test (get_or seeds k d)) ≡ true = ap not misses in cc
+          ]
+    ])
 
 opens : (o : Option ℕ) (p t : Bool) → ◌≡◌ {A = Option OpenFault} (option_map_or (λ index. Some (SeedOutOfScope index)) o (if not p then Some BadPlaces else (if not t then Some BadTries else None))) None → (o ≡ None) × (p ≡ true) × (t ≡ true)
 opens (Some index) p t h = cc
@@ -310,4 +303,4 @@ legal_opening scope seeds limit tries h =
 
 pub begun : (opening : OpeningData) (record_ : RecordData) (frontier : FrontierData) → IsLegalOpening opening → length opening.seeds < 2 ^ 63 → Begins opening.limit opening.seeds frontier → record_.events ≡ Opened opening ∷ [] → IsIndexed record_ frontier
 begun opening record_ frontier legal few begins e =
-    indexed opening [] record_ frontier e (begin_step opening legal).legal (Tells-begin opening frontier legal begins) (omega (arith, begins.out)) (omega (arith, begins.out)) few
+    indexed opening [] record_ frontier e (IsLegal-opened opening legal) (Tells-begin opening frontier (IsLegal-opened opening legal) begins) (omega (arith, begins.out)) (omega (arith, begins.out)) few

@@ -4,10 +4,10 @@ use Rattle.std.specs.List.{list_any, range_with_len}
 use Rattle.gopher_catalogue.proofs.Ranges.{range-append}
 use Rattle.std.specs.Int.{from_bool}
 use Rattle.std.specs.Map.{keys_of, values_of, lookup}
-use Rattle.std.proofs.lemmas.List.{map-append, take-map, append-nil, append_assoc, length-append, replicate-append-replicate}
+use Rattle.std.proofs.lemmas.List.{map-append, take-map, append_assoc, length-append, replicate-append-replicate}
 use Rattle.std.proofs.lemmas.Map.Made.{is_some-lookup}
 use Rattle.std.proofs.lemmas.Bool.{cases_Bool, cases_lt, lt-leb, le-leb}
-use Rattle.std.proofs.Math.Seq.{drop-cons, take-append_seam}
+use Rattle.std.proofs.Math.Seq.{drop-cons}
 use Rattle.gopher_item.specs.Place.{PlaceData, is_among}
 use Rattle.gopher_item.specs.Scope.{ScopeData, allows}
 use Rattle.gopher_catalogue.specs.Tables.{KnownData, Extends, unclaimed, after_mention, after_mentions, drops, is_dropped, after_link, is_dropped_link}

@@ -6,13 +6,13 @@ use Rattle.std.proofs.lemmas.List.Elements.{All-nil, All-cons, All-head, All-tai
 use Rattle.std.proofs.lemmas.List.Sums.{AllPass-from_list_all}
 use Rattle.std.proofs.lemmas.Option.{slice_get_within}
 use Rattle.std.proofs.lemmas.List.{length-take}
+use Rattle.gopher_item.proofs.PlaceLemmas.{same_place-refl, same_place-true}
 use Rattle.gopher_item.specs.Place.{PlaceData, same_place, is_among, distinct}
 use Rattle.gopher_item.specs.Scope.{allows, IsAllowed}
 use Rattle.gopher_catalogue.specs.Event.{OpeningData, EventData, Opened, Claimed, Found, Failed}
 use Rattle.gopher_catalogue.specs.Frontier.{mentioned, mentions, known}
 use Rattle.gopher_catalogue.specs.Legal.{IsLegal}
 use Rattle.gopher_catalogue.proofs.Lists.{slice_get-take}
-use Rattle.gopher_catalogue.proofs.Places.{same_place-is, same_place-self}
 
 -- ---- allowed
 
@@ -44,14 +44,14 @@ known-allowed opening events legal =
 
 pub among_at : (xs : List PlaceData) (k : ℕ) (p : PlaceData) → slice_get xs k ≡ Some p → is_among xs p ≡ true
 among_at [] k p h = cc
-among_at (x ∷ xs) zero p h = let e : x ≡ p = cc in rw e (or_left (same_place p p) (is_among xs p) (same_place-self p))
+among_at (x ∷ xs) zero p h = let e : x ≡ p = cc in rw e (or_left (same_place p p) (is_among xs p) (same_place-refl p))
 among_at (x ∷ xs) (suc k) p h = or_right (same_place p x) (is_among xs p) (among_at xs k p h)
 
 pub at_from_among : (xs : List PlaceData) (p : PlaceData) → is_among xs p ≡ true → (k : ℕ) × (slice_get xs k ≡ Some p)
 at_from_among [] p h = absurd (false≢true h)
 at_from_among (x ∷ xs) p h = step (at_from_among xs p) (same_place p x) refl where
   step : (is_among xs p ≡ true → (k : ℕ) × (slice_get xs k ≡ Some p)) → (b : Bool) → same_place p x ≡ b → (k : ℕ) × (slice_get (x ∷ xs) k ≡ Some p)
-  step ih true e = let same = same_place-is p x e in (0, ap Some (sym same))
+  step ih true e = let same = same_place-true p x e in (0, ap Some (sym same))
   step ih false e = let rest : is_among xs p ≡ true = rw e at h in let found = ih rest in (suc found.0, found.1)
 
 -- no place of the list occurs again after itself

@@ -1,5 +1,5 @@
 -- Legal records: one more event, prefixes, and induction.
-use Rattle.std.proofs.Common.{◌≡◌, ℕ, suc, zero, ◌≤◌, ◌<◌, List, [], ◌∷◌, ◌++◌, length, take, inl, inr, refl, sym, ◌∙◌, subst, arith}
+use Rattle.std.proofs.Common.{ℕ, suc, zero, ◌≤◌, ◌<◌, List, [], ◌∷◌, ◌++◌, length, take, inl, inr, refl, sym, ◌∙◌, subst, arith}
 use Rattle.std.proofs.lemmas.List.{take_all, take-take, take-append-le, take_at, length-take}
 use Rattle.std.proofs.lemmas.Option.{slice_get_within}
 use Rattle.gopher_catalogue.specs.Event.{OpeningData, EventData, Opened, Claimed, Found, Failed}
@@ -44,22 +44,15 @@ IsLegal-opened opening legal = (legal, FollowEachOther-nil opening)
 pub IsLegal-push : (opening : OpeningData) (events : List EventData) (e : EventData) → IsLegal (Opened opening ∷ events) → MayFollow opening events e → IsLegal (Opened opening ∷ events ++ e ∷ [])
 IsLegal-push opening events e legal may = (legal.0, FollowEachOther-push opening events e legal.1 may)
 
--- a prefix that contains the opening
-pub IsLegal-take : (record_ : List EventData) (n : ℕ) → IsLegal record_ → IsLegal (take (suc n) record_)
-IsLegal-take [] n legal = legal
-IsLegal-take (Opened opening ∷ events) n legal = (legal.0, FollowEachOther-take opening events n legal.1)
-IsLegal-take (Claimed number ∷ events) n legal = absurd legal
-IsLegal-take (Found number page ∷ events) n legal = absurd legal
-IsLegal-take (Failed number why ∷ events) n legal = absurd legal
+-- what holds of each legal record with an opening holds of each legal record
+pub legal_record : (P : List EventData → Type 0) → ((opening : OpeningData) (events : List EventData) → IsLegal (Opened opening ∷ events) → P (Opened opening ∷ events)) → (record_ : List EventData) → IsLegal record_ → P record_
+legal_record P holds [] legal = absurd legal
+legal_record P holds (Opened opening ∷ events) legal = holds opening events legal
+legal_record P holds (Claimed number ∷ events) legal = absurd legal
+legal_record P holds (Found number page ∷ events) legal = absurd legal
+legal_record P holds (Failed number why ∷ events) legal = absurd legal
 
+-- a prefix that contains the opening
 pub IsLegal-take_more : (record_ : List EventData) (n : ℕ) → IsLegal record_ → 1 ≤ n → IsLegal (take n record_)
 IsLegal-take_more record_ zero legal some = absurd (omega arith)
-IsLegal-take_more record_ (suc n) legal some = IsLegal-take record_ n legal
-
--- a legal record begins with an opening
-pub IsLegal-opening : (record_ : List EventData) → IsLegal record_ → (opening : OpeningData) × (events : List EventData) × (record_ ≡ Opened opening ∷ events) × IsLegalOpening opening × FollowEachOther opening events
-IsLegal-opening [] legal = absurd legal
-IsLegal-opening (Opened opening ∷ events) legal = (opening, events, refl, legal.0, legal.1)
-IsLegal-opening (Claimed number ∷ events) legal = absurd legal
-IsLegal-opening (Found number page ∷ events) legal = absurd legal
-IsLegal-opening (Failed number why ∷ events) legal = absurd legal
+IsLegal-take_more record_ (suc n) legal some = legal_record (λ r. IsLegal (take (suc n) r)) (λ opening events legal. (legal.0, FollowEachOther-take opening events n legal.1)) record_ legal

@@ -10,10 +10,6 @@ slice_get-append_left [] ys k h = absurd (omega arith)
 slice_get-append_left (x ∷ xs) ys zero h = refl
 slice_get-append_left (x ∷ xs) ys (suc k) h = slice_get-append_left xs ys k (omega arith)
 
-pub slice_get-append_right : {X : Type 0} (xs ys : List X) (k : ℕ) → slice_get (xs ++ ys) (length xs + k) ≡ slice_get ys k
-slice_get-append_right [] ys k = let e : 0 + k ≡ k = omega arith in rw e refl
-slice_get-append_right (x ∷ xs) ys k = let e : suc (length xs) + k ≡ suc (length xs + k) = omega arith in rw e (slice_get-append_right xs ys k)
-
 pub slice_get_last : {X : Type 0} (xs : List X) (x : X) → slice_get (xs ++ x ∷ []) (length xs) ≡ Some x
 slice_get_last [] x = refl
 slice_get_last (y ∷ xs) x = slice_get_last xs x

@@ -39,17 +39,11 @@ take-append (suc n) (x ∷ xs) ys =
 
 -- ---- equality of places
 
-pub same_place-is : (a b : PlaceData) → same_place a b ≡ true → a ≡ b
-same_place-is a b h = same_place-true a b h
-
-pub same_place-self : (a : PlaceData) → same_place a a ≡ true
-same_place-self a = same_place-refl a
-
 pub same_place_comm : (a b : PlaceData) → same_place a b ≡ same_place b a
 same_place_comm a b =
     bools_agree (same_place a b) (same_place b a)
-    (λ h. let e = same_place-is a b h in rw e (same_place-self b))
-    (λ h. let e = same_place-is b a h in rw e (same_place-self a))
+    (λ h. let e = same_place-true a b h in rw e (same_place-refl b))
+    (λ h. let e = same_place-true b a h in rw e (same_place-refl a))
 
 -- ---- each place once
 
@@ -60,7 +54,7 @@ distinct-among (x ∷ xs) p = among_step (distinct-among xs p) (same_place p x) 
   among_step ih true e = rw e refl
   among_step ih false e =
       let differs : (k : PlaceData) → same_place p k ≡ true → not (same_place x k) ≡ true =
-      λ k h. let s = same_place-is p k h in rw (← s, same_place_comm x p, e) refl in
+      λ k h. let s = same_place-true p k h in rw (← s, same_place_comm x p, e) refl in
       rw e (any-filter_same (same_place p) (λ other. not (same_place x other)) true differs (distinct xs) ∙ ih)
 
 pub distinct-append : (xs ys : List PlaceData) → distinct (xs ++ ys) ≡ distinct xs ++ filter (λ p. not (is_among xs p)) (distinct ys)
@@ -139,7 +133,7 @@ known_of_new limit xs p new room = known_of-append limit xs (p ∷ []) ∙ rw ne
 count_none : (test : PlaceData → Bool) (xs : List PlaceData) → ((p : PlaceData) → is_among xs p ≡ true → test p ≡ false) → count_by test xs ≡ 0
 count_none test [] h = refl
 count_none test (x ∷ xs) h =
-    let here : test x ≡ false = h x (rw (same_place-self x) refl) in
+    let here : test x ≡ false = h x (rw (same_place-refl x) refl) in
     let rest : count_by test xs ≡ 0 = count_none test xs (λ p m. h p (rw m (or_true (same_place p x)))) in
     sum_by-cons (λ p. cond (test p) 1 0) x xs ∙ rw (here, rest) refl
   where
@@ -164,7 +158,7 @@ dropped_of_old limit xs p old = dropped_of-append limit xs (p ∷ []) ∙ rw (kn
 
 pub dropped_of_new : (limit : ℕ) (xs : List PlaceData) (p : PlaceData) → is_among (known_of limit xs) p ≡ false → length (known_of limit xs) < limit → dropped_of limit (xs ++ p ∷ []) ≡ dropped_of limit xs
 dropped_of_new limit xs p new room =
-    dropped_of-append limit xs (p ∷ []) ∙ rw (known_of_new limit xs p new room, list_any-append (same_place p) (known_of limit xs) (p ∷ []), new, same_place-self p) (omega arith)
+    dropped_of-append limit xs (p ∷ []) ∙ rw (known_of_new limit xs p new room, list_any-append (same_place p) (known_of limit xs) (p ∷ []), new, same_place-refl p) (omega arith)
 
 pub dropped_of_full : (limit : ℕ) (xs : List PlaceData) (p : PlaceData) → is_among (known_of limit xs) p ≡ false → limit ≤ length (known_of limit xs) → dropped_of limit (xs ++ p ∷ []) ≡ dropped_of limit xs + 1
 dropped_of_full limit xs p new full = dropped_of-append limit xs (p ∷ []) ∙ rw (known_of_full limit xs (p ∷ []) full, new) (omega arith)

@@ -1,28 +1,26 @@
 -- A finished crawl knows exactly what can be reached.
-use Rattle.std.proofs.Common.{◌≡◌, ℕ, suc, zero, ◌+◌, ◌≤◌, ◌<◌, Bool, true, false, not, cond, List, [], ◌∷◌, ◌++◌, length, take, drop, filter, get_or, inl, inr, Option, Some, None, refl, sym, ◌∙◌, ap, subst, arith, eqb}
-use Rattle.std.specs.List.{slice_get, flat_map, range_with_len, All, Contains}
-use Rattle.std.proofs.lemmas.Bool.{cases_Bool, false≢true, or_left, or_right, and_parts, eqb-true, cases_eq, not_from_false, true_from_ne_false}
-use Rattle.std.proofs.lemmas.List.{take_all, take-append-drop, nil_from_length, append-nil, append_assoc}
-use Rattle.std.proofs.lemmas.List.Concat.{flat_map-append}
-use Rattle.std.proofs.lemmas.List.Elements.{All-nil, All-append, All-filter, All-take, filter_passes}
+use Rattle.std.proofs.Common.{◌≡◌, ℕ, suc, zero, ◌+◌, ◌≤◌, ◌<◌, Bool, true, false, not, cond, List, [], ◌∷◌, ◌++◌, length, take, drop, filter, get_or, inl, inr, Option, Some, None, refl, sym, ◌∙◌, ap, subst, arith, eqb, ltb, leb}
+use Rattle.std.specs.List.{slice_get, flat_map, All, Contains}
+use Rattle.std.proofs.lemmas.Bool.{false≢true, or_left, or_right, and_parts, or_cases, eqb-true, ltb-true, leb-true, not_from_false, true_from_ne_false}
+use Rattle.std.proofs.lemmas.List.{take_all, take-append-drop, nil_from_length}
+use Rattle.std.proofs.lemmas.List.Elements.{Contains-append_left, Contains-append_right, All-nil, All-append, All-filter, All-take, filter_passes}
 use Rattle.std.proofs.lemmas.List.Folds.{list_any-append}
 use Rattle.std.proofs.lemmas.Option.{slice_get_within, slice_get-get_or, get_or_from_slice_get}
+use Rattle.gopher_item.proofs.PlaceLemmas.{same_place-true}
 use Rattle.gopher_item.specs.Place.{PlaceData, same_place, is_among, distinct}
 use Rattle.gopher_item.specs.Scope.{ScopeData, allows, IsAllowed}
 use Rattle.gopher_page.specs.Page.{PageData, page_of, links_of, menu_links}
 use Rattle.gopher_catalogue.specs.Event.{OpeningData, EventData, Opened, Claimed, Found, Failed}
-use Rattle.gopher_catalogue.specs.Frontier.{mentioned, mentions, known, dropped, waiting, is_out, is_done, out}
+use Rattle.gopher_catalogue.specs.Frontier.{mentioned, mentions, known, dropped, finds, failures, waiting, is_done, out}
 use Rattle.gopher_catalogue.specs.Legal.{IsLegal}
 use Rattle.gopher_catalogue.specs.Step.{status_of}
-use Rattle.gopher_catalogue.specs.Pages.{pages_found}
+use Rattle.gopher_catalogue.specs.Pages.{page_of_event, pages_found}
 use Rattle.gopher_catalogue.specs.Closure.{OutcomeData, Fetched, Unfetched, OutcomeTable, links_after, IsReachable, seed, link, last_outcome, IsTold, Agrees, IsComplete, HoldsReach}
 use Rattle.gopher_catalogue.proofs.Lists.{slice_get-append_left, take_next}
-use Rattle.gopher_catalogue.proofs.Places.{same_place-is, known_of, dropped_of, known_of-append}
+use Rattle.gopher_catalogue.proofs.Places.{known_of, dropped_of, known_of-append}
 use Rattle.gopher_catalogue.proofs.KnownPlaces.{known-allowed, among_at, at_from_among, All-distinct}
-use Rattle.gopher_catalogue.proofs.Steps.{known_is, dropped_is, mentions_push}
-use Rattle.gopher_catalogue.proofs.Sizes.{out_is, done_is}
-use Rattle.gopher_catalogue.proofs.Counting.{times, times-nil}
-use Rattle.gopher_catalogue.proofs.States.{Done, state}
+use Rattle.gopher_catalogue.proofs.Steps.{is_done_is, mentions-nil, known_is, dropped_is, mentions-append, mentions_push}
+use Rattle.gopher_catalogue.proofs.LegalSizes.{done_is, done_if_ended}
 use Rattle.gopher_catalogue.proofs.LastOutcome.{count_at, last_outcome_at, last_outcome_none, find_is_last}
 use Rattle.gopher_catalogue.proofs.OneTry.{filter_range_every}
 
@@ -46,7 +44,7 @@ among_filter_from f [] p h t = absurd (false≢true h)
 among_filter_from f (x ∷ xs) p h t = step (among_filter_from f xs p) (same_place p x) refl (f x) refl where
   step : (is_among xs p ≡ true → f p ≡ true → is_among (filter f xs) p ≡ true) → (b : Bool) → same_place p x ≡ b → (c : Bool) → f x ≡ c → is_among (cond (f x) (x ∷ filter f xs) (filter f xs)) p ≡ true
   step ih true e true keeps = rw keeps (or_left (same_place p x) (is_among (filter f xs) p) e)
-  step ih true e false drops = let same = same_place-is p x e in absurd (false≢true (sym drops ∙ ap f (sym same) ∙ t))
+  step ih true e false drops = let same = same_place-true p x e in absurd (false≢true (sym drops ∙ ap f (sym same) ∙ t))
   step ih false e true keeps = let rest : is_among xs p ≡ true = rw e at h in rw keeps (or_right (same_place p x) (is_among (filter f xs) p) (ih rest t))
   step ih false e false drops = let rest : is_among xs p ≡ true = rw e at h in rw drops (ih rest t)
 
@@ -75,23 +73,17 @@ page_found_at (Found m other ∷ events) zero page h = let e : other ≡ page = 
 page_found_at (Found m other ∷ events) (suc i) page h = let rest = page_found_at events i page h in (suc rest.0, rest.1, rest.2)
 page_found_at (Failed m why ∷ events) i page h = let rest = page_found_at events i page h in (suc rest.0, rest.1, rest.2)
 
-pub at_from_found : (events : List EventData) (k n : ℕ) (page : PageData) → slice_get events k ≡ Some (Found n page) → (i : ℕ) × (slice_get (pages_found events) i ≡ Some page)
+-- what an element of a list gives is among what all of them give
+contains_flat_map : {X Y : Type 0} (f : X → List Y) (xs : List X) (k : ℕ) (x : X) (y : Y) → slice_get xs k ≡ Some x → Contains (f x) y → Contains (flat_map f xs) y
+contains_flat_map f [] k x y h has = cc
+contains_flat_map f (z ∷ xs) zero x y h has = let e : x ≡ z = cc in Contains-append_left (f z) (flat_map f xs) y (subst (λ w. Contains (f w) y) e has)
+contains_flat_map f (z ∷ xs) (suc k) x y h has = Contains-append_right (f z) (flat_map f xs) y (contains_flat_map f xs k x y h has)
+
+contains_found : (events : List EventData) (k n : ℕ) (page : PageData) → slice_get events k ≡ Some (Found n page) → Contains (pages_found events) page
 unfolding pages_found
-at_from_found [] k n page h = cc
-at_from_found (Opened other ∷ events) zero n page h = cc
-at_from_found (Opened other ∷ events) (suc k) n page h = at_from_found events k n page h
-at_from_found (Claimed m ∷ events) zero n page h = cc
-at_from_found (Claimed m ∷ events) (suc k) n page h = at_from_found events k n page h
-at_from_found (Found m other ∷ events) zero n page h = (0, cc)
-at_from_found (Found m other ∷ events) (suc k) n page h = let rest = at_from_found events k n page h in (suc rest.0, rest.1)
-at_from_found (Failed m why ∷ events) zero n page h = cc
-at_from_found (Failed m why ∷ events) (suc k) n page h = at_from_found events k n page h
+contains_found events k n page h = contains_flat_map page_of_event events k (Found n page) page h (0, omega arith, refl)
 
 -- ---- mentions and known places of a prefix
-
-mentions-append : (opening : OpeningData) (es fs : List EventData) → mentions opening (es ++ fs) ≡ mentions opening es ++ flat_map (mentioned opening) fs
-unfolding mentions
-mentions-append opening es fs = ap (λ ps. opening.seeds ++ ps) (flat_map-append (mentioned opening) es fs) ∙ sym (append_assoc opening.seeds (flat_map (mentioned opening) es) (flat_map (mentioned opening) fs))
 
 pub known_stays : (opening : OpeningData) (events : List EventData) (k n : ℕ) (p : PlaceData) → slice_get (known opening (take k events)) n ≡ Some p → slice_get (known opening events) n ≡ Some p
 known_stays opening events k n p h =
@@ -104,22 +96,13 @@ known_stays opening events k n p h =
     ∙ slice_get-append_left (known_of opening.limit early) _ n within
     ∙ known_early
 
--- the links of a found page are mentioned
-mentions_at : (opening : OpeningData) (events : List EventData) (k n : ℕ) (page : PageData) (p : PlaceData) → slice_get events k ≡ Some (Found n page) → is_among (filter (allows opening.scope) page.links) p ≡ true → is_among (flat_map (mentioned opening) events) p ≡ true
-mentions_at opening [] k n page p h a = cc
-mentions_at opening (Opened other ∷ events) zero n page p h a = cc
-mentions_at opening (Opened other ∷ events) (suc k) n page p h a = mentions_at opening events k n page p h a
-mentions_at opening (Claimed m ∷ events) zero n page p h a = cc
-mentions_at opening (Claimed m ∷ events) (suc k) n page p h a = mentions_at opening events k n page p h a
-mentions_at opening (Found m other ∷ events) zero n page p h a =
-    let e : other ≡ page = cc in
-    list_any-append (same_place p) (filter (allows opening.scope) other.links) (flat_map (mentioned opening) events)
-    ∙ or_left (is_among (filter (allows opening.scope) other.links) p) (is_among (flat_map (mentioned opening) events) p) (ap (λ (q : PageData). is_among (filter (allows opening.scope) q.links) p) e ∙ a)
-mentions_at opening (Found m other ∷ events) (suc k) n page p h a =
-    list_any-append (same_place p) (filter (allows opening.scope) other.links) (flat_map (mentioned opening) events)
-    ∙ or_right (is_among (filter (allows opening.scope) other.links) p) (is_among (flat_map (mentioned opening) events) p) (mentions_at opening events k n page p h a)
-mentions_at opening (Failed m why ∷ events) zero n page p h a = cc
-mentions_at opening (Failed m why ∷ events) (suc k) n page p h a = mentions_at opening events k n page p h a
+-- what an event mentions is mentioned
+mentions_at : (opening : OpeningData) (events : List EventData) (k : ℕ) (e : EventData) (p : PlaceData) → slice_get events k ≡ Some e → is_among (mentioned opening e) p ≡ true → is_among (flat_map (mentioned opening) events) p ≡ true
+mentions_at opening events k e p h among =
+    let at' = at_from_among (mentioned opening e) p among in
+    let has = contains_flat_map (mentioned opening) events k e p h (contains_at (mentioned opening e) at'.0 p at'.1) in
+    let found = at_from_contains (flat_map (mentioned opening) events) p has in
+    among_at (flat_map (mentioned opening) events) found.0 p found.1
 
 -- if no mention was dropped, each mentioned place is known
 all_known : (opening : OpeningData) (events : List EventData) (p : PlaceData) → dropped opening events ≡ 0 → is_among (mentions opening events) p ≡ true → is_among (known opening events) p ≡ true
@@ -149,10 +132,6 @@ find_told opening events table legal agrees k n page h =
 All_known : (P : PlaceData → Type 0) (opening : OpeningData) (es : List EventData) → All P (mentions opening es) → All P (known opening es)
 unfolding known
 All_known P opening es all = All-take P opening.limit (distinct (mentions opening es)) (All-distinct P (mentions opening es) all)
-
-mentions-nil : (opening : OpeningData) → mentions opening [] ≡ opening.seeds
-unfolding mentions
-mentions-nil opening = append-nil opening.seeds
 
 -- if its place can be reached, so can the links of a found page
 links_reachable : (opening : OpeningData) (table : OutcomeTable) (n : ℕ) (page : PageData) → IsTold opening.scope page.place (table page.place) (Some (Found n page)) → IsReachable opening.scope opening.seeds table page.place → All (IsReachable opening.scope opening.seeds table) (filter (allows opening.scope) page.links)
@@ -211,28 +190,15 @@ ended opening events complete =
       none_dropped = complete.none_dropped;
     }
 
-range_none : (p : ℕ → Bool) (a len n : ℕ) → filter p (range_with_len a len) ≡ [] → a ≤ n → n < a + len → p n ≡ true → ⊥
-range_none p a zero n h l u t = omega arith
-range_none p a (suc len) n h l u t =
-    elim (cases_Bool (p a)) as (λ q. ⊥) [
-      | inl passes ↦ let e : a ∷ filter p (range_with_len (a + 1) len) ≡ [] = rw passes at h in cc
-      | inr misses ↦
-          let rest : filter p (range_with_len (a + 1) len) ≡ [] = rw misses at h in
-          elim (cases_eq a n) as (λ q. ⊥) [
-            | inl same ↦ false≢true (sym misses ∙ ap p same ∙ t)
-            | inr other ↦ range_none p (a + 1) len n rest (omega arith) (omega arith) t
-          ]
-    ]
+each_done : (opening : OpeningData) (events : List EventData) → IsLegal (Opened opening ∷ events) → Ended opening events → (n : ℕ) → n < length (known opening events) → is_done opening events n ≡ true
+each_done opening events legal end n within = done_if_ended opening events legal end.none_waiting end.none_out n within
 
-each_done : (opening : OpeningData) (events : List EventData) → IsLegal (Opened opening ∷ events) → Ended opening events → (n : ℕ) → n < length (known opening events) → Done opening events n
-each_done opening events legal end n within =
-    elim (state opening events legal n) as (λ q. Done opening events n) [
-      | inl s ↦ elim s as (λ q. Done opening events n) [
-        | inl waits ↦ absurd (omega (arith, waits.once, ap (times n) end.none_waiting, times-nil n))
-        | inr out' ↦
-            absurd (range_none (is_out events) 0 (length (known opening events)) n (sym (out_is opening events) ∙ end.none_out) (omega arith) (omega arith) out'.is_out)
-      ]
-      | inr s ↦ elim s as (λ q. Done opening events n) [ inl done' ↦ done' | inr unknown ↦ absurd (omega (arith, unknown.is_unknown)) ]
+-- a number that is done has an outcome
+has_outcome : (opening : OpeningData) (events : List EventData) (n : ℕ) → 1 ≤ opening.tries → is_done opening events n ≡ true → 1 ≤ finds events n + failures events n
+has_outcome opening events n some done' =
+    elim (or_cases (ltb 0 (finds events n)) (leb opening.tries (failures events n)) (sym (is_done_is events n opening) ∙ done')) as (λ q. 1 ≤ finds events n + failures events n) [
+      | inl found ↦ omega (arith, ltb-true 0 (finds events n) found)
+      | inr failed ↦ omega (arith, leb-true opening.tries (failures events n) failed)
     ]
 
 -- ---- each place that can be reached is known
@@ -242,22 +208,22 @@ found_at : (opening : OpeningData) (events : List EventData) (table : OutcomeTab
 found_at opening events table legal agrees end place bytes among fetched =
     let at' = at_from_among (known opening events) place among in
     let n : ℕ = at'.0 in
-    let done' = each_done opening events legal end n (slice_get_within (known opening events) n place at'.1) in
-    cases n done' (last_outcome events n) refl (agrees n place at'.1)
+    let ended_once = has_outcome opening events n legal.0.some_try (each_done opening events legal end n (slice_get_within (known opening events) n place at'.1)) in
+    cases n ended_once (last_outcome events n) refl (agrees n place at'.1)
   where
-    cases : (n : ℕ) → Done opening events n → (last : Option EventData) → last_outcome events n ≡ last → IsTold opening.scope place (table place) (last_outcome events n) → (k : ℕ) × (m : ℕ) × (slice_get events k ≡ Some (Found m (page_of opening.scope place bytes)))
-    cases n done' None e told =
+    cases : (n : ℕ) → 1 ≤ finds events n + failures events n → (last : Option EventData) → last_outcome events n ≡ last → IsTold opening.scope place (table place) (last_outcome events n) → (k : ℕ) × (m : ℕ) × (slice_get events k ≡ Some (Found m (page_of opening.scope place bytes)))
+    cases n ended_once None e told =
         let none = last_outcome_none n events e in
-        absurd (elim done'.found_or_failed as (λ q. ⊥) [ inl found ↦ omega (arith, none.0) | inr failed ↦ omega (arith, none.1, failed.1, legal.0.some_try) ])
-    cases n done' (Some (Opened other)) e told = absurd (false≢true (last_outcome_at n events (Opened other) e).2)
-    cases n done' (Some (Claimed m)) e told = absurd (false≢true (last_outcome_at n events (Claimed m) e).2)
-    cases n done' (Some (Found m page)) e told =
+        absurd (omega (arith, none.0, none.1))
+    cases n ended_once (Some (Opened other)) e told = absurd (false≢true (last_outcome_at n events (Opened other) e).2)
+    cases n ended_once (Some (Claimed m)) e told = absurd (false≢true (last_outcome_at n events (Claimed m) e).2)
+    cases n ended_once (Some (Found m page)) e told =
         let told' : IsTold opening.scope place (table place) (Some (Found m page)) = subst (IsTold opening.scope place (table place)) e told in
         let where' = last_outcome_at n events (Found m page) e in
         let same : Fetched told'.0 ≡ Fetched bytes = let both = told'.1 in cc in
         let page_is : page ≡ page_of opening.scope place bytes = told'.2 ∙ ap (page_of opening.scope place) (cc) in
         (where'.0, m, where'.1 ∙ ap (λ q. Some (Found m q)) page_is)
-    cases n done' (Some (Failed m why)) e told =
+    cases n ended_once (Some (Failed m why)) e told =
         let told' : table place ≡ Some (Unfetched why) = subst (IsTold opening.scope place (table place)) e told in
         cc
 
@@ -278,7 +244,7 @@ reached_known opening events table legal agrees end p (link {place} reached amon
         let among' : is_among page.links p ≡ true = ap (λ o. is_among (links_after opening.scope place o) p) (sym e) ∙ among in
         let at' = at_from_among page.links p among' in
         let allowed : allows opening.scope p ≡ true = All_at (IsAllowed opening.scope) page.links at'.0 p (page_of-allowed opening.scope place bytes) at'.1 in
-        let mention = mentions_at opening events found.0 found.1 page p found.2 (among_filter_from (allows opening.scope) page.links p among' allowed) in
+        let mention = mentions_at opening events found.0 (Found found.1 page) p found.2 (among_filter_from (allows opening.scope) page.links p among' allowed) in
         all_known opening events p end.none_dropped
         (list_any-append (same_place p) opening.seeds (flat_map (mentioned opening) events) ∙ or_right (is_among opening.seeds p) (is_among (flat_map (mentioned opening) events) p) mention)
 
@@ -292,7 +258,7 @@ holds_reach opening events table legal complete agrees =
       reachable_allowed = λ p reached.
           let at' = at_from_among (known opening events) p (reached_known opening events table legal agrees end p reached) in
           All_at (IsAllowed opening.scope) (known opening events) at'.0 p (known-allowed opening events legal) at'.1;
-      all_done = done_is opening events ∙ filter_range_every (is_done opening events) 0 (length (known opening events)) (λ n l u. (each_done opening events legal end n (omega arith)).is_done);
+      all_done = done_is opening events ∙ filter_range_every (is_done opening events) 0 (length (known opening events)) (λ n l u. each_done opening events legal end n (omega arith));
       pages_reached = λ page. (
         λ held.
             let at' = at_from_contains (pages_found events) page held in
@@ -308,7 +274,6 @@ holds_reach opening events table legal complete agrees =
             },
         λ reached.
             let found = found_at opening events table legal agrees end reached.place reached.bytes (reached_known opening events table legal agrees end reached.place reached.is_reachable) reached.is_fetched in
-            let at' = at_from_found events found.0 found.1 (page_of opening.scope reached.place reached.bytes) found.2 in
-            contains_at (pages_found events) at'.0 page (at'.1 ∙ ap Some (sym reached.is_page)),
+            subst (Contains (pages_found events)) (sym reached.is_page) (contains_found events found.0 found.1 (page_of opening.scope reached.place reached.bytes) found.2),
       );
     }

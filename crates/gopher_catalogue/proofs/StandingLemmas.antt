@@ -1,7 +1,9 @@
 -- Lists of a function's values for each number, as the states of the known places are.
-use Rattle.std.proofs.Common.{◌≡◌, ◌≢◌, ℕ, suc, zero, ◌+◌, ◌≤◌, ◌<◌, ◌∷◌, ◌++◌, map, length, replicate, set, Some, slice_get, refl, sym, ◌∙◌, ap, arith}
+use Rattle.std.proofs.Common.{◌≡◌, ◌≢◌, ℕ, suc, zero, ◌+◌, ◌≤◌, ◌<◌, ◌∷◌, ◌++◌, map, replicate, set, Some, slice_get, refl, sym, ◌∙◌, ap, arith}
 use Rattle.std.specs.List.{range_with_len}
 use Rattle.std.proofs.lemmas.List.{map-append}
+use Rattle.std.proofs.lemmas.List.FromFn.{length-map-range_with_len, get_or-map-range_with_len}
+use Rattle.std.proofs.lemmas.Option.{slice_get-get_or}
 use Rattle.gopher_catalogue.proofs.Ranges.{range-append}
 
 module _ {X : Type 0} (f g : ℕ → X) where
@@ -25,17 +27,9 @@ module _ {X : Type 0} (f g : ℕ → X) where
   set_map_range n i v e h = set_map_range_from 0 n i v (e ∙ ap g (omega arith)) (λ k ne. h k (λ same. ne (omega arith)))
 
 -- the value at the number k
-slice_get-map_range_from : {X : Type 0} (f : ℕ → X) (a n k : ℕ) → k < n → slice_get (map f (range_with_len a n)) k ≡ Some (f (a + k))
-slice_get-map_range_from f a zero k h = absurd (omega arith)
-slice_get-map_range_from f a (suc n) zero h = ap (λ m. Some (f m)) (omega arith)
-slice_get-map_range_from f a (suc n) (suc k) h = slice_get-map_range_from f (a + 1) n k (omega arith) ∙ ap (λ m. Some (f m)) (omega arith)
-
 pub slice_get-map_range : {X : Type 0} (f : ℕ → X) (n k : ℕ) → k < n → slice_get (map f (range_with_len 0 n)) k ≡ Some (f k)
-slice_get-map_range f n k h = slice_get-map_range_from f 0 n k h ∙ ap (λ m. Some (f m)) (omega arith)
-
-pub length-map_range : {X : Type 0} (f : ℕ → X) (a n : ℕ) → length (map f (range_with_len a n)) ≡ n
-length-map_range f a zero = refl
-length-map_range f a (suc n) = ap suc (length-map_range f (a + 1) n)
+slice_get-map_range f n k h =
+    slice_get-get_or (map f (range_with_len 0 n)) k (f k) (omega (arith, length-map-range_with_len f 0 n)) ∙ ap Some (get_or-map-range_with_len f 0 n k k (f k) h (omega arith))
 
 -- numbers with the same value
 pub replicate_map_range : {X : Type 0} (f : ℕ → X) (u : X) (a n : ℕ) → ((k : ℕ) → a ≤ k → f k ≡ u) → replicate n u ≡ map f (range_with_len a n)

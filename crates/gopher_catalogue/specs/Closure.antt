@@ -109,12 +109,17 @@ FinishedCrawlHoldsReach =
     → IsLegal (Opened opening ∷ events) → IsComplete (Opened opening ∷ events)
     → Agrees opening events table → HoldsReach opening events table
 
--- once this record is complete, it contains what can be reached, for each table that it agrees with
-abbrev pub HoldsReachOnceComplete : List EventData → Type 0
-HoldsReachOnceComplete record_ =
+-- what holds of a record once it is complete, for each table that it agrees with
+abbrev pub OnceComplete : List EventData
+    → (OpeningData → List EventData → OutcomeTable → Type 0) → Type 0
+OnceComplete record_ Holds =
     (opening : OpeningData) (events : List EventData) (table : OutcomeTable)
     → record_ ≡ Opened opening ∷ events → IsComplete record_ → Agrees opening events table
-    → HoldsReach opening events table
+    → Holds opening events table
+
+-- it contains what can be reached
+abbrev pub HoldsReachOnceComplete : List EventData → Type 0
+HoldsReachOnceComplete record_ = OnceComplete record_ HoldsReach
 
 -- both lists contain the same places, in any order and any number of times
 abbrev pub SamePlaces : List PlaceData → List PlaceData → Type 0

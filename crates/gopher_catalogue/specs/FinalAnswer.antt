@@ -1,9 +1,10 @@
 -- The results of searches of a finished crawl. The definitions mention only the table of outcomes:
 -- no record, no number of a place and no state.
-use Rattle.std.specs.Prelude.{◌≡◌, ℕ, ◌<◌, false, ◌↔◌, List, ◌∷◌, take, IsTrue}
+use Rattle.std.specs.Prelude.{◌≡◌, ℕ, Bool, false, ◌↔◌, List, ◌∷◌, take, nat_lt, IsTrue}
 use Rattle.std.specs.List.{Contains}
 use Rattle.std.specs.List.Sorted.{IsStrictlySortedBy}
 use Rattle.std.specs.Ordering.{on}
+use Rattle.std.specs.declared.cmp.Ordering.{Ordering}
 use Rattle.std.specs.Global.{Vec}
 use Rattle.gopher_item.specs.Place.{PlaceData, place_cmp}
 use Rattle.gopher_item.specs.Scope.{ScopeData}
@@ -15,48 +16,46 @@ use Rattle.gopher_catalogue.specs.Event.{OpeningData, EventData, Opened}
 use Rattle.gopher_catalogue.specs.Legal.{IsLegal}
 use Rattle.gopher_catalogue.specs.Pages.{pages_found}
 use Rattle.gopher_index.specs.Answer.{rank_cmp, answer_of, occurrences_of}
-use Rattle.gopher_catalogue.specs.Closure.{OutcomeTable, IsReachedPage, Agrees, IsComplete, SamePlaces}
+use Rattle.gopher_catalogue.specs.Closure.{OutcomeTable, IsReachedPage, Agrees, IsComplete, OnceComplete, SamePlaces}
 
--- ---- the answer over a set of pages
+-- ---- lists over a set of pages
+
+-- what is shown of a page of this set that passes the test
+pub record IsShownOf {Y : Type 0} (IsPage : PageData → Type 0) (test : PageData → Bool)
+    (show : PageData → Y) (shown : Y) : Type 0 where
+  pub page : PageData
+  pub is_page : IsPage page
+  pub passes : IsTrue (test page)
+  pub is_shown : shown ≡ show page
+
+-- the list shows each page of this set that passes the test, once, in this order
+pub record ListsPages {Y : Type 0} (order : Y → Y → Ordering) (IsPage : PageData → Type 0)
+    (test : PageData → Bool) (show : PageData → Y) (list : List Y) : Type 0 where
+  pub members : (shown : Y) → Contains list shown ↔ IsShownOf IsPage test show shown
+  pub in_order : IsStrictlySortedBy order list
 
 -- the hit of a page
 abbrev pub hit_at : List TermData → PageData → Hit
 hit_at query page =
     record { place = page.place; title = page.title; score = score query page.counts }
 
--- the hit of a page of this set that matches the query
-pub record IsHitAmong (IsPage : PageData → Type 0) (query : List TermData)
-    (hit : Hit) : Type 0 where
-  pub page : PageData
-  pub is_page : IsPage page
-  pub is_match : IsTrue (matches query page.counts)
-  pub is_hit : hit ≡ hit_at query page
-
 -- the first 50 hits of the matching pages of this set: by score, highest first, and hits of equal
 -- score in place order
 pub record IsAnswerAmong (IsPage : PageData → Type 0) (query : List TermData)
     (hits : List Hit) : Type 0 where
   pub all : List Hit
-  pub members : (hit : Hit) → Contains all hit ↔ IsHitAmong IsPage query hit
-  pub in_order : IsStrictlySortedBy rank_cmp all
+  pub lists : ListsPages rank_cmp IsPage (λ page. matches query page.counts) (hit_at query) all
   pub first : hits ≡ take 50 all
 
--- ---- the occurrences over a set of pages
-
--- the place of a page of this set that contains the word, with the number of times
-pub record IsOccurrenceAmong (IsPage : PageData → Type 0) (word : List ℕ)
-    (occurrence : PlaceData × ℕ) : Type 0 where
-  pub page : PageData
-  pub is_page : IsPage page
-  pub some : 0 < count_meant false word page.counts
-  pub is_occurrence : occurrence ≡ (page.place, count_meant false word page.counts)
+-- the place of a page with the number of times that it contains a word
+abbrev pub occurrence_at : List ℕ → PageData → PlaceData × ℕ
+occurrence_at word page = (page.place, count_meant false word page.counts)
 
 -- the occurrences of the word in the pages of this set, each place once, in place order
-pub record AreOccurrencesAmong (IsPage : PageData → Type 0) (word : List ℕ)
-    (list : List (PlaceData × ℕ)) : Type 0 where
-  pub members : (occurrence : PlaceData × ℕ)
-      → Contains list occurrence ↔ IsOccurrenceAmong IsPage word occurrence
-  pub in_order : IsStrictlySortedBy (on (λ occurrence. occurrence.0) place_cmp) list
+abbrev pub AreOccurrencesAmong : (PageData → Type 0) → List ℕ → List (PlaceData × ℕ) → Type 0
+AreOccurrencesAmong IsPage word list =
+    ListsPages (on (λ occurrence. occurrence.0) place_cmp) IsPage
+    (λ page. nat_lt 0 (count_meant false word page.counts)) (occurrence_at word) list
 
 -- ---- the final answer
 
@@ -98,20 +97,16 @@ AnswersAreOfPagesFound =
     ((query : List TermData) → IsAnswerAmong (Contains pages) query (answer_of pages query)) ×
     ((word : List ℕ) → AreOccurrencesAmong (Contains pages) word (occurrences_of pages word))
 
--- once this record is complete, these hits are the final answer, for each table that it agrees with
+-- these hits, and these occurrences, are the final ones once the record is complete
 abbrev pub IsFinalOnceComplete : List EventData → List TermData → List Hit → Type 0
 IsFinalOnceComplete record_ query hits =
-    (opening : OpeningData) (events : List EventData) (table : OutcomeTable)
-    → record_ ≡ Opened opening ∷ events →
-    IsComplete record_ → Agrees opening events table
-    → FinalAnswer opening.scope opening.seeds table query hits
+    OnceComplete record_
+    (λ opening events table. FinalAnswer opening.scope opening.seeds table query hits)
 
 abbrev pub AreFinalOnceComplete : List EventData → List ℕ → List (PlaceData × ℕ) → Type 0
 AreFinalOnceComplete record_ word list =
-    (opening : OpeningData) (events : List EventData) (table : OutcomeTable)
-    → record_ ≡ Opened opening ∷ events →
-    IsComplete record_ → Agrees opening events table
-    → FinalOccurrences opening.scope opening.seeds table word list
+    OnceComplete record_
+    (λ opening events table. FinalOccurrences opening.scope opening.seeds table word list)
 
 -- the hits and the occurrences in the vectors that calls return
 abbrev pub AreFinalHits : List EventData → List TermData → Vec Hit → Type 0

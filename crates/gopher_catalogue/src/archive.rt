@@ -9,7 +9,6 @@ ghost use Rattle.gopher_catalogue.specs.Pages.{page_of_event, pages_indexed, wit
 ghost use Rattle.gopher_catalogue.specs.History.{Grown, IsOpened, opening_in};
 
 use crate::event::Event;
-use crate::history::History;
 use crate::opening::Opening;
 use gopher_index::{Due, Index};
 use gopher_item::{MAX_PLACES, NoMemory};
@@ -24,21 +23,24 @@ const MAX_PAGES: usize = MAX_PLACES as usize;
 /// A record of events, with an index of the first 65,536 pages that they found.
 #[derive(Debug, Drop)]
 pub(crate) struct Archive {
-    history: History,
+    events: Vec<Event>,
     index: Index,
 }
 
 impl Model for Archive {
-    ghost use Rattle.std.specs.Prelude.{◌≡◌};
+    ghost use Rattle.std.specs.Prelude.{◌≡◌, ◌-◌, map, vec_len, vec_capacity};
+    ghost use Rattle.gopher_catalogue.specs.EventOf.{event_data};
     ghost use Rattle.gopher_catalogue.specs.History.{RecordData};
+    ghost use Rattle.gopher_catalogue.specs.Pages.{pages_indexed};
 
     ghost Value = { RecordData };
 
-    ghost use Rattle.gopher_catalogue.specs.Pages.{pages_indexed};
+    ghost view = { λ a. record {
+      events = map event_data a.events.items;
+      room = vec_capacity a.events - vec_len a.events;
+    } };
 
-    ghost view = { λ a. a.history };
-
-    ghost invariant = { λ a. a.index ≡ pages_indexed a.history.events };
+    ghost invariant = { λ a. a.index ≡ pages_indexed (map event_data a.events.items) };
 }
 
 // Adds the page of an event to the index, unless the event has no page or the index is full.
@@ -63,7 +65,7 @@ impl Archive {
         ensures { result.events ≡ [] }
     {
         Archive {
-            history: History::empty(alloc),
+            events: Vec::new(alloc),
             index: Index::new(alloc),
         }
     }
@@ -90,17 +92,19 @@ impl Archive {
     pub fn share(&self, alloc: Global) -> Result<Archive, NoMemory>
         ensures { IfOk result (λ archive. archive.events ≡ self.now.events) }
     {
-        Ok(Archive {
-            history: self.history.clone(alloc)?,
-            index: self.index.share(alloc)?,
-        })
+        let mut events = Vec::with_capacity(alloc, self.events.len())?;
+        for event in &self.events {
+            events.push(event.clone()?)?;
+        }
+        let index = self.index.share(alloc)?;
+        Ok(Archive { events, index })
     }
 
     /// Returns the number of events.
     pub fn len(&self) -> usize
         ensures { result ≡ length self.now.events }
     {
-        self.history.len()
+        self.events.len()
     }
 
     /// Returns the opening, which the first event contains.
@@ -108,14 +112,17 @@ impl Archive {
         requires { IsOpened self.now.events }
         ensures { arc_value result.now ≡ opening_in self.now.events }
     {
-        self.history.opening()
+        match self.events.first() {
+            Some(Event::Opened(opening)) => opening,
+            _ => unreachable!(),
+        }
     }
 
     /// Returns the events, oldest first.
     pub fn as_slice(&self) -> &[Event]
         ensures { map event_data result.now ≡ self.now.events }
     {
-        self.history.as_slice()
+        &self.events
     }
 
     /// Returns the index of the pages found.
@@ -155,7 +162,8 @@ impl Archive {
         ensures room { self.old.room ≤ self.new.room }
         ensures ok { OnOk result (additional ≤ self.new.room) }
     {
-        self.history.reserve(additional)
+        self.events.reserve(additional)?;
+        Ok(())
     }
 
     /// Appends an event without a page. There must be room for it.
@@ -165,7 +173,7 @@ impl Archive {
         ensures events { self.new.events ≡ self.old.events ++ event_data event ∷ [] }
         ensures room { self.new.room + 1 ≡ self.old.room }
     {
-        self.history.push(event);
+        self.events.push_reserved(event);
     }
 
     /// Appends an event and adds its page, if it has one, to the index. There must be room for the
@@ -176,7 +184,7 @@ impl Archive {
         ensures err { OnErr result (self.new ≡ self.old) }
     {
         index_page(&mut self.index, &event)?;
-        self.history.push(event);
+        self.events.push_reserved(event);
         Ok(())
     }
 

@@ -25,7 +25,6 @@ pub mod closure;
 mod event;
 mod fault;
 mod frontier;
-mod history;
 pub mod laws;
 mod opening;
 

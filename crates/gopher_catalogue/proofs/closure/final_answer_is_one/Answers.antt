@@ -1,5 +1,5 @@
 use Rattle.gopher_catalogue.specs.Closure.{IsReachedPage}
-use Rattle.gopher_catalogue.proofs.AnswerMembers.{answer_one}
+use Rattle.gopher_catalogue.proofs.PageLists.{answer_one}
 use Rattle.gopher_catalogue.proofs.closure.final_answer_is_one.Goals as goal
 
 pub returns : goal.returns

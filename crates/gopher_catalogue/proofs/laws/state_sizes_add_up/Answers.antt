@@ -1,4 +1,4 @@
-use Rattle.gopher_catalogue.proofs.StateSizes.{state_sizes}
+use Rattle.gopher_catalogue.proofs.LegalSizes.{state_sizes}
 use Rattle.gopher_catalogue.proofs.laws.state_sizes_add_up.Goals as goal
 
 pub returns : goal.returns

@@ -1,6 +1,6 @@
 use Rattle.std.proofs.Common.{◌≡◌, map, take}
 use Rattle.gopher_catalogue.specs.EventOf.{event_data}
-use Rattle.gopher_catalogue.proofs.history.History.clone.Given as goal
+use Rattle.gopher_catalogue.proofs.archive.Archive.share.Given as goal
 
 abbrev pub invariant-loop-event : goal.invariant-loop-event
 invariant-loop-event l = map event_data l.events.items ≡ map event_data (take l.event-index l.event-items)
