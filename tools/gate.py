@@ -45,7 +45,7 @@ MEMORY_OF_A_CHECK = 5 << 30
 # tests that want what a machine may lack
 BY_HAND = {"tests/clients.py"}
 # tests that measure time or memory, or that wait for a second or two only: nothing else runs beside them
-ALONE = {"attack", "crawling", "large_texts", "log", "refused_crawls"}
+ALONE = {"attack", "crawl_memory", "crawling", "log"}
 # tests that want the built tests of a crate
 AFTER_CI = {"refusals"}
 # how many parts run at once, beside these, which take most of the gate
@@ -110,7 +110,6 @@ def parts():
         Part("links", SCRIPTS, ("tools/check_links.py",), is_quick=True),
         *(Part(it.stem, SCRIPTS, (f"tools/{it.name}",), is_quick=True) for it in scripts),
         program_part("program.py"),
-        program_part("serving.py"),
         program_part("replays.py", unproved=("--scripts", "200", "--pages", "257")),
         program_part("requests.py", "--lines", "500"),
         program_part("check.py"),

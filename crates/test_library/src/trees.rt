@@ -1,5 +1,5 @@
 // Trees of lists of files, and replies that are kept. What folders are loaded as, and what they
-// reply, is shown by tests/check.py and tests/serving.py.
+// reply, is shown by tests/check.py and tests/requests.py.
 use gopher_item::Home;
 use gopher_replies::{Replies, Reply};
 use gopher_tree::{Node, Tree, TreeFault};
