@@ -15,21 +15,22 @@ that goes on for too long is killed.
 Beside heavy searches of 4,096 texts, ordinary replies take less than 50 ms in the median and 500 ms at the 99th percentile.
 With --heavy there are 65,000 texts and a minute of searches, the bounds are 5 and 50 ms, and nothing else is tried.
 """
-import argparse
 import contextlib
+import functools
+import multiprocessing
 import os
 import pathlib
+import random
 import resource
 import socket
-import struct
-import sys
-import tempfile
-import threading
 import time
-from concurrent.futures import ThreadPoolExecutor
+from concurrent.futures import ProcessPoolExecutor, ThreadPoolExecutor
 
-from running.heavy import Flood, Heavy, heavy_texts
-from running.server import HOST, PROGRAM, WAIT, Server, Tally, ask, connect, read_all
+from drawn import site_drawing
+from running.heavy import Heavy, flood, heavy_texts
+from running.server import (
+    HOST, SIZES, WAIT, ask, ask_all, ask_whole, connect, is_open, read_all, reset, run_test, until_true, with_few_files,
+)
 from models.site_model import Site
 
 SILENT, SLOW, DEAF, ORDINARY, HEAVY = 1_000, 200, 50, 4, 64
@@ -45,70 +46,82 @@ MIB = 1 << 20
 LARGE = bytes(range(256)) * 32_768
 MIDDLE = bytes(range(256)) * 256
 WIDE = b"moon and sun\n" * 20_000
-SECRET = b"nobody may read this\n"
-GIVEN = b"given by the owner\n"
+SECRET = site_drawing.SECRET
 ASKED = (b"/a.txt\r\n", b"\r\n", b"/wide.txt\r\n", b"/gone\r\n", b"/search\tmoon\r\n", b"/docs\r\n")
 NOT_GIVEN = (
-    b"..", b"/..", b"/../", b"/../secret.txt", b"../secret.txt", b"/docs/../../secret.txt", b"/docs/../a.txt", b"/.", b"/./a.txt",
-    b"/.hidden", b"/.secrets", b"/.secrets/a", b"/docs/.menu", b"/.menu", b"/a//b", b"//a.txt", b"/docs//b.txt", b"/docs/",
-    b"/given/..", b"/given/../secret.txt", b"/shared/.two", b"/shared/../secret.txt", b"/%2e%2e/secret.txt", b"\\..\\secret.txt",
-    b"/etc/passwd", b"../../../../../../etc/passwd", b"/proc/self/environ", b"a.txt", b"/a.txt\0", b"/\0", b"\0", b"/.\0hidden",
-    b"/a\0.txt", b"/a.txt\r", b"\r", b"/..\\", b"/...", b"/../root/a.txt",
+    *site_drawing.NOWHERE, b"/.secrets", b"/docs/../a.txt", b"//a.txt", b"/docs//b.txt", b"/given/..", b"/given/../secret.txt",
+    b"/shared/.two", b"/shared/../secret.txt", b"\\..\\secret.txt", b"a.txt", b"/a.txt\0", b"/\0", b"/a.txt\r", b"/..\\",
+    b"/../root/a.txt", b"y" * 255, b"y" * 256,
 )
+FILES = {b"a.txt": b"hello\n", b"docs/b.txt": b"..\n", b"large.png": LARGE, b"middle.png": MIDDLE, b"wide.txt": WIDE}
+# Draws a folder with links to what lies beside it.
+WITH_LINKS = 2
 
 
-def lay_out(folder):
-    """A folder to serve, with what lies beside it, and what has to be answered."""
-    files = {b"a.txt": b"hello\n", b"docs/b.txt": b"..\n", b"large.png": LARGE, b"middle.png": MIDDLE, b"wide.txt": WIDE}
-    beside = {"outside/secret.txt": SECRET, "outside/shared/.two": SECRET, "outside/shared/one.txt": GIVEN, "secret.txt": SECRET}
-    hidden = {"root/.hidden": SECRET, "root/.secrets/a": SECRET, "outside/given.txt": GIVEN}
-    inside = {f"root/{path.decode()}": content for path, content in files.items()}
-    for path, content in (inside | beside | hidden).items():
-        place = folder / path
-        place.parent.mkdir(parents=True, exist_ok=True)
-        place.write_bytes(content)
-    (folder / "root/given").symlink_to(folder / "outside/given.txt")
-    (folder / "root/shared").symlink_to("../outside/shared")
-    return folder / "root", files | {b"given": GIVEN, b"shared/one.txt": GIVEN}
+class Attacked:
+    """Servers of one folder, with what lies beside it, and what they have to answer."""
+
+    def __init__(self, test):
+        self.test, self.given, self.expect = test, test.given, test.expect
+        self.root, draw = test.site({}, "attacked/root"), random.Random(WITH_LINKS)
+        outside = self.root.with_name("outside")
+        self.files = site_drawing.lay_out(draw, bytes(self.root), bytes(outside), dict(FILES))
+        (self.root.parent / "secret.txt").write_bytes(SECRET)
+
+    def serving(self, *words, **how):
+        return self.test.serving(self.root, *words, **how)
+
+    @functools.cache
+    def site(self, port):
+        return Site(HOST.encode(), port, self.files)
+
+    def is_answered(self, server, what, line=b"/a.txt\r\n"):
+        """Expects an ordinary client to get its reply."""
+        self.expect(what, ask_whole(server.port, line), self.site(server.port).reply(line))
+
+    def are_answered(self, server, what, rounds, seconds=0.0):
+        """Starts ordinary clients that ask so many lines each in so many seconds. Once called, expects that all were answered,
+        and gives the seconds of the slowest reply."""
+        site, clients = self.site(server.port), ThreadPoolExecutor(ORDINARY)
+        asking = [clients.submit(ask_in_turn, site, rounds, seconds / rounds) for _ in range(ORDINARY)]
+
+        def end():
+            answered, slowest = zip(*(each.result() for each in asking))
+            self.expect(f"ordinary clients answered {what}", sum(answered), ORDINARY * rounds)
+            return max(slowest)
+
+        return end
+
+    def holds_little(self, server):
+        memory, most = server.memory("VmHWM"), self.given.memory
+        self.expect(f"{memory} KiB are below {most} KiB", bool(memory) and memory < most, True)
+        print(f"attack: {memory} KiB at most", flush=True)
 
 
-class Ordinary(threading.Thread):
-    """A client who asks one line after another; every second one waits a little before its line."""
-
-    def __init__(self, site, rounds, pause):
-        super().__init__(daemon=True)
-        self.site, self.rounds, self.pause, self.answered, self.slowest = site, rounds, pause, 0, 0.0
-        self.start()
-
-    def run(self):
-        for number in range(self.rounds):
-            line, began = ASKED[number % len(ASKED)], time.monotonic()
-            try:
-                with connect(self.site.port, wait=SOON) as client:
-                    time.sleep(0.02 * (number % 2))
-                    client.sendall(line)
-                    whole = read_all(client) == self.site.reply(line)
-            except OSError:
-                whole = False
-            took = time.monotonic() - began
-            self.slowest = max(self.slowest, took)
-            if not whole or took > SOON:
-                return
-            self.answered += 1
-            time.sleep(max(0.0, self.pause - took))
+def clients_of(ends, server, count):
+    """So many connections, which `ends` closes."""
+    return [ends.enter_context(connect(server.port)) for _ in range(count)]
 
 
-def reset(client):
-    """Closes a client's side without an end, so that its server sees a reset."""
-    client.setsockopt(socket.SOL_SOCKET, socket.SO_LINGER, struct.pack("ii", 1, 0))
-    client.close()
-
-
-def reset_in_reply(port):
-    client = connect(port)
-    client.sendall(b"/large.png\r\n")
-    client.recv(4_096)
-    reset(client)
+def ask_in_turn(site, rounds, pause):
+    """Asks one line after another, and waits a little before every second one. Gives how many were answered whole and soon, up to
+    the first that wasn't, and the seconds of the slowest reply."""
+    slowest = 0.0
+    for number in range(rounds):
+        line, began = ASKED[number % len(ASKED)], time.monotonic()
+        try:
+            with connect(site.port, wait=SOON) as client:
+                time.sleep(0.02 * (number % 2))
+                client.sendall(line)
+                is_whole = read_all(client) == site.reply(line)
+        except OSError:
+            is_whole = False
+        took = time.monotonic() - began
+        slowest = max(slowest, took)
+        if not is_whole or took > SOON:
+            return number, slowest
+        time.sleep(max(0.0, pause - took))
+    return rounds, slowest
 
 
 def send_slowly(clients, line, port, resets):
@@ -122,8 +135,10 @@ def send_slowly(clients, line, port, resets):
             except OSError:
                 there.discard(client)
         for _ in range(resets):
-            with contextlib.suppress(OSError):
-                reset_in_reply(port)
+            with contextlib.suppress(OSError), connect(port) as client:
+                client.sendall(b"/large.png\r\n")
+                client.recv(4_096)
+                reset(client)
         time.sleep(max(0.0, 1.0 - (time.monotonic() - began)))
     return len(there)
 
@@ -140,281 +155,196 @@ def number_whole(clients, wanted):
     return len(clients)
 
 
-def slow_line(seconds):
-    """A line that asks for the root by as many bytes as seconds."""
-    return b"\t".ljust(seconds - 2, b"x") + b"\r\n"
-
-
-def attack_by_crowd(tally, folder, root, files, given):
+def attack_by_crowd(attacked):
     """Silent, slow, deaf and resetting clients together."""
-    seconds, rounds = given.seconds, 5 * given.seconds
+    seconds, rounds = attacked.given.seconds, 5 * attacked.given.seconds
     accepted = SILENT + SLOW + DEAF + RESETS_A_SECOND * seconds + ORDINARY * rounds
-    words = ("--requests", str(accepted))
     with contextlib.ExitStack() as ends:
-        server = ends.enter_context(Server(given.program, folder, root, words=words, seconds=3 * seconds + 60))
-        site = Site(HOST.encode(), server.port, files)
-        tally.expect("the crowd's server starts", server.started(), f"listening {HOST} {server.port}\n".encode())
-        silent, slow, deaf = ([ends.enter_context(connect(server.port)) for _ in range(count)] for count in (SILENT, SLOW, DEAF))
+        server = ends.enter_context(attacked.serving("--requests", accepted, seconds=3 * seconds + 60))
+        silent, slow, deaf = (clients_of(ends, server, count) for count in (SILENT, SLOW, DEAF))
         for client in deaf:
             client.sendall(b"/large.png\r\n")
-        ordinary = [Ordinary(site, rounds, seconds / rounds) for _ in range(ORDINARY)]
-        there = send_slowly(slow, slow_line(seconds), server.port, RESETS_A_SECOND)
-        tally.expect("slow clients that could send", there, SLOW)
-        for client in ordinary:
-            client.join(2 * SOON)
-        answered = sum(client.answered for client in ordinary)
-        tally.expect("ordinary clients answered beside the crowd", answered, ORDINARY * rounds)
-        tally.expect("slow clients answered", number_whole(slow, site.reply(slow_line(seconds))), SLOW)
-        tally.expect("deaf clients that read at last", number_whole(deaf, LARGE), DEAF)
-        print(f"attack: the slowest ordinary reply took {max(client.slowest for client in ordinary):.3f} s", flush=True)
-        check_memory(tally, server, given.memory)
+        ordinary = attacked.are_answered(server, "beside the crowd", rounds, seconds)
+        # asks for the root by as many bytes as seconds
+        line = b"\t".ljust(seconds - 2, b"x") + b"\r\n"
+        attacked.expect("slow clients that could send", send_slowly(slow, line, server.port, RESETS_A_SECOND), SLOW)
+        slowest = ordinary()
+        attacked.expect("slow clients answered", number_whole(slow, attacked.site(server.port).reply(line)), SLOW)
+        attacked.expect("deaf clients that read at last", number_whole(deaf, LARGE), DEAF)
+        print(f"attack: the slowest ordinary reply took {slowest:.3f} s", flush=True)
+        attacked.holds_little(server)
+        silent[0].sendall(b"/a.txt\r\n")
+        attacked.expect("a silent client that asks at last", read_all(silent[0]), b"hello\r\n.\r\n")
         for client in silent:
             client.close()
-        tally.expect("the crowd's server ends", server.end(), (b"known 0 waiting 0 out 0 done 0 dropped 0\n", b"", 0))
-
-
-def check_memory(tally, server, most):
-    memory = server.most_memory()
-    tally.expect(f"{memory} KiB are below {most} KiB", bool(memory) and memory < most, True)
-    print(f"attack: {memory} KiB at most", flush=True)
+        attacked.expect("the crowd's server ends", server.end(), (SIZES, b"", 0))
 
 
 def lines_at_limits():
     """What clients send before they end their side."""
     for length in (1_023, 1_024, 1_025, 1_026, 4_096):
-        for start in (b"y", b"/a.txt\t"):
-            line = start.ljust(length, b"y")
+        for start in (b"y", b"/a.txt\t", b"/search\t"):
+            line = (start + b"y " * length)[:length - 1] + b"y"
             yield from (line + b"\r\n", line + b"\n", line, line + b"\r", line + b"\r\r\n")
     for selector in NOT_GIVEN:
         yield from (selector + b"\r\n", selector + b"\n", selector + b"\t+\r\n", selector)
     yield from (b"/given\r\n", b"/shared/one.txt\r\n", b"/shared\r\n", b"/search\tmo\0on\r\n", b"/search\tnobody\r\n", b"")
 
 
-def ask_whole(port, sent):
-    """What a client is sent that sends these bytes and ends its side."""
-    try:
-        with connect(port) as client:
-            with contextlib.suppress(OSError):
-                client.sendall(sent)
-                client.shutdown(socket.SHUT_WR)
-            return read_all(client)
-    except OSError as error:
-        return type(error).__name__.encode()
-
-
-def attack_by_lines(tally, folder, root, files, given):
+def attack_by_lines(attacked):
     """Lines at the limits, and lines that ask for what isn't given."""
     lines = list(lines_at_limits())
-    with Server(given.program, folder, root, words=("--requests", str(len(lines)))) as server:
-        server.started()
-        site = Site(HOST.encode(), server.port, files)
-        with ThreadPoolExecutor(8) as clients:
-            replies = list(clients.map(ask_whole, [server.port] * len(lines), lines))
+    with attacked.serving("--requests", len(lines)) as server:
+        replies = ask_all(server.port, lines, ask_whole)
         for sent, reply in zip(lines, replies):
-            tally.expect(f"the reply to {sent[:60]!r} of {len(sent)} bytes", reply, site.reply(sent))
-        tally.expect("replies with what nobody may read", sum(SECRET.strip() in reply for reply in replies), 0)
-        tally.expect("the lines' server ends", server.end()[1:], (b"", 0))
+            wanted = attacked.site(server.port).reply(sent)
+            attacked.expect(f"the reply to {sent[:60]!r} of {len(sent)} bytes", reply, wanted)
+        attacked.expect("replies with what nobody may read", sum(SECRET.strip() in reply for reply in replies), 0)
+        attacked.expect("the lines' server ends", server.end()[1:], (b"", 0))
 
 
-def flood(port):
+def endless(port):
     """Whether a client that sends on without an end of its line is closed before it has sent 16 MiB."""
-    try:
-        with connect(port, wait=SOON) as client:
+    with connect(port, wait=SOON) as client:
+        try:
             for _ in range(256):
                 client.sendall(b"f" * 65_536)
-        return False
-    except (BrokenPipeError, ConnectionResetError):
-        return True
-    except OSError:
-        return False
+        except (BrokenPipeError, ConnectionResetError):
+            return True
+        except OSError:
+            pass
+    return False
 
 
-def eager_reply(port, line, replies):
-    """Asks, sends on, and reads late."""
-    try:
-        with connect(port) as client:
-            with contextlib.suppress(OSError):
-                client.sendall(line + b"more\r\n" * 3_000)
-            time.sleep(0.2)
-            replies.append(read_all(client))
-    except OSError:
-        replies.append(b"")
-
-
-def slow_reply(port, line, replies, rate):
-    """Asks, sends on, and reads `rate` bytes a second, of which its own system holds few."""
-    try:
-        with socket.socket() as client:
+def eager_reply(port, line, seconds=0.2, rate=None):
+    """Asks, sends on, and reads late, or `rate` bytes a second, of which its own system holds few."""
+    parts = []
+    with contextlib.suppress(OSError), socket.socket() as client:
+        if rate:
             client.setsockopt(socket.SOL_SOCKET, socket.SO_RCVBUF, 65_536)
-            client.settimeout(WAIT)
-            client.connect((HOST, port))
-            with contextlib.suppress(OSError):
-                client.sendall(line + b"more\r\n" * 3_000)
-            parts = []
-            with contextlib.suppress(ConnectionResetError):
-                while part := client.recv(65_536):
-                    parts.append(part)
-                    with contextlib.suppress(OSError):
-                        client.sendall(b"more\r\n")
-                    time.sleep(len(part) / rate)
-            replies.append(b"".join(parts))
-    except OSError:
-        replies.append(b"")
+        client.settimeout(WAIT)
+        client.connect((HOST, port))
+        with contextlib.suppress(OSError):
+            client.sendall(line + b"more\r\n" * 3_000)
+        time.sleep(seconds)
+        while part := client.recv(65_536):
+            parts.append(part)
+            if rate:
+                with contextlib.suppress(OSError):
+                    client.sendall(b"more\r\n")
+                time.sleep(len(part) / rate)
+    return b"".join(parts)
 
 
-def attack_by_senders(tally, folder, root, files, given):
+def attack_by_senders(attacked):
     """Clients that send on without an end, and clients that send on after their line."""
-    asked = [(b"/large.png\r\n", LARGE)] * 12 + [(b"/middle.png\r\n", MIDDLE)] * 12
-    with Server(given.program, folder, root, words=("--requests", str(len(asked) + 13))) as server:
-        server.started()
-        tally.expect("endless lines that were closed", sum(flood(server.port) for _ in range(10)), 10)
-        replies = {LARGE: [], MIDDLE: []}
-        slow = []
-        reading = threading.Thread(target=slow_reply, args=(server.port, b"/large.png\r\n", slow, MIB))
-        reading.start()
-        clients = [threading.Thread(target=eager_reply, args=(server.port, line, replies[reply])) for line, reply in asked]
-        for client in clients:
-            client.start()
-        for client in clients:
-            client.join(2 * WAIT)
-        reading.join(2 * WAIT)
-        tally.expect("a whole reply to a client that sends on and reads 1 MiB a second", slow == [LARGE], True)
-        tally.expect("whole replies of 8 MiB to clients that send on", replies[LARGE].count(LARGE), 12)
-        tally.expect("whole replies of 64 KiB to clients that send on", replies[MIDDLE].count(MIDDLE), 12)
-        check_memory(tally, server, given.memory)
-        site = Site(HOST.encode(), server.port, files)
-        tally.expect("ordinary clients after them", sum(ask_whole(server.port, line) == site.reply(line) for line in ASKED[:2]), 2)
-        tally.expect("the senders' server ends", server.end()[1:], (b"", 0))
-
-
-def is_closed(client):
-    """Whether the server has closed the connection of a client that was sent nothing."""
-    client.setblocking(False)
-    try:
-        return not client.recv(1)
-    except BlockingIOError:
-        return False
-    except OSError:
-        return True
+    lines = [b"/large.png\r\n"] * 12 + [b"/middle.png\r\n"] * 12
+    with attacked.serving("--requests", len(lines) + 13) as server, ThreadPoolExecutor(len(lines) + 1) as clients:
+        attacked.expect("endless lines that were closed", sum(endless(server.port) for _ in range(10)), 10)
+        slow = clients.submit(eager_reply, server.port, b"/large.png\r\n", 0.0, MIB)
+        replies = list(clients.map(eager_reply, [server.port] * len(lines), lines))
+        attacked.expect("a whole reply to a client that sends on and reads 1 MiB a second", slow.result(2 * WAIT) == LARGE, True)
+        attacked.expect("whole replies of 8 MiB to clients that send on", replies.count(LARGE), 12)
+        attacked.expect("whole replies of 64 KiB to clients that send on", replies.count(MIDDLE), 12)
+        attacked.holds_little(server)
+        for line in ASKED[:2]:
+            attacked.is_answered(server, "an ordinary client after them", line)
+        attacked.expect("the senders' server ends", server.end()[1:], (b"", 0))
 
 
 def closed_among(clients):
     """The places in the list of the clients whose connections are closed."""
-    return [place for place, client in enumerate(clients) if is_closed(client)]
+    return [place for place, client in enumerate(clients) if not is_open(client)]
 
 
 def settled(clients, wanted):
     """The places of the closed clients, once they are as many as wanted or some seconds are over."""
-    until = time.monotonic() + SOON
-    while len(closed_among(clients)) < wanted and time.monotonic() < until:
-        time.sleep(0.05)
+    until_true(lambda: len(closed_among(clients)) >= wanted, SOON)
     time.sleep(0.3)
     return closed_among(clients)
 
 
-def with_few_files(files):
-    """What starts a program that may open this many files."""
-    return ("sh", "-c", f'ulimit -n {files}; exec "$@"', "sh")
-
-
-def attack_by_waiting(tally, folder, root, files, given):
+def attack_by_waiting(attacked):
     """As many silent clients as there are places, and more: as many are closed as are too many, the longest idle first."""
     for threads in (1, 2, 4, 8):
         with contextlib.ExitStack() as ends:
-            more = f"threads = {threads}\n"
-            server = ends.enter_context(Server(given.program, folder, root, more=more, before=with_few_files(PLACES + 64)))
-            server.started()
-            site = Site(HOST.encode(), server.port, files)
-            silent = [ends.enter_context(connect(server.port)) for _ in range(PLACES)]
-            tally.expect(f"clients closed at {threads} threads while there is room", settled(silent, 1), [])
-            silent += [ends.enter_context(connect(server.port)) for _ in range(3 * PLACES)]
+            how = {"more": f"threads = {threads}\n", "before": with_few_files(PLACES + 64)}
+            server = ends.enter_context(attacked.serving(**how))
+            silent = clients_of(ends, server, PLACES)
+            attacked.expect(f"clients closed at {threads} threads while there is room", settled(silent, 1), [])
+            silent += clients_of(ends, server, 3 * PLACES)
             closed = settled(silent, 3 * PLACES)
-            tally.expect(f"clients closed at {threads} threads", len(closed), 3 * PLACES)
+            attacked.expect(f"clients closed at {threads} threads", len(closed), 3 * PLACES)
             if threads == 1:
-                tally.expect("the longest idle are closed", closed, list(range(3 * PLACES)))
-            ordinary = [Ordinary(site, 20, 0.0) for _ in range(ORDINARY)]
-            for client in ordinary:
-                client.join(2 * SOON)
-            answered = sum(client.answered for client in ordinary)
-            tally.expect(f"ordinary clients answered at {threads} threads", answered, 20 * ORDINARY)
+                attacked.expect("the longest idle are closed", closed, list(range(3 * PLACES)))
+            attacked.are_answered(server, f"at {threads} threads", 20)()
             closed = len(closed_among(silent))
-            tally.expect(f"{closed} silent clients went for them", closed <= 3 * PLACES + 2 * ORDINARY, True)
-            server.process.terminate()
-            tally.expect("a server that is ended by SIGTERM", server.end(), (b"", b"", -15))
+            attacked.expect(f"{closed} silent clients went for them", closed <= 3 * PLACES + 2 * ORDINARY, True)
+            attacked.expect("a server that is ended by SIGTERM", server.terminate(), (b"", b"", -15))
 
 
 class Polls:
     """What the threads of a server wait for, as the system tells it of their polls."""
 
     def __init__(self, server, threads):
-        process, until = pathlib.Path(f"/proc/{server.process.pid}"), time.monotonic() + SOON
-        self.infos = []
-        while len(self.infos) < threads and time.monotonic() < until:
-            names = sorted(map(int, os.listdir(process / "fd")))
-            self.infos = [process / "fdinfo" / str(name) for name in names if "eventpoll" in os.readlink(process / "fd" / str(name))]
+        self.process = pathlib.Path(f"/proc/{server.process.pid}")
+        until_true(lambda: len(self.find()) >= threads, SOON)
+        self.infos = self.find()
+
+    def find(self):
+        names = sorted(map(int, os.listdir(self.process / "fd")))
+        return [self.process / f"fdinfo/{name}" for name in names if "eventpoll" in os.readlink(self.process / f"fd/{name}")]
 
     def held(self):
         """How many descriptors each thread waits for, its listeners' among them."""
         return [info.read_text().count("\ntfd:") for info in self.infos]
 
-    def changed(self, before):
-        """How many they are once they are other ones than before."""
-        until = time.monotonic() + SOON
-        while (held := self.held()) == before and time.monotonic() < until:
-            time.sleep(0.001)
-        return held
 
-
-def attack_by_excess(tally, folder, root, _files, given):
+def attack_by_excess(attacked):
     """Clients that come one by one, so that one thread holds more than its share: it is that thread that closes for the other."""
     for attempt in range(1, ATTEMPTS + 1):
         with contextlib.ExitStack() as ends:
-            server = ends.enter_context(Server(given.program, folder, root, more="threads = 2\n", before=with_few_files(PLACES + 64)))
-            server.started()
+            server = ends.enter_context(attacked.serving(more="threads = 2\n", before=with_few_files(PLACES + 64)))
             polls, silent = Polls(server, 2), []
             for _ in range(PLACES):
                 before = polls.held()
-                silent.append(ends.enter_context(connect(server.port)))
-                held = polls.changed(before)
+                silent += clients_of(ends, server, 1)
+                until_true(lambda: polls.held() != before, SOON, 0.001)
+            held = polls.held()
             # which thread is woken is the system's choice: with equal shares this shows nothing, so another server is tried
             if max(held) <= min(held) + 2 * EXCESS and attempt < ATTEMPTS:
                 continue
-            tally.expect(f"no thread holds many more than its share: {held}", max(held) <= PLACES // 2 + MOST_ABOVE, True)
+            attacked.expect(f"no thread holds many more than its share: {held}", max(held) <= PLACES // 2 + MOST_ABOVE, True)
             for more in range(1, EXCESS + 1):
-                silent.append(ends.enter_context(connect(server.port)))
-                tally.expect(f"clients closed for {more} more than there are places", len(settled(silent, more)), more)
+                silent += clients_of(ends, server, 1)
+                attacked.expect(f"clients closed for {more} more than there are places", len(settled(silent, more)), more)
             return
 
 
-def attack_by_use(tally, folder, root, _files, given):
+def attack_by_use(attacked):
     """A client that sends on is not the longest idle."""
     with contextlib.ExitStack() as ends:
-        server = ends.enter_context(Server(given.program, folder, root, more="threads = 1\n", before=with_few_files(PLACES + 64)))
-        server.started()
-        slow = ends.enter_context(connect(server.port))
-        silent = [ends.enter_context(connect(server.port)) for _ in range(PLACES - 1)]
+        server = ends.enter_context(attacked.serving(more="threads = 1\n", before=with_few_files(PLACES + 64)))
+        slow, *_ = clients_of(ends, server, PLACES)
         for byte in b"/a.txt":
             time.sleep(0.3)
             slow.sendall(bytes([byte]))
             time.sleep(0.3)
-            silent += [ends.enter_context(connect(server.port)) for _ in range(PLACES // 2)]
+            clients_of(ends, server, PLACES // 2)
         slow.sendall(b"\r\n")
-        tally.expect("a client that sends on is answered", read_all(slow), b"hello\r\n.\r\n")
+        attacked.expect("a client that sends on is answered", read_all(slow), b"hello\r\n.\r\n")
 
 
-def attack_by_staying(tally, folder, root, _files, given):
+def attack_by_staying(attacked):
     """A client that has the whole of a large reply and stays is closed after 16 seconds."""
-    with Server(given.program, folder, root, more="threads = 1\n") as server:
-        server.started()
+    with attacked.serving(more="threads = 1\n") as server, connect(server.port) as client:
         polls = Polls(server, 1)
-        with connect(server.port) as client:
-            client.sendall(b"/large.png\r\n")
-            tally.expect("a large reply", read_all(client) == LARGE, True)
-            began, held = time.monotonic(), polls.held()
-            while polls.held() == held and time.monotonic() < began + LINGERS + SOON:
-                time.sleep(0.1)
-            seconds = time.monotonic() - began
-        tally.expect(f"closed after {LINGERS} seconds, not {seconds:.1f}", abs(seconds - LINGERS) < 2.0, True)
+        client.sendall(b"/large.png\r\n")
+        attacked.expect("a large reply", read_all(client) == LARGE, True)
+        began, held = time.monotonic(), polls.held()
+        until_true(lambda: polls.held() != held, LINGERS + SOON)
+        seconds = time.monotonic() - began
+        attacked.expect(f"closed after {LINGERS} seconds, not {seconds:.1f}", abs(seconds - LINGERS) < 2.0, True)
 
 
 def open_files(number):
@@ -426,33 +356,32 @@ def open_files(number):
     return held
 
 
-def attack_by_refused_accepts(tally, folder, root, files, given):
+def attack_by_refused_accepts(attacked):
     """Descriptors are short for a moment: a client waits, or the one idle longest is closed; no thread ends."""
     with contextlib.ExitStack() as ends:
-        server = ends.enter_context(Server(given.program, folder, root, more="threads = 2\n", words=("--requests", "14")))
-        server.started()
-        site = Site(HOST.encode(), server.port, files)
+        server = ends.enter_context(attacked.serving("--requests", 14, more="threads = 2\n"))
         number = server.process.pid
         _, most = resource.prlimit(number, resource.RLIMIT_NOFILE)
-        resource.prlimit(number, resource.RLIMIT_NOFILE, (open_files(number), most))
-        waiting = ends.enter_context(connect(server.port))
+        limit = lambda files: resource.prlimit(number, resource.RLIMIT_NOFILE, (files, most))
+        limit(open_files(number))
+        waiting, = clients_of(ends, server, 1)
         waiting.sendall(b"/a.txt\r\n")
         time.sleep(0.2)
-        resource.prlimit(number, resource.RLIMIT_NOFILE, (1_024, most))
+        limit(1_024)
         began = time.monotonic()
-        tally.expect("a client that waited for a descriptor", read_all(waiting), b"hello\r\n.\r\n")
-        tally.expect("it is answered soon", time.monotonic() - began < 1.0, True)
-        silent = [ends.enter_context(connect(server.port)) for _ in range(10)]
-        tally.expect("a client beside silent ones", ask_whole(server.port, b"/a.txt\r\n"), b"hello\r\n.\r\n")
-        resource.prlimit(number, resource.RLIMIT_NOFILE, (open_files(number), most))
-        tally.expect("a client while descriptors are short", ask_whole(server.port, b"/a.txt\r\n"), site.reply(b"/a.txt\r\n"))
+        attacked.expect("a client that waited for a descriptor", read_all(waiting), b"hello\r\n.\r\n")
+        attacked.expect("it is answered soon", time.monotonic() - began < 1.0, True)
+        silent = clients_of(ends, server, 10)
+        attacked.is_answered(server, "a client beside silent ones")
+        limit(open_files(number))
+        attacked.is_answered(server, "a client while descriptors are short")
         closed = settled(silent, 1)
-        tally.expect(f"silent clients closed for it: {closed}", 1 <= len(closed) <= 4, True)
-        resource.prlimit(number, resource.RLIMIT_NOFILE, (1_024, most))
-        tally.expect("a client after that", ask_whole(server.port, b"/a.txt\r\n"), b"hello\r\n.\r\n")
+        attacked.expect(f"silent clients closed for it: {closed}", 1 <= len(closed) <= 4, True)
+        limit(1_024)
+        attacked.is_answered(server, "a client after that")
         for client in silent:
             client.close()
-        tally.expect("no thread has ended by it", server.end()[1:], (b"", 0))
+        attacked.expect("no thread has ended by it", server.end()[1:], (b"", 0))
 
 
 def kernel_bytes():
@@ -462,87 +391,75 @@ def kernel_bytes():
     return int(fields[fields.index("mem") + 1]) * resource.getpagesize()
 
 
-def attack_by_deaf(tally, folder, root, files, given):
-    """Many clients ask for 8 MiB and read nothing: the system holds little for each, and ordinary clients are answered."""
-    with contextlib.ExitStack() as ends:
-        server = ends.enter_context(Server(given.program, folder, root))
-        server.started()
-        site = Site(HOST.encode(), server.port, files)
-        before = kernel_bytes()
-        deaf = [ends.enter_context(connect(server.port)) for _ in range(SILENT)]
-        for client in deaf:
-            client.sendall(b"/large.png\r\n")
-        times = []
-        for _ in range(200):
-            began = time.monotonic()
-            tally.expect("an ordinary client beside deaf ones", ask_whole(server.port, b"/a.txt\r\n"), site.reply(b"/a.txt\r\n"))
-            times.append(time.monotonic() - began)
-        held = kernel_bytes() - before
-        tally.expect(f"{held} bytes of the system are below {MAX_HELD}", held < MAX_HELD, True)
-        tally.expect(f"{sorted(times)[197]:.3f} s are soon", sorted(times)[197] < 0.5, True)
-        print(f"attack: {held} bytes of the system for {SILENT} deaf clients; p99 {sorted(times)[197]:.3f} s", flush=True)
-
-
-def attack_by_large_menus(tally, folder, _root, _files, given):
-    """Many clients ask for a large menu and read nothing: the server holds no copy for each."""
-    root, lines, host = folder / "menus", 70_000, "h" * 250
-    root.mkdir()
-    (root / ".menu").write_bytes(b"\n" * lines)
-    with contextlib.ExitStack() as ends:
-        server = ends.enter_context(Server(given.program, folder, root, host=host, words=("--listen", HOST)))
-        server.started()
-        wanted = b"i\t\t%s\t%d\r\n" % (host.encode(), server.port) * lines + b".\r\n"
-        tally.expect("a large menu is sent whole", ask(server.port, b"\r\n") == wanted, True)
-        before = server.most_memory()
-        for _ in range(DEAF_TO_MENUS):
-            client = ends.enter_context(connect(server.port))
-            client.sendall(b"\r\n")
-            tally.expect("a deaf client's menu begins", client.recv(1, socket.MSG_PEEK), b"i")
-        held = server.most_memory() - before
-        tally.expect(f"{held} KiB for {DEAF_TO_MENUS} deaf clients of a menu are below {MAX_FOR_MENUS}", held < MAX_FOR_MENUS, True)
-        print(f"attack: {held} KiB for {DEAF_TO_MENUS} deaf clients of a menu of {len(wanted)} bytes", flush=True)
-
-
-def crawls(server, wanted):
-    """Whether the progress of a server's crawl reaches this line before the server is killed."""
-    return any(line == wanted for line in server.process.stderr)
-
-
-def times_beside(tally, port, line, wanted, seconds):
-    """The seconds that each of the replies to a line took, the shortest first."""
+def times_beside(attacked, server, what, seconds, most=1_000_000):
+    """The median and the 99th percentile of the seconds that replies to an ordinary client take, of so many at most."""
+    attacked.is_answered(server, f"the first ordinary client beside {what}")
     times, until = [], time.monotonic() + seconds
-    while time.monotonic() < until:
+    while time.monotonic() < until and len(times) < most:
         began = time.monotonic()
-        tally.expect("an ordinary client beside heavy searches", ask_whole(port, line), wanted)
+        attacked.is_answered(server, f"an ordinary client beside {what}")
         times.append(time.monotonic() - began)
         time.sleep(0.005)
-    return sorted(times)
+    times.sort()
+    return times[len(times) // 2], times[len(times) * 99 // 100]
 
 
-def attack_by_searches(tally, folder, root, files, given):
+def attack_by_deaf(attacked):
+    """Many clients of the second address ask for 8 MiB and read nothing: the system holds little for each, and ordinary clients
+    are answered."""
+    with contextlib.ExitStack() as ends:
+        server = ends.enter_context(attacked.serving("--listen", "127.0.0.2", "--listen", HOST))
+        before = kernel_bytes()
+        for client in clients_of(ends, server, SILENT):
+            client.sendall(b"/large.png\r\n")
+        _, late = times_beside(attacked, server, "deaf ones", 2 * SOON, 200)
+        held = kernel_bytes() - before
+        attacked.expect(f"{held} bytes of the system are below {MAX_HELD}", held < MAX_HELD, True)
+        attacked.expect(f"{late:.3f} s are soon", late < 0.5, True)
+        print(f"attack: {held} bytes of the system for {SILENT} deaf clients; p99 {late:.3f} s", flush=True)
+
+
+def attack_by_large_menus(attacked):
+    """Many clients ask for a large menu and read nothing: the server holds no copy for each."""
+    lines, host = 70_000, "h" * 250
+    root = attacked.test.site({".menu": b"\n" * lines})
+    with contextlib.ExitStack() as ends:
+        server = ends.enter_context(attacked.test.serving(root, "--listen", HOST, host=host))
+        wanted = b"i\t\t%s\t%d\r\n" % (host.encode(), server.port) * lines + b".\r\n"
+        attacked.expect("a large menu is sent whole", ask(server.port, b"\r\n") == wanted, True)
+        before = server.memory("VmHWM")
+        for client in clients_of(ends, server, DEAF_TO_MENUS):
+            client.sendall(b"\r\n")
+            attacked.expect("a deaf client's menu begins", client.recv(1, socket.MSG_PEEK), b"i")
+        held = server.memory("VmHWM") - before
+        what = f"{held} KiB for {DEAF_TO_MENUS} deaf clients of a menu of {len(wanted)} bytes"
+        attacked.expect(f"{what} are below {MAX_FOR_MENUS}", held < MAX_FOR_MENUS, True)
+        print(f"attack: {what}", flush=True)
+
+
+def attack_by_searches(attacked):
     """Clients that ask the heaviest searches get the right hits, and ordinary clients are answered beside them."""
-    texts, seconds, median, late = (65_000, 60, 0.005, 0.05) if given.heavy else (4_096, 6, 0.05, 0.5)
-    with Heavy(texts) as heavy, contextlib.ExitStack() as ends:
-        server = ends.enter_context(Server(given.program, folder, root, more=heavy.settings(), words=("--progress",), seconds=1_200))
-        server.started()
+    texts, seconds, median, late = (65_000, 60, 0.005, 0.05) if attacked.given.heavy else (4_096, 6, 0.05, 0.5)
+    # clients in a process of their own
+    with (
+        Heavy(texts) as heavy, attacked.serving("--progress", more=heavy.settings(), seconds=1_200) as server,
+        ProcessPoolExecutor(1, multiprocessing.get_context("spawn")) as others,
+    ):
         crawled = f"known {heavy.known} waiting 0 out 0 done {heavy.known} dropped 0 failed 0\n".encode()
-        tally.expect("the texts are crawled", crawls(server, crawled), True)
-        wanted = [(b"/search\t%s\r\n" % text.encode(), heavy.reply(text)) for text in heavy_texts()]
+        attacked.expect("the texts are crawled", crawled in iter(server.process.stderr.readline, b""), True)
+        wanted = [(b"/search\t%s\r\n" % text.encode(), heavy.site.search(text.encode())) for text in heavy_texts()]
         for line, reply in wanted:
-            tally.expect(f"the reply to {line[:40]!r}", ask_whole(server.port, line), reply)
-        site = Site(HOST.encode(), server.port, files)
-        flood = Flood(server.port, wanted[:1] + wanted[-1:], HEAVY, seconds + 2)
+            attacked.expect(f"the reply to {line[:40]!r}", ask_whole(server.port, line), reply)
+        flooded = others.submit(flood, server.port, wanted[:1] + wanted[-1:], HEAVY, seconds + 2)
         time.sleep(1.5)
-        times = times_beside(tally, server.port, b"/a.txt\r\n", site.reply(b"/a.txt\r\n"), seconds)
-        right, wrong = flood.end(seconds + 300)
-        tally.expect(f"heavy searches that were answered wrongly, of {right + wrong}", wrong, 0)
-        tally.expect("some were answered", right > 0, True)
-        half, most = times[len(times) // 2], times[len(times) * 99 // 100]
-        print(f"attack: beside {right} heavy searches p50 {half:.4f} s, p99 {most:.4f} s of {len(times)} replies", flush=True)
-        tally.expect(f"the median of {half:.4f} s is below {median} s", half < median, True)
-        tally.expect(f"the 99th percentile of {most:.4f} s is below {late} s", most < late, True)
-        server.process.terminate()
-        tally.expect("a server that is ended by SIGTERM", server.end()[1:], (b"", -15))
+        half, most = times_beside(attacked, server, "heavy searches", seconds)
+        right, wrong = flooded.result(seconds + 300)
+        attacked.expect(f"heavy searches that were answered wrongly, of {right + wrong}", wrong, 0)
+        attacked.expect("some were answered", right > 0, True)
+        print(f"attack: beside {right} heavy searches p50 {half:.4f} s, p99 {most:.4f} s", flush=True)
+        attacked.expect(f"the median of {half:.4f} s is below {median} s", half < median, True)
+        attacked.expect(f"the 99th percentile of {most:.4f} s is below {late} s", most < late, True)
+        attacked.expect("a server that is ended by SIGTERM", server.terminate()[1:], (b"", -15))
 
 
 ATTACKS = (
@@ -558,27 +475,17 @@ def raise_limit():
     return most == resource.RLIM_INFINITY or most >= 4 * (SILENT + SLOW + DEAF) // 3
 
 
-def main():
-    words = argparse.ArgumentParser()
-    words.add_argument("--seconds", type=int, default=7)
-    words.add_argument("--memory", type=int, default=MOST_MEMORY)
-    words.add_argument("--heavy", action="store_true")
-    words.add_argument("program", nargs="?", default=PROGRAM)
-    given = words.parse_args()
-    if not 4 <= given.seconds <= 900:
-        words.error("--seconds is 4 to 900")
-    tally = Tally("attack")
-    tally.expect("files may be open for so many clients", raise_limit(), True)
-    with tempfile.TemporaryDirectory() as place:
-        folder = pathlib.Path(place)
-        root, files = lay_out(folder)
-        for attack in (attack_by_searches,) if given.heavy else ATTACKS:
-            try:
-                attack(tally, folder, root, files, given)
-            except OSError as error:
-                tally.expect(f"{attack.__name__} comes to its end", repr(error), None)
-    return tally.status()
+def attack_in_turn(test):
+    """Makes the attacks, each on a server of its own."""
+    test.expect("--seconds is 4 to 900", 4 <= test.given.seconds <= 900, True)
+    test.expect("files may be open for so many clients", raise_limit(), True)
+    attacked = Attacked(test)
+    for attack in (attack_by_searches,) if test.given.heavy else ATTACKS:
+        try:
+            attack(attacked)
+        except OSError as error:
+            test.expect(f"{attack.__name__} comes to its end", repr(error), None)
 
 
 if __name__ == "__main__":
-    sys.exit(main())
+    run_test("attack", __doc__, attack_in_turn, seconds=7, memory=MOST_MEMORY, heavy=False)

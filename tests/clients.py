@@ -7,26 +7,23 @@ Each of curl, lynx, gopher, sacc, vf1 and bombadillo that is on the path has to 
 search, and give an image's bytes. Those that aren't there are named, with how to install them on Debian; they count for
 nothing. Clients that want a terminal get one of 40 lines, and keys each time that they have been quiet for QUIET seconds;
 all run in a folder of their own, which is their home too. What `gopher HOST` shows, which asks by Gopher+, is printed and counts
-for nothing; the forms that docs/OPERATING.md names in its place have to show the menu. The last line is 'clients: N passed, M failed'; it takes about
-half a minute.
+for nothing; the forms that docs/OPERATING.md names in its place have to show the menu. The last line is 'clients: N passed,
+M failed'; it takes about half a minute.
 """
-import argparse
 import contextlib
 import fcntl
 import os
-import pathlib
 import pty
 import select
 import shutil
 import signal
 import struct
 import subprocess
-import sys
-import tempfile
 import termios
 import time
 
-from running.server import HOST, PROGRAM, ROOT, WAIT, Server, Tally, ask
+from running.crawled import seeded
+from running.server import HOST, ROOT, WAIT, ask, run_test, until_true
 
 QUIET = 1.0
 SOUGHT = "water not rain"
@@ -38,9 +35,6 @@ SHOWN = {
     "search": (b"A year at the pond", b"The common frog"),
 }
 NOT_A_HIT = b"How the pond was dug"
-RULES = f'''seeds = [{{ host = "{HOST}", port = PORT }}]
-allow = [{{ host = "{HOST}", port = PORT }}]
-'''
 
 
 class Asker:
@@ -55,11 +49,8 @@ class Asker:
 
     def said(self, *words, typed=""):
         """What a client writes that reads its input to the end."""
-        ran = subprocess.run(
-            words, input=typed.encode(), stdout=subprocess.PIPE, stderr=subprocess.DEVNULL, cwd=self.folder, env=self.environment,
-            timeout=WAIT,
-        )
-        return ran.stdout
+        how = {"stdout": subprocess.PIPE, "stderr": subprocess.DEVNULL, "cwd": self.folder, "env": self.environment}
+        return subprocess.run(words, input=typed.encode(), timeout=WAIT, **how).stdout
 
     def shown(self, *words, keys=()):
         """What a client writes to a terminal; it is killed once it has been quiet after the last key."""
@@ -101,14 +92,6 @@ class Asker:
         return path.read_bytes() if path.exists() else b""
 
 
-def by_curl(asker, what):
-    return asker.said("curl", "--silent", "--max-time", "10", asker.url + URLS[what])
-
-
-def by_lynx(asker, what):
-    return asker.said("lynx", "-source" if what == "image" else "-dump", asker.url + URLS[what])
-
-
 def by_vf1(asker, what):
     if what == "search":
         return asker.said("vf1", typed=f"go {asker.url}/7/search\n{SOUGHT}\nquit\n")
@@ -140,7 +123,11 @@ def by_bombadillo(asker, what):
     return asker.shown("bombadillo", asker.url + URLS[what].split("%")[0], keys=(SOUGHT + "\r",) if what == "search" else ())
 
 
-CLIENTS = {"curl": by_curl, "lynx": by_lynx, "gopher": by_gopher, "sacc": by_sacc, "vf1": by_vf1, "bombadillo": by_bombadillo}
+CLIENTS = {
+    "curl": lambda asker, what: asker.said("curl", "--silent", "--max-time", "10", asker.url + URLS[what]),
+    "lynx": lambda asker, what: asker.said("lynx", "-source" if what == "image" else "-dump", asker.url + URLS[what]),
+    "gopher": by_gopher, "sacc": by_sacc, "vf1": by_vf1, "bombadillo": by_bombadillo,
+}
 
 
 def is_right(what, got):
@@ -150,62 +137,41 @@ def is_right(what, got):
     return all(part in got for part in SHOWN[what]) and (what != "search" or NOT_A_HIT not in got)
 
 
-def wait_for_crawl(port):
-    """Waits until the server answers the search from the whole site."""
-    until = time.monotonic() + WAIT
-    while time.monotonic() < until:
-        reply = ask(port, f"/search\t{SOUGHT}\r\n".encode())
-        if all(part in reply for part in SHOWN["search"]):
-            return True
-        time.sleep(0.3)
-    return False
-
-
-def check_client(tally, name, asker):
+def check_client(test, name, asker):
     for what in WHAT:
         try:
             got = CLIENTS[name](asker, what)
         except subprocess.TimeoutExpired:
             got = b"no end in time"
-        if is_right(what, got):
-            tally.expect(name, True, True)
-        else:
-            tally.expect(f"{name} and the {what}", got[-200:], "what was asked for")
+        right = is_right(what, got)
+        test.expect(f"{name} and the {what}", True if right else got[-200:], True if right else "what was asked for")
 
 
-def check_gopher(tally, asker):
+def check_gopher(test, asker):
     """The forms of the command `gopher` without a selector of its own."""
     shown = asker.shown("gopher", HOST, str(asker.port))
-    what = "the menu" if is_right("menu", shown) else "'Nothing available'" if b"Nothing available" in shown else repr(shown[-200:])
+    nothing = b"Nothing available"
+    what = "the menu" if is_right("menu", shown) else repr(nothing if nothing in shown else shown[-200:])
     print(f"clients: gopher HOST shows {what}")
     for words in ((f"{asker.url}/1/",), ("-p", "/", HOST, str(asker.port))):
-        tally.expect(f"gopher {words[0]} shows the menu", is_right("menu", asker.shown("gopher", *words)), True)
+        test.expect(f"gopher {words[0]} shows the menu", is_right("menu", asker.shown("gopher", *words)), True)
 
 
-def main():
-    words = argparse.ArgumentParser()
-    words.add_argument("program", nargs="?", default=PROGRAM)
-    given = words.parse_args()
-    tally = Tally("clients")
+def check_clients(test):
     there = [name for name in CLIENTS if shutil.which(name)]
     missing = [name for name in CLIENTS if name not in there]
-    with tempfile.TemporaryDirectory() as place:
-        folder = pathlib.Path(place)
-        with Server(given.program, folder, ROOT / "examples/site", more=RULES, seconds=300.0) as server:
-            server.started()
-            tally.expect("the site is crawled", wait_for_crawl(server.port), True)
-            for name in there:
-                home = folder / name
-                home.mkdir()
-                asker = Asker(server.port, home)
-                check_client(tally, name, asker)
-                if name == "gopher":
-                    check_gopher(tally, asker)
+    with test.serving(ROOT / "examples/site", more=seeded(), seconds=300.0) as server:
+        found = lambda: is_right("search", ask(server.port, f"/search\t{SOUGHT}\r\n".encode()))
+        test.expect("the site is crawled", until_true(found), True)
+        for name in there:
+            asker = Asker(server.port, test.site({}, name))
+            check_client(test, name, asker)
+            if name == "gopher":
+                check_gopher(test, asker)
     print(f"clients: tried {', '.join(there) or 'none'}")
     if missing:
         print(f"clients: not installed: {', '.join(missing)} (on Debian: apt-get install {' '.join(missing)})")
-    return tally.status()
 
 
 if __name__ == "__main__":
-    sys.exit(main())
+    run_test("clients", __doc__, check_clients)

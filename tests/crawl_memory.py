@@ -1,20 +1,33 @@
 #!/usr/bin/env python3
-"""The limit of memory for the pages of a crawl: `hole serve SETTINGS --crawl-memory BYTES`.
+"""What memory crawls take, and what becomes of them without it.
 
-The program serves a folder of texts of one size and crawls itself with one worker. The size of each page follows from the
-formula in docs/SPECIFICATION.md, so it is known how many texts a limit leaves room for: a search finds exactly these. Each
-place is fetched and done all the same, and standard error says once that the crawl reached the limit. Two further folders
-have one long text each. The page of one is large, and the page of the other has the most words of a page that isn't.
+    tests/crawl_memory.py [--texts N] [PROGRAM]
+
+`hole serve SETTINGS --crawl-memory BYTES`: the program serves a folder of texts of one size and crawls itself with one worker.
+The size of each page follows from the formula in docs/SPECIFICATION.md, so it is known how many texts a limit leaves room for:
+a search finds exactly these. Each place is fetched and done all the same, and standard error says once that the crawl reached the
+limit. Two further folders have one long text each. The page of one is large, and the page of the other has the most words of a
+page that isn't.
+
+Refusals: the program crawls 150 texts of its own, while a library that is loaded before it (preloads/refusals.c) refuses every
+allocation of at least so many bytes, or one of these. Merging 64 pages takes the largest ones, of over 100,000 bytes: without
+them the crawl finds all pages, with one worker and with several. A crawl that isn't over after 30 seconds fails. Then the stacks
+of its threads take all of the program's address space. It still sends every kept reply.
+
+Large texts: the program crawls N texts (320 unless said) of 1 MiB with nothing but different words from a host of this process.
+While it crawls, it may take three times the bytes of the texts; after the crawl, twice. That includes what its four workers need
+to make pages, some 50 MiB, so it fails with fewer than some 200 texts. A search finds each text by a word that it alone has.
+
+The last lines tell what large texts took, in MiB a text, and 'crawl memory: N passed, M failed'.
 """
-import argparse
-import pathlib
-import subprocess
-import sys
-import tempfile
+import contextlib
+import itertools
+import random
+import string
 import time
 
-from running.crawled import seeded
-from running.server import HOST, PROGRAM, Server, Tally, ask, free_port
+from running.crawled import Host, crawling, searched, seeded
+from running.server import HOST, Server, ask, run_test, until_true
 
 TEXTS, WORDS = 20, 100
 # As many searches as the crawl may need to its end, at half a second each. The server ends after them.
@@ -24,12 +37,39 @@ REACHED = b"hole: the crawl reached --crawl-memory: it leaves pages out\n"
 # The words of a large page have more bytes than this, and words of 65,536 bytes have longer ends.
 LARGE, LONG = 131_072, 65_536
 UNITS = {"": 1, "K": 1 << 10, "M": 1 << 20, "G": 1 << 30}
-BAD = ("", "K", "12X", "1.5M", "64 M", "M64", "99999999999999999999", "18446744073709551615G")
+
+# Crawls with refusals.
+REFUSED_TEXTS = 150
+PLACES, MOST_PLACES = 1_000, 65_536
+MERGE = 100_000
+SIZES_REFUSED = (8_192, 16_384, 32_768, 65_536, MERGE)
+WORKERS = (1, 4)
+SECONDS_OF_A_CRAWL = 30.0
+# Until then the crawl's own fetches are all requests.
+ALONE = 2.0
+# The KiB of an address space that the program and four stacks of so many KiB fill.
+SPACE, STACK = 36 << 10, 8 << 10
+STARTS, ASKED = 6, 20
+WHOLE = f"known {REFUSED_TEXTS + 1} waiting 0 out 0 done {REFUSED_TEXTS + 1} dropped 0\n"
+
+# Large texts.
+WORDS_OF_A_TEXT, WORDS_A_LINE = 171_000, 12
+# Every 69th word of five letters: so many that 171,000 are left.
+STEP = 69
+MOST_SECONDS = 300.0
+# How long memory may take to be given back after the crawl.
+SECONDS_TO_GIVE_BACK = 20.0
+MEBIBYTE = 1 << 20
 
 
-def words_of(number):
-    """Words of a text: one that all have, and others that no other text has."""
-    return ["common", *(f"word{number * WORDS + at:05}" for at in range(WORDS))]
+def words_of(number, count=WORDS):
+    """Words of a text: one that all have, and so many that no other text has."""
+    return ["common", *(f"word{number * count + at:05}" for at in range(count))]
+
+
+def site_of(test, texts):
+    """A folder of texts, by their names and their words."""
+    return test.site({name: " ".join(words).encode() + b"\n" for name, words in texts.items()})
 
 
 def long_words(size):
@@ -53,13 +93,6 @@ def size_of_text(words):
     return size_of(words, " ".join(words)[:69])
 
 
-def make_site(root, texts):
-    """A folder of texts, each by its name and its words."""
-    root.mkdir()
-    for name, words in texts.items():
-        (root / name).write_text(" ".join(words) + "\n")
-
-
 def hits(port, found):
     """How many texts a search finds at the end of the crawl: the lines of its last reply, without the period."""
     last = None
@@ -69,65 +102,136 @@ def hits(port, found):
     return last
 
 
-def check_limit(tally, program, folder, root, limit, found, told, words=(), texts=TEXTS):
-    """A crawl with a limit finds so many texts, and says so or doesn't."""
+def check_limit(test, texts, limit, found, told, *words):
+    """A crawl of these texts, by their names, with a limit finds so many of them, and says so or doesn't."""
     given = () if limit is None else ("--crawl-memory", limit)
-    ends = ("--requests", str(texts + 1 + SEARCHES))
-    end = f"known {texts + 1} waiting 0 out 0 done {texts + 1} dropped 0\n".encode()
-    port = free_port()
-    settings = seeded(port, "tries = 1\nworkers = 1\nthreads = 1")
-    with Server(program, folder, root, settings, (*given, *words, *ends), port) as server:
-        server.started()
-        tally.expect(f"{limit}: texts found", hits(server.port, found), found)
+    root = site_of(test, texts)
+    known = len(texts) + 1
+    settings = seeded(more="tries = 1\nworkers = 1\nthreads = 1")
+    with test.serving(root, *given, *words, "--requests", known + SEARCHES, more=settings) as server:
+        test.expect(f"{limit}: texts found", hits(server.port, found), found)
         output, error, status = server.end()
-        tally.expect(f"{limit}: output and status", (output, status), (end, 0))
-        tally.expect(f"{limit}: told", error.count(REACHED), told)
+        sizes = f"known {known} waiting 0 out 0 done {known} dropped 0\n"
+        test.expect(f"{limit}: output and status", (output.decode(), status), (sizes, 0))
+        test.expect(f"{limit}: told", error.count(REACHED), told)
 
 
-def check_long_text(tally, program, folder, size):
-    """A long text, whose words have so many bytes, and a short one count for their sizes."""
-    texts = {"long.txt": long_words(size), "short.txt": words_of(0)}
-    root = folder / f"site{size}"
-    make_site(root, texts)
-    most = size_of_menu(texts) + sum(map(size_of_text, texts.values()))
-    check_limit(tally, program, folder, root, str(most), 2, 0, texts=2)
-    check_limit(tally, program, folder, root, str(most - 1), 1, 1, texts=2)
-
-
-def check_arguments(tally, program, folder, root):
-    """Limits that are no number of bytes are bad arguments."""
-    for bad in BAD:
-        words = [program, "serve", folder / "none.toml", f"--crawl-memory={bad}"]
-        ended = subprocess.run(words, stdin=subprocess.DEVNULL, capture_output=True)
-        tally.expect(f"{bad!r}: status and output", (ended.returncode, ended.stdout), (2, b""))
-        tally.expect(f"{bad!r}: told", b"--crawl-memory" in ended.stderr, True)
-
-
-def main():
-    parser = argparse.ArgumentParser(description=__doc__.splitlines()[0])
-    parser.add_argument("program", nargs="?", type=pathlib.Path, default=PROGRAM)
-    program = parser.parse_args().program.resolve()
-    tally = Tally("crawl memory")
+def check_limits(test):
+    """Limits of bytes, at the sizes of pages and beside them, with and without a unit."""
+    texts = {name: words_of(number) for number, name in enumerate(NAMES)}
     menu, text = size_of_menu(NAMES), size_of_text(words_of(0))
-    with tempfile.TemporaryDirectory() as folder:
-        folder = pathlib.Path(folder)
-        root = folder / "site"
-        make_site(root, {name: words_of(number) for number, name in enumerate(NAMES)})
-        check_limit(tally, program, folder, root, None, TEXTS, 0)
-        check_limit(tally, program, folder, root, str(menu + TEXTS * text), TEXTS, 0)
-        check_limit(tally, program, folder, root, str(menu + TEXTS * text - 1), TEXTS - 1, 1)
-        check_limit(tally, program, folder, root, str(menu + 7 * text), 7, 1)
-        check_limit(tally, program, folder, root, str(menu + 7 * text), 7, 1, ("--progress",))
-        check_limit(tally, program, folder, root, "64M", TEXTS, 0)
-        for unit, size in UNITS.items():
-            room = -(-(menu + 3 * text) // size)
-            found = min((room * size - menu) // text, TEXTS)
-            check_limit(tally, program, folder, root, f"{room}{unit}", found, int(found < TEXTS))
-        for size in (LARGE, LARGE + 1):
-            check_long_text(tally, program, folder, size)
-        check_arguments(tally, program, folder, root)
-    return tally.status()
+    rows = [
+        (None, TEXTS, 0), (menu + TEXTS * text, TEXTS, 0), (menu + TEXTS * text - 1, TEXTS - 1, 1), (menu + 7 * text, 7, 1),
+        (menu + 7 * text, 7, 1, "--progress"), ("64M", TEXTS, 0),
+    ]
+    for unit, size in UNITS.items():
+        room = -(-(menu + 3 * text) // size)
+        found = min((room * size - menu) // text, TEXTS)
+        rows.append((f"{room}{unit}", found, int(found < TEXTS)))
+    for row in rows:
+        check_limit(test, texts, *row)
+
+
+def check_long_texts(test):
+    """Long texts, whose words have so many bytes, and a short one count for their sizes."""
+    for size in (LARGE, LARGE + 1):
+        texts = {"long.txt": long_words(size), "short.txt": words_of(0)}
+        most = size_of_menu(texts) + sum(map(size_of_text, texts.values()))
+        check_limit(test, texts, most, 2, 0)
+        check_limit(test, texts, most - 1, 1, 1)
+
+
+def refused_site(test, count):
+    return site_of(test, {f"text{number}.txt": words_of(number, count) for number in range(REFUSED_TEXTS)})
+
+
+def last_line(test, root, workers, least, refused):
+    """What a server writes last that crawls itself, or that it didn't end; and how many allocations of that size it asked for."""
+    counted = test.folder / "counted"
+    counted.write_text("0\n")
+    how = {
+        "more": seeded(more=f"places = {PLACES}\ntries = 1\nworkers = {workers}\nthreads = 2"), "seconds": SECONDS_OF_A_CRAWL,
+        "before": test.preload("refusals", LEAST=least, REFUSED=refused, COUNTED=counted),
+    }
+    with Server(test, root, "--requests", REFUSED_TEXTS + 1, **how) as server:
+        begin = time.monotonic()
+        while server.process.poll() is None:
+            time.sleep(0.01)
+            if time.monotonic() > begin + ALONE:
+                # one of the requests after which the server ends, in the place of a fetch that the crawl didn't make
+                with contextlib.suppress(OSError):
+                    ask(server.port, b"\r\n")
+        output, errors, status = server.end()
+        if status < 0:
+            return "didn't end", 0
+        return (output + errors).decode().splitlines(keepends=True)[-1], int(counted.read_text())
+
+
+def is_end(line):
+    """Whether a server ended as it does when out of memory: it printed the sizes of its crawl, or 90."""
+    return line == "hole: 90\n" or (line.startswith("known ") and " out 0 " in line)
+
+
+def check_refused(test):
+    """Crawls that are refused all allocations of a size, those for a merge, each of these in turn, and none."""
+    root = refused_site(test, WORDS)
+    for workers in WORKERS:
+        for least in SIZES_REFUSED:
+            line, _ = last_line(test, root, workers, least, "all")
+            test.expect(f"{workers} workers, {least} bytes refused: {line!r} is an end", is_end(line), True)
+        line, merges = last_line(test, root, workers, MERGE, "all")
+        test.expect(f"{workers} workers, no merge", line, WHOLE)
+        test.expect(f"{workers} workers, a merge was refused", merges > 0, True)
+        _, merges = last_line(test, root, workers, MERGE, 0)
+        for number in range(merges + 2):
+            line, _ = last_line(test, root, workers, MERGE, number)
+            test.expect(f"{workers} workers, large allocation {number} refused", line, WHOLE)
+
+
+def check_full(test):
+    """Without memory, replies to the first text and to a selector that names nothing come all the same."""
+    root, more = refused_site(test, 1), seeded(more=f"places = {MOST_PLACES}\ntries = 1\nworkers = 4\nthreads = 2")
+    before = ("sh", "-c", f'ulimit -s {STACK}; ulimit -v {SPACE}; exec "$@"', "sh")
+    for start in range(STARTS):
+        with test.serving(root, "--progress", more=more, before=before) as server:
+            time.sleep(ALONE)
+            gone = sum(ask(server.port, line) == b"" for _ in range(ASKED) for line in (b"/text0.txt\r\n", b"nothing\r\n"))
+            test.expect(f"start {start}, memory is gone: replies that don't come", gone, 0)
+
+
+def first_text():
+    """The lines of a text of different words of five letters."""
+    words = itertools.islice(itertools.product(string.ascii_lowercase, repeat=5), 0, WORDS_OF_A_TEXT * STEP, STEP)
+    joined = ["".join(word) for word in words]
+    return "".join(" ".join(joined[at:at + WORDS_A_LINE]) + "\r\n" for at in range(0, WORDS_OF_A_TEXT, WORDS_A_LINE)).encode()
+
+
+def large_texts(count):
+    """Texts with other letters in place of those of the first, so that their words differ; each begins with a word of its own."""
+    draw, text = random.Random(1436), first_text()
+    for number in range(count):
+        letters = "".join(draw.sample(string.ascii_lowercase, 26))
+        yield b"only%d\r\n%s.\r\n" % (number, text.translate(bytes.maketrans(string.ascii_lowercase.encode(), letters.encode())))
+
+
+def check_memory(test):
+    """Crawls the texts, finds each, and looks at the memory that the server holds."""
+    count = test.given.texts
+    texts = {b"/%d" % number: text for number, text in enumerate(large_texts(count))}
+    size = sum(map(len, texts.values())) / MEBIBYTE
+    with Host(lambda line: texts.get(line) or host.menu(b"0", texts)) as host:
+        settings = seeded(host.port, f"places = {count + 1}\nworkers = 4\nthreads = 1")
+        with crawling(test, settings, seconds=2 * MOST_SECONDS) as server:
+            is_found = lambda number: searched(server, b"only%d" % number) == [b"/%d" % number]
+            is_crawled = until_true(lambda: all(map(is_found, reversed(range(count)))), MOST_SECONDS, 0.2)
+            test.expect("each text is found", is_crawled, True)
+            until_true(lambda: server.memory() / 1024 <= 2 * size, SECONDS_TO_GIVE_BACK)
+            now, most = server.memory() / 1024, server.memory("VmHWM") / 1024
+    taken, peak = now / count, most / count
+    print(f"large texts: {size / count:.2f} MiB of text take {taken:.2f} MiB, and {peak:.2f} at the peak")
+    test.expect(f"{most:.0f} MiB at the peak are at most three times {size:.0f}", most <= 3 * size, True)
+    test.expect(f"{now:.0f} MiB are at most twice {size:.0f}", now <= 2 * size, True)
 
 
 if __name__ == "__main__":
-    sys.exit(main())
+    run_test("crawl memory", __doc__, check_limits, check_long_texts, check_refused, check_full, check_memory, texts=320)

@@ -5,17 +5,15 @@
 
 The largest host has a menu of menus, of which each leads to 128 texts. N is 10,000 unless said. Another host counts what it is
 asked for: what the rules allow, once, and a place that can't be fetched as often as the settings say; --progress names each
-place that failed for good. A crawl of a host where nobody listens ends. The words of a text that comes in pieces are those of its
+place that failed for good. A crawl of places where nobody listens ends. The words of a text that comes in pieces are those of its
 bytes. As many workers fetch at once as the settings say. The last line is 'crawling: N passed, M failed'.
 """
-import argparse
 import collections
-import sys
 import threading
 import time
 
-from running.crawled import SECONDS_FOR_ALL, Host, crawling, found_at_last, searched, seeded, until_true
-from running.server import HOST, PROGRAM, Tally, ask, free_port
+from running.crawled import SECONDS_FOR_ALL, Host, crawling, found_at_last, searched, seeded
+from running.server import HOST, ask, free_port, run_test, until_true
 
 MOST_SECONDS = 300.0
 MOST_HITS = 50
@@ -40,8 +38,9 @@ def is_crawled(server, texts):
     return all(until_true(lambda: searched(server, b"p%d" % text) == [b"/%d" % text], until - time.monotonic()) for text in texts)
 
 
-def check_crawl(tally, program, pages):
+def check_crawl(test):
     """Crawls a host of many texts, and searches rare and common words of them."""
+    pages = test.given.pages
     names, may_end = [b"/%d" % number for number in range(pages)], threading.Event()
 
     def answer(line):
@@ -52,18 +51,18 @@ def check_crawl(tally, program, pages):
     with Host(answer) as host:
         replies = host.menus({name: b"moon p%s\r\n.\r\n" % name[1:] for name in names})
         settings = seeded(host.port, f"places = {min(2 * pages, 65_536)}\nworkers = 16")
-        with crawling(program, settings, seconds=2 * MOST_SECONDS) as server:
+        with crawling(test, settings, seconds=2 * MOST_SECONDS) as server:
             found = is_crawled(server, [pages - 2, *range(0, pages, 1_000)])
-            tally.expect("before the crawl's end each thousandth text is found, and the last but one", found, True)
+            test.expect("before the crawl's end each thousandth text is found, and the last but one", found, True)
             may_end.set()
-            tally.expect("the last text is found", is_crawled(server, [pages - 1]), True)
+            test.expect("the last text is found", is_crawled(server, [pages - 1]), True)
             first = sorted(names)[:MOST_HITS]
-            tally.expect("a word of all texts", found_at_last(server, b"moon", first), first)
+            test.expect("a word of all texts", found_at_last(server, b"moon", first), first)
             without = [name for name in sorted(names) if name != b"/0"][:MOST_HITS]
-            tally.expect("a beginning of all words but one", searched(server, b"p* not p0"), without)
+            test.expect("a beginning of all words but one", searched(server, b"p* not p0"), without)
 
 
-def check_limits(tally, program):
+def check_limits(test):
     """Crawls a menu with a text, texts whose fetches fail, one of them only once, and one that a rule denies."""
     replies = {b"/long": TOO_LONG, b"/text": MOON, b"/late": MOON}
 
@@ -73,51 +72,40 @@ def check_limits(tally, program):
     with Host(answer) as host:
         replies[b""] = host.menu(b"0", (b"/text", b"/fails", b"/late", b"/long", b"/private/text", b"/text"))
         denied = f'[[deny]]\nhost = "{HOST}"\nport = {host.port}\nprefix = "/private"\n'
-        with crawling(program, seeded(host.port, f"tries = {TRIES}") + denied, ("--progress", "--requests", "1")) as server:
+        with crawling(test, seeded(host.port, f"tries = {TRIES}") + denied, "--progress", "--requests", 1) as server:
             until_true(lambda: min(map(host.asked.count, (b"/fails", b"/long"))) >= TRIES)
             time.sleep(SECONDS_AFTER)
             wanted = {b"": 1, b"/text": 1, b"/fails": TRIES, b"/late": 2, b"/long": TRIES}
-            tally.expect("what a host is asked for, and how often", dict(collections.Counter(host.asked)), wanted)
+            test.expect("what a host is asked for, and how often", dict(collections.Counter(host.asked)), wanted)
             ask(server.port, b"\r\n")
             output, error, status = server.end()
         sizes = b"known 5 waiting 0 out 0 done 5 dropped 0"
-        tally.expect("the end of a crawl with failed places", (output, status), (sizes + b"\n", 0))
+        test.expect("the end of a crawl with failed places", (output, status), (sizes + b"\n", 0))
         failed = (("read 2", "fails"), ("too long 4", "long"))
         lines = [f"hole: failed: {why}: 0 {HOST} {host.port} /{name}" for why, name in failed]
         told = error.decode().splitlines()
-        tally.expect("the places that failed for good", sorted(told[:-1]), lines)
-        tally.expect("how many they are", told[-1:], [sizes.decode() + " failed 2"])
+        test.expect("the places that failed for good", sorted(told[:-1]), lines)
+        test.expect("how many they are", told[-1:], [sizes.decode() + " failed 2"])
 
 
-def check_absent(tally, program):
-    """Crawls a host where nobody listens: each try fails, and the crawl ends."""
-    port, sizes = free_port(), b"known 1 waiting 0 out 0 done 1 dropped 0"
-    told = b"hole: failed: connect 1: 1 %s %d \n" % (HOST.encode(), port) + sizes + b" failed 1\n"
-    for words, error in ((), b""), (("--progress",), told):
-        with crawling(program, seeded(port, f"tries = {TRIES}"), ("--requests", "1", *words)) as server:
-            time.sleep(SECONDS_AFTER)
-            ask(server.port, b"\r\n")
-            tally.expect(f"a crawl of nobody with {words}", server.end(), (sizes + b"\n", error, 0))
-
-
-def check_many_failures(tally, program):
+def check_many_failures(test):
     """Crawls a menu of places where nobody listens: the first thousand that fail are printed, and the others counted."""
     absent, count = free_port(), MOST_PRINTED + MORE
     with Host(lambda line: menu) as host:
         # What a terminal would obey isn't printed as it is.
         menu = host.menu(b"0", (b"/%d\x1b[2J" % number for number in range(count)), absent)
         settings = seeded(host.port, f"places = {2 * count}", allow=[absent])
-        with crawling(program, settings, ("--progress", "--requests", "0")) as server:
+        with crawling(test, settings, "--progress", "--requests", 0) as server:
             output, error, status = server.end()
     sizes = f"known {count + 1} waiting 0 out 0 done {count + 1} dropped 0\n"
-    tally.expect("the end of a crawl of many failures", (output.decode(), status), (sizes, 0))
+    test.expect("the end of a crawl of many failures", (output.decode(), status), (sizes, 0))
     lines = error.decode().splitlines()
     printed = {line for line in lines if line.startswith("hole: failed: ")}
     wanted = {f"hole: failed: connect 1: 0 {HOST} {absent} /{number}\\x1b[2J" for number in range(count)}
-    tally.expect("how many failed places are printed", len(printed), MOST_PRINTED)
-    tally.expect("they are places that failed", printed <= wanted, True)
+    test.expect("how many failed places are printed", len(printed), MOST_PRINTED)
+    test.expect("they are places that failed", printed <= wanted, True)
     last = [f"{sizes[:-1]} failed {count}", f"hole: failed places that aren't printed: {MORE}"]
-    tally.expect("the last lines", lines[-2:], last)
+    test.expect("the last lines", lines[-2:], last)
 
 
 def in_pieces(_line):
@@ -127,24 +115,24 @@ def in_pieces(_line):
         time.sleep(SECONDS_BETWEEN)
 
 
-def check_pieces(tally, program):
+def check_pieces(test):
     """Crawls a text that comes in pieces: its title and its words are those of all of its bytes up to the last line."""
-    with Host(in_pieces) as host, crawling(program, seeded(host.port, seed='type = "0"\nselector = "/text"\n')) as server:
+    with Host(in_pieces) as host, crawling(test, seeded(host.port, seed='type = "0"\nselector = "/text"\n')) as server:
         found_at_last(server, b"moon", [b"/text"])
         hit = b"0The title of a text\t/text\t%s\t%d\r\n.\r\n" % (HOST.encode(), host.port)
         for word in b"the title of a text alphabet moon stuffed".split():
-            tally.expect(f"{word} of a text in pieces", ask(server.port, b"/search\t%s\r\n" % word), hit)
+            test.expect(f"{word} of a text in pieces", ask(server.port, b"/search\t%s\r\n" % word), hit)
         for word in b"ti tle alpha bet afterwards".split():
-            tally.expect(f"{word} isn't in a text in pieces", ask(server.port, b"/search\t%s\r\n" % word), b".\r\n")
+            test.expect(f"{word} isn't in a text in pieces", ask(server.port, b"/search\t%s\r\n" % word), b".\r\n")
 
 
-def check_workers(tally, program):
+def check_workers(test):
     """As many workers as the settings say fetch at once, and no more."""
     for workers, texts in WORKERS.items():
-        check_held(tally, program, workers, sorted(b"/%d" % number for number in range(texts)))
+        check_held(test, workers, sorted(b"/%d" % number for number in range(texts)))
 
 
-def check_held(tally, program, workers, names):
+def check_held(test, workers, names):
     """So many workers fetch at once: no text is sent before as many ask, and a while longer."""
     changed, asking, most = threading.Condition(), 0, 0
 
@@ -162,22 +150,11 @@ def check_held(tally, program, workers, names):
             asking -= 1
         return MOON
 
-    with Host(answer) as host, crawling(program, seeded(host.port, f"workers = {workers}")) as server:
-        tally.expect("each held text is found", found_at_last(server, b"moon", names), names)
-    tally.expect("how many workers fetch at once", most, workers)
-
-
-def main():
-    words = argparse.ArgumentParser()
-    words.add_argument("--pages", type=int, default=10_000)
-    words.add_argument("program", nargs="?", default=PROGRAM)
-    given = words.parse_args()
-    tally = Tally("crawling")
-    for check in (check_limits, check_absent, check_many_failures, check_pieces, check_workers):
-        check(tally, given.program)
-    check_crawl(tally, given.program, given.pages)
-    return tally.status()
+    with Host(answer) as host, crawling(test, seeded(host.port, f"workers = {workers}")) as server:
+        test.expect("each held text is found", found_at_last(server, b"moon", names), names)
+    test.expect("how many workers fetch at once", most, workers)
 
 
 if __name__ == "__main__":
-    sys.exit(main())
+    checks = (check_limits, check_many_failures, check_pieces, check_workers, check_crawl)
+    run_test("crawling", __doc__, *checks, pages=10_000)

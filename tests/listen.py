@@ -6,21 +6,16 @@ handed, and check them.
 
 The last line is 'listen: N passed, M failed'. It takes some seconds.
 """
-import argparse
-import pathlib
 import re
 import socket
-import subprocess
 import sys
-import tempfile
 
-from running.server import HOST, PROGRAM, WAIT, Server, Tally, ask, free_port
+from running.server import HOST, ask, free_port, run_test
 
-OTHER, REPLY = "127.0.0.2", b"hello\r\n.\r\n"
-NO_ADDRESSES = (
-    "", "localhost", "127.0.0", "127.0.0.1:", "127.0.0.1:0", "127.0.0.1:65536", "127.0.0.1:70x", "[127.0.0.1]", "::1]", "[::1",
-    "[::1]:", "1:2",
-)
+FILES = {"a.txt": b"hello\n"}
+OTHER, ABSENT, REPLY = "127.0.0.2", "192.0.2.1", b"hello\r\n.\r\n"
+NOT_LISTENING = b"hole: 81\n"
+NO_SEEDS = "warning: searches find nothing, because the settings have no [[seeds]]\n"
 
 
 def has_ipv6():
@@ -34,52 +29,51 @@ def has_ipv6():
 
 def listens(port, host):
     try:
-        socket.create_connection((host, port), timeout=WAIT).close()
-        return True
+        return ask(port, b"/a.txt\r\n", host) == REPLY
     except OSError:
         return False
 
 
-def check_two(tally, program, folder, root):
-    """Two addresses are served, and --requests counts the connections of both."""
-    words = ["--requests", "4", "--listen", HOST, "--listen", OTHER]
-    with Server(program, folder, root, words=words, more="threads = 2\n") as server:
-        tally.expect("two addresses: are told as one host", server.started(), f"listening {HOST} {server.port}\n".encode())
-        for host in (HOST, OTHER, OTHER, HOST):
-            tally.expect(f"two addresses: a text from {host}", ask(server.port, b"/a.txt\r\n", host), REPLY)
+def listening(test, root, *words, hosts=(HOST,), **how):
+    """Expects a server with these words to serve a text at each of these hosts, which may have a port of their own."""
+    with test.serving(root, "--requests", len(hosts), *words, **how) as server:
+        for each in hosts:
+            host, port = each if isinstance(each, tuple) else (each, server.port)
+            test.expect(f"{words}: a text from {host}", ask(port, b"/a.txt\r\n", host), REPLY)
         output, error, status = server.end()
-        tally.expect("two addresses: four connections of both end it", (output[:6], error, status), (b"known ", b"", 0))
-    with Server(program, folder, root, words=["--requests", "1"]) as server:
-        server.started()
-        tally.expect("without --listen another address isn't served", listens(server.port, OTHER), False)
-        tally.expect("without --listen the host is", ask(server.port, b"/a.txt\r\n"), REPLY)
+        test.expect(f"{words}: as many connections end it", (output[:6], status), (b"known ", 0))
+        return server.port, error
 
 
-def check_ports(tally, program, folder, root):
-    """An address may have a port of its own; menus name the settings' port."""
-    port = free_port()
-    with Server(program, folder, root, words=["--requests", "1", "--listen", f"{OTHER}:{port}"]) as server:
-        told = f"listening {HOST} {server.port}\n".encode()
-        tally.expect("a port of its own: the settings' address is told", server.started(), told)
+def fails_to_listen(test, root, cause, *words, **how):
+    """Expects a server that can't listen to say so, and why with --progress."""
+    test.expect(f"{cause}: one line", test.ended(root, *words, **how), (b"", NOT_LISTENING, 1))
+    output, error, status = test.ended(root, "--progress", *words, **how)
+    told, last = error.splitlines(True)[0].decode(), error.splitlines(True)[1:]
+    test.expect(f"{cause}, with --progress", (output, cause in told, last, status), (b"", True, [NOT_LISTENING], 1))
+
+
+def check_named(test):
+    """Named addresses are served in place of the host, may have a port of their own, and all count for --requests."""
+    root, port = test.site(FILES), free_port()
+    listening(test, root, "--listen", HOST, "--listen", OTHER, hosts=(HOST, OTHER, OTHER, HOST), more="threads = 2\n")
+    with test.serving(root, "--requests", 1, "--listen", f"{OTHER}:{port}") as server:
         menu = ask(port, b"\r\n", OTHER)
-        tally.expect("a port of its own: menus name the settings' port", f"\t{HOST}\t{server.port}\r\n".encode() in menu, True)
+        test.expect("a port of its own: menus name the settings' port", f"\t{HOST}\t{server.port}\r\n".encode() in menu, True)
+    with test.serving(root) as server:
+        are_served = [listens(server.port, host) for host in (HOST, OTHER)]
+        test.expect("without --listen the host alone is served", are_served, [True, False])
     if not has_ipv6():
-        print("listen: skipped: this machine has no IPv6")
-        return
-    for word in ("::1", "[::1]", f"[::1]:{port}"):
-        with Server(program, folder, root, words=["--requests", "1", "--listen", word]) as server:
-            server.started()
-            served = port if word.endswith(str(port)) else server.port
-            tally.expect(f"{word} is served", ask(served, b"/a.txt\r\n", "::1"), REPLY)
-    with Server(program, folder, root, words=["--requests", "2", "--listen", "[::]"]) as server:
-        server.started()
-        for host in ("::1", HOST):
-            tally.expect(f"[::] is served at {host}", ask(server.port, b"/a.txt\r\n", host), REPLY)
+        return print("listen: skipped: this machine has no IPv6")
+    listening(test, root, "--listen", "::1", hosts=("::1",))
+    listening(test, root, "--listen", "[::1]", hosts=("::1",))
+    listening(test, root, "--listen", f"[::1]:{port}", hosts=(("::1", port),))
+    listening(test, root, "--listen", "[::]", hosts=("::1", HOST))
 
 
-def hand_over(sockets, receiver="os.getpid()"):
-    """What starts a program with these sockets as those of socket activation, sd_listen_fds(3), for itself or another process."""
-    numbers = [str(each.fileno()) for each in sockets]
+def handing_over(*sockets, receiver="os.getpid()"):
+    """How to start a program with these sockets as those of socket activation, sd_listen_fds(3), for itself or another process."""
+    numbers = [each.fileno() for each in sockets]
     code = (
         "import fcntl, os, sys\n"
         "kept = [fcntl.fcntl(int(number), fcntl.F_DUPFD, 100) for number in sys.argv[1].split(',')]\n"
@@ -87,156 +81,87 @@ def hand_over(sockets, receiver="os.getpid()"):
         f"os.environ.update(LISTEN_PID=str({receiver}), LISTEN_FDS=str(len(kept)))\n"
         "os.execv(sys.argv[2], sys.argv[2:])\n"
     )
-    return (sys.executable, "-c", code, ",".join(numbers))
+    return {"before": (sys.executable, "-c", code, ",".join(map(str, numbers))), "pass_fds": numbers}
 
 
-def check_addresses(tally, program, folder, root):
-    """Each address of a host is served, and one that can be bound is enough."""
-    found = {info[4][0] for info in socket.getaddrinfo("localhost", None, type=socket.SOCK_STREAM)}
-    with Server(program, folder, root, host="localhost", words=("--requests", str(len(found)))) as server:
-        tally.expect("the line of a host", server.started(), f"listening localhost {server.port}\n".encode())
-        for address in sorted(found):
-            tally.expect(f"a text at {address}", ask(server.port, b"/a.txt\r\n", address), b"hello\r\n.\r\n")
-        tally.expect("the end of a host", server.end()[1:], (b"", 0))
-    if len(found) < 2:
-        print(f"listen: localhost has one address here: {found}")
-        return
-    with socket.socket() as taken:
-        taken.bind(("127.0.0.1", 0))
-        taken.listen()
+def check_addresses(test):
+    """Each address of a host is served, and one that can be bound is enough; 81 if none can be."""
+    root = test.site(FILES)
+    found = sorted({info[4][0] for info in socket.getaddrinfo("localhost", None, type=socket.SOCK_STREAM)})
+    listening(test, root, host="localhost", hosts=found)
+    fails_to_listen(test, root, ABSENT, "--listen", ABSENT)
+    with socket.create_server((HOST, 0)) as taken:
+        port = taken.getsockname()[1]
+        fails_to_listen(test, root, f"hole: can't listen at {HOST}:{port}: ", port=port)
+        if len(found) < 2:
+            return print(f"listen: localhost has one address here: {found}")
         for words in (), ("--progress",):
-            with Server(program, folder, root, host="localhost", port=taken.getsockname()[1], words=("--requests", "1", *words)) as server:
-                tally.expect("the line of half a host", server.started(), f"listening localhost {server.port}\n".encode())
-                tally.expect("a text at ::1", ask(server.port, b"/a.txt\r\n", "::1"), b"hello\r\n.\r\n")
-                told = f"hole: can't listen at 127.0.0.1:{server.port}: ".encode() in server.end()[1]
-                tally.expect(f"whether the other is told with {words}", told, bool(words))
+            _, error = listening(test, root, *words, host="localhost", port=port, hosts=("::1",))
+            told = f"hole: can't listen at 127.0.0.1:{port}: ".encode() in error
+            test.expect(f"whether the other is told with {words}", told, bool(words))
 
 
-def check_activation(tally, program, folder, root):
+def check_activation(test):
     """Sockets that are handed over are served in place of the settings' address; one that is no listener ends the threads."""
-    with socket.socket() as first, socket.socket() as second, socket.socket() as other:
-        for each in (first, second):
-            each.bind((HOST, 0))
-            each.listen()
-        ports = [each.getsockname()[1] for each in (first, second)]
-        for each in (first, second, other):
-            each.set_inheritable(True)
-        server = Server(program, folder, root, before=hand_over((first, second)), words=("--requests", "2"), fds=(first, second))
-        with server:
-            server.started()
-            for port in ports:
-                tally.expect("a text at a socket that was handed over", ask(port, b"/a.txt\r\n"), b"hello\r\n.\r\n")
-            tally.expect("the end of handed over sockets", server.end()[1:], (b"", 0))
-        before = hand_over((first,), "os.getppid()")
-        with Server(program, folder, root, before=before, words=("--requests", "1"), fds=(first,)) as server:
-            tally.expect("sockets of another process: the line", server.started(), f"listening {HOST} {server.port}\n".encode())
-            tally.expect("sockets of another process: a text at the host", ask(server.port, b"/a.txt\r\n"), REPLY)
+    root = test.site(FILES)
+    with socket.create_server((HOST, 0)) as first, socket.create_server((HOST, 0)) as second, socket.socket() as other:
+        places = [(HOST, each.getsockname()[1]) for each in (first, second)]
+        listening(test, root, hosts=places, **handing_over(first, second))
+        listening(test, root, **handing_over(first, receiver="os.getppid()"))
         other.bind((HOST, 0))
-        with Server(program, folder, root, before=hand_over((other,)), fds=(other,)) as server:
-            tally.expect("a socket that doesn't listen", server.end()[1:], (b"hole: 81\n", 1))
-        with Server(program, folder, root, before=hand_over((other,)), fds=(other,), words=("--progress",)) as server:
-            output, error, status = server.end()
-            tally.expect("the same with --progress", (error.splitlines()[-1], status), (b"hole: 81", 1))
-            tally.expect("what is told of it", b"hole: connections can't be accepted: " in error, True)
+        test.expect("a socket that doesn't listen", test.ended(root, **handing_over(other))[1:], (NOT_LISTENING, 1))
+        _, error, status = test.ended(root, "--progress", **handing_over(other))
+        told = (b"hole: connections can't be accepted: " in error, error.splitlines()[-1], status)
+        test.expect("the same with --progress", told, (True, b"hole: 81", 1))
 
 
-def check_refusals(tally, program, folder, root):
-    """Arguments that are no addresses are bad; with --progress, addresses that can't be bound are named."""
-    for word in NO_ADDRESSES:
-        with Server(program, folder, root, words=["--listen", word]) as server:
-            output, error, status = server.end()
-            is_told = b"error: " in error and b"--listen <ADDRESS>" in error
-            tally.expect(f"--listen {word!r}: bad arguments", (output, is_told, status), (b"", True, 2))
-    with Server(program, folder, root, words=["--listen", "192.0.2.1"]) as server:
-        tally.expect("an address of another machine: one line", server.end(), (b"", b"hole: 81\n", 1))
-    with Server(program, folder, root, words=["--listen", "192.0.2.1", "--progress"]) as server:
-        output, error, status = server.end()
-        told, last = error.split(b"\n")[0], error.split(b"\n")[1:]
-        tally.expect("an address of another machine", (output, b"192.0.2.1" in told, last, status), (b"", True, [b"hole: 81", b""], 1))
+class Checks:
+    """Checks of a site at one port."""
+
+    def __init__(self, test):
+        self.test, self.root, self.port = test, test.site(FILES), free_port()
+        self.settings = test.folder / "check.toml"
+
+    def lines(self, host, *words):
+        """What a check of a host prints of addresses, its line on standard error and its status."""
+        self.settings.write_text(f'host = "{host}"\nport = {self.port}\nroot = "{self.root}"\n')
+        output, error, status = self.test.run("check", self.settings, *words)
+        counts, warning, rest = output.decode().partition(NO_SEEDS)
+        self.test.expect(f"a check of {host} {words} without seeds", (counts[-9:], bool(warning)), ("bytes: 6\n", True))
+        return rest, error, status
+
+    def expect(self, words, pattern, is_sound):
+        """Expects such lines, whose addresses of this host stand as HERE."""
+        lines, error, status = self.lines(*words)
+        pattern = pattern.replace("HERE", f"{HOST}:{self.port}") + ("sound\n" if is_sound else "")
+        ended = (b"", 0) if is_sound else (NOT_LISTENING, 1)
+        found = (bool(re.fullmatch(pattern, lines)), error, status)
+        self.test.expect(f"a check of {words} is {lines!r}", found, (True, *ended))
 
 
-def check_usage(tally, program):
-    for words in (["replay", "a"], ["replay", "--help"]):
-        ran = subprocess.run([str(program), *words], capture_output=True, timeout=WAIT)
-        told = b"Usage: hole replay < SCRIPT\n" in ran.stdout + ran.stderr
-        tally.expect(f"{words}: how a script is given", (told, ran.returncode), (True, 2 if words[1] == "a" else 0))
-    for word in NO_ADDRESSES:
-        ran = subprocess.run([str(program), "check", "a.toml", "--listen", word], capture_output=True, timeout=WAIT)
-        told = b"--listen <ADDRESS>" in ran.stderr and b"hole check --help" in ran.stderr
-        tally.expect(f"check --listen {word!r}: bad arguments", (ran.stdout, told, ran.returncode), (b"", True, 2))
-    for words in (["serve"], ["serve", "a", "b"], ["check"]):
-        ran = subprocess.run([str(program), *words], capture_output=True, timeout=WAIT)
-        usage = f"\nUsage: hole {words[0]} ".encode()
-        tally.expect(f"{words}: how it is used", (ran.stdout, usage in ran.stderr, ran.returncode), (b"", True, 2))
-    shown = subprocess.run([str(program), "serve", "--help"], capture_output=True, timeout=WAIT).stdout
-    parts = (b"\nUsage: hole serve [OPTIONS] <SETTINGS>\n", b"--listen <ADDRESS>")
-    tally.expect("serve --help", [part in shown for part in parts], [True, True])
-
-
-def check_checks(tally, program, folder, root):
-    """`hole check` resolves the host, or binds addresses, and prints what the system says of each."""
-    port = free_port()
-    settings = folder / "check.toml"
-
-    def run(host, *words):
-        settings.write_text(f'host = "{host}"\nport = {port}\nroot = "{root}"\n')
-        ran = subprocess.run([str(program), "check", str(settings), *words], capture_output=True, timeout=6 * WAIT)
-        lines = ran.stdout[ran.stdout.rindex(b"bytes: 6\n") + 9 :].decode()
-        warning, end, rest = lines.partition("[[seeds]]\n")
-        is_warned = warning == "warning: searches find nothing, because the settings have no " and bool(end)
-        tally.expect(f"a check of {host} {words} without seeds", is_warned, True)
-        return rest, ran.stderr, ran.returncode
-
-    tally.expect("a host that is an address", run(HOST), (f"resolves to: {HOST}:{port}\nsound\n", b"", 0))
-    both = f"resolves to: {HOST}:{port}\ncan listen at: {HOST}:{port}\nsound\n"
-    tally.expect("an address that can be bound", run(HOST, "--listen"), (both, b"", 0))
-    with socket.create_server((HOST, port)):
-        lines, error, status = run(HOST, "--listen")
-        wanted = rf"resolves to: {HOST}:{port}\ncan't listen at: {HOST}:{port}: Address already in use.*\n"
-        found = (re.fullmatch(wanted, lines) is not None, error, status)
-        tally.expect("an address that is taken", found, (True, b"hole: 81\n", 1))
-        tally.expect("an address that is taken, without --listen", run(HOST)[1:], (b"", 0))
-    lines, error, status = run("192.0.2.1", "--listen")
-    tally.expect("an address of another machine", ("Cannot assign" in lines, error, status), (True, b"hole: 81\n", 1))
-    lines, error, status = run("no.such.host.invalid")
-    tally.expect("a name without addresses", (lines.startswith("resolves to nothing: "), error, status), (True, b"hole: 81\n", 1))
-    lines, error, status = run("no.such.host.invalid", "--listen")
-    tally.expect("the same, to be bound", (lines.startswith("resolves to nothing: "), error, status), (True, b"hole: 81\n", 1))
-    check_named(tally, run, port)
-
-
-def check_named(tally, run, port):
-    """With --listen ADDRESS a check doesn't resolve the host, and an address in use doesn't fail it."""
-    name = "no.such.host.invalid"
-    wanted = f"can listen at: {OTHER}:{port}\nsound\n"
-    tally.expect("a named address", run(name, "--listen", OTHER), (wanted, b"", 0))
-    with socket.create_server((HOST, port)):
-        lines, error, status = run(name, "--listen", HOST)
-        is_told = lines.startswith(f"can't listen at: {HOST}:{port}: Address already in use") and lines.endswith("\nsound\n")
-        tally.expect("a named address in use", (is_told, error, status), (True, b"", 0))
-        lines, error, status = run(name, "--listen", f"{HOST}:{port}", "--listen", "192.0.2.1:7")
-        found = (lines.count("can't listen at: "), "192.0.2.1:7: Cannot assign" in lines, error, status)
-        tally.expect("one in use, one of another machine", found, (2, True, b"", 0))
-    lines, error, status = run(HOST, "--listen", "192.0.2.1")
-    found = ("Cannot assign" in lines, "sound" in lines, error, status)
-    tally.expect("a named address of another machine", found, (True, False, b"hole: 81\n", 1))
-
-
-def main():
-    words = argparse.ArgumentParser()
-    words.add_argument("program", nargs="?", default=PROGRAM)
-    program = pathlib.Path(words.parse_args().program).resolve()
-    tally = Tally("listen")
-    with tempfile.TemporaryDirectory() as place:
-        folder = pathlib.Path(place)
-        root = folder / "root"
-        root.mkdir()
-        (root / "a.txt").write_text("hello\n")
-        for check in (check_two, check_ports, check_addresses, check_activation, check_refusals, check_checks):
-            check(tally, program, folder, root)
-    check_usage(tally, program)
-    return tally.status()
+def check_checks(test):
+    """`hole check` resolves the host, or binds addresses, and prints what the system says of each. With --listen ADDRESS it
+    doesn't resolve the host, and an address in use doesn't fail it."""
+    checks, nowhere = Checks(test), "no.such.host.invalid"
+    in_use, of_another = "Address already in use.*\n", "Cannot assign.*\n"
+    rows = (
+        ((HOST,), "resolves to: HERE\n", True),
+        ((HOST, "--listen"), "resolves to: HERE\ncan listen at: HERE\n", True),
+        ((ABSENT, "--listen"), f"resolves to: .*\n.*{of_another}", False),
+        ((nowhere,), "resolves to nothing: .*\n", False),
+        ((nowhere, "--listen"), "resolves to nothing: .*\n", False),
+        ((nowhere, "--listen", OTHER), f"can listen at: {OTHER}:{checks.port}\n", True),
+        ((HOST, "--listen", ABSENT), f".*{of_another}", False),
+    )
+    for row in rows:
+        checks.expect(*row)
+    with socket.create_server((HOST, checks.port)):
+        checks.expect((HOST, "--listen"), f"resolves to: HERE\ncan't listen at: HERE: {in_use}", False)
+        checks.expect((HOST,), "resolves to: HERE\n", True)
+        checks.expect((nowhere, "--listen", HOST), f"can't listen at: HERE: {in_use}", True)
+        named = ("--listen", f"{HOST}:{checks.port}", "--listen", f"{ABSENT}:7")
+        checks.expect((nowhere, *named), f"can't listen at: HERE: {in_use}can't listen at: {ABSENT}:7: {of_another}", True)
 
 
 if __name__ == "__main__":
-    sys.exit(main())
+    run_test("listen", __doc__, check_named, check_addresses, check_activation, check_checks)

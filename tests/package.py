@@ -5,10 +5,9 @@
 
 The package for Debian is installed, serves its first site by the installed settings, is removed, and is purged. lintian and
 systemd-analyze look at it, if they are installed. A program without a stamp of its proved build, unreleased changes, and a tree
-with changes are packed by the options that dist.py has for them. What can't be tried here is said in a line 'package: skipped: ..'; all of
-it needs root, dpkg and chroot. The last line is 'package: N passed, M failed'. It takes half a minute.
+with changes are packed by the options that dist.py has for them. What can't be tried here is said in a line 'package: skipped:
+..'; all of it needs root, dpkg and chroot. The last line is 'package: N passed, M failed'. It takes half a minute.
 """
-import argparse
 import gzip
 import hashlib
 import os
@@ -17,16 +16,16 @@ import re
 import shutil
 import subprocess
 import sys
-import tempfile
 import time
 
-from running.server import PROGRAM, ROOT, WAIT, Tally, ask
+from running.server import ROOT, WAIT, ask, run_test, until_true
 
 DIST = ROOT / "packaging" / "dist.py"
 SITE = ROOT / "packaging" / "site"
 NOBODY = "65534:65534"
 PORT = 70
 DOCUMENTS = "usr/share/doc/hole"
+COMPLETION = "usr/share/bash-completion/completions/hole"
 # Words in documents that look like names of files of the repository or of the package.
 NAMED = re.compile(r"\b(?:docs|tests|tools|bench|crates|packaging|examples|man)/[\w./-]*\w|\b[\w-]+\.md\b")
 
@@ -72,69 +71,68 @@ def first_site():
     return sorted([*files_below(SITE), "searching.txt"])
 
 
-def check_refusals(tally, program, folder):
+def check_refusals(test):
     """A program that no stamp calls proved isn't packed."""
-    copy = pathlib.Path(shutil.copy(program, folder / "hole"))
+    copy = pathlib.Path(shutil.copy(test.program, test.folder / "hole"))
     for name, stamp in (("no stamp", None), ("a stamp of other bytes", "0" * 128)):
         if stamp:
             copy.with_name("hole.stamp").write_text(stamp)
-        ran = dist("--program", copy, "--out", folder / "refused", "--dirty")
-        tally.expect(f"{name}: is refused", (ran.returncode, "wasn't proved" in ran.stderr), (1, True))
-    tally.expect("a refused program leaves no package", (folder / "refused").exists(), False)
+        ran = dist("--program", copy, "--out", test.folder / "refused", "--dirty")
+        test.expect(f"{name}: is refused", (ran.returncode, "wasn't proved" in ran.stderr), (1, True))
+    test.expect("a refused program leaves no package", (test.folder / "refused").exists(), False)
 
 
-def check_unreleased(tally, program, folder):
+def check_unreleased(test):
     """Changes that no version has yet aren't packed as the last version."""
-    clone = folder / "changed"
+    clone = test.folder / "changed"
     run("git", "clone", "--quiet", ROOT, clone)
     script, log = clone / "packaging/dist.py", clone / "CHANGELOG.md"
     shutil.copy(DIST, script)
     changes = "## [Unreleased]\n\n### Added\n\n- Frogs.\n\n"
     log.write_text(re.sub(r"(?ms)^## \[Unreleased\].*?(?=^## )", changes, log.read_text()))
-    words = ("--program", program, "--out", folder / "unreleased", "--unproved", "--dirty")
+    words = ("--program", test.program, "--out", test.folder / "unreleased", "--unproved", "--dirty")
     ran = dist(*words, script=script)
-    tally.expect("unreleased changes: are refused", (ran.returncode, "has unreleased changes" in ran.stderr), (1, True))
+    test.expect("unreleased changes: are refused", (ran.returncode, "has unreleased changes" in ran.stderr), (1, True))
     ran = dist(*words, "--unreleased", script=script)
     marked = re.match(r"hole [\d.]+\+unreleased(?:~unproved)?\n", ran.stdout) is not None
-    tally.expect("unreleased changes: the version is marked", (ran.returncode, marked), (0, True))
+    test.expect("unreleased changes: the version is marked", (ran.returncode, marked), (0, True))
 
 
-def check_same_bytes(tally, program, folder, out, words):
+def check_same_bytes(test, out, words):
     """The same commit gives the same bytes in another folder at another time."""
     time.sleep(1.1)
     if "--dirty" in words:
         skip("the bytes of another checkout: this tree has changes")
         script = DIST
     else:
-        clone = folder / "another" / "checkout"
+        clone = test.folder / "another" / "checkout"
         run("git", "clone", "--quiet", ROOT, clone)
         script = clone / "packaging" / "dist.py"
-    ran = dist("--program", program, "--out", folder / "again", *words, script=script)
-    tally.expect("packed again", (ran.returncode, ran.stderr), (0, ""))
-    tally.expect("the sums are the same", (folder / "again/SHA256SUMS").read_text(), (out / "SHA256SUMS").read_text())
+    ran = dist("--program", test.program, "--out", test.folder / "again", *words, script=script)
+    test.expect("packed again", (ran.returncode, ran.stderr), (0, ""))
+    test.expect("the sums are the same", (test.folder / "again/SHA256SUMS").read_text(), (out / "SHA256SUMS").read_text())
 
 
-def check_tarball(tally, out, folder):
-    place = folder / "unpacked"
-    place.mkdir()
+def check_tarball(test, out):
+    place = test.site({})
     run("tar", "--extract", "--file", next(out.glob("*.tar.gz")), "--strip-components", "1", "--directory", place)
-    tally.expect("the tarball's program", run(place / "bin/hole", "--version").stdout.split()[:1], ["hole"])
+    test.expect("the tarball's program", run(place / "bin/hole", "--version").stdout.split()[:1], ["hole"])
     ran = run(place / "bin/hole", "replay", input="start\t1\n")
-    tally.expect("the tarball's program replays", (ran.returncode, ran.stderr), (0, ""))
+    test.expect("the tarball's program replays", (ran.returncode, ran.stderr), (0, ""))
     ran = run("sha256sum", "--check", "SHA256SUMS", cwd=out)
-    tally.expect("the sums are those of the packages", ran.returncode, 0)
+    test.expect("the sums are those of the packages", ran.returncode, 0)
 
 
 class Machine:
     """A root of its own, with the C library, the names of hosts and nothing else."""
 
-    def __init__(self, folder, program):
-        self.root = folder / "machine"
+    def __init__(self, test):
+        self.root = test.folder / "machine"
         for name in ("var/lib/dpkg/info", "var/lib/dpkg/updates", "var/lib/dpkg/triggers", "etc", "proc"):
             (self.root / name).mkdir(parents=True)
         (self.root / "var/lib/dpkg/status").touch()
         (self.root / "etc/hosts").write_text("127.0.0.1 localhost\n")
-        for library in re.findall(r"(/\S+)", run("ldd", program).stdout):
+        for library in re.findall(r"(/\S+)", run("ldd", test.program).stdout):
             place = self.root / library.lstrip("/")
             place.parent.mkdir(parents=True, exist_ok=True)
             shutil.copy(library, place)
@@ -156,32 +154,32 @@ class Machine:
         return (self.root / file).read_text()
 
 
-def check_installed(tally, machine, package):
+def check_installed(test, machine, package):
     ran = machine.dpkg("--install", package)
-    tally.expect("it installs", (ran.returncode, "error" in ran.stderr.lower()), (0, False))
-    tally.expect("the first site is there", files_below(machine.root / "srv/gopher"), first_site())
+    test.expect("it installs", (ran.returncode, "error" in ran.stderr.lower()), (0, False))
+    test.expect("the first site is there", files_below(machine.root / "srv/gopher"), first_site())
     modes = {path.stat().st_mode & 0o777 for path in (machine.root / "srv/gopher").rglob("*") if path.is_file()}
-    tally.expect("everybody may read it", modes, {0o644})
+    test.expect("everybody may read it", modes, {0o644})
     shown = run(*machine.hole("--version")).stdout.split()
     for page in machine.root.glob("usr/share/man/*/*.gz"):
         text = gzip.decompress(page.read_bytes()).decode()
-        tally.expect(f"{page.name} has the version", f'"{" ".join(shown)}' in text, True)
+        test.expect(f"{page.name} has the version", f'"{" ".join(shown)}' in text, True)
         if shutil.which("man"):
-            tally.expect(f"{page.name} is laid out", run("man", "--warnings", "-l", "-Tutf8", page).stderr, "")
+            test.expect(f"{page.name} is laid out", run("man", "--warnings", "-l", "-Tutf8", page).stderr, "")
     told = "\n A prover has checked" in run("dpkg-deb", "--field", package, "Description").stdout
-    tally.expect("only a proved program is said to be checked", told, "~unproved" not in package.name)
+    test.expect("only a proved program is said to be checked", told, "~unproved" not in package.name)
     build = machine.text(f"{DOCUMENTS}/BUILD")
     commit = run("git", "-C", ROOT, "rev-parse", "HEAD").stdout.strip()
-    tally.expect("BUILD names the commit", f"\ncommit {commit}" in build, True)
+    test.expect("BUILD names the commit", f"\ncommit {commit}" in build, True)
 
 
-def check_documents(tally, machine):
+def check_documents(test, machine):
     """No installed document names a file that isn't installed."""
     place = machine.root / DOCUMENTS
     for file in [*place.glob("*.md"), *place.glob("examples/*.*")]:
         if file.suffix not in (".txt", ".script"):
             gone = [name for name in NAMED.findall(file.read_text()) if not (place / name).exists()]
-            tally.expect(f"{file.name} names what is installed", gone, [])
+            test.expect(f"{file.name} names what is installed", gone, [])
 
 
 def completed(file, folder, *words):
@@ -190,87 +188,75 @@ def completed(file, folder, *words):
     return sorted(run("bash", "-c", code, file, *words, cwd=folder).stdout.split())
 
 
-def check_completion(tally, machine, folder):
+def check_completion(test, machine):
     """bash completes the commands and options that the help has, and files."""
     if not is_here("bash"):
         return
-    place, file = folder / "completed", machine.root / "usr/share/bash-completion/completions/hole"
-    (place / "site").mkdir(parents=True)
-    for name in ("hole.toml", "log.txt"):
-        (place / name).touch()
+    place, file = test.site(dict.fromkeys(("site/a", "hole.toml", "log.txt"), b"")), machine.root / COMPLETION
     shown = run(*machine.hole("--help")).stdout
     commands = re.findall(r"(?m)^  (\w+)  ", shown)
-    tally.expect("the commands", completed(file, place, "hole", "")[-len(commands):], sorted(commands))
-    tally.expect("the options", completed(file, place, "hole", "--"), sorted(re.findall(r"--\w+", shown)))
+    test.expect("the commands", completed(file, place, "hole", "")[-len(commands):], sorted(commands))
+    test.expect("the options", completed(file, place, "hole", "--"), sorted(re.findall(r"--\w+", shown)))
     for command in set(commands) - {"help"}:
         options = re.findall(r"(?m)^ +(?:-\w, )?(--[\w-]+)", run(*machine.hole(command, "--help")).stdout)
-        tally.expect(f"the options of {command}", completed(file, place, "hole", command, "--"), sorted(options))
-    tally.expect("settings", completed(file, place, "hole", "check", ""), ["hole.toml", "site"])
-    tally.expect("any file for the log", completed(file, place, "hole", "serve", "hole.toml", "--log", "l"), ["log.txt"])
-    tally.expect("no file for a number", completed(file, place, "hole", "serve", "hole.toml", "--requests", ""), [])
+        test.expect(f"the options of {command}", completed(file, place, "hole", command, "--"), sorted(options))
+    test.expect("settings", completed(file, place, "hole", "check", ""), ["hole.toml", "site"])
+    test.expect("any file for the log", completed(file, place, "hole", "serve", "hole.toml", "--log", "l"), ["log.txt"])
+    test.expect("no file for a number", completed(file, place, "hole", "serve", "hole.toml", "--requests", ""), [])
 
 
-def check_unit(tally, machine, folder):
+def check_unit(test, machine):
     """The unit and the examples of units are sound, with the program where it is installed here."""
     if not is_here("systemd-analyze"):
         return
     units = [machine.root / "lib/systemd/system/hole.service", *(machine.root / DOCUMENTS / "examples").glob("hole*.service")]
     units += [machine.root / DOCUMENTS / "examples" / name for name in ("hole.path", "hole.socket")]
     for unit in units:
-        place = folder / "units" / unit.name
+        place = test.folder / "units" / unit.name
         place.parent.mkdir(exist_ok=True)
         place.write_text(unit.read_text().replace("/usr/bin/hole", f"{machine.root}/usr/bin/hole"))
     for unit in units:
-        ran = run("systemd-analyze", "verify", "--man=no", folder / "units" / unit.name)
+        ran = run("systemd-analyze", "verify", "--man=no", test.folder / "units" / unit.name)
         told = [line for line in ran.stderr.splitlines() if "hole" in line]
-        tally.expect(f"{unit.name} is sound", (ran.returncode, told), (0, []))
+        test.expect(f"{unit.name} is sound", (ran.returncode, told), (0, []))
 
 
-def found(line, wanted, server):
-    """Whether a search finds something before long."""
-    until = time.monotonic() + WAIT
-    while time.monotonic() < until and server.poll() is None:
-        if wanted in ask(PORT, line, "localhost"):
-            return True
-        time.sleep(0.1)
-    return False
-
-
-def check_serves(tally, machine):
+def check_serves(test, machine):
     """The installed settings are sound for any user, and the first site is served by them, and found."""
     ran = run(*machine.hole("check", "/etc/hole/hole.toml"))
-    tally.expect("the first site is sound", (ran.returncode, said(ran.stderr), "\nsound\n" in ran.stdout), (0, "", True))
+    test.expect("the first site is sound", (ran.returncode, said(ran.stderr), "\nsound\n" in ran.stdout), (0, "", True))
     if run(*machine.hole("check", "/etc/hole/hole.toml", "--listen", user="0:0")).returncode:
         skip(f"what the first site serves: port {PORT} of localhost can't be bound here")
         return
     how = {"stdout": subprocess.PIPE, "stderr": subprocess.PIPE}
     with subprocess.Popen(machine.hole("serve", "/etc/hole/hole.toml", user="0:0"), **how) as server:
         try:
-            tally.expect("it listens", server.stdout.readline(), f"listening localhost {PORT}\n".encode())
-            tally.expect("its menu", ask(PORT, b"\r\n", "localhost").split(b"\t")[0], b"iWelcome.")
+            test.expect("it listens", server.stdout.readline(), f"listening localhost {PORT}\n".encode())
+            test.expect("its menu", ask(PORT, b"\r\n", "localhost").split(b"\t")[0], b"iWelcome.")
             text = (SITE / "notes/tomatoes.txt").read_bytes().replace(b"\n", b"\r\n") + b".\r\n"
-            tally.expect("a text", ask(PORT, b"/notes/tomatoes.txt\r\n", "localhost"), text)
-            tally.expect("a search", found(b"/search\tevening\r\n", b"\t/notes/tomatoes.txt\t", server), True)
-            tally.expect("a search that finds a folder", found(b"/search\tnotes\r\n", b"1Notes\t/notes\t", server), True)
-            tally.expect("no search finds the page on searching", ask(PORT, b"/search\tlily\r\n", "localhost"), b".\r\n")
+            test.expect("a text", ask(PORT, b"/notes/tomatoes.txt\r\n", "localhost"), text)
+            for word, hit in (b"evening", b"\t/notes/tomatoes.txt\t"), (b"notes", b"1Notes\t/notes\t"):
+                found = until_true(lambda: hit in ask(PORT, b"/search\t%s\r\n" % word, "localhost"))
+                test.expect(f"a search of {word}", found, True)
+            test.expect("no search finds the page on searching", ask(PORT, b"/search\tlily\r\n", "localhost"), b".\r\n")
         finally:
             server.terminate()
-            tally.expect("it says nothing on standard error", said(server.communicate(timeout=WAIT)[1].decode()), "")
+            test.expect("it says nothing on standard error", said(server.communicate(timeout=WAIT)[1].decode()), "")
 
 
-def check_removed(tally, machine, package):
+def check_removed(test, machine):
     """Removal leaves the settings and the site, and purging leaves nothing."""
-    tally.expect("it is removed", machine.dpkg("--remove", "hole").returncode, 0)
+    test.expect("it is removed", machine.dpkg("--remove", "hole").returncode, 0)
     left = [file for file in machine.files() if file not in machine.empty and not file.startswith("etc/systemd/")]
     kept = ["etc/hole/hole.toml", *(f"srv/gopher/{file}" for file in first_site())]
-    tally.expect("removal leaves the settings and the site", left, kept)
-    tally.expect("it is purged", machine.dpkg("--purge", "hole").returncode, 0)
-    tally.expect("purging leaves nothing", [file for file in machine.files() if file not in machine.empty], [])
+    test.expect("removal leaves the settings and the site", left, kept)
+    test.expect("it is purged", machine.dpkg("--purge", "hole").returncode, 0)
+    test.expect("purging leaves nothing", [file for file in machine.files() if file not in machine.empty], [])
     folders = [name for name in ("etc/hole", "srv/gopher", "usr/share/hole") if (machine.root / name).exists()]
-    tally.expect("purging leaves no folder either", folders, [])
+    test.expect("purging leaves no folder either", folders, [])
 
 
-def check_owner(tally, machine, package):
+def check_owner(test, machine, package):
     """What the owner wrote stays, and what the owner removed stays away."""
     machine.dpkg("--install", package)
     (machine.root / "srv/gopher/.menu").write_text("My own.\n")
@@ -278,56 +264,46 @@ def check_owner(tally, machine, package):
     (machine.root / "srv/gopher/first-steps.txt").unlink()
     with open(machine.root / "etc/hole/hole.toml", "a") as settings:
         settings.write("# my own\n")
-    tally.expect("it installs again", machine.dpkg("--install", package).returncode, 0)
-    tally.expect("the settings stay", machine.text("etc/hole/hole.toml").endswith("# my own\n"), True)
+    test.expect("it installs again", machine.dpkg("--install", package).returncode, 0)
+    test.expect("the settings stay", machine.text("etc/hole/hole.toml").endswith("# my own\n"), True)
     stayed = sorted([*(file for file in first_site() if file != "first-steps.txt"), "own.txt"])
-    tally.expect("the site stays", files_below(machine.root / "srv/gopher"), stayed)
+    test.expect("the site stays", files_below(machine.root / "srv/gopher"), stayed)
     machine.dpkg("--purge", "hole")
-    tally.expect("a purge leaves the owner's files", files_below(machine.root / "srv/gopher"), [".menu", "own.txt"])
+    test.expect("a purge leaves the owner's files", files_below(machine.root / "srv/gopher"), [".menu", "own.txt"])
 
 
-def check_lintian(tally, package):
+def check_lintian(test, package):
     if is_here("lintian"):
         ran = run("lintian", "--allow-root", "--fail-on", "error,warning", package)
-        tally.expect("lintian finds no error and no warning", (ran.returncode, ran.stdout), (0, ""))
+        test.expect("lintian finds no error and no warning", (ran.returncode, ran.stdout), (0, ""))
 
 
-def check_package(tally, program, folder, package):
+def check_package(test, package):
+    """Installs a package for Debian in a root of its own, has it serve there, and removes it."""
     if os.geteuid() or not shutil.which("dpkg") or not shutil.which("chroot"):
-        skip("the installation: it needs root, dpkg and chroot")
-        return
-    machine = Machine(folder, program)
-    check_installed(tally, machine, package)
-    check_documents(tally, machine)
-    check_serves(tally, machine)
-    check_completion(tally, machine, folder)
-    check_unit(tally, machine, folder)
-    check_removed(tally, machine, package)
-    check_owner(tally, machine, package)
+        return skip("the installation: it needs root, dpkg and chroot")
+    machine = Machine(test)
+    check_installed(test, machine, package)
+    check_documents(test, machine)
+    check_serves(test, machine)
+    check_completion(test, machine)
+    check_unit(test, machine)
+    check_removed(test, machine)
+    check_owner(test, machine, package)
 
 
-def main():
-    words = argparse.ArgumentParser()
-    words.add_argument("program", nargs="?", type=pathlib.Path, default=PROGRAM)
-    program = words.parse_args().program.resolve()
-    tally = Tally("package")
-    with tempfile.TemporaryDirectory() as place:
-        folder = pathlib.Path(place)
-        folder.chmod(0o755)
-        out, how = folder / "dist", options(program)
-        check_refusals(tally, program, folder)
-        check_unreleased(tally, program, folder)
-        ran = dist("--program", program, "--out", out, *how)
-        tally.expect("it is packed", (ran.returncode, ran.stderr), (0, ""))
-        if ran.returncode == 0:
-            print(ran.stdout, end="")
-            check_same_bytes(tally, program, folder, out, how)
-            check_tarball(tally, out, folder)
-            for package in out.glob("*.deb"):
-                check_package(tally, program, folder, package)
-                check_lintian(tally, package)
-    return tally.status()
+def check_packages(test):
+    out, how = test.folder / "dist", options(test.program)
+    ran = dist("--program", test.program, "--out", out, *how)
+    test.expect("it is packed", (ran.returncode, ran.stderr), (0, ""))
+    if ran.returncode == 0:
+        print(ran.stdout, end="")
+        check_same_bytes(test, out, how)
+        check_tarball(test, out)
+        for package in out.glob("*.deb"):
+            check_package(test, package)
+            check_lintian(test, package)
 
 
 if __name__ == "__main__":
-    sys.exit(main())
+    run_test("package", __doc__, check_refusals, check_unreleased, check_packages)

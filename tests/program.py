@@ -6,129 +6,148 @@
 The library of preloads/streams.c stands between the program and the system: streams fail or are interrupted, and threads don't
 start. What README's session and the first site and the replay of docs/OPERATING.md tell a reader to do is done, and the replies
 are compared: a free port takes the place of theirs, and what `curl` would ask is asked here. A line '..' of a document means one
-or more lines. The last line is 'program: N passed, M failed'. It takes some seconds.
+or more lines. tools/run_example.py serves by settings of its own, and is ended in every way in which a terminal may; what needs
+the toolchain runs without it. The last line is 'program: N passed, M failed'. It takes some seconds.
 """
-import argparse
-import contextlib
 import os
 import pathlib
 import re
+import shutil
+import signal
 import subprocess
 import sys
-import tempfile
 import urllib.parse
 
 from models.worked import FIRST_CRAWL, REFUSED_START, WHOLE_SEARCH
-from running.crawled import until_true
-from running.server import HOST, PROGRAM, ROOT, WAIT, Server, Tally, ask, free_port
+from running.server import HOST, ROOT, SIZES, WAIT, ask, free_port, run_test, until_true, with_few_files
 
 MEBIBYTE = 1_048_576
 MANY = tuple(word for port in range(20_001, 21_026) for word in ("--listen", f"{HOST}:{port}"))
-BAD_ARGUMENTS = (
-    (), ("replay", "extra"), ("serve",), ("serve", "s.toml", "--requests", "1000001"), ("serve", "s.toml", "--requests", "-1"),
-    ("serve", "s.toml", "extra"), ("serve", "s.toml", "--log"), ("serve", "examples/hole.toml", *MANY), ("dig",),
+NO_ADDRESSES = (
+    "", "localhost", "127.0.0", "127.0.0.1:", "127.0.0.1:0", "127.0.0.1:65536", "127.0.0.1:70x", "[127.0.0.1]", "::1]", "[::1",
+    "[::1]:", "1:2",
 )
-# Words that show a text, and its beginning.
-SHOWN = ((("--help",), b""), (("--version",), b"hole "), (("serve", "--help"), b""), (("check", "examples/hole.toml"), b""))
+NO_BYTES = ("", "K", "12X", "1.5M", "64 M", "M64", "99999999999999999999", "18446744073709551615G")
+# Words that are refused, and a part of what is said of them.
+BAD_ARGUMENTS = [
+    ((), "Usage: hole"), (("dig",), "Usage: hole"), (("replay", "extra"), "Usage: hole replay < SCRIPT\n"),
+    (("serve",), "\nUsage: hole serve "), (("serve", "s.toml", "extra"), "\nUsage: hole serve "),
+    (("serve", "s.toml", "--requests", "1000001"), "--requests"), (("serve", "s.toml", "--requests", "-1"), "-1"),
+    (("serve", "s.toml", "--log"), "--log"), (("serve", "examples/hole.toml", *MANY), "--listen"),
+    (("check",), "\nUsage: hole check "), (("check", "s.toml", "extra"), "extra"),
+    (("check", "s.toml", "--requests", "1"), "--requests"),
+    *((("serve", "s.toml", "--listen", word), "--listen <ADDRESS>") for word in NO_ADDRESSES),
+    *((("check", "s.toml", "--listen", word), "hole check --help") for word in NO_ADDRESSES),
+    *((("serve", "s.toml", f"--crawl-memory={word}"), "--crawl-memory") for word in NO_BYTES),
+]
+# Words that show a text, and its parts.
+SHOWN = (
+    (("--help",), ["\n  check "]), (("--version",), ["hole "]), (("check", "examples/hole.toml"), ["\nsound\n"]),
+    (("replay", "--help"), ["Usage: hole replay < SCRIPT\n"]),
+    (("serve", "--help"), ["\nUsage: hole serve [OPTIONS] <SETTINGS>\n", "--listen <ADDRESS>"]),
+)
 SEED = '[[seeds]]\nhost = "h"\n[[allow]]\nhost = "h"\n'
 # How many files may be open, and settings whose threads and workers need more.
 FEW_FILES = ((64, "threads = 1\n"), (68, "workers = 4\n" + SEED), (89, "threads = 8\nworkers = 16\n" + SEED))
 NO_THREAD = b"hole: 82\n"
-# The number of server threads, which of the threads don't start, and requests.
-THREADS = ((1, "1", "1"), (2, "11", "1"), (2, "01", "0"), (2, "10", "0"))
+# The number of server threads; which of the threads don't start; more words; whether a text is sent; the output at the end, and
+# the errors.
+THREADS = (
+    (1, "1" * 20, ("--requests", 1), False, b"", NO_THREAD),
+    (1, "1" * 20, ("--progress",), False, b"", b"hole: a server thread can't be started\n" + NO_THREAD),
+    (2, "11", ("--requests", 1), False, b"", NO_THREAD),
+    (2, "01", ("--requests", 0), False, b"", NO_THREAD),
+    (2, "10", ("--requests", 0), False, b"", NO_THREAD),
+    (2, "0" + "1" * 20, ("--requests", 1), True, b"", NO_THREAD),
+    # only the thread that prints the crawl's sizes lacks
+    (1, "0" + "1" * 20, ("--progress", "--requests", 1), True, SIZES, SIZES[:-1] + b" failed 0\n"),
+)
 PORT = "7070"
+# How a terminal may end a program.
+ENDS = (signal.SIGINT, signal.SIGTERM, signal.SIGHUP, signal.SIGKILL)
 CURL = re.compile(r"curl '?gopher://localhost:(\d+)/(?:\w(/[^']*))?'?")
 
 
-class Streams:
-    """The program behind that library."""
-
-    def __init__(self, folder, program):
-        self.folder, self.program, self.library = folder, program, folder / "streams.so"
-        compiler = ["cc", "-O2", "-shared", "-fPIC", "-o", self.library, ROOT / "tests/preloads/streams.c"]
-        subprocess.run(compiler, check=True)
-
-    def run(self, words, script=b"", **how):
-        """What it writes to its output and its error stream, and its status; `how` is told to the library."""
-        names = {name.upper(): str(value) for name, value in how.items()} | {"LD_PRELOAD": str(self.library)}
-        ran = subprocess.run(
-            [self.program, *words], cwd=ROOT, input=script, capture_output=True, timeout=6 * WAIT, env=os.environ | names
-        )
-        return ran.stdout, ran.stderr, ran.returncode
-
-    def counted(self, words, script):
-        """What these words write, and how many reads of their input and writes to their output they make."""
-        calls = self.folder / "calls"
-        calls.write_text("")
-        output, _, _ = self.run(words, script, calls=calls)
-        return output, calls.read_text().count("r"), calls.read_text().count("w")
+def run(test, words, script=b"", **how):
+    """What the program writes behind that library to its output and its error stream, and its status; `how` is told to the
+    library."""
+    before = test.preload("streams", **{name.upper(): value for name, value in how.items()})
+    return test.run(*words, before=before, cwd=ROOT, input=script)
 
 
-def check_reads(tally, streams):
+def counted(test, words, script):
+    """What these words write, and how many reads of their input and writes to their output they make."""
+    calls = test.folder / "calls"
+    calls.write_text("")
+    output, _, _ = run(test, words, script, calls=calls)
+    return output, calls.read_text().count("r"), calls.read_text().count("w")
+
+
+def check_reads(test):
     """Scripts that can't be read to their end: nothing is written."""
     script, output, _ = FIRST_CRAWL
     for count in range(len(script) + 1):
-        ended = streams.run(["replay"], script, fails_0=count)
-        tally.expect(f"a read fails after {count} bytes", ended, (b"", b"hole: 10\n", 1))
-    tally.expect("4,095 reads are interrupted", streams.run(["replay"], script, interrupted=4_095), (output, b"", 0))
-    ended = streams.run(["replay"], script, interrupted=2**40)
-    tally.expect("each read is interrupted", ended, (b"", b"hole: 11\n", 1))
+        ended = run(test, ["replay"], script, fails_0=count)
+        test.expect(f"a read fails after {count} bytes", ended, (b"", b"hole: 10\n", 1))
+    test.expect("4,095 reads are interrupted", run(test, ["replay"], script, interrupted=4_095), (output, b"", 0))
+    ended = run(test, ["replay"], script, interrupted=2**40)
+    test.expect("each read is interrupted", ended, (b"", b"hole: 11\n", 1))
     for length, wanted in ((MEBIBYTE, (b"", b"", 0)), (MEBIBYTE + 1, (b"", b"hole: 12\n", 1))):
-        tally.expect(f"a script of {length} bytes", streams.run(["replay"], b"#" * length), wanted)
-    tally.expect("a mebibyte is read in large parts", streams.counted(["replay"], b"#" * MEBIBYTE)[1] < 1_000, True)
+        test.expect(f"a script of {length} bytes", run(test, ["replay"], b"#" * length), wanted)
+    test.expect("a mebibyte is read in large parts", counted(test, ["replay"], b"#" * MEBIBYTE)[1] < 1_000, True)
 
 
-def check_writes(tally, streams):
+def check_writes(test):
     """Outputs that can't be written to their end: what they have is a beginning."""
     script, output, _ = FIRST_CRAWL
     for count in range(len(output)):
-        ended = streams.run(["replay"], script, fails_1=count)
-        tally.expect(f"a write fails after {count} bytes", ended, (output[:count], b"hole: 13\n", 1))
-    tally.expect("the whole output has room", streams.run(["replay"], script, fails_1=len(output)), (output, b"", 0))
-    output, _, writes = streams.counted(["replay"], b"start\t2\nstatus\nclaim\n")
+        ended = run(test, ["replay"], script, fails_1=count)
+        test.expect(f"a write fails after {count} bytes", ended, (output[:count], b"hole: 13\n", 1))
+    test.expect("the whole output has room", run(test, ["replay"], script, fails_1=len(output)), (output, b"", 0))
+    output, _, writes = counted(test, ["replay"], b"start\t2\nstatus\nclaim\n")
     wanted = b"ok\nknown 0 waiting 0 out 0 done 0 dropped 0\nfinished\n"
-    tally.expect("each of three answers goes out in a write of its own", (output, writes), (wanted, 3))
+    test.expect("each of three answers goes out in a write of its own", (output, writes), (wanted, 3))
     with open("/dev/full", "wb") as full:
-        ran = subprocess.run([streams.program, "replay"], input=b"start\t1\n", stdout=full, stderr=subprocess.PIPE, timeout=WAIT)
-    tally.expect("a full device", (ran.stderr, ran.returncode), (b"hole: 13\n", 1))
+        ended = test.run("replay", input=b"start\t1\n", stdout=full)
+        test.expect("a full device", ended[1:], (b"hole: 13\n", 1))
 
 
-def check_errors(tally, streams):
+def check_errors(test):
     """An error stream that fails changes neither the output nor the status."""
     script, output, line = REFUSED_START
     told = b"hole: 70 line %d\n" % line
     for count in range(len(told)):
-        ended = streams.run(["replay"], script, fails_2=count)
-        tally.expect(f"a fault's line fails after {count} bytes", ended, (output, told[:count], 1))
-    ended = streams.run(["replay"], script, fails_1=3, fails_2=0)
-    tally.expect("the output and the error stream fail", ended, (output[:3], b"", 1))
-    for words in BAD_ARGUMENTS:
-        output, text, status = streams.run(words, b"claim\n")
-        tally.expect(f"{words[:4]}: are refused", (output, bool(text), status), (b"", True, 2))
-        tally.expect(f"{words[:4]}: nothing is read", streams.counted(words, b"claim\n"), (b"", 0, 0))
+        ended = run(test, ["replay"], script, fails_2=count)
+        test.expect(f"a fault's line fails after {count} bytes", ended, (output, told[:count], 1))
+    ended = run(test, ["replay"], script, fails_1=3, fails_2=0)
+    test.expect("the output and the error stream fail", ended, (output[:3], b"", 1))
+    for words, part in BAD_ARGUMENTS:
+        output, text, status = run(test, words, b"claim\n")
+        test.expect(f"{words[:4]}: are refused", (output, part in text.decode(), status), (b"", True, 2))
+        test.expect(f"{words[:4]}: nothing is read", counted(test, words, b"claim\n"), (b"", 0, 0))
         for count in (0, 1, 7):
-            ended = streams.run(words, b"claim\n", fails_2=count)
-            tally.expect(f"{words[:4]}: with room for {count} bytes", ended, (b"", text[:count], 2))
-    for words, begin in SHOWN:
-        output, error, status = streams.run(words)
-        tally.expect(f"{words}: show a text", (bool(output), output.startswith(begin), error, status), (True, True, b"", 0))
+            ended = run(test, words, b"claim\n", fails_2=count)
+            test.expect(f"{words[:4]}: with room for {count} bytes", ended, (b"", text[:count], 2))
+    for words, parts in SHOWN:
+        output, error, status = run(test, words)
+        are_shown = all(part in output.decode() for part in parts)
+        test.expect(f"{words}: show a text", (are_shown, error, status), (True, b"", 0))
 
 
-def check_starts(tally, streams):
-    """Server threads that don't start, and files of which too few may be open: the server ends with its number."""
-    root = streams.folder / "root"
-    root.mkdir()
-    for threads, refused, requests in THREADS:
-        before = ("env", f"LD_PRELOAD={streams.library}", f"REFUSED_THREADS={refused}")
-        more, words = f"threads = {threads}\nworkers = 1\n", ("--requests", requests)
-        with Server(streams.program, streams.folder, root, more, words, before=before) as server:
-            tally.expect(f"of {threads} threads, {refused} don't start", server.end()[1:], (NO_THREAD, 1))
+def check_starts(test):
+    """Threads that don't start, and files of which too few may be open: the server ends with its number."""
+    root = test.site({"a.txt": b"hello\n"})
+    for threads, refused, words, is_asked, output, errors in THREADS:
+        before = test.preload("streams", REFUSED_THREADS=refused)
+        with test.serving(root, *words, more=f"threads = {threads}\nworkers = 1\n", before=before) as server:
+            what = f"of {threads} threads, {refused} don't start, with {words}"
+            if is_asked:
+                test.expect(f"{what}: a text", ask(server.port, b"/a.txt\r\n"), b"hello\r\n.\r\n")
+            test.expect(f"{what}: the end", server.end(), (output, errors, int(errors.endswith(NO_THREAD))))
     for files, more in FEW_FILES:
-        before, words = ("sh", "-c", f'ulimit -n {files}; exec "$@"', "sh"), ("--progress", "--requests", "0")
-        with Server(streams.program, streams.folder, root, more, words, before=before) as server:
-            output, error, status = server.end()
-            found = (output, b"limit of open files is too low" in error, error.splitlines()[-1:], status)
-            tally.expect(f"{files} files for {more!r}", found, (b"", True, [b"hole: 81"], 1))
+        output, error, status = test.ended(root, "--progress", "--requests", 0, more=more, before=with_few_files(files))
+        found = (output, b"limit of open files is too low" in error, error.splitlines()[-1:], status)
+        test.expect(f"{files} files for {more!r}", found, (b"", True, [b"hole: 81"], 1))
 
 
 def section(file, heading):
@@ -160,74 +179,91 @@ def comes(command, shown, port):
     return shown if until_true(lambda: wanted.fullmatch(asked(command, port)), WAIT) else asked(command, port)
 
 
-@contextlib.contextmanager
-def served(program, settings):
-    """A running server, and the line that it prints."""
-    with subprocess.Popen([program, "serve", settings], stdout=subprocess.PIPE, text=True) as server:
-        try:
-            yield server.stdout.readline()
-        finally:
-            server.terminate()
-
-
-def check_readme(tally, streams):
-    port, settings = str(free_port()), streams.folder / "example.toml"
-    text = (ROOT / "examples/hole.toml").read_text().replace(PORT, port)
+def check_readme(test):
+    port, settings = free_port(), test.folder / "example.toml"
+    text = (ROOT / "examples/hole.toml").read_text().replace(PORT, str(port))
     settings.write_text(text.replace('"examples/site"', f'"{ROOT}/examples/site"'))
-    with served(streams.program, settings):
-        for command, shown in commands(blocks(section("README.md", "A session"))[0].replace(PORT, port)):
-            tally.expect(f"README: {command}", comes(command, shown, int(port)), shown)
+    with test.serving(settings, host="localhost", port=port):
+        for command, shown in commands(blocks(section("README.md", "A session"))[0].replace(PORT, str(port))):
+            test.expect(f"README: {command}", comes(command, shown, port), shown)
 
 
-def check_first_site(tally, streams):
-    port, program, settings = free_port(), streams.program, streams.folder / "hole.toml"
+def check_first_site(test):
+    port, settings = free_port(), test.folder / "hole.toml"
     text = section("docs/OPERATING.md", "A first site in five minutes").replace(PORT, str(port))
     making, session, menu = blocks(re.sub(r"(?ms)^```.*?^```\n", "", text))
-    settings.write_text(re.search(r"(?ms)^```toml\n(.*?)^```", text)[1].replace("/home/you", str(streams.folder)))
-    subprocess.run(["sh", "-ec", making], env={"HOME": str(streams.folder), "PATH": "/usr/bin:/bin"}, check=True)
+    settings.write_text(re.search(r"(?ms)^```toml\n(.*?)^```", text)[1].replace("/home/you", str(test.folder)))
+    subprocess.run(["sh", "-ec", making], env={"HOME": str(test.folder), "PATH": "/usr/bin:/bin"}, check=True)
     (start, line), *asking = commands(session)
-    tally.expect("first site: its start", start, "hole serve hole.toml")
-    with served(program, settings) as told:
-        tally.expect("first site: what the server prints", told, line.strip() + "\n")
+    test.expect("first site: its start", start, "hole serve hole.toml")
+    test.expect("first site: what the server prints", line.strip(), f"listening localhost {port}")
+    with test.serving(settings, host="localhost", port=port):
         for command, shown in asking:
-            tally.expect(f"first site: {command}", comes(command, shown, port), shown)
-    (streams.folder / "gopher/.menu").write_text(menu.replace("<TAB>", "\t"))
-    ran = subprocess.run([program, "check", settings], capture_output=True, text=True, timeout=WAIT)
-    tally.expect("first site: a menu of one's own is sound", (ran.returncode, ran.stdout.endswith("\nsound\n")), (0, True))
-    with served(program, settings):
+            test.expect(f"first site: {command}", comes(command, shown, port), shown)
+    (test.folder / "gopher/.menu").write_text(menu.replace("<TAB>", "\t"))
+    output, _, status = test.run("check", settings)
+    test.expect("first site: a menu of one's own is sound", (status, output.endswith(b"\nsound\n")), (0, True))
+    with test.serving(settings, host="localhost", port=port):
         shown = asked(asking[0][0], port).splitlines()
         wanted = [line if "\t" in line else f"i{line}\t" for line in menu.replace("<TAB>", "\t").splitlines()]
-        tally.expect("first site: the menu", [line.split("\tlocalhost")[0] for line in shown[:-1]], wanted)
+        test.expect("first site: the menu", [line.split("\tlocalhost")[0] for line in shown[:-1]], wanted)
 
 
-def check_replays(tally, streams):
+def check_replays(test):
     """The example's scripts: one is OPERATING's with the answers that are shown there, the other the one that was worked out."""
     script, answers = (block.replace("<TAB>", "\t") for block in blocks(section("docs/OPERATING.md", "Replay a crawl")))
     file = ROOT / "examples/first_crawl.script"
-    tally.expect("replay: the script is the example's", script, file.read_text())
+    test.expect("replay: the script is the example's", script, file.read_text())
     (command, shown), = commands(answers)
-    tally.expect("replay: its command", command, "hole replay < examples/first_crawl.script")
-    words = [ROOT / "tools/run_replay.py", "--program", streams.program, file]
+    test.expect("replay: its command", command, "hole replay < examples/first_crawl.script")
+    words = [ROOT / "tools/run_replay.py", "--program", test.program, file]
     ran = subprocess.run(words, capture_output=True, text=True, timeout=WAIT)
-    tally.expect("replay: its answers", (ran.returncode, ran.stdout, ran.stderr), (0, shown, ""))
+    test.expect("replay: its answers", (ran.returncode, ran.stdout, ran.stderr), (0, shown, ""))
     script = (ROOT / "examples/whole_search.script").read_bytes()
-    tally.expect("replay of a whole search", streams.run(["replay"], script), (WHOLE_SEARCH[1], b"", 0))
+    test.expect("replay of a whole search", run(test, ["replay"], script), (WHOLE_SEARCH[1], b"", 0))
 
 
-CHECKS = (check_reads, check_writes, check_errors, check_starts, check_readme, check_first_site, check_replays)
+def is_up(port):
+    try:
+        return ask(port, b"/a.txt\r\n") != b""
+    except OSError:
+        return False
 
 
-def main():
-    words = argparse.ArgumentParser()
-    words.add_argument("program", nargs="?", type=pathlib.Path, default=PROGRAM)
-    program = words.parse_args().program.resolve()
-    tally = Tally("program")
-    with tempfile.TemporaryDirectory() as place:
-        streams = Streams(pathlib.Path(place), program)
-        for check in CHECKS:
-            check(tally, streams)
-    return tally.status()
+def check_ends(test):
+    """The server is gone once the script's whole group got a signal."""
+    # what starts a job in the background may have it ignore SIGINT, and its processes inherit that
+    signal.signal(signal.SIGINT, signal.default_int_handler)
+    folder, port = test.site({"mine/a.txt": b"hello\n"}), free_port()
+    (folder / "my.toml").write_text(f'host = "{HOST}"\nport = {port}\nroot = "mine"\n')
+    words = [sys.executable, ROOT / "tools/run_example.py", "--program", test.program, "my.toml"]
+    for number in ENDS:
+        with subprocess.Popen(words, cwd=folder, start_new_session=True, stdout=subprocess.PIPE, text=True) as script:
+            test.expect(f"{number.name}: it serves one's own folder", until_true(lambda: is_up(port)), True)
+            while "Ctrl-C ends it." not in script.stdout.readline():
+                pass
+            os.killpg(script.pid, number)
+            test.expect(f"{number.name}: the server ends with it", until_true(lambda: not is_up(port)), True)
+            script.kill()
+
+
+def check_toolchain(test):
+    """Without `rt` on the path, one line says what is missing."""
+    tools = test.site({})
+    for name in ("env", "make", "python3", "sh"):
+        (tools / name).symlink_to(shutil.which(name))
+    gone = ("--program", test.folder / "no program")
+    for words in (
+        ("make", "wrong-bodies"),
+        (ROOT / "tools/run_example.py", *gone),
+        (ROOT / "tools/run_replay.py", *gone, ROOT / "examples/first_crawl.script"),
+    ):
+        ran = subprocess.run(words, cwd=ROOT, env={"PATH": str(tools)}, capture_output=True, text=True, timeout=WAIT)
+        lines = [line for line in ran.stderr.splitlines() if not line.startswith("make: ")]
+        told = (ran.returncode != 0, len(lines), "rt, which isn't on the path" in ran.stderr)
+        test.expect(f"{pathlib.Path(words[0]).name} without the toolchain", told, (True, 1, True))
 
 
 if __name__ == "__main__":
-    sys.exit(main())
+    of_streams = (check_reads, check_writes, check_errors, check_starts)
+    run_test("program", __doc__, *of_streams, check_readme, check_first_site, check_replays, check_ends, check_toolchain)

@@ -1,5 +1,5 @@
 #!/usr/bin/env python3
-"""Refuses each allocation of a program in turn, until a run meets none, by a library that is loaded before it (preloads/refusals.c).
+"""Refuses each allocation of a program in turn, by a library that is loaded before it (preloads/refusals.c).
 
     tests/refusals.py [PROGRAM]
 
@@ -11,18 +11,17 @@ are given are made by a test of crates/test_library, which makes a refused one a
 
 The last line is 'refusals: N passed, M failed'.
 """
-import argparse
 import mmap
 import os
-import pathlib
 import struct
 import subprocess
-import sys
-import tempfile
-import time
 
+from drawn.sizes import crawl_of_many_pages
 from models import model
-from running.server import HOST, PROGRAM, ROOT, WAIT, Server, Tally, ask, free_port
+from models.site_model import Site
+from models.worked import COUNTS, DENY_RULE, FIRST_CRAWL, TWO_TRIES, WHOLE_SEARCH, searches
+from running.crawled import seeded
+from running.server import HOST, ROOT, ask, free_port, run_test, until_true
 
 CRATE = ROOT / "crates" / "test_library"
 CALLS = CRATE / "out" / "test_library_tests"
@@ -30,63 +29,35 @@ CALLED = "refusals::refused_calls_succeed_when_made_again"
 CALLED_WELL = b"pages: as wanted\nreplies: as wanted\na catalogue: as wanted\na desk: as wanted\na crawl: as wanted\n"
 MOST_RUNS = 100_000
 SECONDS = 20
-# Links that are twice there, denied and foreign; a word of over 254 times; so many texts that pages are merged.
-MOON = (
-    b"|1Moon pages\t/moon\tH\t70\n|0Sun and moon\t/sun.txt\th\t70\n|1Moon again\t/moon\th\t70\t+\n"
-    b"|0Secret\t/private/x\th\t70\n|0Elsewhere\t/x\tother.example\t70\n|iHello\tfake\t(NULL)\t0\n|1Home\t\th\t70\n"
-)
-NUMBERS = range(10, 80)
-TEXTS = b"".join(b"|0P\t/p%d\th\t70\n" % number for number in NUMBERS)
-QUESTIONS = (
-    b"moon", b"sun not home", b"mars", b"p41", b"moon and p41*", b"p* not moon", b"p41 or p42 or p43 or p44 or p45 or p46",
-    b"not moon", b"and or p41", b"title and s*", b" -- ",
-)
-RULES = "".join(
-    f'\n[[{key}]]\nhost = "{host}"\nport = PORT\n{more}'
-    for key, host, more in (("seeds", HOST, ""), ("allow", HOST, ""), ("deny", HOST, 'prefix = "/private"\n'))
+QUESTIONS = (b"moon and p2*", b"p* not moon", b"a or b or c or p1 or p2 or p3", b"not moon", b"and or p4", b" -- ")
+SETTINGS = seeded(more="threads = 1\nworkers = 1\n") + f'[[deny]]\nhost = "{HOST}"\nport = PORT\nprefix = "/private"\n'
+FOUND_LAST = b"/search\thel* or wel* not mars"
+LINES = (
+    b"", b"/docs", b"/a.txt", b"/docs/b.gif", b"/docs/.menu", b"/search\t -- ", b"/a\0b", b"/search\thello", FOUND_LAST,
+    b"/search\tmars",
 )
 FILES = {"a.txt": b"hello\n", "docs/.menu": b"Welcome\n0Read\t/a.txt\n1Far\t\tfar.example\t70\n", "docs/b.gif": b"\0gif"}
 
 
-def script():
-    """A crawl of a host, with each command and each answer of the language."""
-    text = lambda number: b"|" + (b"moon " * 300 if number == 10 else b"moon") + b" p%d\n|.\n" % number
-    lines = [b"allow\th\t70\t\ndeny\th\t70\t/private\nseed\t1\th\t70\t\nstart\t99\t2\nclaim\n"]
-    lines.append(b"found\t0\t1\th\t70\t\n" + MOON + TEXTS + b"|.\nclaim\nfail\t1\t2\nclaim\n")
-    lines.append(b"found\t2\t0\th\t70\t/sun.txt\n|--\n|\tThe\x01sun and the moon. \n|..moon moon\n|.\nfound\t3\t0\th\t70\t/x\n|.\n")
-    for number in NUMBERS:
-        lines.append(b"claim\nfound\t%d\t0\th\t70\t/p%d\n" % (number - 7, number) + text(number))
-    lines.append(b"claim\nfail\t1\t1\nfail\t1\t1\nclaim\nstatus\noccurs\tmoon\noccurs\tp10\n")
-    return b"".join(lines + [b"search\t%s\n" % question for question in QUESTIONS])
+def refused(test, words, given, number):
+    """What a run with one allocation refused writes, its errors and its status, and how many allocations it asked for."""
+    counted = test.folder / "counted"
+    counted.write_text("0\n")
+    before = test.preload("refusals", REFUSED=number, COUNTED=counted)
+    ran = subprocess.run([*before, *words], input=given, capture_output=True, timeout=SECONDS)
+    return (ran.stdout, ran.stderr, ran.returncode), int(counted.read_text())
 
 
-class Refusals:
-    """Runs programs, each with one allocation refused."""
-
-    def __init__(self, folder, tally):
-        self.folder, self.tally, self.library = folder, tally, folder / "refusals.so"
-        self.counted, self.left = folder / "counted", folder / "left"
-        subprocess.run(["cc", "-O2", "-shared", "-fPIC", "-o", self.library, ROOT / "tests/preloads/refusals.c"], check=True)
-
-    def run(self, words, given, refused):
-        """What a run writes, its errors and its status, and how many allocations it asked for."""
-        self.counted.write_text("0\n")
-        more = {"LD_PRELOAD": str(self.library), "REFUSED": str(refused), "COUNTED": str(self.counted)}
-        ran = subprocess.run(words, input=given, capture_output=True, timeout=SECONDS, env={**os.environ, **more})
-        return (ran.stdout, ran.stderr, ran.returncode), int(self.counted.read_text())
-
-    def each(self, name, words, given, wanted, is_refused):
-        """Refuses each allocation of these words. A run is as `wanted`, or is told apart by `is_refused`."""
-        told = refused = 0
-        while True:
-            refused += 1
-            end, counted = self.run(words, given, refused)
-            is_told = end != wanted and is_refused(*end)
-            told += is_told
-            self.tally.expect(f"{name}, allocation {refused} refused", end if not is_told else wanted, wanted)
-            if counted < refused or refused > MOST_RUNS or self.tally.failed > 20:
-                break
-        self.tally.expect(f"{name}: how many of {refused} refusals are told", told > 0, is_refused is not never)
+def refuse_each(test, name, words, given, wanted, is_refused):
+    """Refuses each allocation of these words. A run is as `wanted`, or is told apart by `is_refused`."""
+    told, number, counted = 0, 0, 0
+    while counted >= number and number < MOST_RUNS and test.failed <= 20:
+        number += 1
+        end, counted = refused(test, words, given, number)
+        is_told = end != wanted and is_refused(*end)
+        told += is_told
+        test.expect(f"{name}, allocation {number} refused", end if not is_told else wanted, wanted)
+    test.expect(f"{name}: how many of {number} refusals are told", told > 0, is_refused is not never)
 
 
 def never(*_):
@@ -105,56 +76,35 @@ def tells(wanted, *numbers):
     return is_told
 
 
-def check_replays(refusals, program):
+def check_replays(test):
     """Scripts: what a refused run wrote is a beginning of what the model writes."""
-    scripts = {"seventy texts": script()} | {it.stem: it.read_bytes() for it in sorted((ROOT / "examples").glob("*.script"))}
+    # seventy texts are merged; links are twice there, denied and foreign; words are there over 254 times
+    scripts = {"a menu": b"\n".join([*crawl_of_many_pages(70, 1), searches(*QUESTIONS)])}
+    scripts |= {script[:20]: script for script in (FIRST_CRAWL[0], WHOLE_SEARCH[0], DENY_RULE, TWO_TRIES[0], COUNTS)}
     for name, given in scripts.items():
         wanted = model.replayed(given)
-        refusals.each(f"replay of {name}", [program, "replay"], given, wanted, tells(wanted[0], 90))
+        refuse_each(test, f"replay of {name}", [test.program, "replay"], given, wanted, tells(wanted[0], 90))
 
 
-def make_site(folder):
-    root = folder / "site"
-    for path, data in FILES.items():
-        (root / path).parent.mkdir(parents=True, exist_ok=True)
-        (root / path).write_bytes(data)
-    return root
-
-
-def check_starts(refusals, program, folder, root):
+def check_starts(test):
     """A check of a site that is sound, and a server that ends at once: its crawl finds nobody who answers."""
-    settings, port = folder / "settings.toml", free_port()
-    text = f'host = "{HOST}"\nport = {port}\nroot = "{root}"\nthreads = 1\nworkers = 1\n{RULES}'
-    settings.write_text(text.replace("PORT", str(port)))
+    settings, port = test.folder / "settings.toml", free_port()
+    head = f'host = "{HOST}"\nport = {port}\nroot = "{test.site(FILES)}"\n'
+    settings.write_text(head + SETTINGS.replace("PORT", str(port)))
     for words, last, numbers in ((["check"], b"sound\n", [90]), (["serve", "--requests", "0"], b"dropped 0\n", [90, 82])):
-        given = [program, words[0], settings, *words[1:]]
-        wanted = refusals.run(given, b"", 0)[0]
-        refusals.tally.expect(f"{words[0]} ends well", (wanted[0].endswith(last), *wanted[1:]), (True, b"", 0))
+        given = [test.program, words[0], settings, *words[1:]]
+        wanted = refused(test, given, b"", 0)[0]
+        test.expect(f"{words[0]} ends well", (wanted[0].endswith(last), *wanted[1:]), (True, b"", 0))
         is_told, fault = tells(wanted[0], *numbers), lambda output: output.startswith(b"fault: 90\n")
         is_refused = lambda output, *end: is_told(b"" if fault(output) else output, *end)
-        refusals.each(words[0], given, b"", wanted, is_refused)
+        refuse_each(test, words[0], given, b"", wanted, is_refused)
 
 
-def line_of(port, kind, name, selector):
-    return f"{kind}{name}\t{selector}\t{HOST}\t{port}\r\n".encode()
-
-
-def requests(port):
-    """Request lines, with their replies."""
-    root = line_of(port, 7, "Search", "/search") + line_of(port, 0, "a.txt", "/a.txt") + line_of(port, 1, "docs", "/docs")
-    docs = line_of(port, "i", "Welcome", "") + line_of(port, 0, "Read", "/a.txt") + b"1Far\t\tfar.example\t70\r\n"
-    return {
-        b"": root + b".\r\n",
-        b"/docs": docs + b".\r\n",
-        b"/a.txt": b"hello\r\n.\r\n",
-        b"/docs/b.gif": b"\0gif",
-        b"/docs/.menu": line_of(port, 3, "Not found", "") + b".\r\n",
-        b"/search\t -- ": line_of(port, 3, "No words", "") + b".\r\n",
-        b"/a\0b": line_of(port, 3, "Bad request", "") + b".\r\n",
-        b"/search\thello": line_of(port, 0, "hello", "/a.txt") + b".\r\n",
-        b"/search\thel* or wel* not mars": line_of(port, 0, "hello", "/a.txt") + line_of(port, 1, "Welcome", "/docs") + b".\r\n",
-        b"/search\tmars": b".\r\n",
-    }
+def replies_of(port):
+    """Request lines, with their replies after the server's crawl of itself."""
+    site = Site(HOST.encode(), port, {path.encode(): content for path, content in FILES.items()})
+    site.finish_crawl(lambda place: place[:2] == (site.host, port), [(site.host, port, b"", b"1")], 4_096)
+    return {line: site.answer(line) for line in LINES}
 
 
 class Left:
@@ -180,92 +130,61 @@ def asked(port, line):
         return b""
 
 
-def check_line(tally, left, port, line, wanted):
+def check_line(test, left, port, line, wanted):
     """Asks a line with each allocation refused, and once more after each."""
-    refused = 0
-    while True:
-        refused += 1
-        left.set(refused)
+    number, is_met = 0, True
+    while is_met and number < MOST_RUNS and test.failed <= 20:
+        number += 1
+        left.set(number)
         reply = asked(port, line)
         is_met = left.get() <= 0
         left.set(0)
         is_beginning = wanted.startswith(reply) if is_met else reply == wanted
-        tally.expect(f"server: {line!r}, allocation {refused} refused: {reply!r} is a beginning of the reply", is_beginning, True)
-        tally.expect(f"server: {line!r} once more after allocation {refused}", asked(port, line), wanted)
-        if not is_met or tally.failed > 20:
-            return
-        if refused > MOST_RUNS:
-            tally.expect(f"server: {line!r} takes memory without an end", refused, 0)
-            return
+        test.expect(f"server: {line!r}, allocation {number} refused: {reply!r} is a beginning of the reply", is_beginning, True)
+        test.expect(f"server: {line!r} once more after allocation {number}", asked(port, line), wanted)
+    test.expect(f"server: {line!r} takes memory without an end", number < MOST_RUNS, True)
 
 
-def settle(port, line, wanted):
-    """Waits until the server's crawl of itself has come to its end, as a search shows it."""
-    until = time.monotonic() + WAIT
-    while asked(port, line) != wanted and time.monotonic() < until:
-        time.sleep(0.02)
-
-
-def check_requests(refusals, program, folder, root):
-    """A server that goes on whatever it is refused."""
-    left = Left(refusals.left)
-    before = ("env", f"LD_PRELOAD={refusals.library}", f"LEFT={refusals.left}")
-    more = "threads = 1\nworkers = 1\n" + RULES
-    with Server(program, folder, root, more=more, before=before) as server:
-        refusals.tally.expect("server: starts", server.started(), f"listening {HOST} {server.port}\n".encode())
-        rows = requests(server.port)
-        line = b"/search\thel* or wel* not mars"
-        settle(server.port, line, rows[line])
+def check_requests(test):
+    """A server that goes on whatever it is refused, asked once its crawl of itself has come to its end."""
+    left = Left(test.folder / "left")
+    with test.serving(test.site(FILES), more=SETTINGS, before=test.preload("refusals", LEFT=test.folder / "left")) as server:
+        rows = replies_of(server.port)
+        until_true(lambda: asked(server.port, FOUND_LAST) == rows[FOUND_LAST])
         for line, wanted in rows.items():
-            check_line(refusals.tally, left, server.port, line, wanted)
-        refusals.tally.expect("server: is still up", server.process.poll(), None)
+            check_line(test, left, server.port, line, wanted)
+        test.expect("server: is still up", server.process.poll(), None)
 
 
-def check_crawl(refusals, program, folder, root):
-    """A crawl that is refused its workers: the server answers its requests, of which the crawl makes none, and 90 is told. The
-    main thread asks for their memory while a server thread asks for its own, so only the main thread's allocations are counted."""
-    more = "threads = 1\nworkers = 1\n" + RULES
+def check_crawl(test):
+    """A crawl that is refused its workers: the server answers its requests, of which the crawl makes none, and 90 is told.
 
-    def end_of(refused):
+    The main thread asks for their memory while a server thread asks for its own. So only the main thread's are counted."""
+    root, counted = test.site(FILES), test.folder / "counted"
+
+    def end_of(number):
         """Whether both requests were answered, and how the server ended."""
-        before = ("env", f"LD_PRELOAD={refusals.library}", "OF_MAIN=1", f"REFUSED={refused}", f"COUNTED={refusals.counted}")
-        with Server(program, folder, root, more=more, words=("--requests", "2"), before=before) as server:
-            server.started()
+        before = test.preload("refusals", OF_MAIN=1, REFUSED=number, COUNTED=counted)
+        with test.serving(root, "--requests", 2, more=SETTINGS, before=before) as server:
             replies = [asked(server.port, b"") for _ in range(2)]
-            return replies == [requests(server.port)[b""]] * 2, server.end()
+            return replies == [replies_of(server.port)[b""]] * 2, server.end()
 
     end_of(0)
-    last = int(refusals.counted.read_text())
+    last = int(counted.read_text())
     # the last allocations are those of the crawl and of the end, and those before that of its workers are of the start
     is_told = any(end_of(number) == (True, (b"", b"hole: 90\n", 1)) for number in range(last, 0, -1))
-    refusals.tally.expect("a crawl without workers is told", is_told, True)
+    test.expect("a crawl without workers is told", is_told, True)
 
 
-def check_growths(refusals):
+def check_calls(test):
     """The test that makes each refused call again. Behind what it prints stands what says that it passed."""
     if not os.access(CALLS, os.X_OK):
         subprocess.run(["rt", "test"], cwd=CRATE, check=True, stdout=subprocess.DEVNULL)
     words = [CALLS, CALLED]
-    wanted = refusals.run(words, b"", 0)[0]
-    refusals.tally.expect(CALLED, (wanted[0].startswith(CALLED_WELL), *wanted[1:]), (True, b"", 0))
-    refusals.each(CALLED, words, b"", wanted, never)
-
-
-def main():
-    parser = argparse.ArgumentParser(description=__doc__.splitlines()[0])
-    parser.add_argument("program", nargs="?", type=pathlib.Path, default=PROGRAM)
-    program = parser.parse_args().program.resolve()
-    tally = Tally("refusals")
-    with tempfile.TemporaryDirectory() as name:
-        folder = pathlib.Path(name)
-        refusals, root = Refusals(folder, tally), make_site(folder)
-        check_growths(refusals)
-        check_replays(refusals, program)
-        check_starts(refusals, program, folder, root)
-        check_requests(refusals, program, folder, root)
-        check_crawl(refusals, program, folder, root)
-    return tally.status()
+    wanted = refused(test, words, b"", 0)[0]
+    test.expect(CALLED, (wanted[0].startswith(CALLED_WELL), *wanted[1:]), (True, b"", 0))
+    refuse_each(test, CALLED, words, b"", wanted, never)
 
 
 if __name__ == "__main__":
-    sys.exit(main())
+    run_test("refusals", __doc__, check_calls, check_replays, check_starts, check_requests, check_crawl)

@@ -3,27 +3,21 @@
 
     tests/replays.py [--scripts N] [--seed S] [--pages N] [PROGRAM]
 
-The scripts: N that are drawn (500 without N, always the same without S); those of worked.py, with the answers that were
-worked out by hand; the example's whole search, cut after each of its bytes; crawls in every order of their outcomes;
-catalogues whose pages end around each size at which the segments of the index change, of at most 16,390 pages or those of
---pages; and, without --pages, what is as large as it may be. The last line is 'replays: N passed, M failed'; a script on which the program
-differs is left in the folder that is named then.
+The scripts: N that are drawn (500 without N, always the same without S); those of models/worked.py; the example's whole search,
+cut after each of its bytes; crawls in every order of their outcomes; catalogues whose pages end around each size at which the
+segments of the index change, of at most 16,390 pages or those of --pages; and, without --pages, what is as large as it may be.
+The last line is 'replays: N passed, M failed'; a script on which the program differs is left in the folder that is named then.
 """
-import argparse
 import pathlib
 import random
-import subprocess
-import sys
 import tempfile
 
 from models import model
 from drawn.drawing import drawn_script
 from drawn.sizes import MOST_PAGES, scripts_of_limits, scripts_of_sizes
-from models.worked import SCRIPTS, WORKED
+from models.worked import MODELLED, SCRIPTS, WHOLE_SEARCH
+from running.server import run_test
 
-ROOT = pathlib.Path(__file__).resolve().parent.parent
-
-WHOLE_SEARCH = (ROOT / "examples" / "whole_search.script").read_bytes()
 HEAD = b"allow\th\t70\t\nseed\t1\th\t70\t\n"
 TWO_TEXTS = {b"": b"|0A\t/a\th\t70\n|0B\t/b\th\t70\n|.\n", b"/a": b"|moon\n|.\n", b"/b": b"|moon\n|.\n"}
 LINKS_BACK = {b"": b"|1A\t/a\th\t70\n|.\n", b"/a": b"|1Home\t\th\t70\n|0B\t/b\th\t70\n|.\n"}
@@ -69,55 +63,41 @@ def crawl_in_order(replies, failing, tries, questions, order):
     return b"".join(script)
 
 
-def wanted_runs(scripts, seed, pages):
-    """Each script with how its output has to end, and the number of its bad line where that was worked out too."""
-    for script, output, bad_line in SCRIPTS:
-        yield script, output, bad_line or 0
-    for script, end in WORKED:
-        yield script, end, None
-    for length in range(len(WHOLE_SEARCH)):
-        yield WHOLE_SEARCH[:length], b"", None
-    for crawl in CRAWLS:
-        *how, answers = crawl
+def scripts_of(given):
+    """Each script, and how its output has to end."""
+    for script in MODELLED:
+        yield script, b""
+    for length in range(len(WHOLE_SEARCH[0])):
+        yield WHOLE_SEARCH[0][:length], b""
+    for *how, answers in CRAWLS:
         for order in range(128):
-            yield crawl_in_order(*how, order), b"finished\n" + answers + DONE, None
-    for script in [*scripts_of_sizes(pages), *(scripts_of_limits() if pages >= MOST_PAGES else ())]:
-        yield script, b"", None
-    for number in range(scripts):
-        yield drawn_script(random.Random(f"{seed} {number}")), b"", None
+            yield crawl_in_order(*how, order), b"finished\n" + answers + DONE
+    for script in [*scripts_of_sizes(given.pages), *(scripts_of_limits() if given.pages >= MOST_PAGES else ())]:
+        yield script, b""
+    for number in range(given.scripts):
+        yield drawn_script(random.Random(f"{given.seed} {number}")), b""
 
 
-def is_as_worked(output, error, end, bad_line):
-    """Whether a script's output and error line are those that were worked out."""
-    if bad_line is None:
-        return output.endswith(end)
-    return (output, error) == (end, b"hole: 70 line %d\n" % bad_line if bad_line else b"")
-
-
-def main():
-    words = argparse.ArgumentParser()
-    words.add_argument("--scripts", type=int, default=500)
-    words.add_argument("--seed", default="hole")
-    words.add_argument("--pages", type=int, default=MOST_PAGES)
-    words.add_argument("program", nargs="?", default=ROOT / "crates" / "hole" / "out" / "hole")
-    given = words.parse_args()
-    passed, differ = 0, []
-    for script, end, bad_line in wanted_runs(given.scripts, given.seed, given.pages):
-        output, error, status = model.replayed(script)
-        ran = subprocess.run([given.program, "replay"], input=script, capture_output=True, timeout=120)
-        is_modelled = (ran.stdout, ran.stderr, ran.returncode) == (output, error, status)
-        if is_modelled and is_as_worked(output, error, end, bad_line):
-            passed += 1
-        else:
-            differ.append(script)
+def check_scripts(test):
+    """Replays each script. One on which the program differs is kept."""
+    differ = None
+    for number, (script, end) in enumerate(scripts_of(test.given)):
+        wanted, ran = model.replayed(script), test.run("replay", input=script)
+        test.expect(f"script {number}", (*ran, ran[0].endswith(end)), (*wanted, True))
+        if ran != wanted:
+            differ = differ or pathlib.Path(tempfile.mkdtemp(prefix="replays-"))
+            (differ / f"{number}.script").write_bytes(script)
     if differ:
-        folder = pathlib.Path(tempfile.mkdtemp(prefix="replays-"))
-        for number, script in enumerate(differ):
-            (folder / f"{number}.script").write_bytes(script)
-        print(f"replays: the scripts that differ are in {folder}")
-    print(f"replays: {passed} passed, {len(differ)} failed")
-    return 1 if differ or not passed else 0
+        print(f"replays: the scripts that differ are in {differ}")
+
+
+def check_worked(test):
+    """Replays the scripts that were worked out by hand, and has the model replay them."""
+    for script, output, bad_line in SCRIPTS:
+        wanted = (output, b"hole: 70 line %d\n" % bad_line, 1) if bad_line else (output, b"", 0)
+        test.expect(f"the worked script {script[:60]}", test.run("replay", input=script), wanted)
+        test.expect(f"the model of the worked script {script[:60]}", model.replayed(script), wanted)
 
 
 if __name__ == "__main__":
-    sys.exit(main())
+    run_test("replays", __doc__, check_worked, check_scripts, scripts=500, seed="hole", pages=MOST_PAGES)

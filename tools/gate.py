@@ -42,11 +42,11 @@ MEMORY_OF_A_CHECK = 5 << 30
 BY_HAND = {"clients"}
 # tests of `make quick`, with more words if the program was built without its proofs
 QUICK = {
-    "program": (), "serving": (), "requests": (), "check": (), "replays": ("--scripts", "200", "--pages", "257"), "log": ("--ratio", "0"),
+    "program": (), "requests": (), "check": (), "replays": ("--scripts", "200", "--pages", "257"), "log": ("--ratio", "0"),
     "attack": ("--memory", "100000"),
 }
 # tests that measure time or memory, or that wait for a second or two only: nothing else runs beside them
-ALONE = {"attack", "crawling", "large_texts", "log", "refused_crawls"}
+ALONE = {"attack", "crawl_memory", "crawling", "log"}
 # tests that want the built tests of a crate
 AFTER_CI = {"refusals"}
 # how many parts run at once, beside these, which take most of the gate

@@ -79,7 +79,8 @@ def opening(draw):
     for _ in range(draw.randrange(1, 6)):
         yield b"seed\t" + place(draw) if draw.random() < 0.1 else b"seed\t1\th\t70\t" + draw.choice(SELECTORS[2:])
     for _ in range(draw.randrange(1, 4)):
-        yield b"start\t%d" % draw.choice([0, 1, 2, 4, 8, 12, 12, 40, 65536, 65537]) + draw.choice([b"", b"", b"\t1", b"\t2", b"\t2", b"\t3", b"\t0", b"\t6"])
+        places = draw.choice([0, 1, 2, 4, 8, 12, 12, 40, 65536, 65537])
+        yield b"start\t%d" % places + draw.choice([b"", b"", b"\t1", b"\t2", b"\t2", b"\t3", b"\t0", b"\t6"])
 
 
 def step(draw, crawl):

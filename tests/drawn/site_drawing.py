@@ -8,20 +8,23 @@ from drawn import drawing
 FOLDERS = [b"docs", b"docs/sub", b"with space", b"\xc3\xa9t\xc3\xa9", b"a..b", b"docs/search", b"~", b"docs/sub/" + b"d" * 90]
 NAMES = [
     b"a", b"b.txt", b"B.txt", b"with space.txt", b" lead", b"trail ", b"\xc3\xbcn\xc3\xafcode.txt", b"pic.GIF", b"photo.JpEg",
-    b"x.png", b"y.jpg", b"gif", b"Search", b"searches", b"a.menu", b"menu", b"%2e%2e", b"+", b"x;y&z", b"\x01\x7f", b"a.",
-    b"n" * 150, b"m" * 254, b"\\", b"-", b"0", b"~x",
+    b"x.png", b"y.jpg", b"z.jpeg", b"a.gif.txt", b"gif", b"Search", b"searches", b"a.menu", b"menu", b"%2e%2e",
+    b"+", b"x;y&z", b"\x01\x7f", b"a.", b"n" * 150, b"m" * 254, b"\\", b"-", b"0", b"~x",
 ]
 HIDDEN = [b".hidden", b".menu.txt", b"..x", b".a\nb", b"...", b".gif", b".config"]
 KINDS = [b"0", b"1", b"0", b"1", b"7", b"h", b"i", b"9", b"\xff", b"T"]
-SELECTORS = [b"", b"/", b"/a", b"/b.txt", b"/docs", b"/docs/sub", b"/search", b"/gone", b"/.hidden", b"URL:http://h.example/", b"s" * 255]
+SELECTORS = [
+    b"", b"/", b"/a", b"/b.txt", b"/docs", b"/docs/sub", b"/search", b"/gone", b"/.hidden", b"URL:http://h.example/", b"s" * 255,
+]
 ENDS = [b"\n", b"\n", b"\n", b"\r\n", b"\r\n", b"\n\n", b"\r", b"\r\r\n", b"\n\r\n", b" \n"]
 SECRET = b"nobody may read this\n"
 NOWHERE = [
     b"..", b"/..", b"/../", b"/../secret.txt", b"../secret.txt", b"/docs/../secret.txt", b"/docs/../../secret.txt", b"/.",
     b"/./", b"/./a", b"//", b"//a", b"/a//b", b"/docs//a", b"/docs/", b"/docs/sub/", b"/.menu", b"/docs/.menu", b"/.hidden",
-    b"/docs/.hidden", b"/.secrets/a", b"/...", b"/..x", b"/.gif", b"/search/", b"/Search", b"search", b"/searchx", b"/%2e%2e/secret.txt",
-    b"/etc/passwd", b"../../../../etc/passwd", b"/proc/self/environ", b"a", b"docs", b"+", b"$", b"\xff\xfe", b"\0", b"/a\0",
-    b"/a\0.txt", b"/.\0hidden", b"/a\r", b"/\ra", b"\r", b" ", b"/a ", b" /a", b"GET / HTTP/1.1", b"/b.TXT", b"/DOCS", b".", b"/pipe", b"/lost", b"/device", b"/through",
+    b"/docs/.hidden", b"/.secrets/a", b"/...", b"/..x", b"/.gif", b"/search/", b"/Search", b"search", b"/searchx",
+    b"/%2e%2e/secret.txt", b"/etc/passwd", b"../../../../etc/passwd", b"/proc/self/environ", b"a", b"docs", b"+", b"$",
+    b"\xff\xfe", b"\0", b"/a\0", b"/a\0.txt", b"/.\0hidden", b"/a\r", b"/\ra", b"\r", b" ", b"/a ", b" /a",
+    b"GET / HTTP/1.1", b"/b.TXT", b"/DOCS", b".", b"/pipe", b"/lost", b"/device", b"/through",
 ]
 
 

@@ -31,9 +31,9 @@ LARGE = 131_072
 # Words of large pages, and what is sought among large and small ones; the last questions are done in steps.
 LONG_WORDS = (b"a00000" + b"x" * 34, b"b63027" + b"x" * 34)
 LARGE_QUESTIONS = (
-    b"m", b"a*", b"a* not lark", b"m not a*", b"m not " + LONG_WORDS[0], b"lark", b"lark not a*", b"l* or a*", b"p63", b"p64 or p63",
-    b"p255 or p256 or " + LONG_WORDS[1], LONG_WORDS[0], LONG_WORDS[1], b"a0*", b"b63*", b"q*", b"absent", b"absent or c*",
-    b"m a* b* c* d*", b"m or a* or lark or l* or p1* or z*", b"m not a* not b* not p1* or lark or p63",
+    b"m", b"a*", b"a* not lark", b"m not a*", b"m not " + LONG_WORDS[0], b"lark", b"lark not a*", b"l* or a*", b"p63",
+    b"p64 or p63", b"p255 or p256 or " + LONG_WORDS[1], LONG_WORDS[0], LONG_WORDS[1], b"a0*", b"b63*", b"q*", b"absent",
+    b"absent or c*", b"m a* b* c* d*", b"m or a* or lark or l* or p1* or z*", b"m not a* not b* not p1* or lark or p63",
     b"m not " + LONG_WORDS[0] + b" not " + LONG_WORDS[1] + b" or p0 or p63 or p255",
 )
 
@@ -49,21 +49,35 @@ def body(draw, number, larks):
     return b" ".join(words + alike + [b"lark"] * larks.get(number, 0) + [b"k"] * kays(number))
 
 
+def crawl(selectors, texts, ask=lambda number: ()):
+    """A crawl of texts at these selectors, with what is asked after each of them."""
+    yield b"allow\th\t7\t"
+    yield from (b"seed\t0\th\t7\t" + selector for selector in selectors)
+    yield b"start\t%d" % len(selectors)
+    for number, (selector, text) in enumerate(zip(selectors, texts)):
+        yield from (b"claim", b"found\t%d\t0\th\t7\t%s" % (number, selector), b"|" + text)
+        yield from ask(number)
+    yield b"status"
+
+
+def numbers(count):
+    return [b"%d" % number for number in range(count)]
+
+
+def asked(questions, words):
+    return [*(b"search\t" + question for question in questions), *(b"occurs\t" + word for word in words)]
+
+
 def crawl_of(pages, sizes, larks):
     """A crawl of so many pages, with questions where it has as many as one of the sizes."""
     draw = random.Random(pages)
+
+    def ask(number):
+        words = (word for word in SOUGHT if number < 2000 or word not in (b"m", *ALIKE))
+        return asked(QUESTIONS, words) if number + 1 in sizes else ()
+
     selectors = [b"%d" % (number * 40503 & 0xFFFF) for number in range(pages)]
-    yield b"allow\th\t7\t"
-    yield from (b"seed\t0\th\t7\t" + selector for selector in selectors)
-    yield b"start\t%d" % pages
-    for number, selector in enumerate(selectors):
-        yield b"claim"
-        yield b"found\t%d\t0\th\t7\t%s" % (number, selector)
-        yield b"|" + body(draw, number, larks)
-        if number + 1 in sizes:
-            yield from (b"search\t" + question for question in QUESTIONS)
-            yield from (b"occurs\t" + word for word in SOUGHT if number < 2000 or word not in (b"m", *ALIKE))
-    yield b"status"
+    return crawl(selectors, (body(draw, number, larks) for number in range(pages)), ask)
 
 
 def short_names(count):
@@ -75,19 +89,9 @@ def short_names(count):
 
 def crawl_of_many_words():
     """A crawl of 66 pages with over 4,100 words each, so many that a segment of 64 is made page by page."""
-    words = short_names(4170)
-    yield b"allow\th\t7\t"
-    yield from (b"seed\t0\th\t7\t%d" % number for number in range(66))
-    yield b"start\t66"
-    for number in range(66):
-        yield b"claim"
-        yield b"found\t%d\t0\th\t7\t%d" % (number, number)
-        yield b"|" + b" ".join(word for at, word in enumerate(words) if at % 65 != number)
-        if number in (62, 63, 65):
-            questions = (b"a", b"b*", b"a not b", b"zz and 00 or c", b"d* not dd")
-            yield from (b"search\t" + question for question in questions)
-            yield from (b"occurs\t" + word for word in words[:4] + words[-4:])
-    yield b"status"
+    words, questions = short_names(4170), (b"a", b"b*", b"a not b", b"zz and 00 or c", b"d* not dd")
+    texts = (b" ".join(word for at, word in enumerate(words) if at % 65 != number) for number in range(66))
+    return crawl(numbers(66), texts, lambda number: asked(questions, words[:4] + words[-4:]) if number in (62, 63, 65) else ())
 
 
 def words_of(number, size):
@@ -102,21 +106,19 @@ def crawl_of_large_pages():
     The large ones are the first and the last of the first segment, one in the third, one in the fourth, and one behind them.
     So there are segments with large pages and without any, before and after they are merged."""
     sizes = {0: LARGE + 1, 63: 140_000, 100: LARGE, 130: LARGE + 2, 255: 150_000, 256: LARGE + 41}
-    yield b"allow\th\t7\t"
-    yield from (b"seed\t0\th\t7\t%d" % number for number in range(262))
-    yield b"start\t262"
-    for number in range(262):
+
+    def text(number):
         words = [b"p%d" % number, b"m", *[b"lark"] * (number % 7 * 45)]
         if number in sizes:
             words += words_of(number, sizes[number] - len(b"".join(set(words))))
             assert len(b"".join(set(words))) == sizes[number]
-        yield b"claim"
-        yield b"found\t%d\t0\th\t7\t%d" % (number, number)
-        yield b"|" + b" ".join(words)
-        if number + 1 in (64, 65, 128, 192, 256, 257, 262):
-            yield from (b"search\t" + question for question in LARGE_QUESTIONS)
-            yield from (b"occurs\t" + word for word in (b"lark", b"p63", b"p255", *LONG_WORDS, b"absent"))
-    yield b"status"
+        return b" ".join(words)
+
+    def ask(number):
+        words = (b"lark", b"p63", b"p255", *LONG_WORDS, b"absent")
+        return asked(LARGE_QUESTIONS, words) if number + 1 in (64, 65, 128, 192, 256, 257, 262) else ()
+
+    return crawl(numbers(262), map(text, range(262)), ask)
 
 
 def scripts_of_sizes(pages):
@@ -130,9 +132,8 @@ def scripts_of_sizes(pages):
 
 def crawl_of_a_large_page():
     """One page of as many different words as a script has room for, of up to four bytes each."""
-    questions = [b"search\ta", b"search\tzz*", b"occurs\t9999", b"occurs\ta", b"search\tabc not b", b"status"]
     words = b" ".join(short_names(210_000))
-    return [b"allow\th\t7\t", b"seed\t0\th\t7\t", b"start\t1", b"claim", b"found\t0\t0\th\t7\t", b"|" + words, *questions]
+    return crawl([b""], [words], lambda number: asked([b"a", b"zz*", b"abc not b"], [b"9999", b"a"]))
 
 
 def crawl_of_most_places():
@@ -143,30 +144,25 @@ def crawl_of_most_places():
     yield from (b"status", b"claim", b"fail\t1\t1", b"claim", b"status")
 
 
-def crawl_of_many_pages():
-    """As many pages as a script has room for, of which every thousandth has words."""
-    names = short_names(25_000)
+def crawl_of_many_pages(count=25_000, every=1_000):
+    """A menu and its texts, in all as many pages as a script has room for, of which every thousandth has words."""
+    names = short_names(count)
     yield from (b"allow\th\t7\t", b"seed\t1\th\t7\t", b"start\t65536", b"claim", b"found\t0\t1\th\t7\t")
     yield from (b"|0\t%s\th\t7" % name for name in names)
     for number, name in enumerate(names, 1):
         yield from (b"claim", b"found\t%d\t0\th\t7\t%s" % (number, name))
-        if number % 1_000 == 0:
+        if number % every == 0:
             yield b"|moon p%d" % number
-    yield from (b"search\tmoon", b"search\tp25000", b"search\tp* not p1000", b"occurs\tmoon", b"status")
+    yield from asked((b"moon", b"p%d" % count, b"p* not p1000"), (b"moon",))
+    yield b"status"
 
 
 def crawl_of_many_terms():
     """Searches of 512 terms, the most that a text has room for, and of 170 different ones, over as many pages as two segments
     have, and some more."""
-    yield b"allow\th\t7\t"
-    yield from (b"seed\t0\th\t7\t%d" % number for number in range(130))
-    yield b"start\t130"
-    for number in range(130):
-        yield from (b"claim", b"found\t%d\t0\th\t7\t%d" % (number, number), b"|" + b"m a b "[: 2 + number % 5] + b"p%d" % number)
-        if number in (63, 64, 128, 129):
-            yield from (b"search\t" + b"m " * 512, b"search\t" + b"b a " * 256, b"search\t" + b"p*" + b" m" * 511)
-            yield b"search\t" + b" or ".join(short_names(170))
-    yield b"status"
+    questions = (b"m " * 512, b"b a " * 256, b"p*" + b" m" * 511, b" or ".join(short_names(170)))
+    texts = (b"m a b "[: 2 + number % 5] + b"p%d" % number for number in range(130))
+    return crawl(numbers(130), texts, lambda number: asked(questions, ()) if number in (63, 64, 128, 129) else ())
 
 
 def scripts_of_limits():

@@ -1,14 +1,10 @@
 """Hosts of this process that the program crawls, and servers that crawl them."""
 import contextlib
-import pathlib
 import socket
 import socketserver
-import struct
-import tempfile
 import threading
-import time
 
-from running.server import HOST, Server, ask
+from running.server import HOST, ask, reset, until_true
 
 TEXTS_OF_A_MENU = 128
 # How long a crawl may take for what is expected of it next.
@@ -23,7 +19,7 @@ class Replying(socketserver.BaseRequestHandler):
         self.server.asked.append(line)
         reply = self.server.answer(line)
         if reply is None:
-            self.request.setsockopt(socket.SOL_SOCKET, socket.SO_LINGER, struct.pack("ii", 1, 0))
+            reset(self.request)
             return
         with contextlib.suppress(OSError):
             for part in [reply] if isinstance(reply, bytes) else reply:
@@ -66,36 +62,23 @@ class Host(socketserver.ThreadingTCPServer):
         self.server_close()
 
 
-def seeded(port, more="", seed="", allow=()):
-    """Settings of a crawl of this machine's host at that port: more of them, more lines of the seed, more allowed ports."""
+def seeded(port="PORT", more="", seed="", allow=()):
+    """Settings of a crawl of this machine's host at that port, the server's own if none is given: more of them, more lines of
+    the seed, more allowed ports."""
     where = f'host = "{HOST}"\nport = '
     rules = "".join(f"[[allow]]\n{where}{each}\n" for each in (port, *allow))
     return f"{more}\n[[seeds]]\n{where}{port}\n{seed}{rules}"
 
 
-@contextlib.contextmanager
-def crawling(program, settings, words=(), **how):
+def crawling(test, settings, *words, **how):
     """A server of an empty folder that crawls by these settings."""
-    with tempfile.TemporaryDirectory() as place:
-        folder = pathlib.Path(place)
-        (folder / "root").mkdir()
-        with Server(program, folder, folder / "root", more=settings, words=words, **how) as server:
-            server.started()
-            yield server
+    return test.serving(test.site({}), *words, more=settings, **how)
 
 
 def searched(server, text):
     """The selectors that a search finds."""
     reply = ask(server.port, b"/search\t" + text + b"\r\n")
     return [line.split(b"\t")[1] for line in reply.split(b"\r\n")[:-2]]
-
-
-def until_true(test, seconds=SECONDS_FOR_ALL):
-    """Whether a test holds before the time is over."""
-    until = time.monotonic() + seconds
-    while not (holds := test()) and time.monotonic() < until:
-        time.sleep(0.05)
-    return holds
 
 
 def found_at_last(server, text, wanted, seconds=SECONDS_FOR_ALL):

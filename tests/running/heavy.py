@@ -1,13 +1,13 @@
 """Searches that cost much: made pages on a host of this process, queries as heavy as a line has room for, and their replies.
 """
 import contextlib
-import multiprocessing
 import random
-import threading
 import time
 from collections import Counter
+from concurrent.futures import ThreadPoolExecutor
 
-from models.model import Page, terms_of
+from models.model import Page
+from models.site_model import Site
 from running.crawled import Host, seeded
 from running.server import HOST, ask
 
@@ -16,7 +16,6 @@ PAIRS = [first + second for first in LETTERS for second in LETTERS]
 WORDS_A_PAGE = 250
 WORDS_A_LINE = 12
 MAX_TEXT = 1_016
-MOST_HITS = 50
 
 
 def text_of(draw):
@@ -64,71 +63,36 @@ class Counted(Page):
         return self.prefixes[word] if is_prefix and len(word) <= 2 else super().count(term)
 
 
-class Heavy:
-    """A host of so many texts, and what searches of them have to give."""
+class Heavy(Host):
+    """A host of so many texts, and what searches of them have to give, by the plain model."""
 
     def __init__(self, count):
-        draw, self.host = random.Random(1436), Host()
+        draw = random.Random(1436)
         texts = {b"/t%d" % number: text_of(draw) for number in range(count)}
-        place = (HOST.encode(), self.host.port)
-        self.pages = [Counted(None, (*place, name, b"0"), text) for name, text in texts.items()]
-        replies = self.host.menus(texts)
-        self.host.answer = lambda line: replies.get(line, b"")
-        self.known = len(replies)
+        super().__init__(lambda line: replies.get(line, b""))
+        replies = self.menus(texts)
+        self.site, self.known = Site(HOST.encode(), self.port, {}), len(replies)
+        places = ((self.site.host, self.port, name, b"0") for name in texts)
+        self.site.crawl.pages = [Counted(None, place, texts[place[2]]) for place in places]
 
     def settings(self):
-        return seeded(self.host.port, f"threads = 2\nplaces = {min(2 * self.known, 65_536)}\nworkers = 16")
-
-    def reply(self, text):
-        """The hits of a search as a menu, by the plain model."""
-        terms = terms_of(text.encode())
-        found = sorted((-page.score(terms), page.place, page.title) for page in self.pages if page.matches(terms))
-        lines = [
-            b"%s%s\t%s\t%s\t%d\r\n" % (kind, title, selector, host, port)
-            for _, (host, port, selector, kind), title in found[:MOST_HITS]
-        ]
-        return b"".join(lines) + b".\r\n"
-
-    def __enter__(self):
-        return self
-
-    def __exit__(self, *how):
-        self.host.__exit__(*how)
+        return seeded(self.port, f"threads = 2\nplaces = {min(2 * self.known, 65_536)}\nworkers = 16")
 
 
-def keep_asking(port, wanted, until, counts):
-    """Asks one search after another, and counts the replies that are right and those that aren't."""
-    turn = 0
+def keep_asking(port, wanted, until):
+    """Asks one search after another. Says of each reply whether it is right."""
+    are_right, turn = [], 0
     while time.monotonic() < until:
         line, reply = wanted[turn % len(wanted)]
         turn += 1
         with contextlib.suppress(OSError):
-            got = ask(port, line)
-            counts.append(got == reply)
+            are_right.append(ask(port, line) == reply)
+    return are_right
 
 
-def flood(port, wanted, clients, seconds, results):
-    """Has so many clients ask searches for a time."""
-    counts, until = [], time.monotonic() + seconds
-    asking = [threading.Thread(target=keep_asking, args=(port, wanted, until, counts)) for _ in range(clients)]
-    for client in asking:
-        client.start()
-    for client in asking:
-        client.join()
-    results.put((counts.count(True), counts.count(False)))
-
-
-class Flood:
-    """Clients in a process of their own that ask searches for a time."""
-
-    def __init__(self, port, wanted, clients, seconds):
-        own = multiprocessing.get_context("spawn")
-        self.results = own.Queue()
-        self.process = own.Process(target=flood, args=(port, wanted, clients, seconds, self.results), daemon=True)
-        self.process.start()
-
-    def end(self, wait):
-        """How many replies were right, and how many weren't."""
-        counts = self.results.get(timeout=wait)
-        self.process.join(wait)
-        return counts
+def flood(port, wanted, clients, seconds):
+    """Has so many clients ask searches for a time. How many replies were right, and how many weren't."""
+    until = time.monotonic() + seconds
+    with ThreadPoolExecutor(clients) as asking:
+        are_right = sum(asking.map(lambda _: keep_asking(port, wanted, until), range(clients)), [])
+    return are_right.count(True), are_right.count(False)

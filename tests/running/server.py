@@ -1,13 +1,20 @@
-"""Servers of the built program, and clients that ask them over loopback: what the tests of the running program share.
+"""What the tests of the running program share: a test's checks and its folder, servers of the built program, and clients that ask
+them over loopback.
 
 Every wait has an end; a server that isn't at its end in time is killed by its process id, which ends its clients' waits.
 """
+import argparse
 import contextlib
 import pathlib
 import select
 import socket
+import struct
 import subprocess
+import sys
+import tempfile
 import threading
+import time
+from concurrent.futures import ThreadPoolExecutor
 
 ROOT = pathlib.Path(__file__).resolve().parent.parent.parent
 PROGRAM = ROOT / "crates" / "hole" / "out" / "hole"
@@ -15,13 +22,18 @@ HOST = "127.0.0.1"
 WAIT = 20.0
 MOST_SECONDS = 120.0
 MOST_SHOWN = 20
+# What a server prints at its end that crawled nothing.
+SIZES = b"known 0 waiting 0 out 0 done 0 dropped 0\n"
+# Sockets that hold ports, by these.
+HELD = {}
 
 
-class Tally:
-    """Counts what passed and what failed, and shows the first that fail."""
+class Test:
+    """The checks of a program in a folder of their own. It counts what passed and what failed, and shows the first that fail."""
 
-    def __init__(self, name):
-        self.name, self.passed, self.failed = name, 0, 0
+    def __init__(self, name, program, folder, given):
+        self.name, self.program, self.folder, self.given = name, program, folder, given
+        self.passed, self.failed, self.sites = 0, 0, 0
 
     def expect(self, what, got, wanted):
         if got == wanted:
@@ -38,9 +50,60 @@ class Tally:
         print(f"{self.name}: {self.passed} passed, {self.failed} failed")
         return 0 if self.passed and not self.failed else 1
 
+    def site(self, files, name=None):
+        """A new folder with these files, by their paths."""
+        self.sites += 1
+        root = self.folder / (name or f"site-{self.sites}")
+        root.mkdir(parents=True)
+        for path, content in files.items():
+            (root / path).parent.mkdir(parents=True, exist_ok=True)
+            (root / path).write_bytes(content)
+        return root
 
-# Sockets that hold ports, by these.
-HELD = {}
+    def preload(self, name, **variables):
+        """What starts a program with a library of tests/preloads/ loaded before it, and these variables in its environment."""
+        library = self.folder / f"{name}.so"
+        if not library.exists():
+            source = ROOT / "tests" / "preloads" / f"{name}.c"
+            subprocess.run(["cc", "-O2", "-shared", "-fPIC", "-o", library, source], check=True)
+        return ("env", f"LD_PRELOAD={library}", *(f"{name}={value}" for name, value in variables.items()))
+
+    def run(self, *words, before=(), **how):
+        """What the program writes to its output and its error stream, and its status."""
+        how = {"stdout": subprocess.PIPE, "stderr": subprocess.PIPE, "timeout": 6 * WAIT, **how}
+        ran = subprocess.run([*before, self.program, *words], **how)
+        return ran.stdout, ran.stderr, ran.returncode
+
+    @contextlib.contextmanager
+    def serving(self, root, *words, **how):
+        """A server of a folder that has come to listen."""
+        with Server(self, root, *words, **how) as server:
+            told = server.started()
+            self.expect(f"the line of a server with {words}", told, f"listening {server.host} {server.port}\n".encode())
+            yield server
+
+    def ended(self, root, *words, **how):
+        """The output, the errors and the status of a server that ends by itself."""
+        with Server(self, root, *words, **how) as server:
+            return server.end()
+
+
+def run_test(name, text, *checks, **options):
+    """Runs the checks of a test, each with the test, and ends with its status. `text` says what it tests; of the options, each
+    has a value that it has if the command line doesn't say another."""
+    words = argparse.ArgumentParser(description=text, formatter_class=argparse.RawDescriptionHelpFormatter)
+    for option, value in options.items():
+        how = {"action": "store_true"} if value is False else {"type": type(value), "default": value}
+        words.add_argument(f"--{option}", **how)
+    words.add_argument("program", nargs="?", type=pathlib.Path, default=PROGRAM)
+    given = words.parse_args()
+    with tempfile.TemporaryDirectory() as place:
+        folder = pathlib.Path(place)
+        folder.chmod(0o755)
+        test = Test(name, given.program.resolve(), folder, given)
+        for check in checks:
+            check(test)
+    sys.exit(test.status())
 
 
 def free_port():
@@ -55,6 +118,12 @@ def free_port():
 
 def connect(port, host=HOST, wait=WAIT):
     return socket.create_connection((host, port), timeout=wait)
+
+
+def reset(client):
+    """Closes a client's side without an end, so that the other side sees a reset."""
+    client.setsockopt(socket.SOL_SOCKET, socket.SO_LINGER, struct.pack("ii", 1, 0))
+    client.close()
 
 
 def read_all(client):
@@ -73,26 +142,66 @@ def ask(port, line, host=HOST):
         return read_all(client)
 
 
-def refusing(folder, **variables):
-    """What starts a program with tests/preloads/refusing.c loaded before it, and these variables in its environment."""
-    library = folder / "refusing.so"
-    if not library.exists():
-        subprocess.run(["cc", "-O2", "-shared", "-fPIC", "-o", str(library), str(ROOT / "tests/preloads/refusing.c")], check=True)
-    return ("env", f"LD_PRELOAD={library}", *(f"{name}={value}" for name, value in variables.items()))
+def ask_whole(port, sent, host=HOST, pieces=1):
+    """What a client is sent that sends these bytes in so many pieces, and ends its side if they end no line; or the name of the
+    error, if it isn't served."""
+    length = len(sent) // pieces + 1
+    try:
+        with connect(port, host) as client:
+            with contextlib.suppress(OSError):
+                for start in range(0, len(sent), length):
+                    client.sendall(sent[start:start + length])
+                    time.sleep(0.003 * (pieces > 1))
+                if b"\n" not in sent:
+                    client.shutdown(socket.SHUT_WR)
+            return read_all(client)
+    except OSError as error:
+        return type(error).__name__.encode()
+
+
+def ask_all(port, lines, by=ask):
+    """The replies to these lines, of which several are asked at once."""
+    with ThreadPoolExecutor(16) as clients:
+        return list(clients.map(lambda line: by(port, line), lines))
+
+
+def is_open(client):
+    """Whether the server hasn't closed the connection of a client; what it was sent is read."""
+    client.setblocking(False)
+    try:
+        while client.recv(1 << 20):
+            pass
+        return False
+    except BlockingIOError:
+        return True
+    except OSError:
+        return False
+
+
+def until_true(test, seconds=WAIT, pause=0.05):
+    """Whether a test holds before the time is over."""
+    until = time.monotonic() + seconds
+    while not (holds := test()) and time.monotonic() < until:
+        time.sleep(pause)
+    return holds
+
+
+def with_few_files(files):
+    """What starts a program that may open this many files."""
+    return ("sh", "-c", f'ulimit -Sn {files}; exec "$@"', "sh")
 
 
 class Server:
-    """A server of a folder, by the settings and more words; `before` stands before the program's name, and it has the
-    sockets `fds`."""
+    """A server of a folder, with more words and settings, or by a file of settings that is its `root`; `before` stands before
+    the program's name, and `how` is Popen's."""
 
-    def __init__(self, program, folder, root, more="", words=(), port=None, host=HOST, before=(), seconds=MOST_SECONDS, fds=()):
-        self.port = port or free_port()
-        settings = folder / f"settings-{self.port}.toml"
-        settings.write_text(f'host = "{host}"\nport = {self.port}\nroot = "{root}"\n{more.replace("PORT", str(self.port))}')
-        self.process = subprocess.Popen(
-            [*before, str(program), "serve", str(settings), *words],
-            stdout=subprocess.PIPE, stderr=subprocess.PIPE, pass_fds=[each.fileno() for each in fds],
-        )
+    def __init__(self, test, root, *words, more="", port=None, host=HOST, before=(), seconds=MOST_SECONDS, **how):
+        self.host, self.port, settings = host, port or free_port(), root
+        if root.suffix != ".toml":
+            settings = test.folder / f"settings-{self.port}.toml"
+            settings.write_text(f'host = "{host}"\nport = {self.port}\nroot = "{root}"\n{more.replace("PORT", str(self.port))}')
+        words = [*before, test.program, "serve", settings, *map(str, words)]
+        self.process = subprocess.Popen(words, **{"stdout": subprocess.PIPE, "stderr": subprocess.PIPE, **how})
         self.watchdog = threading.Timer(seconds, self.process.kill)
         self.watchdog.daemon = True
         self.watchdog.start()
@@ -102,17 +211,10 @@ class Server:
         ready, _, _ = select.select([self.process.stdout], [], [], WAIT)
         return self.process.stdout.readline() if ready else b""
 
-    def most_memory(self):
-        """The most memory that it has held so far, in KiB; none if it has ended."""
-        return self._memory("VmHWM:")
-
-    def memory(self):
-        """The memory that it holds, in KiB; none if it has ended."""
-        return self._memory("VmRSS:")
-
-    def _memory(self, name):
+    def memory(self, name="VmRSS"):
+        """The memory that it holds, in KiB, or with VmHWM the most that it has held; none if it has ended."""
         status = pathlib.Path(f"/proc/{self.process.pid}/status").read_text()
-        return next((int(line.split()[1]) for line in status.splitlines() if line.startswith(name)), None)
+        return next((int(line.split()[1]) for line in status.splitlines() if line.startswith(f"{name}:")), None)
 
     def end(self):
         """The rest of its output, its errors and its status."""
@@ -123,6 +225,11 @@ class Server:
             output, error = self.process.communicate()
             return output, error, "didn't end"
         return output, error, self.process.returncode
+
+    def terminate(self):
+        """Ends it by SIGTERM. Returns the rest of its output, its errors and its status."""
+        self.process.terminate()
+        return self.end()
 
     def __enter__(self):
         return self

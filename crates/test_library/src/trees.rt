@@ -1,6 +1,6 @@
 // Trees of lists of files, and replies that are kept. The faults of lists are in
 // proofs/WorkedRows.antt; what folders are loaded as, and what they reply, is shown by
-// tests/check.py and tests/serving.py.
+// tests/check.py and tests/requests.py.
 use gopher_item::Home;
 use gopher_replies::{Replies, Reply};
 use gopher_tree::{Node, Tree, TreeFault};
