@@ -5,7 +5,7 @@ use Rattle.std.proofs.lemmas.Map.Keys.{Less-from_sorted}
 use Rattle.std.specs.Ordering.{nat_cmp, is_lt}
 use Rattle.std.specs.Cmp.Lexicographic.{slice_cmp}
 use Rattle.gopher_page.specs.Counts.{is_before, is_meant, AreInOrder, AreMeantWords, FailsAt, LastPasses}
-use Rattle.gopher_page.proofs.Order.{before-trans, meant_before, meant_past, not_before-trans, word_past}
+use Rattle.gopher_page.proofs.Order.{meant_before, meant_past, not_before-trans, word_past}
 
 -- a fact of a bound of a search holds where the search ends, if it does there by a test elsewhere
 pub settled : (P : ℕ → Type 0) (bound end : ℕ) → P bound → ((end ≡ bound → ⊥) → P end) → P end
