@@ -4,13 +4,13 @@ use Rattle.std.proofs.lemmas.Bool.{both_ways}
 use Rattle.std.proofs.lemmas.Bool.Decides.{nat_tests}
 use Rattle.std.proofs.lemmas.List.{length-append, length-map, map-append}
 use Rattle.std.proofs.lemmas.List.Elements.{filter-append}
-use Rattle.std.proofs.lemmas.List.Sums.{sum_by-cons, sum_by-append}
+use Rattle.std.proofs.lemmas.List.Sums.{sum_by-cons}
 use Rattle.std.specs.List.{slice_split, onto_first, flat_map}
 use Rattle.gopher_bytes.proofs.Splits.{some_part}
 use Rattle.gopher_bytes.specs.Case.{lower_case}
 use Rattle.gopher_page.specs.Words.{is_gap, is_word, bare_words, words_of}
 use Rattle.gopher_page.proofs.Tokens.{bare_words-parts}
-use Rattle.gopher_page.proofs.Short.{split_size, filter_size, filter_count, map_size}
+use Rattle.gopher_page.proofs.Short.{split_size, filter_count}
 
 -- ---- lower case
 

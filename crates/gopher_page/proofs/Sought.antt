@@ -4,8 +4,8 @@ use Rattle.std.proofs.lemmas.Bool.{both_ways, cases_eq, cases_lt, true_from_ne_f
 use Rattle.std.proofs.lemmas.Map.Keys.{Less-from_sorted}
 use Rattle.std.specs.Ordering.{nat_cmp, is_lt}
 use Rattle.std.specs.Cmp.Lexicographic.{slice_cmp}
-use Rattle.gopher_page.specs.Counts.{is_before, is_meant, AreInOrder, AreMeantWords, IsLastBefore, IsNotBefore, IsNotMeant}
-use Rattle.gopher_page.proofs.Order.{before-trans, meant_before, meant_past, not_before-trans, word_past}
+use Rattle.gopher_page.specs.Counts.{is_before, is_meant, AreInOrder, AreMeantWords, FailsAt, LastPasses}
+use Rattle.gopher_page.proofs.Order.{meant_before, meant_past, not_before-trans, word_past}
 
 -- a fact of a bound of a search holds where the search ends, if it does there by a test elsewhere
 pub settled : (P : ℕ → Type 0) (bound end : ℕ) → P bound → ((end ≡ bound → ⊥) → P end) → P end
@@ -23,7 +23,7 @@ module _ (words : List (List ℕ)) (sorted : AreInOrder words) (sought : List �
   in_order i j less within = ap is_lt (Less-from_sorted (slice_cmp nat_cmp) words i j [] sorted less within)
 
   -- a test that fails at an index and then at each word after one at which it fails
-  from_index : (test : List ℕ → Bool) (i : ℕ) → (i < length words → test (word i) ≡ false)
+  from_index : (test : List ℕ → Bool) (i : ℕ) → FailsAt test words i
       → ((k : ℕ) → i < k → k < length words → test (word i) ≡ false → test (word k) ≡ false) → (k : ℕ) → i ≤ k → k < length words → test (word k) ≡ false
   from_index test i here later k from within = by (cases_lt i k)
     where
@@ -33,30 +33,30 @@ module _ (words : List (List ℕ)) (sorted : AreInOrder words) (sought : List �
           let same : i ≡ k = omega arith in
           subst (λ j. test (word j) ≡ false) same (here (omega arith))
 
-  none_before_from : (i : ℕ) → IsNotBefore words i sought → (k : ℕ) → i ≤ k → k < length words → is_before (word k) sought ≡ false
+  none_before_from : (i : ℕ) → FailsAt (λ w. is_before w sought) words i → (k : ℕ) → i ≤ k → k < length words → is_before (word k) sought ≡ false
   none_before_from i here = from_index (λ w. is_before w sought) i here (λ k less within fails. not_before-trans (word i) (word k) sought fails (in_order i k less within))
 
-  all_before : (end : ℕ) → end ≤ length words → IsLastBefore words end sought → (k : ℕ) → k < end → is_before (word k) sought ≡ true
+  all_before : (end : ℕ) → end ≤ length words → LastPasses (λ w. is_before w sought) words 0 end → (k : ℕ) → k < end → is_before (word k) sought ≡ true
   all_before end within last k below =
       true_from_ne_false (is_before (word k) sought) (λ e. both_ways _ (none_before_from k (λ inside. e) (end - 1) (omega arith) (omega arith)) (last (omega arith)))
 
   -- no word before the sought one lies after one that isn't
-  pub bounds_forward : (low high : ℕ) → low ≤ length words → IsLastBefore words low sought → IsNotBefore words high sought → low ≤ high
+  pub bounds_forward : (low high : ℕ) → low ≤ length words → LastPasses (λ w. is_before w sought) words 0 low → FailsAt (λ w. is_before w sought) words high → low ≤ high
   bounds_forward low high within last here = by (cases_lt high low)
     where
       by : (high < low) ⊎ (low ≤ high) → low ≤ high
       by (inl less) = absurd (both_ways _ (here (omega arith)) (all_before low within last high less))
       by (inr forward) = forward
 
-  module _ (is_prefix : Bool) (start : ℕ) (start_is : IsNotBefore words start sought) where
+  module _ (is_prefix : Bool) (start : ℕ) (start_is : FailsAt (λ w. is_before w sought) words start) where
     -- after a word that isn't meant, no word is
-    none_meant_from : (i : ℕ) → start ≤ i → IsNotMeant words i is_prefix sought → (k : ℕ) → i ≤ k → k < length words → is_meant is_prefix sought (word k) ≡ false
+    none_meant_from : (i : ℕ) → start ≤ i → FailsAt (is_meant is_prefix sought) words i → (k : ℕ) → i ≤ k → k < length words → is_meant is_prefix sought (word k) ≡ false
     none_meant_from i forward here =
         from_index (is_meant is_prefix sought) i here
         (λ k less within fails. meant_past is_prefix sought (word i) (word k) (none_before_from start start_is i forward (omega arith)) fails (in_order i k less within))
 
-    pub meant_words : (end : ℕ) → start ≤ end → end ≤ length words → IsLastBefore words start sought → (start < end → is_meant is_prefix sought (word (end - 1)) ≡ true)
-        → IsNotMeant words end is_prefix sought → AreMeantWords words is_prefix sought start end
+    pub meant_words : (end : ℕ) → start ≤ end → end ≤ length words → LastPasses (λ w. is_before w sought) words 0 start → LastPasses (is_meant is_prefix sought) words start end
+        → FailsAt (is_meant is_prefix sought) words end → AreMeantWords words is_prefix sought start end
     meant_words end forward within last holds here = record {
       forward = forward;
       within = within;
@@ -67,5 +67,5 @@ module _ (words : List (List ℕ)) (sorted : AreInOrder words) (sought : List �
     }
 
   -- only the first word can equal the sought one
-  pub one_word_meant : (start : ℕ) → IsNotBefore words start sought → IsNotMeant words (start + 1) false sought
+  pub one_word_meant : (start : ℕ) → FailsAt (λ w. is_before w sought) words start → FailsAt (is_meant false sought) words (start + 1)
   one_word_meant start here within = word_past sought (word start) (word (start + 1)) (here (omega arith)) (in_order start (start + 1) (omega arith) within)

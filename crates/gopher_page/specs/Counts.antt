@@ -62,23 +62,13 @@ AreInOrder words = IsStrictlySortedBy (slice_cmp nat_cmp) words
 abbrev pub word_at : List (List ℕ) → ℕ → List ℕ
 word_at words index = slice_index_or words index []
 
--- the last word before this index comes before the sought one
-abbrev pub IsLastBefore : List (List ℕ) → ℕ → List ℕ → Type 0
-IsLastBefore words end sought = 0 < end → is_before (word_at words (end - 1)) sought ≡ true
+-- the last word from `start` up to, not including, `end` passes a test, if there is one
+abbrev pub LastPasses : (List ℕ → Bool) → List (List ℕ) → ℕ → ℕ → Type 0
+LastPasses test words start end = start < end → test (word_at words (end - 1)) ≡ true
 
--- the word at this index doesn't come before the sought one
-abbrev pub IsNotBefore : List (List ℕ) → ℕ → List ℕ → Type 0
-IsNotBefore words index sought =
-    index < length words → is_before (word_at words index) sought ≡ false
-
--- the last word before this index is meant
-abbrev pub is_meant_last : Bool → List ℕ → List (List ℕ) → ℕ → Bool
-is_meant_last is_prefix sought words end = is_meant is_prefix sought (word_at words (end - 1))
-
--- the word at this index isn't meant
-abbrev pub IsNotMeant : List (List ℕ) → ℕ → Bool → List ℕ → Type 0
-IsNotMeant words index is_prefix sought =
-    index < length words → is_meant is_prefix sought (word_at words index) ≡ false
+-- the word at this index fails a test, if there is one
+abbrev pub FailsAt : (List ℕ → Bool) → List (List ℕ) → ℕ → Type 0
+FailsAt test words index = index < length words → test (word_at words index) ≡ false
 
 -- exactly the words from `start` up to, not including, `end` are meant
 pub record AreMeantWords (words : List (List ℕ)) (is_prefix : Bool) (sought : List ℕ)

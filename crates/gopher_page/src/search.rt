@@ -1,7 +1,7 @@
 //! Searching words in byte order: `range_meant`.
 
-ghost use Rattle.std.specs.Prelude.{◌≡◌, ◌<◌, ◌≤◌, true, length};
-ghost use Rattle.gopher_page.specs.Counts.{is_meant, is_meant_last, is_before, word_at, AreInOrder, AreMeantWords, IsLastBefore, IsNotBefore, IsNotMeant};
+ghost use Rattle.std.specs.Prelude.{◌≡◌, ◌<◌, ◌≤◌, length};
+ghost use Rattle.gopher_page.specs.Counts.{is_meant, is_before, word_at, AreInOrder, AreMeantWords, LastPasses, FailsAt};
 
 use gopher_bytes::{ByteStrings, first_index};
 
@@ -29,7 +29,7 @@ fn is_before_at(words: &ByteStrings, sought: &[u8], index: usize) -> bool
 // does, or else 0.
 fn low_bound(words: &ByteStrings, sought: &[u8], index: usize) -> usize
     ensures within { result ≤ length words.now }
-    ensures before { IsLastBefore words.now result sought.now }
+    ensures before { LastPasses (λ word. is_before word sought.now) words.now 0 result }
 {
     if index < words.len() && is_before_at(words, sought, index) {
         return index + 1;
@@ -41,7 +41,7 @@ fn low_bound(words: &ByteStrings, sought: &[u8], index: usize) -> usize
 // the number of words.
 fn high_bound(words: &ByteStrings, sought: &[u8], index: usize) -> usize
     ensures within { result ≤ length words.now }
-    ensures here { IsNotBefore words.now result sought.now }
+    ensures here { FailsAt (λ word. is_before word sought.now) words.now result }
 {
     if index < words.len() && !is_before_at(words, sought, index) {
         return index;
@@ -54,8 +54,8 @@ fn high_bound(words: &ByteStrings, sought: &[u8], index: usize) -> usize
 fn words_before(words: &ByteStrings, sought: &[u8], low_guess: usize, high_guess: usize) -> usize
     requires { AreInOrder words.now }
     ensures within { result ≤ length words.now }
-    ensures before { IsLastBefore words.now result sought.now }
-    ensures here { IsNotBefore words.now result sought.now }
+    ensures before { LastPasses (λ word. is_before word sought.now) words.now 0 result }
+    ensures here { FailsAt (λ word. is_before word sought.now) words.now result }
 {
     let low = low_bound(words, sought, low_guess);
     let high = high_bound(words, sought, high_guess);
@@ -67,11 +67,11 @@ fn words_before(words: &ByteStrings, sought: &[u8], low_guess: usize, high_guess
 fn end_of_meant(words: &ByteStrings, is_prefix: bool, sought: &[u8], start: usize) -> usize
     requires order { AreInOrder words.now }
     requires start { start ≤ length words.now }
-    requires here { IsNotBefore words.now start sought.now }
+    requires here { FailsAt (λ word. is_before word sought.now) words.now start }
     ensures forward { start ≤ result }
     ensures within { result ≤ length words.now }
-    ensures meant { start < result → is_meant_last is_prefix sought.now words.now result ≡ true }
-    ensures others { IsNotMeant words.now result is_prefix sought.now }
+    ensures meant { LastPasses (is_meant is_prefix sought.now) words.now start result }
+    ensures others { FailsAt (is_meant is_prefix sought.now) words.now result }
 {
     if is_prefix {
         return first_index(
