@@ -12,8 +12,9 @@ build with an address sanitizer, as `rt try` makes, takes some 64,000), and the 
 'attack: N passed, M failed'. It takes about N + 70 seconds, and at most some minutes if the program fails, because a server
 that goes on for too long is killed.
 
-Beside heavy searches of 4,096 texts, ordinary replies take less than 50 ms in the median and 500 ms at the 99th percentile.
-With --heavy there are 65,000 texts and a minute of searches, the bounds are 5 and 50 ms, and nothing else is tried.
+While 1,000 heavy searches wait for their turn, the program takes less than 8 MiB for them, and an ordinary reply takes less than
+SOON seconds. Beside heavy searches of 4,096 texts, ordinary replies take less than 50 ms in the median and 500 ms at the 99th
+percentile. With --heavy there are 65,000 texts and a minute of searches, the bounds are 5 and 50 ms, and nothing else is tried.
 """
 import contextlib
 import functools
@@ -41,6 +42,8 @@ PLACES, EXCESS, MOST_ABOVE, ATTEMPTS = 100, 10, 20, 5
 MAX_HELD = 300_000_000
 LINGERS = 16  # seconds
 DEAF_TO_MENUS = 20
+WAITING = 1_000
+MAX_FOR_WAITING = 8_192  # KiB, with what the search takes whose turn it is; begun searches of WAITING clients take 25,000
 MAX_FOR_MENUS = 16_384  # KiB, less than one copy of the menu
 MIB = 1 << 20
 LARGE = bytes(range(256)) * 32_768
@@ -437,6 +440,23 @@ def attack_by_large_menus(attacked):
         print(f"attack: {what}", flush=True)
 
 
+def check_waiting(attacked, server, line):
+    """Heavy searches that wait for their turn hold little, and an ordinary client is answered beside them."""
+    with contextlib.ExitStack() as ends:
+        before, waiting = server.memory("VmRSS"), [*clients_of(ends, server, WAITING)]
+        for client in waiting:
+            client.sendall(line)
+        _, slowest = times_beside(attacked, server, "waiting searches", 2 * SOON, 20)
+        held = server.memory("VmRSS") - before
+        for client in waiting:
+            reset(client)
+    print(f"attack: {held} KiB for {WAITING} waiting searches; the slowest ordinary reply took {slowest:.3f} s", flush=True)
+    attacked.expect(f"{slowest:.3f} s are soon", slowest < SOON, True)
+    # a sanitizer keeps what was given back
+    if attacked.given.memory <= MOST_MEMORY:
+        attacked.expect(f"{held} KiB for waiting searches are below {MAX_FOR_WAITING}", held < MAX_FOR_WAITING, True)
+
+
 def attack_by_searches(attacked):
     """Clients that ask the heaviest searches get the right hits, and ordinary clients are answered beside them."""
     texts, seconds, median, late = (65_000, 60, 0.005, 0.05) if attacked.given.heavy else (4_096, 6, 0.05, 0.5)
@@ -450,6 +470,7 @@ def attack_by_searches(attacked):
         wanted = [(b"/search\t%s\r\n" % text.encode(), heavy.site.search(text.encode())) for text in heavy_texts()]
         for line, reply in wanted:
             attacked.expect(f"the reply to {line[:40]!r}", ask_whole(server.port, line), reply)
+        check_waiting(attacked, server, wanted[0][0])
         flooded = others.submit(flood, server.port, wanted[:1] + wanted[-1:], HEAVY, seconds + 2)
         time.sleep(1.5)
         half, most = times_beside(attacked, server, "heavy searches", seconds)

@@ -3,3 +3,4 @@ pub mod Talking
 pub mod StepLemmas
 pub mod StopLemmas
 pub mod PauseLemmas
+pub mod PutBack

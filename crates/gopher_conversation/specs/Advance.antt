@@ -279,6 +279,12 @@ pub record Talks (given : List ℕ → List ℕ → Type 0) (had left old new : 
   pub all_taken : ended ≡ true → IfSome had (λ all. all ≡ taken)
   pub stands : Stands given ended taken sent talk
 
+-- a change of the conversation alone keeps this agreement, whichever replies answer a line
+pub record Upholds (old new : Talk) : Type 0 where
+  pub goes : (answers : List ℕ → List ℕ → Bool) (had left before after : Option (List ℕ))
+      → Talks (λ line reply. answers line reply ≡ true) had left before after old
+      → Talks (λ line reply. answers line reply ≡ true) had left before after new
+
 -- some steps keep this agreement, however the conversation reached its state and whatever others
 -- were answered since: the conversation, the answers, the reader and the writer, before and after
 pub record Advances {A : Type 0} (leads_to : A → A → Type 0)

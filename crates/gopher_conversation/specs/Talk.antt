@@ -1,6 +1,6 @@
 -- A conversation with one client, over all bytes that came in: one line, and its reply (RFC 1436,
 -- section 2).
-use Rattle.std.specs.Prelude.{◌≡◌, ℕ, zero, suc, ◌+◌, ◌<◌, Bool, true, false, ◌||◌, ◌⊎◌, List, [], ◌++◌, length, take, drop, nat_le, Option, None, Some, if◌then◌else◌}
+use Rattle.std.specs.Prelude.{◌≡◌, ℕ, zero, suc, ◌+◌, ◌<◌, ◌==◌, Bool, true, false, ◌||◌, ◌⊎◌, List, [], ◌++◌, length, take, drop, nat_le, Option, None, Some, if◌then◌else◌}
 use Rattle.std.specs.Io.BufRead.{first_line}
 use Rattle.gopher_bytes.specs.declared.line.TheConstants.{MAX_LINE}
 use Rattle.gopher_text.specs.Line.{has_feed}
@@ -89,6 +89,14 @@ OnlySearches old new = new ≡ with_steps old (steps_of new)
 -- the reply is there, or fewer steps of the search for it are left
 abbrev pub NearsReply : Talk → Talk → Type 0
 NearsReply old new = (steps_of new ≡ 0) ⊎ (steps_of new < steps_of old)
+
+-- the same state without the search that makes the reply, if nothing of the reply was sent: the
+-- line is asked again
+abbrev pub put_back : Talk → Talk
+put_back (Responds line reply zero sent) = Responds line reply zero sent
+put_back (Responds line reply (suc steps) sent) =
+    if sent == 0 then Asks line else Responds line reply (suc steps) sent
+put_back talk = talk
 
 abbrev pub stage_of : Talk → Stage
 stage_of (Gathers bytes) = stage.Listens

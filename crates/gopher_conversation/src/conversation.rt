@@ -4,8 +4,9 @@ ghost use Rattle.std.specs.Prelude.{◌≡◌, ◌<◌, ◌≤◌, ◌+◌, ◌^
 ghost use Rattle.std.specs.Option.{option_map};
 ghost use Rattle.std.specs.Io.BufRead.{first_line, strip_last};
 ghost use Rattle.gopher_text.specs.Line.{has_feed};
-ghost use Rattle.gopher_conversation.specs.Talk.{Hears, IsAskedLine, NearsReply, OnlySearches, asked_of, heard, is_known, said, sendable_of, sent_of, stage_of, steps_of, unsent_of};
+ghost use Rattle.gopher_conversation.specs.Talk.{Hears, IsAskedLine, NearsReply, OnlySearches, asked_of, heard, is_known, put_back, said, sendable_of, sent_of, stage_of, steps_of, unsent_of};
 ghost use Rattle.gopher_conversation.specs.Talk.{Gathers};
+ghost use Rattle.gopher_conversation.specs.Advance.{Upholds};
 ghost use Rattle.gopher_conversation.specs.TalkOf.{IsAnswered, IsPhaseAt, reply_in};
 
 use gopher_item::{MAX_LINE, NoMemory};
@@ -212,6 +213,22 @@ impl<'a> Conversation<'a> {
         };
         answer.step(alloc)?;
         Ok(())
+    }
+
+    /// Drops the search that makes its reply, unless some of the reply was sent. Its line stays,
+    /// and `advance` asks for the reply again. So a conversation whose turn to search hasn't come
+    /// holds only its line.
+    #[tactic(auto, using(crate::proofs::PutBack::upholds))]
+    pub fn put_back(&mut self)
+        ensures state { self.new ≡ put_back self.old }
+        ensures upholds { Upholds self.old self.new }
+    {
+        let Phase::Answering(Answer::Searching(_search)) = &self.phase else {
+            return;
+        };
+        if self.sent == 0 {
+            self.phase = Phase::Asked;
+        }
     }
 
     // The rest of its reply; `None` until the search that makes it is at its end.

@@ -1,5 +1,5 @@
 -- The connections that a server thread holds, and what each is doing.
-use Rattle.std.specs.Prelude.{ℕ, ◌+◌, ◌-◌, ◌^◌, ◌≤◌, min, nat_eq, Bool, if◌then◌else◌, List, Option}
+use Rattle.std.specs.Prelude.{ℕ, ◌+◌, ◌-◌, ◌^◌, ◌≤◌, ◌==◌, length, min, nat_eq, Bool, if◌then◌else◌, List, Option}
 use Rattle.std.specs.Borrow.{Fml, LendsIf, MutBor, RattleType}
 use Rattle.std.specs.Option.{is_some}
 use Rattle.std.specs.Map.{lookup}
@@ -22,6 +22,10 @@ large_of held = held.large.keys.items
 -- all connections in their order, the most recently used first
 abbrev pub held_entries : {T : Type 0} → Held T → List (ℕ × T)
 held_entries held = held.connections.held.entries
+
+-- whether no connection is held
+abbrev pub has_none : {T : Type 0} → Held T → Bool
+has_none held = length (held_entries held) == 0
 
 -- the connection at a key, if there is one
 abbrev pub connection : {T : Type 0} → Held T → ℕ → Option T

@@ -1,5 +1,8 @@
 //! One connection with a client.
 
+ghost use Rattle.std.specs.Prelude.{◌≡◌, ◌&&◌, nat_lt, true};
+ghost use Rattle.gopher_server.specs.declared.connection.NextStep.TheVariants.{Ends, Lingers};
+
 use crate::logging::{Accepted, ThreadLog};
 use crate::send_buffer::ReplyWriter;
 use gopher_conversation::{Answers, Conversation, Progress, ServeFault, converse};
@@ -63,6 +66,14 @@ fn add_line<R: Wait + Clock>(
     if let Some(asked) = conversation.asked_line() {
         log.add(rt, alloc, accepted, asked, conversation.sent_len() as u64);
     }
+}
+
+// Whether a connection lingers after `sent` bytes of a reply. `has_ended` says whether the sending
+// side could be ended.
+fn lingers_after(has_ended: bool, sent: usize) -> bool
+    ensures { result ≡ (has_ended && nat_lt 65_536 sent) }
+{
+    has_ended && sent > LINGER_ABOVE
 }
 
 impl<'a> Connection<'a> {
@@ -136,6 +147,11 @@ impl<'a> Connection<'a> {
         }
     }
 
+    /// Drops the search that makes its reply. It begins anew when the connection goes on.
+    pub(crate) fn put_back(&mut self) {
+        self.conversation.put_back();
+    }
+
     /// Adds its request to the log, unless that was done or no line was asked.
     pub(crate) fn log_request<R: Wait + Clock>(
         &mut self,
@@ -182,9 +198,12 @@ impl<'a> Connection<'a> {
     // Ends the sending side: the client sees the end of the reply. It may have sent more than its
     // line, and a connection that is closed over unread bytes is reset, which takes from the client
     // what it hasn't read of the reply.
-    fn end_reply(&mut self) -> NextStep {
+    fn end_reply(&mut self) -> NextStep
+        ensures lingers { result ≡ Lingers → self.new.lingers ≡ true }
+        ensures ends { result ≡ Ends → self.new.lingers ≡ self.old.lingers }
+    {
         let ended = self.stream.shutdown(Shutdown::Write);
-        if ended.is_ok() && self.conversation.sent_len() > LINGER_ABOVE {
+        if lingers_after(ended.is_ok(), self.conversation.sent_len()) {
             self.lingers = true;
             NextStep::Lingers
         } else {

@@ -3,13 +3,13 @@
 //!
 //! Searches that take long are done in steps. While their queue isn't empty, a thread doesn't wait
 //! for events: in each round it handles all events first, then works for about a millisecond on the
-//! first search of the queue.
+//! first search of the queue. The others hold only their lines, and begin when they are the first.
 //!
 //! Contracts here say what an error of accept(2) means, how the clock counts, and that a
 //! failed thread accepts nothing more; otherwise only that calls are safe. `gopher_conversation`
 //! promises what a client receives. Contracts of `decisions` say what the thread decides: how long
-//! it waits for events, when it accepts, which connection is closed, and which search is next. Those
-//! of `logging` say what a line of the log is, and which bytes of the log are written.
+//! it waits for events, when it accepts, which connection is closed, and which search is next.
+//! Contracts of `logging` say what a line of the log is, and which bytes of it are written.
 #![tactic(auto)]
 
 mod accept_failure;

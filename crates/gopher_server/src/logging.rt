@@ -1,5 +1,5 @@
-//! The log of a server: lines for requests (`Batch`), as server threads fill it (`ThreadLog`), and a
-//! thread of its own that writes it (`start_log`).
+//! The log of a server: lines for requests (`Batch`), as server threads fill it (`ThreadLog`), and
+//! a thread of its own that writes it (`start_log`).
 //!
 //! A server thread gathers lines and hands them on in batches. It never waits for the file: if 64
 //! batches wait, it keeps its lines, and counts those for which it has no room. The thread that
@@ -9,8 +9,8 @@
 //! `take` change a batch as `with_request`, `with_told` and `no_lines` define (`specs/Batch.antt`),
 //! so each line of a batch is whole. It is of one request as it was passed, or of the number of
 //! dropped requests. Each write takes the first of the bytes that remain, no byte is written twice
-//! or left out, and a batch that the queue or the file refuses stays whole. Contracts know no files,
-//! clocks or channels, so the thread itself is only tested.
+//! or left out, and a batch that the queue or the file refuses stays whole. Contracts know no
+//! files, clocks or channels, so the thread itself is only tested.
 //!
 //! Error 90 (`NoMemory`) means out of memory, and leaves a batch unchanged unless a call says
 //! otherwise. Calls that can't fail with it allocate nothing. RFC 1436 doesn't define a log: this

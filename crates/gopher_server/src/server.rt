@@ -1,6 +1,8 @@
 //! A server thread at work (`serve`): accepting clients, and its round of events.
 
-ghost use Rattle.std.specs.Prelude.{◌≡◌};
+ghost use Rattle.std.specs.Prelude.{◌≡◌, ◌&&◌};
+ghost use Rattle.gopher_server.specs.Accepting.{has_ended};
+ghost use Rattle.gopher_server.specs.Held.{has_none};
 ghost use Rattle.gopher_server.specs.declared.decisions.accepting.Accepting.TheVariants.{Ended};
 ghost use Rattle.gopher_server.specs.declared.thread_end.ThreadEnd.TheVariants.{Failed};
 
@@ -22,8 +24,9 @@ use std::net::SocketAddr;
 use std::sync::Wait;
 use std::time::{Clock, Duration};
 
-// The most connections that are accepted before other events are handled.
-const MAX_ACCEPTS: u32 = 16;
+// The most connections that are accepted before other events are handled. A round in which searches
+// wait takes about a millisecond, and 64 are more than connect meanwhile.
+const MAX_ACCEPTS: u32 = 64;
 
 /// Whether a client got no whole reply because memory ran out.
 #[derive(Clone, Copy, PartialEq, Eq)]
@@ -66,8 +69,11 @@ impl<'a, A: Answers<'a> + Drop> Server<'a, A> {
     // ---- accepting
 
     // Accepts the connections that wait at a listener, or the first of them: the system reports the
-    // others again.
+    // others again. While a search waits it accepts all, because each round then takes longer.
     fn accept<R: Wait + Clock + Eprint>(&mut self, rt: &R, index: usize) {
+        if self.connections.next_search().is_some() {
+            self.acceptor.expect_more();
+        }
         let mut run = AcceptRun::new();
         for _accepted in 0..MAX_ACCEPTS {
             match self.acceptor.next_client(index) {
@@ -182,7 +188,9 @@ impl<'a, A: Answers<'a> + Drop> Server<'a, A> {
     }
 
     // Whether nothing is left to do.
-    fn is_done(&self) -> bool {
+    fn is_done(&self) -> bool
+        ensures { result ≡ (has_ended self.now.acceptor.state && has_none self.now.connections) }
+    {
         self.acceptor.state.has_ended() && self.connections.is_empty()
     }
 

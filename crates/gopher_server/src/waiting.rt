@@ -194,10 +194,20 @@ impl<'a, A: Answers<'a> + Drop> Server<'a, A> {
 
     // ---- searches
 
-    // Puts the connection at a key behind the others whose replies searches make.
+    // Puts the connection at a key behind the others whose replies searches make. Unless it is the
+    // first, it holds only its line until its turn.
     fn queue_search<R: Wait + Clock>(&mut self, rt: &R, key: usize) {
         if self.connections.queue_search(key).is_err() {
             self.close(rt, key);
+        } else if self.connections.waits_for_turn(key) {
+            self.put_back(key);
+        }
+    }
+
+    // Drops the search of the connection at a key, which begins anew at its turn.
+    fn put_back(&mut self, key: usize) {
+        if let Some(connection) = self.connections.get_mut(key) {
+            connection.put_back();
         }
     }
 

@@ -6,7 +6,7 @@ ghost use Rattle.std.specs.Borrow.{sem};
 ghost use Rattle.std.specs.Map.{remove_entry};
 ghost use Rattle.lru.specs.LruCache.{last_entry, promoted};
 ghost use Rattle.gopher_server.specs.Deadlines.{TakesIfDue, first_deadline};
-ghost use Rattle.gopher_server.specs.WorkQueue.{first_key, without_key};
+ghost use Rattle.gopher_server.specs.WorkQueue.{first_key, is_behind, without_key};
 ghost use Rattle.gopher_server.specs.Held.{added, connection, held_entries, IsSound, large_of, Lingers, LendsHeld, meaning_at, queue, queue_after, PutsHeld};
 
 use crate::decisions::deadlines::Deadlines;
@@ -165,6 +165,14 @@ impl<T: Drop> Held<T> {
             return Ok(());
         }
         self.searching.add(key)
+    }
+
+    /// Returns whether the connection at a key waits for its turn to search: others are before it
+    /// in the queue. Its search begins when it is the first.
+    pub fn waits_for_turn(&self, key: usize) -> bool
+        ensures { result ≡ is_behind key (queue self.now) }
+    {
+        self.searching.is_behind(key)
     }
 
     /// Returns the key of the connection whose search is next, or `None` if none searches.

@@ -1,7 +1,7 @@
 //! A queue of keys, first in, first out: whose search is next.
 
 ghost use Rattle.std.specs.Prelude.{◌≡◌, [], length, OnOk, OnErr};
-ghost use Rattle.gopher_server.specs.WorkQueue.{first_key, has_key, with_key, without_key};
+ghost use Rattle.gopher_server.specs.WorkQueue.{first_key, has_key, is_behind, with_key, without_key};
 
 use std::alloc::{AllocError, Global};
 use std::collections::VecDeque;
@@ -55,6 +55,16 @@ impl WorkQueue {
         ensures { result ≡ first_key self.now.keys.items }
     {
         self.keys.front().copied()
+    }
+
+    /// Returns whether other keys are before a key.
+    pub fn is_behind(&self, key: usize) -> bool
+        ensures { result ≡ is_behind key self.now.keys.items }
+    {
+        match self.keys.front() {
+            Some(first) => *first != key,
+            None => false,
+        }
     }
 
     /// Removes a key. The others keep their order.
