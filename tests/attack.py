@@ -462,7 +462,7 @@ def attack_by_searches(attacked):
     texts, seconds, median, late = (65_000, 60, 0.005, 0.05) if attacked.given.heavy else (4_096, 6, 0.05, 0.5)
     # clients in a process of their own
     with (
-        Heavy(texts) as heavy, attacked.serving("--progress", more=heavy.settings(), seconds=1_200) as server,
+        Heavy(texts) as heavy, attacked.serving("--progress", more=heavy.settings, seconds=1_200) as server,
         ProcessPoolExecutor(1, multiprocessing.get_context("spawn")) as others,
     ):
         crawled = f"known {heavy.known} waiting 0 out 0 done {heavy.known} dropped 0 failed 0\n".encode()

@@ -10,61 +10,42 @@ are read (preloads/vanishing.c).
 If root runs it, the program checks unreadable files as `nobody`. The last line is 'check: N passed, M failed'.
 """
 import os
+import re
 import shutil
 import socket
-import stat
 
-from running.server import free_port, run_test
+from running.server import ROOT, free_port, run_test
 
 NOBODY = 65_534
 COUNTED = ("files", "menu files", "bytes")
 LARGEST, MOST_BYTES, MOST_NODES, MOST_SETTINGS = 16_777_216, 67_108_864, 4_096, 1_048_576
 
-# The cause and the remedy of each number; 26 has several.
-BAD_NAME = ("a name in this path contains a TAB, CR or LF, or a folder is named .menu", "rename the file or folder")
-RESERVED = ("the name search is reserved in the root, because /search is the server's search", "rename the file or folder")
-LONG = (
-    "the path from the root has over 254 bytes",
-    "use shorter names, or remove a symbolic link that points to a folder above it",
-)
-LARGE_FILE = ("this file has over 16777216 bytes", "make it smaller, or remove it")
-LARGE_SITE = ("the files up to this one have over 67108864 bytes together", "serve fewer or smaller files")
-MANY = (
-    "there are over 4096 files and folders up to this one, with the root",
-    "serve fewer files, or remove a symbolic link that points to a folder above it",
-)
-BAD_LINE = (
-    "this isn't a valid line of a menu file",
-    "write text without TABs, or type and name, TAB, selector, and for another server TAB, host, TAB, port",
-)
-NOT_UTF8 = ("a name in this folder isn't UTF-8", "rename it; ls -b shows its bytes")
-DENIED = ("permission to read this is missing", "give the server's user permission to read it, and to enter the folders above it")
-MISSING = ("no file or folder exists at this path", "create the folder, or correct root in the settings")
-NOT_FOLDER = ("this isn't a folder", "correct root in the settings")
-LOOP = ("symbolic links form a loop", "remove the link")
-NOT_TOML = ("the settings aren't valid TOML", "correct this line; strings need quotation marks")
-TWICE = ("this line repeats an earlier key or table", "remove one of the two lines")
-NO_KEY = ("this key is missing, or one of its tables lacks a required key", "add it; hole.toml(5) describes the keys")
-WRONG_KIND = (
-    "this key's value has the wrong type, or a value in one of its tables has",
-    "put strings in quotation marks, write integers without, and begin tables with [[seeds]], [[allow]] or [[deny]]",
-)
-OUT_OF_RANGE = "this key's value is out of range, or a value in one of its tables is"
+
+def causes():
+    """The causes and remedies of each fault, by its number, as the manual has them."""
+    text = (ROOT / "man/hole.1").read_text().replace("\\&", "").replace("\\-", "-")
+    entries = re.findall(r"(?ms)^\.TP\n\.BI? (\d+)[^\n]*\n(.*?)(?=^\.(?:TP|SH))", text)
+    rows = {int(number): " ".join(told.split()).split(" .br ") for number, told in entries}
+    return {number: [tuple(row.split(". ")[0].removesuffix(".").split(": ", 1)) for row in told] for number, told in rows.items()}
+
+
+CAUSES = causes()
+BAD_NAME, = CAUSES[20]
+RESERVED, = CAUSES[21]
+LONG, = CAUSES[22]
+LARGE_FILE, LARGE_SITE, MANY = CAUSES[23]
+BAD_LINE, = CAUSES[24]
+NOT_UTF8, DENIED, MISSING, NOT_FOLDER, LOOP, _ = CAUSES[26]
+NOT_TOML, TWICE = CAUSES[30]
+NO_KEY, = CAUSES[31]
+WRONG_KIND, = CAUSES[32]
+(OUT_OF_RANGE, _), = CAUSES[33]
+UNKNOWN, = CAUSES[34]
+OUTSIDE, = CAUSES[50]
+UNREADABLE, = CAUSES[80]
 HINT = b"hint: ~ isn't expanded in root; write the whole path\n"
 LEFT = "warning: not served: empty folders {}, links to nothing and devices {}, hidden names {}"
 NO_SEEDS = "warning: searches find nothing, because the settings have no [[seeds]]"
-UNKNOWN = (
-    "this key is unknown, or a key in one of its tables is",
-    "correct its spelling; the server's own keys come before the first [[",
-)
-OUTSIDE = (
-    "no allow rule covers this seed, or a deny rule does",
-    "add an allow rule with its host, its port and a prefix of its selector, change the deny rule, or remove the seed",
-)
-UNREADABLE = (
-    "the settings can't be read, have over 1048576 bytes, or aren't UTF-8",
-    "correct the path, the permissions or the text",
-)
 
 # The settings of a site without a fault, and their report.
 WORKED = """host = "localhost"
@@ -93,33 +74,15 @@ places = 65536
 workers = 16
 threads = 8
 tries = 5
-seeds = [{ host = "a" }, { host = "B", type = "0", port = 65535, selector = "/x" }]
+seeds = [{ host = "a" }, { host = "B", type = "0", port = 65535, selector = "/a\\\\b" }]
 allow = [{ host = "A" }, { host = "b", port = 65535 }]
+deny = [{ host = "a", prefix = "/private" }]
 """
+STATED_FILES = {".menu": b"Welcome\n", "a/.menu": b"", "a/b.txt": b"12345", "a/.hidden": b"no"}
 STATED_REPORT = [
-    "address: LocalHost 70", "root: ROOT", "files: 0", "menu files: 0", "bytes: 0", "seed: 1 a 70 ", "seed: 0 b 65535 /x",
-    "may visit: a 70 ", "may visit: b 65535 ", "sound",
+    "address: LocalHost 70", "root: ROOT", "files: 3", "menu files: 2", "bytes: 13", "seed: 1 a 70 ", "seed: 0 b 65535 /a\\\\b",
+    "may visit: a 70 ", "may visit: b 65535 ", "may not visit: a 70 /private", LEFT.format(0, 0, 1), "sound",
 ]
-
-RULES = """
-[[seeds]]
-host = "Localhost"
-port = 7070
-
-[[seeds]]
-type = "0"
-host = "localhost"
-port = 7070
-selector = "/a\\\\b"
-
-[[allow]]
-host = "localhost"
-port = 7070
-
-[[deny]]
-host = "localhost"
-prefix = "/private"
-"""
 
 
 def report(line, path, words, *details):
@@ -158,8 +121,8 @@ class Site:
         return [line for line in output.decode().splitlines() if line.split(": ")[0] in names], error, status
 
     def serve(self):
-        """Standard error and status of a server that ends before the first connection."""
-        return self.test.run("serve", self.settings, "--requests", "0", user=self.user)[1:]
+        """The output, standard error and status of a server that ends before the first connection."""
+        return self.test.run("serve", self.settings, "--requests", "0", user=self.user)
 
 
 def put(path, content=b""):
@@ -206,25 +169,15 @@ def put_link(name, target):
     return lambda site: (site.root / name).symlink_to(target)
 
 
-def put_closed(name, content=None):
-    """A folder that may not be listed, or a file that may not be read."""
-    def lay_out(site):
-        place = site.root / name
-        site.add(b"open.txt")
-        place.mkdir() if content is None else place.write_bytes(content)
-        place.chmod(0)
-    return lay_out
-
-
-def put_unenterable(site):
-    """A folder that may be listed but not entered."""
-    site.add(b"locked/a.txt")
-    (site.root / "locked").chmod(stat.S_IRUSR | stat.S_IRGRP | stat.S_IROTH)
+def put_closed(path, closed, mode=0, content=b""):
+    """A file, of which it or its folder has a mode by which it can't be read."""
+    return lambda site: [site.add(b"open.txt"), site.add(path, content), (site.root / closed).chmod(mode)]
 
 
 # How to make each fault, its line on standard error, and its report. FILE is the path of the settings, ROOT that of the folder.
 HEAD = 'host = "127.0.0.1"\n'
-SEED, DENY_A = '[[seeds]]\nhost = "a"\n', 'port = 7070\n[[deny]]\nhost = "localhost"\nport = 7070\nprefix = "/a"\n'
+SEED = '[[seeds]]\nhost = "a"\n'
+DENIED_SEED = SEED + SEED + 'selector = "/b"\n[[allow]]\nhost = "a"\n[[deny]]\nhost = "a"\nprefix = "/b"\n'
 DEEP = b"a" * 127 + b"/" + b"b" * 127
 MOST_FILES = [LARGEST] * (MOST_BYTES // LARGEST)
 WORKERS = (OUT_OF_RANGE, "use a number from 1 to 16")
@@ -288,7 +241,7 @@ FAULTS = {
         + report("33", "FILE", (OUT_OF_RANGE, "use a number from 1 to 8"), "key: threads"),
     ),
     "a seed that isn't allowed": (more(SEED), "50 seed 0", "FILE", OUTSIDE, "seed: 0"),
-    "a second seed that is denied": (more(RULES + DENY_A), "50 seed 1", "FILE", OUTSIDE, "seed: 1"),
+    "a second seed that is denied": (more(DENIED_SEED), "50 seed 1", "FILE", OUTSIDE, "seed: 1"),
     "a folder's fault before a seed's": (both(more(SEED), put(b"search")), "21 file 0", "ROOT/search", RESERVED),
     "settings that aren't UTF-8": (say(b"host = '\xff'\n"), "80", "FILE", UNREADABLE),
     "settings that are too large": (say("#" * (MOST_SETTINGS + 1)), "80", "FILE", UNREADABLE),
@@ -334,9 +287,9 @@ BAD_LINES = [
 ]
 GOOD_LINES = [b"0x\t" + b"a" * 255, b".", b".\r\n", b"\n", b"0x\ta\t b \t 70 ", b"0x\ta\tb\t0\n"]
 CLOSED = {
-    "a folder that may not be listed": (put_closed("shut"), "26", "ROOT/shut", DENIED),
-    "a file that may not be read": (put_closed("shut.txt", b"a\n"), "26", "ROOT/shut.txt", DENIED),
-    "a folder that may not be entered": (put_unenterable, "26", "ROOT/locked/a.txt", DENIED),
+    "a folder that may not be listed": (put_closed(b"shut/a", "shut"), "26", "ROOT/shut", DENIED),
+    "a file that may not be read": (put_closed(b"shut.txt", "shut.txt", 0, b"a\n"), "26", "ROOT/shut.txt", DENIED),
+    "a folder that may not be entered": (put_closed(b"locked/a.txt", "locked", 0o444), "26", "ROOT/locked/a.txt", DENIED),
 }
 
 
@@ -348,7 +301,7 @@ def check_faults(test, faults=FAULTS, user=None):
         wanted = report(line, *words) if len(words) > 1 else words[0]
         wanted = wanted.replace(b"ROOT", bytes(site.root)).replace(b"FILE", bytes(site.settings))
         test.expect(f"{name}: report", site.check(), (wanted, f"hole: {line}\n".encode(), 1))
-        test.expect(f"{name}: end of a server", site.serve(), (f"hole: {line}\n".encode(), 1))
+        test.expect(f"{name}: end of a server", site.serve(), (b"", f"hole: {line}\n".encode(), 1))
         for shut in site.root.rglob("*"):
             if not shut.is_symlink():
                 shut.chmod(0o755)
@@ -360,7 +313,7 @@ def check_lines(test):
     behind = {f'host = "h"\nroot = "ROOT"\n{text}': line for text, line in MORE_SETTINGS.items()}
     for text, line in (SETTINGS | behind).items():
         site.write(text + "\n")
-        test.expect(f"{text[:80]!r}: end of a server", site.serve(), (f"hole: {line}\n".encode(), 1))
+        test.expect(f"{text[:80]!r}: end of a server", site.serve(), (b"", f"hole: {line}\n".encode(), 1))
     site.write('host = "localhost"\nroot = "ROOT"\n' + '[[allow]]\nhost = "h"\n' * 256)
     test.expect("256 rules", site.check()[1:], (b"", 0))
     for line in [*BAD_LINES, *GOOD_LINES]:
@@ -396,16 +349,9 @@ def check_limits(test):
 def check_sound(test):
     """Checks sites without a fault."""
     empty = ["address: LocalHost 70", "root: ROOT", "files: 0", "menu files: 0", "bytes: 0", NO_SEEDS, "sound"]
-    files = {".menu": b"Welcome\n", "a/.menu": b"", "a/b.txt": b"12345", "a/.hidden": b"no"}
-    with_rules = [
-        "address: LocalHost 7070", "root: ROOT", "files: 3", "menu files: 2", "bytes: 13", "seed: 1 localhost 7070 ",
-        "seed: 0 localhost 7070 /a\\\\b", "may visit: localhost 7070 ", "may not visit: localhost 70 /private",
-        LEFT.format(0, 0, 1), "sound",
-    ]
     for name, site_files, text, lines in (
         ("no", {}, 'host = "LocalHost"\nroot = "ROOT"\n', empty), ("worked", {}, WORKED, WORKED_REPORT),
-        ("stated", {}, STATED, STATED_REPORT),
-        ("a site with rules and", files, 'host = "LocalHost"\nport = 7070\nroot = "ROOT"\n' + RULES, with_rules),
+        ("stated", STATED_FILES, STATED, STATED_REPORT),
     ):
         site = Site(test, site_files, text)
         wanted = [f"settings: {site.settings}", *(line.replace("ROOT", str(site.root)) for line in lines)]

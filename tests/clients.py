@@ -22,8 +22,7 @@ import subprocess
 import termios
 import time
 
-from running.crawled import seeded
-from running.server import HOST, ROOT, WAIT, ask, run_test, until_true
+from running.server import HOST, ROOT, WAIT, ask, run_test, seeded, until_true
 
 QUIET = 1.0
 SOUGHT = "water not rain"

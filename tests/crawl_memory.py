@@ -26,8 +26,7 @@ import random
 import string
 import time
 
-from running.crawled import Host, crawling, searched, seeded
-from running.server import HOST, Server, ask, run_test, until_true
+from running.server import HOST, Host, Server, ask, crawling, run_test, searched, seeded, until_true
 
 TEXTS, WORDS = 20, 100
 # As many searches as the crawl may need to its end, at half a second each. The server ends after them.

@@ -12,8 +12,9 @@ import collections
 import threading
 import time
 
-from running.crawled import SECONDS_FOR_ALL, Host, crawling, found_at_last, searched, seeded
-from running.server import HOST, ask, free_port, run_test, until_true
+from running.server import (
+    HOST, SECONDS_FOR_ALL, Host, ask, crawling, found_at_last, free_port, run_test, searched, seeded, until_true,
+)
 
 MOST_SECONDS = 300.0
 MOST_HITS = 50

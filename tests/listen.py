@@ -10,7 +10,7 @@ import re
 import socket
 import sys
 
-from running.server import HOST, ask, free_port, run_test
+from running.server import HOST, ask, ask_whole, free_port, run_test
 
 FILES = {"a.txt": b"hello\n"}
 OTHER, ABSENT, REPLY = "127.0.0.2", "192.0.2.1", b"hello\r\n.\r\n"
@@ -23,13 +23,6 @@ def has_ipv6():
         with socket.socket(socket.AF_INET6) as probe:
             probe.bind(("::1", 0))
         return True
-    except OSError:
-        return False
-
-
-def listens(port, host):
-    try:
-        return ask(port, b"/a.txt\r\n", host) == REPLY
     except OSError:
         return False
 
@@ -61,7 +54,7 @@ def check_named(test):
         menu = ask(port, b"\r\n", OTHER)
         test.expect("a port of its own: menus name the settings' port", f"\t{HOST}\t{server.port}\r\n".encode() in menu, True)
     with test.serving(root) as server:
-        are_served = [listens(server.port, host) for host in (HOST, OTHER)]
+        are_served = [ask_whole(server.port, b"/a.txt\r\n", host) == REPLY for host in (HOST, OTHER)]
         test.expect("without --listen the host alone is served", are_served, [True, False])
     if not has_ipv6():
         return print("listen: skipped: this machine has no IPv6")

@@ -22,9 +22,8 @@ import subprocess
 import time
 from concurrent.futures import ThreadPoolExecutor
 
-from running.crawled import seeded
 from running.server import (
-    HOST, ROOT, SIZES, WAIT, ask, ask_all, connect, is_open, read_all, reset, run_test, until_true, with_few_files,
+    HOST, ROOT, SIZES, WAIT, ask, ask_all, connect, is_open, read_all, reset, run_test, seeded, until_true, with_few_files,
 )
 
 LARGE = bytes(range(256)) * 32_768

@@ -82,10 +82,14 @@ def check_refusals(test):
     test.expect("a refused program leaves no package", (test.folder / "refused").exists(), False)
 
 
+def clone_of(test, name):
+    run("git", "clone", "--quiet", ROOT, test.folder / name)
+    return test.folder / name
+
+
 def check_unreleased(test):
     """Changes that no version has yet aren't packed as the last version."""
-    clone = test.folder / "changed"
-    run("git", "clone", "--quiet", ROOT, clone)
+    clone = clone_of(test, "changed")
     script, log = clone / "packaging/dist.py", clone / "CHANGELOG.md"
     shutil.copy(DIST, script)
     changes = "## [Unreleased]\n\n### Added\n\n- Frogs.\n\n"
@@ -105,9 +109,7 @@ def check_same_bytes(test, out, words):
         skip("the bytes of another checkout: this tree has changes")
         script = DIST
     else:
-        clone = test.folder / "another" / "checkout"
-        run("git", "clone", "--quiet", ROOT, clone)
-        script = clone / "packaging" / "dist.py"
+        script = clone_of(test, "another/checkout") / "packaging/dist.py"
     ran = dist("--program", test.program, "--out", test.folder / "again", *words, script=script)
     test.expect("packed again", (ran.returncode, ran.stderr), (0, ""))
     test.expect("the sums are the same", (test.folder / "again/SHA256SUMS").read_text(), (out / "SHA256SUMS").read_text())
@@ -127,11 +129,9 @@ class Machine:
     """A root of its own, with the C library, the names of hosts and nothing else."""
 
     def __init__(self, test):
-        self.root = test.folder / "machine"
-        for name in ("var/lib/dpkg/info", "var/lib/dpkg/updates", "var/lib/dpkg/triggers", "etc", "proc"):
-            (self.root / name).mkdir(parents=True)
-        (self.root / "var/lib/dpkg/status").touch()
-        (self.root / "etc/hosts").write_text("127.0.0.1 localhost\n")
+        self.root = test.site({"var/lib/dpkg/status": b"", "etc/hosts": b"127.0.0.1 localhost\n"}, "machine")
+        for name in ("var/lib/dpkg/info", "var/lib/dpkg/updates", "var/lib/dpkg/triggers", "proc"):
+            (self.root / name).mkdir()
         for library in re.findall(r"(/\S+)", run("ldd", test.program).stdout):
             place = self.root / library.lstrip("/")
             place.parent.mkdir(parents=True, exist_ok=True)

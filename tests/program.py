@@ -19,7 +19,7 @@ import sys
 import urllib.parse
 
 from models.worked import FIRST_CRAWL, REFUSED_START, WHOLE_SEARCH
-from running.server import HOST, ROOT, SIZES, WAIT, ask, free_port, run_test, until_true, with_few_files
+from running.server import HOST, ROOT, SIZES, WAIT, ask, ask_whole, free_port, run_test, until_true, with_few_files
 
 MEBIBYTE = 1_048_576
 MANY = tuple(word for port in range(20_001, 21_026) for word in ("--listen", f"{HOST}:{port}"))
@@ -28,7 +28,7 @@ NO_ADDRESSES = (
     "[::1]:", "1:2",
 )
 NO_BYTES = ("", "K", "12X", "1.5M", "64 M", "M64", "99999999999999999999", "18446744073709551615G")
-# Words that are refused, and a part of what is said of them.
+# Words that are refused, and an expression for a part of what is said of them.
 BAD_ARGUMENTS = [
     ((), "Usage: hole"), (("dig",), "Usage: hole"), (("replay", "extra"), "Usage: hole replay < SCRIPT\n"),
     (("serve",), "\nUsage: hole serve "), (("serve", "s.toml", "extra"), "\nUsage: hole serve "),
@@ -36,8 +36,8 @@ BAD_ARGUMENTS = [
     (("serve", "s.toml", "--log"), "--log"), (("serve", "examples/hole.toml", *MANY), "--listen"),
     (("check",), "\nUsage: hole check "), (("check", "s.toml", "extra"), "extra"),
     (("check", "s.toml", "--requests", "1"), "--requests"),
-    *((("serve", "s.toml", "--listen", word), "--listen <ADDRESS>") for word in NO_ADDRESSES),
-    *((("check", "s.toml", "--listen", word), "hole check --help") for word in NO_ADDRESSES),
+    *((("serve", "s.toml", "--listen", word), "error: .*--listen <ADDRESS>") for word in NO_ADDRESSES),
+    *((("check", "s.toml", "--listen", word), "--listen <ADDRESS>.*hole check --help") for word in NO_ADDRESSES),
     *((("serve", "s.toml", f"--crawl-memory={word}"), "--crawl-memory") for word in NO_BYTES),
 ]
 # Words that show a text, and its parts.
@@ -123,7 +123,8 @@ def check_errors(test):
     test.expect("the output and the error stream fail", ended, (output[:3], b"", 1))
     for words, part in BAD_ARGUMENTS:
         output, text, status = run(test, words, b"claim\n")
-        test.expect(f"{words[:4]}: are refused", (output, part in text.decode(), status), (b"", True, 2))
+        is_told = re.search(part, text.decode(), re.DOTALL) is not None
+        test.expect(f"{words[:4]}: are refused", (output, is_told, status), (b"", True, 2))
         test.expect(f"{words[:4]}: nothing is read", counted(test, words, b"claim\n"), (b"", 0, 0))
         for count in (0, 1, 7):
             ended = run(test, words, b"claim\n", fails_2=count)
@@ -223,27 +224,21 @@ def check_replays(test):
     test.expect("replay of a whole search", run(test, ["replay"], script), (WHOLE_SEARCH[1], b"", 0))
 
 
-def is_up(port):
-    try:
-        return ask(port, b"/a.txt\r\n") != b""
-    except OSError:
-        return False
-
-
 def check_ends(test):
     """The server is gone once the script's whole group got a signal."""
     # what starts a job in the background may have it ignore SIGINT, and its processes inherit that
     signal.signal(signal.SIGINT, signal.default_int_handler)
     folder, port = test.site({"mine/a.txt": b"hello\n"}), free_port()
+    is_up = lambda: ask_whole(port, b"/a.txt\r\n") == b"hello\r\n.\r\n"
     (folder / "my.toml").write_text(f'host = "{HOST}"\nport = {port}\nroot = "mine"\n')
     words = [sys.executable, ROOT / "tools/run_example.py", "--program", test.program, "my.toml"]
     for number in ENDS:
         with subprocess.Popen(words, cwd=folder, start_new_session=True, stdout=subprocess.PIPE, text=True) as script:
-            test.expect(f"{number.name}: it serves one's own folder", until_true(lambda: is_up(port)), True)
+            test.expect(f"{number.name}: it serves one's own folder", until_true(is_up), True)
             while "Ctrl-C ends it." not in script.stdout.readline():
                 pass
             os.killpg(script.pid, number)
-            test.expect(f"{number.name}: the server ends with it", until_true(lambda: not is_up(port)), True)
+            test.expect(f"{number.name}: the server ends with it", until_true(lambda: not is_up()), True)
             script.kill()
 
 

@@ -13,15 +13,13 @@ The last line is 'refusals: N passed, M failed'.
 """
 import mmap
 import os
-import struct
 import subprocess
 
 from drawn.sizes import crawl_of_many_pages
 from models import model
 from models.site_model import Site
 from models.worked import COUNTS, DENY_RULE, FIRST_CRAWL, TWO_TRIES, WHOLE_SEARCH, searches
-from running.crawled import seeded
-from running.server import HOST, ROOT, ask, free_port, run_test, until_true
+from running.server import HOST, ROOT, ask, free_port, run_test, seeded, until_true
 
 CRATE = ROOT / "crates" / "test_library"
 CALLS = CRATE / "out" / "test_library_tests"
@@ -107,19 +105,11 @@ def replies_of(port):
     return {line: site.answer(line) for line in LINES}
 
 
-class Left:
-    """The number of allocations until the one that is refused, shared with the server."""
-
-    def __init__(self, path):
-        path.write_bytes(bytes(8))
-        with path.open("r+b") as file:
-            self.shared = mmap.mmap(file.fileno(), 8)
-
-    def set(self, number):
-        self.shared[:] = struct.pack("q", number)
-
-    def get(self):
-        return struct.unpack("q", self.shared[:])[0]
+def shared_number(path):
+    """A number that is shared with the server, by a file."""
+    path.write_bytes(bytes(8))
+    with path.open("r+b") as file:
+        return memoryview(mmap.mmap(file.fileno(), 8)).cast("q")
 
 
 def asked(port, line):
@@ -135,10 +125,10 @@ def check_line(test, left, port, line, wanted):
     number, is_met = 0, True
     while is_met and number < MOST_RUNS and test.failed <= 20:
         number += 1
-        left.set(number)
+        left[0] = number
         reply = asked(port, line)
-        is_met = left.get() <= 0
-        left.set(0)
+        is_met = left[0] <= 0
+        left[0] = 0
         is_beginning = wanted.startswith(reply) if is_met else reply == wanted
         test.expect(f"server: {line!r}, allocation {number} refused: {reply!r} is a beginning of the reply", is_beginning, True)
         test.expect(f"server: {line!r} once more after allocation {number}", asked(port, line), wanted)
@@ -147,7 +137,7 @@ def check_line(test, left, port, line, wanted):
 
 def check_requests(test):
     """A server that goes on whatever it is refused, asked once its crawl of itself has come to its end."""
-    left = Left(test.folder / "left")
+    left = shared_number(test.folder / "left")
     with test.serving(test.site(FILES), more=SETTINGS, before=test.preload("refusals", LEFT=test.folder / "left")) as server:
         rows = replies_of(server.port)
         until_true(lambda: asked(server.port, FOUND_LAST) == rows[FOUND_LAST])

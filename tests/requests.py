@@ -10,15 +10,13 @@ the first 20 lines that fail are shown, and no other folder is asked after that.
 """
 import os
 import random
-from concurrent.futures import ThreadPoolExecutor
 
 from models import model
 from drawn import site_drawing
-from running.server import HOST, MOST_SHOWN, ask, ask_whole, free_port, run_test, until_true
+from running.server import HOST, MOST_SHOWN, ask, ask_all, ask_whole, free_port, run_test, until_true
 from models.site_model import Site
 
 LINES_OF_A_SITE = 50
-AT_ONCE = 16
 # Folders by their files, each with lines and their replies; WHERE stands for the host and port, between TABs, and CR LF.
 ROOT_MENU = b"7Search\t/searchWHERE0a.txt\t/a.txtWHERE.\r\n"
 WELCOME = b"iWelcome\tWHERE0Read\t/a.txtWHERE1Far\t\tfar.example\t70\r\n.\r\n"
@@ -64,25 +62,11 @@ def drawn_settings(draw, site):
     return "\n".join(rows) + "\n"
 
 
-def settling_search(site):
-    """A search that has every page as a hit that has a word."""
-    firsts = sorted({min(page.counts)[:1] for page in site.crawl.pages if page.counts})
-    return b"/search\t" + b" or ".join(first + b"*" for first in firsts) + b"\r\n"
-
-
-def drawn_site(draw, root, host):
-    """A folder with what it has to reply, and more lines of settings."""
-    port = free_port()
-    files = site_drawing.draw_files(draw, host.encode(), b"%d" % port)
-    site_drawing.lay_out(draw, os.fsencode(root), os.fsencode(root.with_name("outside")), files)
-    site = Site(host.encode(), port, files)
-    return site, drawn_settings(draw, site)
-
-
 def is_settled(site):
-    """Whether the server's crawl of itself has come to its end, as searches show it."""
-    search, host = settling_search(site), site.host.decode()
-    return until_true(lambda: ask(site.port, search, host) == site.reply(search), pause=0.02)
+    """Whether the server's crawl of itself has come to its end, as a search shows it that finds every page that has a word."""
+    firsts = sorted({min(page.counts)[:1] for page in site.crawl.pages if page.counts})
+    search = b"/search\t" + b" or ".join(first + b"*" for first in firsts) + b"\r\n"
+    return until_true(lambda: ask(site.port, search, site.host.decode()) == site.reply(search), pause=0.02)
 
 
 def ask_lines(draw, test, name, site, count):
@@ -91,9 +75,8 @@ def ask_lines(draw, test, name, site, count):
     words = sorted({word for page in site.crawl.pages for word in page.counts})[:200] or [b"moon"]
     lines = [site_drawing.request(draw, known, words) for _ in range(count)]
     pieces = [draw.choice([1, 1, 1, 1, 2, 5]) for _ in lines]
-    with ThreadPoolExecutor(AT_ONCE) as clients:
-        ask_one = lambda sent, count: ask_whole(site.port, sent, site.host.decode(), count)
-        replies = list(clients.map(ask_one, lines, pieces))
+    by = lambda port, it: ask_whole(port, it[0], site.host.decode(), it[1])
+    replies = ask_all(site.port, zip(lines, pieces), by)
     for sent, reply in zip(lines, replies):
         test.expect(f"{name}: {sent[:100]!r} of {len(sent)} bytes", reply, site.reply(sent))
 
@@ -102,9 +85,11 @@ def check_site(test, number, count):
     """Serves one drawn folder, and asks it."""
     name = f"site {number} of seed {test.given.seed}"
     draw = random.Random(f"{test.given.seed} {number}")
-    host, root = draw.choice([HOST, HOST, "LocalHost"]), test.site({}, f"site {number}/root")
-    site, more = drawn_site(draw, root, host)
-    with test.serving(root, more=more, port=site.port, host=host) as server:
+    host, port, root = draw.choice([HOST, HOST, "LocalHost"]), free_port(), test.site({}, f"site {number}/root")
+    files = site_drawing.draw_files(draw, host.encode(), b"%d" % port)
+    site_drawing.lay_out(draw, os.fsencode(root), os.fsencode(root.with_name("outside")), files)
+    site = Site(host.encode(), port, files)
+    with test.serving(root, more=drawn_settings(draw, site), port=port, host=host) as server:
         test.expect(f"{name}: the crawl comes to its end", is_settled(site), True)
         ask_lines(draw, test, name, site, count)
         test.expect(f"{name}: ends", server.terminate(), (b"", b"", -15))

@@ -25,12 +25,8 @@ def lines_of(data):
     return [line.removesuffix(b"\r") for line in whole] + ([last] if last else [])
 
 
-def lower(data):
-    return bytes(byte + 32 if 65 <= byte <= 90 else byte for byte in data)
-
-
 def words_of(data):
-    return [lower(run) for run in WORD.findall(data) if len(run) <= 40]
+    return [run.lower() for run in WORD.findall(data) if len(run) <= 40]
 
 
 def has(data, bytes_sought):
@@ -43,7 +39,7 @@ def host_and_port(host, port):
         raise Refused(3)
     if not 1 <= port <= 65535:
         raise Refused(4)
-    return lower(host), port
+    return host.lower(), port
 
 
 def selector_of(selector):
@@ -133,7 +129,7 @@ def terms_of(text):
     """The terms of a query: operator, word, and whether it is a prefix."""
     terms, operator = [], b"and"
     for run, star in TOKEN.findall(text):
-        word = lower(run)
+        word = run.lower()
         if len(word) > 40:
             continue
         if terms and not star and word in (b"and", b"or", b"not"):

@@ -28,7 +28,7 @@ def text_of(content):
 
 
 def kind_of(name, content):
-    name = model.lower(name)
+    name = name.lower()
     if name.endswith(b".gif"):
         return b"g"
     if name.endswith((b".png", b".jpg", b".jpeg")):

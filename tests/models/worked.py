@@ -5,7 +5,6 @@ import pathlib
 
 EXAMPLES = pathlib.Path(__file__).resolve().parent.parent.parent / "examples"
 HEAD = b"allow\th.example\t70\t\ndeny\th.example\t70\t/private\n"
-TEXT = b"|The sun and the moon.\n|..moon moon\n|.\n"
 
 
 def pages(*replies):
@@ -140,40 +139,10 @@ DENY_RULE = (
     b"status\nclaim\nfail\t1\t5\nclaim"
 )
 
-# Lines that name no place, and what stands behind the end.
-ODD_MENU = (
-    b"|0No port\t/n\th.example\t0\n|7Search\t/s\th.example\t70\n|odd line\t/o\n|0One\t/one\th.example\t70\n|.\n"
-    b"|1Late\t/late\th.example\t70\n"
-)
-LINKS = (
-    HEAD + b"seed\t1\th.example\t70\t\nstart\t100\nclaim\nfound\t0\t1\th.example\t70\t\n|1Moon\t/moon\tH.Example\t70\n"
-    b"|0Sun\t/sun.txt\th.example\t70\n|.\nclaim\nclaim\nfound\t1\t1\th.example\t70\t/moon\n" + ODD_MENU
-    + b"claim\nfound\t2\t0\th.example\t70\t/sun.txt\n" + ODD_MENU + b"found\t3\t0\th.example\t70\t/one\n" + TEXT
-    + searches(b"odd", b"late", b"moon not odd", b"one not odd") + b"status\n"
-)
-
-# Operators, prefixes and repeated terms.
-SCORES = pages(
-    (b"/0", b"|moon\n"), (b"/1", b"|rain sun\n"), (b"/2", b"|sun\n"), (b"/3", b"|the sun and the moon moon moon\n"),
-) + searches(
-    b"moon or sun not rain", b"not moon", b"moon and or sun", b"moon AND or sun", b"moon or", b"moon or moon", b"sun not mars",
-    b"sun " * 256, b"r* or an*", b"s* not r*", b"and*", b"sun and* moon", b"", b" -- ", b"*", b"b" * 41,
-    b" or ".join(b"%c*" % letter for letter in b"abcdefghijklmnopqrstuvwxyz0123456789"),
-) + b"".join(b"occurs\t%s\n" % word for word in (b"and", b"moon", b"Moon", b"su", b"the"))
-
 # Words that stand in a page as often as a byte or sixteen bits count, and once more.
 COUNTS = pages(
     (b"/many", b"|" + b"b " * 255 + b"d " * 256 + b"f " * 257 + b"h " * 65_536 + b"a c e g i j\n")
 ) + searches(*(bytes([letter]) for letter in b"abcdefghij"))
-
-# The first fault of the parts of a place, and of a rule.
-REFUSALS = (
-    b"seed\t7\th\t0\t" + b"a" * 256 + b"\nseed\t2\th\t70\t\nseed\t0\t\t0\t" + b"a" * 256 + b"\nseed\t0\th\t70\ta\rb\n"
-    + b"seed\t0\th\t70\ta\0b\nseed\t0\ta b\t70\t\nseed\t0\t\t0\t\nseed\t0\th\x7f\t70\t\nseed\t0\t" + b"a" * 256
-    + b"\t70\t\nseed\t0\th\t0\t\nallow\t\t0\t\0\ndeny\t\t0\t\nallow\th\t0\t\nallow\tH\t7070\t\ndeny\th\t7070\t/private\n"
-    + b"seed\t1\th\t7070\t\nseed\t0\th\t7070\t/x\nstart\t10\nclaim\nfound\t0\t1\th\t7070\t\n|0A\t/a\tH\t7070\n"
-    + b"|0B\t/private/b\th\t7070\n|0C\t/a\th\t70\n"
-)
 
 # Pages of one word come by host, then port, then selector, then type.
 ORDER = (
@@ -198,6 +167,6 @@ AFTER_START = [
 ]
 
 MODELLED = [
-    DENY_RULE, LINKS, SCORES, COUNTS, REFUSALS, ORDER, *SHORT, *(b"start\t2\n" + script for script in AFTER_START),
+    DENY_RULE, COUNTS, ORDER, *SHORT, *(b"start\t2\n" + script for script in AFTER_START),
     b"allow\th\t70\t\nseed\t1\th\t70\t\nstart\t2\nclaim\nfound\t0\t1\th\t70\t/x\nstatus\n",
 ]

@@ -1,5 +1,4 @@
-"""Searches that cost much: made pages on a host of this process, queries as heavy as a line has room for, and their replies.
-"""
+"""Searches that cost much: made pages on a host of this process, queries as heavy as a line has room for, and their replies."""
 import contextlib
 import random
 import time
@@ -8,8 +7,7 @@ from concurrent.futures import ThreadPoolExecutor
 
 from models.model import Page
 from models.site_model import Site
-from running.crawled import Host, seeded
-from running.server import HOST, ask
+from running.server import HOST, Host, ask, seeded
 
 LETTERS = "abcdefghijklmnopqrstuvwxyz"
 PAIRS = [first + second for first in LETTERS for second in LETTERS]
@@ -71,12 +69,10 @@ class Heavy(Host):
         texts = {b"/t%d" % number: text_of(draw) for number in range(count)}
         super().__init__(lambda line: replies.get(line, b""))
         replies = self.menus(texts)
+        self.settings = seeded(self.port, f"threads = 2\nplaces = {min(2 * len(replies), 65_536)}\nworkers = 16")
         self.site, self.known = Site(HOST.encode(), self.port, {}), len(replies)
         places = ((self.site.host, self.port, name, b"0") for name in texts)
         self.site.crawl.pages = [Counted(None, place, texts[place[2]]) for place in places]
-
-    def settings(self):
-        return seeded(self.port, f"threads = 2\nplaces = {min(2 * self.known, 65_536)}\nworkers = 16")
 
 
 def keep_asking(port, wanted, until):
