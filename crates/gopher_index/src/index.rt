@@ -233,8 +233,8 @@ impl Index {
         })
     }
 
-    /// Returns the new page, if exactly one was added and nothing was merged meanwhile. It compares the
-    /// numbers of parts and pages with those of `before`.
+    /// Returns the new page, if exactly one was added and nothing was merged meanwhile: it compares
+    /// the numbers of parts and pages with those of `before`.
     pub fn page_after(&self, before: &Index) -> Option<&Arc<Page>>
         ensures last { IfSome result (λ page. EndsWith self.now (arc_value page.now)) }
         ensures one_more { OnSome result (length self.now ≡ length before.now + 1) }
