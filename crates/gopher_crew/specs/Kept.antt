@@ -9,7 +9,9 @@ use Rattle.gopher_catalogue.specs.declared.fault.FoundFault.{FoundFault}
 use Rattle.gopher_catalogue.specs.Opening.{OpeningData}
 use Rattle.gopher_catalogue.specs.Fault.{IsFoundFault}
 use Rattle.gopher_catalogue.specs.Legal.{IsLegal}
-use Rattle.gopher_catalogue.specs.Step.{Added, Status, TurnData, Take, Idle, turn_of, after_turn, added_by, found_fault, is_out_in, status_of}
+use Rattle.gopher_catalogue.specs.declared.frontier.sizes.Added.{Added}
+use Rattle.gopher_catalogue.specs.declared.frontier.sizes.Status.{Status}
+use Rattle.gopher_catalogue.specs.Step.{TurnData, Take, Idle, turn_of, after_turn, added_by, found_fault, is_out_in, status_of}
 use Rattle.gopher_catalogue.specs.Turn.{IsTake}
 use Rattle.gopher_crew.specs.Crew.{KeptData, ShareData}
 

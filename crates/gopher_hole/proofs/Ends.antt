@@ -6,7 +6,7 @@ use Rattle.std.proofs.KnownBytes.{Appends-trans, Appends-kept}
 use Rattle.gopher_item.specs.Place.{HomeData}
 use Rattle.gopher_scope.specs.declared.settings.Settings.{Settings}
 use Rattle.gopher_text.specs.Watched.{WatchedData}
-use Rattle.gopher_catalogue.specs.Step.{Status}
+use Rattle.gopher_catalogue.specs.declared.frontier.sizes.Status.{Status}
 use Rattle.gopher_script.specs.Answer.{status_line}
 use Rattle.gopher_hole.specs.Ending.{AreSettings, FoundSound, HasServed, HasWritten, IsStatus, listening_line}
 use Rattle.gopher_hole.specs.Sending.{HasSent}

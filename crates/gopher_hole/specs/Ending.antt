@@ -10,7 +10,8 @@ use Rattle.gopher_text.specs.Watched.{WatchedData}
 use Rattle.gopher_scope.specs.Settings.{AreSettingsOf}
 use Rattle.gopher_scope.specs.declared.settings.Settings.{Settings}
 use Rattle.gopher_catalogue.specs.Legal.{IsLegal}
-use Rattle.gopher_catalogue.specs.Step.{Status, opened_record, status_of}
+use Rattle.gopher_catalogue.specs.declared.frontier.sizes.Status.{Status}
+use Rattle.gopher_catalogue.specs.Step.{opened_record, status_of}
 use Rattle.gopher_catalogue.specs.declared.event.EventData.{EventData}
 use Rattle.gopher_script.specs.Answer.{status_line}
 use Rattle.gopher_server.specs.declared.thread_end.ThreadEnd.{ThreadEnd}

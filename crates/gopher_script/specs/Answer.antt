@@ -4,7 +4,8 @@ use Rattle.std.specs.Global.{Vec}
 use Rattle.std.specs.List.{flat_map}
 use Rattle.std.specs.Fmt.{decimal}
 use Rattle.gopher_item.specs.Place.{PlaceData}
-use Rattle.gopher_catalogue.specs.Step.{Added, Status}
+use Rattle.gopher_catalogue.specs.declared.frontier.sizes.Added.{Added}
+use Rattle.gopher_catalogue.specs.declared.frontier.sizes.Status.{Status}
 use Rattle.gopher_index.specs.declared.hit.Hit.{Hit}
 
 abbrev pub ok_line : List ℕ
