@@ -1,5 +1,5 @@
 -- Merging tables: the lowest of their first words, and what is left once it is taken.
-use Rattle.std.proofs.Common.{◌≡◌, ◌⊎◌, ℕ, Bool, true, false, zero, suc, ◌+◌, ◌<◌, ◌≤◌, List, [], ◌∷◌, ◌++◌, cond, length, map, take, drop, get_or, set, append_assoc, Some, None, Option, refl, sym, ap, subst, ◌∙◌, inl, inr, arith}
+use Rattle.std.proofs.Common.{◌≡◌, ℕ, Bool, true, false, zero, suc, ◌+◌, ◌<◌, ◌≤◌, List, [], ◌∷◌, ◌++◌, cond, length, map, take, drop, get_or, Some, None, Option, refl, sym, ap, subst, ◌∙◌, arith}
 use Rattle.std.proofs.lemmas.Bool.{both_ways}
 use Rattle.std.proofs.lemmas.List.{take-append-drop, length-map, length-take-le, drop_more, get_or_at, get_or_default, flat_map_more, take_more}
 use Rattle.std.proofs.lemmas.List.Elements.{All-from_recursion, recursion_from_All}
@@ -10,7 +10,6 @@ use Rattle.std.specs.Ordering.{nat_cmp}
 use Rattle.std.specs.declared.cmp.Ordering.TheVariants.{Less}
 use Rattle.std.specs.Cmp.Lexicographic.{slice_cmp, bytes_decides}
 use Rattle.gopher_page.specs.Words.{same_word}
-use Rattle.gopher_page.specs.Counts.{is_before}
 use Rattle.gopher_segment.specs.Rows.{words_of_rows, AreRowsInOrder, first_word, passed, taken, AreAllInOrder, is_at, is_lower, LackBefore, NoneLower, rows_left, AllBefore, AllBeforeNext, ComeBefore}
 use Rattle.gopher_segment.proofs.WordOrder.{less_from_apart, all_before_next}
 

@@ -1,5 +1,5 @@
 -- Numbers of words decide which comes first.
-use Rattle.std.proofs.Common.{◌≡◌, ◌⊎◌, ℕ, Bool, true, false, ◌+◌, ◌-◌, ◌^◌, ◌<◌, ◌≤◌, List, [], ◌∷◌, cond, length, drop, get_or, Option, Some, None, refl, sym, ap, subst, ◌∙◌, inl, inr, arith}
+use Rattle.std.proofs.Common.{◌≡◌, ◌⊎◌, ℕ, Bool, true, false, ◌+◌, ◌<◌, ◌≤◌, List, [], ◌∷◌, length, get_or, Option, Some, None, refl, sym, ap, subst, ◌∙◌, inl, inr, arith}
 use Rattle.std.proofs.lemmas.Bool.{both_ways, cases_lt}
 use Rattle.std.proofs.lemmas.List.{get_or_default}
 use Rattle.std.specs.Ordering.{is_lt}
@@ -8,7 +8,7 @@ use Rattle.gopher_page.specs.Numbered.{IsNumbered}
 use Rattle.gopher_page.specs.Words.{same_word}
 use Rattle.gopher_page.specs.Counts.{is_before}
 use Rattle.gopher_page.proofs.Order.{before-trans}
-use Rattle.gopher_page.proofs.Leading.{leading_less, leading_below}
+use Rattle.gopher_page.proofs.Leading.{leading_less}
 use Rattle.gopher_segment.specs.Rows.{first_word, is_at, LackBefore, NoneLower, is_lower}
 use Rattle.gopher_segment.proofs.WordOrder.{never_before_itself, less_from_before}
 

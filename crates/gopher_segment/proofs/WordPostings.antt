@@ -1,6 +1,5 @@
 -- The postings of a word, in tables and in pages.
-use Rattle.std.proofs.Common.{◌≡◌, ◌⊎◌, ℕ, zero, suc, ◌+◌, ◌<◌, ◌≤◌, Bool, true, false, List, [], ◌∷◌, ◌++◌, cond, length, map, append_assoc, slice_get, Some, None, refl, sym, ap, subst, ◌∙◌, inl, inr, arith}
-use Rattle.std.proofs.lemmas.Bool.{both_ways}
+use Rattle.std.proofs.Common.{◌≡◌, ℕ, zero, suc, ◌+◌, ◌<◌, Bool, true, false, List, [], ◌∷◌, ◌++◌, cond, length, map, append_assoc, refl, sym, ap, subst, ◌∙◌, arith}
 use Rattle.std.proofs.lemmas.List.{append-nil}
 use Rattle.std.proofs.lemmas.List.Sums.{sum_by-cons}
 use Rattle.std.proofs.lemmas.Map.Keys.{sorted_head, sorted_tail}
@@ -13,7 +12,7 @@ use Rattle.gopher_page.specs.Words.{same_word}
 use Rattle.gopher_page.specs.Counts.{count_where, count_meant}
 use Rattle.gopher_page.specs.Packed.{AreCounts}
 use Rattle.gopher_segment.specs.Postings.{pieces, run_of}
-use Rattle.gopher_segment.specs.Rows.{words_of_rows, runs_of_rows, AreRowsInOrder, postings_of, page_rows, first_word, passed, rows_left, taken, AreAllInOrder}
+use Rattle.gopher_segment.specs.Rows.{words_of_rows, AreRowsInOrder, postings_of, page_rows, first_word, passed, rows_left, taken, AreAllInOrder}
 use Rattle.gopher_segment.proofs.MergeLemmas.{IsFrom, AreFrom}
 use Rattle.gopher_bytes.proofs.Zips.{zip-append}
 use Rattle.gopher_segment.proofs.WordOrder.{less_from_apart}

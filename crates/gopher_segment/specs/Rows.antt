@@ -1,13 +1,13 @@
 -- Rows: words, each with its postings.
-use Rattle.std.specs.Prelude.{ℕ, ◌+◌, ◌-◌, ◌^◌, ◌≡◌, ◌<◌, ◌≤◌, Bool, true, false, List, [], ◌∷◌, ◌++◌, map, drop, Option, Some, None, length, slice_index_or, if◌then◌else◌}
+use Rattle.std.specs.Prelude.{ℕ, ◌+◌, ◌≡◌, ◌<◌, ◌≤◌, Bool, true, false, List, [], ◌∷◌, ◌++◌, map, drop, Option, Some, None, length, slice_index_or, if◌then◌else◌}
 use Rattle.std.specs.List.{AllByRecursion, flat_map}
 use Rattle.std.specs.List.Sorted.{IsStrictlySortedBy}
 use Rattle.std.specs.Ordering.{nat_cmp}
 use Rattle.std.specs.Cmp.Lexicographic.{slice_cmp}
 use Rattle.std.specs.declared.cmp.Ordering.TheVariants.{Less}
 use Rattle.gopher_page.specs.Words.{same_word}
-use Rattle.gopher_page.specs.Counts.{is_before, is_meant, AreMeantWords}
-use Rattle.gopher_segment.specs.Postings.{AreWithin, RunsData, count_in, pieces}
+use Rattle.gopher_page.specs.Counts.{is_before, is_meant}
+use Rattle.gopher_segment.specs.Postings.{RunsData, pieces}
 
 abbrev pub words_of_rows : List (List ℕ × List (ℕ × ℕ)) → List (List ℕ)
 words_of_rows rows = map (λ row. row.0) rows

@@ -1,8 +1,7 @@
 -- The rows of a segment, which say the same as its pages.
-use Rattle.std.specs.Prelude.{ℕ, ◌+◌, ◌≤◌, ◌≡◌, Bool, false, List, [], ◌∷◌, ◌++◌, map, length, ◌==◌, if◌then◌else◌}
+use Rattle.std.specs.Prelude.{ℕ, ◌+◌, ◌≤◌, ◌≡◌, false, List, [], ◌∷◌, ◌++◌, length}
 use Rattle.std.specs.List.{sum_by, AllByRecursion, AllZip}
 use Rattle.gopher_text.specs.declared.reply_reader.TheConstants.{MAX_REPLY}
-use Rattle.gopher_page.specs.Counts.{count_where}
 use Rattle.gopher_page.specs.Page.{PageData}
 use Rattle.gopher_segment.specs.Large.{in_table, large_from, pages_in_table}
 use Rattle.gopher_segment.specs.Postings.{run_of}

@@ -1,16 +1,15 @@
 //! Making the rows of pages, one page after another.
 
-ghost use Rattle.std.specs.Prelude.{◌≡◌, ◌+◌, ◌≤◌, ◌-◌, ◌^◌, ◌++◌, length, map, min, IfOk, OnOk};
+ghost use Rattle.std.specs.Prelude.{◌≡◌, ◌+◌, ◌≤◌, ◌-◌, ◌^◌, length, map, min, IfOk, OnOk};
 ghost use Rattle.std.specs.Arc.{arc_value};
 ghost use Rattle.gopher_page.specs.Packed.{AreCounts};
 ghost use Rattle.gopher_segment.specs.Large.{pages_in_table};
-ghost use Rattle.gopher_segment.specs.Rows.{page_rows};
 ghost use Rattle.gopher_segment.specs.Segment.{words_count};
 ghost use Rattle.gopher_segment.specs.SegmentRows.{AddsPageRows, AreSmall, TellInTable};
 
 use crate::row::Row;
 use gopher_bytes::NoMemory;
-use gopher_page::{Counts, Page};
+use gopher_page::Page;
 use std::alloc::Global;
 use std::sync::Arc;
 

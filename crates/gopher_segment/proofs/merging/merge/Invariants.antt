@@ -1,4 +1,4 @@
-use Rattle.std.proofs.Common.{◌≡◌, ℕ, Bool, ◌+◌, ◌++◌, List, [], length}
+use Rattle.std.proofs.Common.{◌≡◌, ℕ, ◌++◌, List, [], length}
 use Rattle.std.specs.List.{flat_map, zip}
 use Rattle.std.specs.List.Sorted.{IsStrictlySortedBy}
 use Rattle.std.specs.Ordering.{nat_cmp}

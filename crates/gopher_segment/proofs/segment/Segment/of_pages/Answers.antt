@@ -1,5 +1,4 @@
-use Rattle.std.proofs.Common.{map, sym, subst, ◌∙◌}
-use Rattle.std.specs.Arc.{arc_value}
+use Rattle.std.proofs.Common.{sym, subst, ◌∙◌}
 use Rattle.gopher_segment.specs.Large.{pages_in_table}
 use Rattle.gopher_segment.specs.SegmentRows.{AreRowsOf, AreSmall}
 use Rattle.gopher_segment.proofs.segment.Segment.of_pages.Goals as goal

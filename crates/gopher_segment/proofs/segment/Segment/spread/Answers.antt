@@ -1,11 +1,10 @@
-use Rattle.std.proofs.Common.{◌≡◌, ℕ, Bool, List, ◌+◌, ◌<◌, ◌≤◌, length, map, get_or, replicate, refl, sym, ap, subst, ◌∙◌, arith}
+use Rattle.std.proofs.Common.{◌≡◌, ℕ, List, ◌+◌, ◌<◌, ◌≤◌, length, map, get_or, replicate, sym, ap, subst, ◌∙◌, arith}
 use Rattle.std.proofs.lemmas.List.{length-map, length-replicate, get_or-replicate, ext_get_or}
 use Rattle.std.specs.Arc.{arc_value}
 use Rattle.gopher_page.specs.Counts.{is_meant, count_where, count_meant}
 use Rattle.gopher_page.specs.Page.{PageData}
 use Rattle.gopher_segment.specs.Large.{pages_in_table}
 use Rattle.gopher_segment.specs.Postings.{AreWithin, count_in}
-use Rattle.gopher_segment.specs.Rows.{postings_where}
 use Rattle.gopher_segment.specs.Segment.{SegmentData, meant_counts}
 use Rattle.gopher_segment.proofs.CountLemmas.{counts_of_page, counts_few, within_pages}
 use Rattle.gopher_segment.proofs.LargeLemmas.{length_in_table, small_in_table}

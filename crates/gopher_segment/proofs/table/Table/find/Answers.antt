@@ -1,4 +1,4 @@
-use Rattle.std.proofs.Common.{◌≡◌, ℕ, List, ◌-◌, length, take, drop, sym, ap, subst, ◌∙◌, arith}
+use Rattle.std.proofs.Common.{ℕ, ◌-◌, take, drop, sym, ap, subst, ◌∙◌, arith}
 use Rattle.gopher_bytes.proofs.Zips.{firsts, seconds}
 use Rattle.gopher_page.specs.Counts.{AreInOrder, AreMeantWords}
 use Rattle.gopher_segment.specs.Postings.{one_run}
