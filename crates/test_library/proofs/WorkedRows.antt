@@ -90,8 +90,8 @@ that_menu_ended = refl
 menu_without_an_end : any_last_line (lines_of (codes "1Mo")) ≡ false
 menu_without_an_end = refl
 
-odd_lines : entries_of (lines_of (codes "1Mo\n\t/a\th\t70\n0A\t/a\0\th\t70\r\n0A\t/a\th\t70\r\n\rx\t/s\th\t70\n\0x\t/s\th\t70"))
-    ≡ Odd (codes "1Mo") ∷ Odd (codes "") ∷ Odd (codes "0A") ∷ Odd (codes "0A") ∷ Odd (codes "\rx") ∷ Odd (codes "\0x") ∷ []
+odd_lines : entries_of (lines_of (codes "1Mo\n\t/a\th\t70\n0A\t/a\0\th\t70\r\n0A\t/a\th\t70\r"))
+    ≡ Odd (codes "1Mo") ∷ Odd (codes "") ∷ Odd (codes "0A") ∷ Odd (codes "0A") ∷ []
 odd_lines = refl
 
 text_with_an_end : text_lines (codes "..\r\nhi\r\n.\r\nrest") ≡ codes "." ∷ codes "hi" ∷ []
