@@ -1,6 +1,7 @@
 pub mod History
 pub mod Version
 pub mod MergeJob
+pub mod Merging
 pub mod Publisher
 pub mod Crew
 pub mod Fault

@@ -288,9 +288,9 @@ impl<C: Crew, R: Wait + Drop> Desk<C, R> {
             return kept;
         };
         let lock = MutexGuard::unlock(kept);
-        let was_merged = job.run(alloc);
+        job.run(alloc);
         kept = lock.lock(rt);
-        kept.install(job, was_merged);
+        kept.install(job);
         kept
     }
 

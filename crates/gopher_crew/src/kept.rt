@@ -11,6 +11,7 @@ ghost use Rattle.gopher_crew.specs.Kept.{IsNoted, RisesAt, rise_of, Claims, Find
 use crate::closing::join;
 use crate::crew::Crew;
 use crate::merge_job::MergeJob;
+use crate::merging::Merging;
 use crate::note::Note;
 use crate::record_follower::RecordFollower;
 use crate::record_prefix::RecordPrefix;
@@ -22,9 +23,6 @@ use std::marker::Model;
 use std::sync::Wait;
 use std::sync::ledger::Book;
 
-// After a merge runs out of memory, merging is tried again when this number of pages was found.
-const PAGES_UNTIL_RETRY: usize = 64;
-
 /// The catalogue of a crawl, the count of its events after the first, and the follower that
 /// publishes it. Contracts see its record and the published one, which is a prefix of it.
 #[derive(Drop)]
@@ -32,12 +30,7 @@ pub struct Kept<C: Crew, R: Wait + Drop> {
     catalogue: Catalogue,
     book: Book<C>,
     follower: RecordFollower<C, R>,
-    // Whether pages were merged that aren't published as merged.
-    is_merged: bool,
-    // No pages are merged before this number of pages was found.
-    retry_at: usize,
-    // Whether a run was returned to be merged since the crawl finished.
-    is_last_run_taken: bool,
+    merging: Merging,
 }
 
 impl<C: Crew, R: Wait + Drop> Model for Kept<C, R> {
@@ -85,9 +78,7 @@ impl<C: Crew, R: Wait + Drop> Kept<C, R> {
             catalogue,
             book,
             follower,
-            is_merged: false,
-            retry_at: 0,
-            is_last_run_taken: false,
+            merging: Merging::new(),
         }
     }
 
@@ -182,28 +173,14 @@ impl<C: Crew, R: Wait + Drop> Kept<C, R> {
         Ok(self.follower.follow_for(&self.catalogue, share))
     }
 
-    // Returns whether pages may be merged now. While places are out but none waits, merging would
-    // only delay the end of the crawl, because few pages are still to come. When the crawl is
-    // finished, one run is merged.
-    fn may_merge(&mut self) -> bool
-        ensures { self.new ≡ self.old }
-    {
-        let status = self.catalogue.status();
-        if status.waiting == 0 {
-            if status.out > 0 || self.is_last_run_taken {
-                return false;
-            }
-            self.is_last_run_taken = true;
-        }
-        self.retry_at <= self.catalogue.index().len()
-    }
-
     /// Returns a run of pages that is due to be merged. Returns `None` while places are out but
     /// none waits, when out of memory, and for 64 more pages after a merge ran out of memory.
     pub(crate) fn merge_job(&mut self) -> Option<MergeJob<C>>
         ensures { self.new ≡ self.old }
     {
-        if !self.may_merge() {
+        let status = self.catalogue.status();
+        let found = self.catalogue.index().len();
+        if !self.merging.may_merge(status.waiting, status.out, found) {
             return None;
         }
         let prefix = self.follower.entered(&self.catalogue)?;
@@ -215,15 +192,11 @@ impl<C: Crew, R: Wait + Drop> Kept<C, R> {
 
     /// Puts the segment of a merge job in the place of its pages. If memory ran out, the pages are
     /// due again when 64 more are found. The next page publishes the segment, or `renew` does.
-    pub(crate) fn install(&mut self, job: MergeJob<C>, was_merged: bool)
+    pub(crate) fn install(&mut self, job: MergeJob<C>)
         ensures { self.new ≡ self.old }
     {
-        if was_merged {
-            self.is_merged = true;
-        } else {
-            let found = self.catalogue.index().len();
-            self.retry_at = found.saturating_add(PAGES_UNTIL_RETRY);
-        }
+        let found = self.catalogue.index().len();
+        self.merging.end_merge(job.was_merged(), found);
         let Some(prefix) = self.follower.entered(&self.catalogue) else {
             return;
         };
@@ -238,8 +211,9 @@ impl<C: Crew, R: Wait + Drop> Kept<C, R> {
         ensures events { self.new.events ≡ self.old.events }
         ensures grows { IsPrefix self.old.published self.new.published }
     {
-        if self.is_merged {
-            self.is_merged = !self.follower.renew(&self.catalogue);
+        if self.merging.is_merged {
+            let was_published = self.follower.renew(&self.catalogue);
+            self.merging.end_renewal(was_published);
         }
     }
 
@@ -317,11 +291,18 @@ impl<C: Crew, R: Wait + Drop> Kept<C, R> {
             catalogue,
             book: _book,
             follower: _follower,
-            is_merged: _is_merged,
-            retry_at: _retry_at,
-            is_last_run_taken: _is_last_run_taken,
+            merging: _merging,
         } = self;
         catalogue
+    }
+
+    // Publishes all that isn't published yet. Returns a note exactly if the whole record is
+    // published then.
+    fn publish(&mut self) -> Option<Note<C>>
+        ensures events { self.new.events ≡ self.old.events }
+        ensures note { IsNoted result self.new }
+    {
+        self.follower.follow(&self.catalogue)
     }
 
     /// Returns the catalogue, with a note of its record. There is no note if publishing it runs out
@@ -332,7 +313,7 @@ impl<C: Crew, R: Wait + Drop> Kept<C, R> {
         ensures legal { IsLegal self.events }
     {
         let mut kept = self;
-        let note = kept.follower.follow(&kept.catalogue);
+        let note = kept.publish();
         (kept.end(), note)
     }
 }

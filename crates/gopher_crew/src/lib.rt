@@ -95,6 +95,7 @@ mod kept;
 pub mod laws;
 mod memory;
 mod merge_job;
+mod merging;
 mod note;
 mod opening;
 mod pass;

@@ -15,6 +15,7 @@ use std::marker::{Model, PhantomData};
 pub struct MergeJob<C: Crew> {
     due: Due,
     prefix: RecordPrefix,
+    was_merged: bool,
     of: PhantomData<C>,
 }
 
@@ -39,15 +40,21 @@ impl<C: Crew> MergeJob<C> {
         MergeJob {
             due,
             prefix,
+            was_merged: false,
             of: PhantomData,
         }
     }
 
-    /// Merges the pages. Returns whether it did: it didn't if memory ran out.
-    pub fn run(&mut self, alloc: Global) -> bool
+    /// Merges the pages, unless memory runs out.
+    pub fn run(&mut self, alloc: Global)
         ensures { self.new ≡ self.old }
     {
-        self.due.merge(alloc).is_ok()
+        self.was_merged = self.due.merge(alloc).is_ok();
+    }
+
+    /// Returns whether the pages were merged.
+    pub fn was_merged(&self) -> bool {
+        self.was_merged
     }
 
     /// Returns the pages, if this record begins with the one that found them.
@@ -58,6 +65,7 @@ impl<C: Crew> MergeJob<C> {
         let MergeJob {
             due,
             prefix: own,
+            was_merged: _was_merged,
             of: _of,
         } = self;
         if !own.begins(prefix) {

@@ -110,6 +110,16 @@ fn the_first_line_is_replied_to(rt: HostRuntime) {
     }
 }
 
+// Each call is interrupted once: a line that is there takes one, and ten bytes take four.
+#[test]
+fn streams_are_called_as_often_as_needed(rt: HostRuntime) {
+    let mut conversation = Conversation::new(rt.alloc());
+    let mut reader = Watched::new(Stream::giving(b"/a.txt\r\n", 64, Ending::Ends));
+    let mut writer = Watched::new(Stream::taking(HELLO, 100, Ending::Fails));
+    let turn = last_turn(rt.alloc(), &mut conversation, &mut reader, &mut writer);
+    assert!(rt; turn == Progress::Done && (reader.failures(), writer.failures()) == (1, 4));
+}
+
 #[test]
 fn a_write_that_fails_ends_a_conversation_at_each_place(rt: HostRuntime) {
     for (line, reply) in [(b"\r\n".as_slice(), ROOT), (b"/a.txt\n", HELLO)] {

@@ -3,18 +3,23 @@ ghost use Rattle.std.specs.Prelude.{◌≡◌, []};
 ghost use Rattle.gopher_crew.specs.Desk.{IsBlankOf};
 
 use crate::fetcher::Fetcher;
+use crate::indexes::steps_of;
+use crate::opening;
 use crate::tables::{
     FOUR_FILES, Fate, HOME_AND_FILE, Host, MOON, ONE_DIRECTORY, TWO_FILES, all_done, answered,
     are_files, catalogue, closed, hits, opened,
 };
 use gopher_catalogue::{Catalogue, Event, Status, Why};
-use gopher_crew::{Answer, Blank, Calls, Crew, Share, Stop, WorkEnd, crawl};
+use gopher_crew::{Answer, Blank, Calls, Crew, Pass, Share, Stop, WorkEnd, crawl};
 use std::marker::Brand;
 use std::process::Abort;
 use std::sync::Wait;
 use std::sync::atomic::AtomicU64;
 use std::thread::Threads;
 use std::time::Clock;
+
+// How many crawls of a root alone follow each other.
+const CRAWLS: u32 = 2_000;
 
 /// What is crawled, and by how many workers.
 #[derive(Clone, Copy)]
@@ -33,6 +38,8 @@ pub struct EndedCrawl {
     pub catalogue: Catalogue,
     pub status: Status,
     pub moons: Answer,
+    /// The steps of a search for five words before the desk was closed.
+    pub steps: Option<u32>,
 }
 
 // A fetcher for each share, numbered from 0.
@@ -67,7 +74,7 @@ pub fn crawled<C: Crew + Send + Sync, R: Threads + Wait + Clock + Abort + AllocG
         fate: plan.fate,
         counter: &counter,
     };
-    let begun = catalogue(rt, b"h", 10_000, plan.tries);
+    let begun = catalogue(rt, b"h", 20_000, plan.tries);
     let (desk, mut passes, shares) = opened::<C, R>(rt, blank, begun, 1, u32::from(plan.workers));
     let Ok(ends) = crawl(rt, rt.alloc(), &desk, pairs(rt, &host, shares)) else {
         panic!(rt; "the crawl isn't started");
@@ -76,6 +83,7 @@ pub fn crawled<C: Crew + Send + Sync, R: Threads + Wait + Clock + Abort + AllocG
         panic!(rt; "no pass");
     };
     let moons = answered(rt, pass, b"moon");
+    let steps = steps_of_five_words(rt, pass);
     let status = desk.status(rt);
     let least = u64::from(matches!(plan.fate, Fate::Held(_)));
     let (shares, found) = shares_of(rt, ends, least);
@@ -85,7 +93,13 @@ pub fn crawled<C: Crew + Send + Sync, R: Threads + Wait + Clock + Abort + AllocG
         catalogue,
         status,
         moons,
+        steps,
     }
+}
+
+fn steps_of_five_words<C: Crew, R: AllocGlobal>(rt: &R, pass: &mut Pass<C>) -> Option<u32> {
+    let query = opening::query(rt.alloc(), b"a b c d e")?;
+    steps_of(pass.begin(&query).ok()?)
 }
 
 // A worker has finished, with as many calls as it found or failed places, and at least this many.
@@ -215,5 +229,21 @@ fn workers_crawl(rt: HostRuntime) {
         };
         let crawled = crawled::<Brand, _>(&rt, Blank::new(), plan);
         has_ended(&rt, &crawled, *wanted);
+    }
+}
+
+// The last worker to hear of the end may just be about to wait for it.
+#[test]
+fn idle_workers_hear_of_each_end(rt: HostRuntime) {
+    for _crawl in 0..CRAWLS {
+        let plan = Plan {
+            root: b".\r\n",
+            rest: MOON,
+            fate: Fate::Answered,
+            tries: 1,
+            workers: 2,
+        };
+        let crawled = crawled::<Brand, _>(&rt, Blank::new(), plan);
+        assert!(rt; crawled.status == all_done(1));
     }
 }

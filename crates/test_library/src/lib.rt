@@ -20,6 +20,8 @@ mod fetcher;
 #[cfg(test)]
 mod fetches;
 #[cfg(test)]
+mod indexes;
+#[cfg(test)]
 mod menus;
 #[cfg(test)]
 mod merges;

@@ -1,13 +1,10 @@
 // How the pages of an index are merged, and crawls with enough pages that workers merge some.
-ghost use Rattle.std.specs.Prelude.{◌≡◌, IfSome};
-ghost use Rattle.gopher_index.specs.Index.{IsSliceOf};
-
 use crate::crawls::{Plan, crawled};
 use crate::opening;
 use crate::tables::{Fate, MOON};
 use gopher_catalogue::Catalogue;
 use gopher_crew::{Answer, Blank};
-use gopher_index::{Due, Index};
+use gopher_index::Index;
 use gopher_page::Page;
 use std::alloc::{AllocError, Global};
 use std::marker::Brand;
@@ -69,65 +66,30 @@ fn merges_of(alloc: Global, pages: u32) -> Option<u32> {
 fn pages_are_merged(rt: HostRuntime) {
     assert!(rt; merges_of(rt.alloc(), 63) == Some(0));
     assert!(rt; merges_of(rt.alloc(), 256) == Some(4 + 1));
+    assert!(rt; merges_of(rt.alloc(), 4_096) == Some(64 + 16 + 4));
     assert!(rt; merges_of(rt.alloc(), 21_504) == Some(336 + 84 + 21 + 5 + 1));
 }
 
-// An index of `pages` pages, none of which is in a segment.
-fn loose(alloc: Global, pages: u32) -> Option<Index> {
-    let mut index = Index::new(alloc);
-    for number in 0..pages {
-        add(alloc, &mut index, number)?;
-    }
-    Some(index)
-}
+// How many files there are: with the root 163 runs of 64 pages, of which the last is due when the
+// crawl is finished. Without workers an index merges its pages at 512 loose ones.
+const FILES: u32 = 10_431;
 
-// The run that is due next, merged.
-fn merged_run(alloc: Global, index: &mut Index) -> Option<Due>
-    ensures same { index.new ≡ index.old }
-    ensures stands { IfSome result (λ due. IsSliceOf due index.new) }
-{
-    let mut due = index.due().ok()??;
-    due.merge(alloc).ok()?;
-    Some(due)
-}
+// The steps of a search for five words in the segments that are published then: two of 4,096 pages,
+// two of 1,024, and three of 64.
+const STEPS: u32 = 1 + 7 * (5 + 1) + 1;
 
-// Merges two runs before either is put in its place, the later one first.
-fn merge_two(alloc: Global, index: &mut Index) -> Option<()> {
-    let first = merged_run(alloc, index)?;
-    let second = merged_run(alloc, index)?;
-    index.install(second);
-    index.install(first);
-    Some(())
-}
-
-// Whether nothing is left to merge of 128 pages once two runs are in their places.
-fn are_apart(alloc: Global) -> Option<bool> {
-    let mut index = loose(alloc, 128)?;
-    merge_two(alloc, &mut index)?;
-    Some(merges(alloc, &mut index)? == 0)
-}
-
-#[test]
-fn two_runs_have_no_page_in_common(rt: HostRuntime) {
-    assert!(rt; are_apart(rt.alloc()) == Some(true));
-}
-
-// How many files there are: more than 8,192, and a number at which pages would be due to be merged
-// at the end if workers merged none. Without workers an index merges its pages at 512 loose ones.
-const FILES: u32 = 8_378;
-
-fn digits(number: u32) -> [u8; 4] {
+fn digits(number: u32) -> [u8; 5] {
     let digit = |unit: u32| b'0' + (number / unit % 10) as u8;
-    [digit(1_000), digit(100), digit(10), digit(1)]
+    [digit(10_000), digit(1_000), digit(100), digit(10), digit(1)]
 }
 
-// The menu of files from `/1000` on. Those that come first in place order are spread over all of
+// The menu of files from `/10000` on. Those that come first in place order are spread over all of
 // it.
 fn menu(alloc: Global) -> Result<Vec<u8>, AllocError> {
     let mut menu = Vec::new(alloc);
     for step in 0..FILES {
         menu.extend_from_slice(b"0A\t/")?;
-        menu.extend_from_slice(&digits(1_000 + step * 7 % FILES))?;
+        menu.extend_from_slice(&digits(10_000 + step * 7 % FILES))?;
         menu.extend_from_slice(b"\th\t70\r\n")?;
     }
     Ok(menu)
@@ -137,7 +99,7 @@ fn menu(alloc: Global) -> Result<Vec<u8>, AllocError> {
 fn finds_first_files<R: Abort>(rt: &R, answer: &Answer) {
     assert!(rt; answer.at == 2 * FILES + 3);
     assert!(rt; answer.hits.len() == 50);
-    for (number, hit) in (1_000..1_050u32).zip(answer.hits.iter()) {
+    for (number, hit) in (10_000..10_050u32).zip(answer.hits.iter()) {
         assert!(rt; hit.place.selector().ends_with(&digits(number)));
     }
 }
@@ -165,6 +127,7 @@ fn pages_that_were_merged_are_found(rt: HostRuntime) {
         };
         let crawled = crawled::<Brand, _>(&rt, Blank::new(), plan);
         assert!(rt; workers > 1 || is_merged(&rt, &crawled.catalogue));
+        assert!(rt; workers > 1 || crawled.steps == Some(STEPS));
         finds_first_files(&rt, &crawled.moons);
     }
 }
