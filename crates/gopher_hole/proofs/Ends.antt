@@ -7,8 +7,10 @@ use Rattle.gopher_item.specs.Place.{HomeData}
 use Rattle.gopher_scope.specs.declared.settings.Settings.{Settings}
 use Rattle.gopher_text.specs.Watched.{WatchedData}
 use Rattle.gopher_catalogue.specs.declared.frontier.sizes.Status.{Status}
+use Rattle.gopher_catalogue.specs.declared.event.EventData.{EventData}
+use Rattle.gopher_crew.specs.Kept.{IsStatusAfter}
 use Rattle.gopher_script.specs.Answer.{status_line}
-use Rattle.gopher_hole.specs.Ending.{AreSettings, FoundSound, HasServed, HasWritten, IsStatus, listening_line}
+use Rattle.gopher_hole.specs.Ending.{AreSettings, FoundSound, HasServed, HasWritten, listening_line, opening_record}
 use Rattle.gopher_hole.specs.Sending.{HasSent}
 
 -- bytes were sent, and then the writer was flushed
@@ -16,15 +18,16 @@ pub sends_kept : (old mid new : Option (List ℕ)) (bytes : List ℕ) → Append
 sends_kept old mid new bytes sent kept = Appends-kept old mid new bytes sent kept
 
 -- a server wrote its two lines, unless the last one failed
-pub serves : {D T E : Type 0} (contents : D → Option (List ℕ)) (end : Result T E) (home : HomeData) (settings : Settings) (status : Status) (old mid new : WatchedData D)
-    → home ≡ settings.home → AreSettings settings → IsStatus status → HasSent contents old mid (listening_line home)
+pub serves : {D T E : Type 0} (contents : D → Option (List ℕ)) (end : Result T E) (home : HomeData) (desk : List EventData) (settings : Settings) (status : Status) (old mid new : WatchedData D)
+    → home ≡ settings.home → desk ≡ opening_record settings → AreSettings settings → IsStatusAfter desk status → HasSent contents old mid (listening_line home)
     → OnOk end (HasSent contents mid new (status_line status)) → OnOk end (HasServed contents old new)
 unfolding HasServed
-serves contents (Ok value) home settings status old mid new same read legal listens ends =
+serves contents (Ok value) home desk settings status old mid new same begun read after listens ends =
     let held : WatchedData _ → Option (List ℕ) = λ writer. contents writer.device in
     let listened : HasSent contents old mid (listening_line settings.home) = subst (λ place. HasSent contents old mid (listening_line place)) same listens in
-    (settings, read, status, legal, Appends-trans (held old) (held mid) (held new) _ _ listened ends)
-serves contents (Err why) home settings status old mid new same read legal listens ends = tt
+    let opened : IsStatusAfter (opening_record settings) status = subst (λ record_. IsStatusAfter record_ status) begun after in
+    (settings, read, status, opened, Appends-trans (held old) (held mid) (held new) _ _ listened ends)
+serves contents (Err why) home desk settings status old mid new same begun read after listens ends = tt
 
 -- so bytes were written
 pub writes_some : {D : Type 0} (contents : D → Option (List ℕ)) (old new : WatchedData D) (bytes : List ℕ) → HasSent contents old new bytes → HasWritten contents old new

@@ -9,10 +9,10 @@ use Rattle.gopher_item.specs.Place.{HomeData}
 use Rattle.gopher_text.specs.Watched.{WatchedData}
 use Rattle.gopher_scope.specs.Settings.{AreSettingsOf}
 use Rattle.gopher_scope.specs.declared.settings.Settings.{Settings}
-use Rattle.gopher_catalogue.specs.Legal.{IsLegal}
 use Rattle.gopher_catalogue.specs.declared.frontier.sizes.Status.{Status}
-use Rattle.gopher_catalogue.specs.Step.{opened_record, status_of}
+use Rattle.gopher_catalogue.specs.Step.{opened_record}
 use Rattle.gopher_catalogue.specs.declared.event.EventData.{EventData}
+use Rattle.gopher_crew.specs.Kept.{IsStatusAfter}
 use Rattle.gopher_script.specs.Answer.{status_line}
 use Rattle.gopher_server.specs.declared.thread_end.ThreadEnd.{ThreadEnd}
 use Rattle.gopher_server.specs.declared.thread_end.ThreadEnd.TheVariants as thread
@@ -64,12 +64,6 @@ ServerEnds promise started crawled fault =
 abbrev pub AreSettings : Settings → Type 0
 AreSettings settings = (text : List ℕ) × AreSettingsOf text settings
 
--- the status of a legal record
-pub record IsStatus (status : Status) : Type 0 where
-  pub record_ : List EventData
-  pub is_legal : IsLegal record_
-  pub is_status : status ≡ status_of record_
-
 -- the record with which the crawl of a server begins
 abbrev pub opening_record : Settings → List EventData
 opening_record settings =
@@ -81,12 +75,12 @@ listening_line home =
     codes "listening " ++ home.host ++ codes " " ++ decimal home.port ++ codes "\n"
 
 -- a server that ended without a fault wrote where it listened, the home of the settings that it
--- read, and then the sizes of its crawl, those of a legal record
+-- read, and then the sizes of a legal record that begins with the opening of those settings
 unfoldable pub HasServed : {D : Type 0} → (D → Option (List ℕ)) → WatchedData D → WatchedData D
     → Type 0
 HasServed contents old new =
     (settings : Settings) × AreSettings settings
-    × (status : Status) × IsStatus status
+    × (status : Status) × IsStatusAfter (opening_record settings) status
     × HasSent contents old new (listening_line settings.home ++ status_line status)
 
 -- bytes were written

@@ -1,9 +1,10 @@
 //! A server with its crew, from its settings to its end.
 
 ghost use Rattle.std.specs.Prelude.{◌≡◌, [], None, Some, Ok, IfErr, IfOk, OnOk, vec_len};
-ghost use Rattle.gopher_hole.specs.Ending.{HasServed, IsStatus, ServerEnds, StartsAll, fault_at_end, listening_line};
+ghost use Rattle.gopher_hole.specs.Ending.{HasServed, ServerEnds, StartsAll, fault_at_end, listening_line};
 ghost use Rattle.gopher_hole.specs.Sending.{HasSent};
 ghost use Rattle.gopher_crew.specs.Desk.{IsBlankOf};
+ghost use Rattle.gopher_crew.specs.Kept.{IsStatusAfter};
 
 use crate::announcing::{tell_listening, tell_status};
 use crate::arguments::Serving;
@@ -194,7 +195,7 @@ fn close<C: Crew, R: Wait + Drop>(
     desk: Desk<C, R>,
     ends: Vec<WorkEnd<CrawlFetch<'_>, C>>,
 ) -> Result<Status, ProgramFault>
-    ensures { IfOk result IsStatus }
+    ensures { IfOk result (IsStatusAfter desk) }
 {
     match desk.close(shares_of(alloc, ends)?) {
         Ok(catalogue) => Ok(catalogue.status()),

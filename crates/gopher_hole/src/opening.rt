@@ -128,6 +128,7 @@ fn open_desk<'r, C: Crew, R: Wait>(
 ) -> Result<DeskParts<C, &'r R>, ProgramFault>
     requires blank { IsBlankOf C.name C.parts C.history blank }
     requires begun { IsPrefix blank.begun catalogue }
+    ensures desk { IfOk result (λ parts. parts.0 ≡ catalogue) }
     ensures passes { IfOk result (λ parts. AllHaveSeen catalogue threads parts.1.items) }
     ensures shares { IfOk result (λ parts. parts.2.items ≡ shares_at catalogue workers) }
 {
@@ -138,8 +139,8 @@ fn open_desk<'r, C: Crew, R: Wait>(
 }
 
 /// Loads the folder and opens the desk of the crawl, with one pass for each server thread and one
-/// share for each worker. All of them have seen the opening of the crawl, with the settings' scope,
-/// seeds, `places` and `tries`.
+/// share for each worker. The desk is at the opening of the crawl, with the settings' scope, seeds,
+/// `places` and `tries`, and all of them have seen it.
 ///
 /// # Errors
 ///
@@ -158,6 +159,7 @@ pub fn open<'r, C: Crew, R: Files + Wait>(
     requires blank { IsBlankOf C.name C.parts C.history blank }
     requires begun { blank.begun ≡ [] }
     ensures home { IfOk result (λ opened. opened.replies.home ≡ settings.home) }
+    ensures desk { IfOk result (λ opened. opened.desk ≡ opening_record settings) }
     ensures passes { IfOk result (λ opened.
         AllHaveSeen (opening_record settings) settings.threads opened.passes.items) }
     ensures shares { IfOk result (λ opened.
