@@ -1,11 +1,12 @@
 //! One connection with a client.
 
-ghost use Rattle.std.specs.Prelude.{◌≡◌, ◌&&◌, nat_lt, true};
+ghost use Rattle.std.specs.Prelude.{◌≡◌, ◌&&◌, length, nat_lt, true};
+ghost use Rattle.gopher_server.specs.RequestLine.{search_of};
 ghost use Rattle.gopher_server.specs.declared.connection.NextStep.TheVariants.{Ends, Lingers};
 
-use crate::logging::{Accepted, ThreadLog};
+use crate::logging::{Accepted, ThreadLog, search_of};
 use crate::send_buffer::ReplyWriter;
-use gopher_conversation::{Answers, Conversation, Progress, ServeFault, converse};
+use gopher_conversation::{Answers, Conversation, Progress, ServeFault, advance, converse};
 use gopher_text::Watched;
 use mio::net::TcpStream;
 use mio::{Interest, Registry, Token};
@@ -20,6 +21,12 @@ pub(crate) const BUFFER_BYTES: usize = 4_096;
 
 // A connection lingers after a reply of more bytes.
 const LINGER_ABOVE: usize = 65_536;
+
+// A search string of more bytes is long: beginning its search would take up to a millisecond.
+const LONG_SEARCH: usize = 128;
+
+// The most steps up to the end of a line: a line has at most 1,026 bytes.
+const MAX_LISTENS: u32 = 2_048;
 
 // The most reads of a lingering connection before other events are handled.
 const MAX_READS: u32 = 16;
@@ -66,6 +73,13 @@ fn add_line<R: Wait + Clock>(
     if let Some(asked) = conversation.asked_line() {
         log.add(rt, alloc, accepted, asked, conversation.sent_len() as u64);
     }
+}
+
+// Whether a line has a long search string.
+fn has_long_search(asked: &[u8]) -> bool
+    ensures { result ≡ nat_lt 128 (length (search_of asked.now)) }
+{
+    search_of(asked).len() > LONG_SEARCH
 }
 
 // Whether a connection lingers after `sent` bytes of a reply. `has_ended` says whether the sending
@@ -132,19 +146,62 @@ impl<'a> Connection<'a> {
     }
 
     /// Goes on while the client is ready. If a search makes the reply, takes one step of it. If it
-    /// may enlarge its queue, the system then queues more of a long reply.
+    /// may enlarge its queue, the system then queues more of a long reply. If `is_held_back`, it
+    /// doesn't begin a long search.
     pub(crate) fn go_on<A: Answers<'a>>(
         &mut self,
         alloc: Global,
         answers: &mut A,
         buffer: &mut [u8; BUFFER_BYTES],
         may_enlarge: bool,
+        is_held_back: bool,
     ) -> NextStep {
         if self.lingers {
-            self.read_on(buffer)
-        } else {
-            self.talk(alloc, answers, buffer, may_enlarge)
+            return self.read_on(buffer);
         }
+        if is_held_back && self.conversation.asked_line().is_none() {
+            if let Some(progress) = self.listen(alloc, answers, buffer) {
+                return self.step_after(progress);
+            }
+            if self.asks_long_search() {
+                return NextStep::Works;
+            }
+        }
+        self.talk(alloc, answers, buffer, may_enlarge)
+    }
+
+    // Whether its line has a long search string.
+    fn asks_long_search(&self) -> bool {
+        match self.conversation.asked_line() {
+            Some(asked) => has_long_search(asked),
+            None => false,
+        }
+    }
+
+    // Takes the steps up to the end of its line. Returns its progress if it stops before.
+    fn listen<A: Answers<'a>>(
+        &mut self,
+        alloc: Global,
+        answers: &mut A,
+        buffer: &mut [u8; BUFFER_BYTES],
+    ) -> Option<Progress> {
+        for _step in 0..MAX_LISTENS {
+            if self.conversation.asked_line().is_some() {
+                return None;
+            }
+            let progress = advance(
+                alloc,
+                &mut self.conversation,
+                answers,
+                &mut Watched::new(&self.stream),
+                &mut Watched::new(ReplyWriter::new(&self.stream, false)),
+                buffer,
+            );
+            if progress != Progress::Paused {
+                return Some(progress);
+            }
+        }
+        None
     }
 
     /// Drops the search that makes its reply. It begins anew when the connection goes on.
@@ -183,6 +240,11 @@ impl<'a> Connection<'a> {
             buffer,
         );
         self.is_large = self.is_large || writer.into_inner().is_large;
+        self.step_after(progress)
+    }
+
+    // The next step after a progress of its conversation.
+    fn step_after(&mut self, progress: Progress) -> NextStep {
         match progress {
             Progress::Works => NextStep::Works,
             Progress::Waits => NextStep::Waits,

@@ -29,5 +29,6 @@ mod timing;
 mod writer;
 
 pub use queue::LogQueue;
+pub use request_line::search_of;
 pub use thread_log::{Accepted, ThreadLog};
 pub use writer::{Log, OpenLog, start_log};

@@ -148,7 +148,14 @@ impl<'a, A: Answers<'a> + Drop> Server<'a, A> {
     fn begin<R: Wait + Clock>(&mut self, rt: &R, connection: Connection<'a>) {
         let mut connection = connection;
         let may_enlarge = self.connections.may_enlarge();
-        let step = connection.go_on(self.alloc, &mut self.answers, &mut self.buffer, may_enlarge);
+        let is_held_back = self.connections.next_search().is_some();
+        let step = connection.go_on(
+            self.alloc,
+            &mut self.answers,
+            &mut self.buffer,
+            may_enlarge,
+            is_held_back,
+        );
         self.meet_shortage(connection.lacked_memory());
         if step == NextStep::Ends {
             connection.log_request(rt, self.alloc, &mut self.log);

@@ -124,10 +124,17 @@ impl<'a, A: Answers<'a> + Drop> Server<'a, A> {
     // Goes on with the connection at a key, for which no search works.
     fn go_on<R: Wait + Clock>(&mut self, rt: &R, key: usize) {
         let may_enlarge = self.connections.may_enlarge();
+        let is_held_back = self.connections.next_search().is_some();
         let Some(connection) = self.connections.get_mut(key) else {
             return;
         };
-        let step = connection.go_on(self.alloc, &mut self.answers, &mut self.buffer, may_enlarge);
+        let step = connection.go_on(
+            self.alloc,
+            &mut self.answers,
+            &mut self.buffer,
+            may_enlarge,
+            is_held_back,
+        );
         let is_large = connection.is_large();
         let lacked_memory = connection.lacked_memory();
         self.meet_shortage(lacked_memory);
@@ -218,7 +225,13 @@ impl<'a, A: Answers<'a> + Drop> Server<'a, A> {
             let Some(connection) = self.connections.get_mut(key) else {
                 return NextStep::Ends;
             };
-            let step = connection.go_on(self.alloc, &mut self.answers, &mut self.buffer, false);
+            let step = connection.go_on(
+                self.alloc,
+                &mut self.answers,
+                &mut self.buffer,
+                false,
+                false,
+            );
             if step != NextStep::Works || self.clock.micros(clock) >= until {
                 let lacked_memory = connection.lacked_memory();
                 self.meet_shortage(lacked_memory);

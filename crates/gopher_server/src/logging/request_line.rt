@@ -44,8 +44,8 @@ fn selector_of(asked: &[u8]) -> &[u8]
     }
 }
 
-// The search string of a line; empty if it has none.
-fn search_of(asked: &[u8]) -> &[u8]
+/// Returns the search string of a line; empty if it has none.
+pub fn search_of(asked: &[u8]) -> &[u8]
     ensures { result.now ≡ search_of asked.now }
 {
     match split_once(b'\t', asked) {
