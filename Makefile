@@ -17,7 +17,7 @@ run:
 # make replay SCRIPT=examples/first_crawl.script
 .PHONY: replay
 replay:
-	@tools/run_replay.py $(or $(SCRIPT),examples/first_crawl.script)
+	@tools/run_example.py --replay $(or $(SCRIPT),examples/first_crawl.script)
 
 # Proves the program and everything that it uses, and leaves it in crates/hole/out/hole.
 .PHONY: build

@@ -271,49 +271,57 @@ def check_standard_error(logs):
     logs.expect("--log -: a line for each request on standard error", told, wanted)
 
 
-def check_unread(logs):
-    """A pipe that nobody reads stalls nobody; once it is read, its lines and the number of dropped ones make up all."""
-    path, line, count = logs.folder / "pipe", b"/" + b"\xff" * 1_000 + b"\r\n", LINES_FOR_PIPE + LAST_LINES
-    os.mkfifo(path)
-    with logs.serving("--log", path, "--requests", count) as server:
-        replies = ask_all(server.port, [line] * LINES_FOR_PIPE)
-        time.sleep(SECONDS_UNREAD)
-        with os.fdopen(os.open(path, os.O_RDONLY | os.O_NONBLOCK), "rb") as pipe, ThreadPoolExecutor(1) as reader:
+class Pipe:
+    """A log that is a pipe, and lines that are longest when they are logged."""
+
+    LINE = b"/" + b"\xff" * 1_000 + b"\r\n"
+
+    def __init__(self, logs, name):
+        self.path = logs.folder / name
+        os.mkfifo(self.path)
+
+    def read(self):
+        """The requests that are read until its writers end, and the numbers of dropped ones."""
+        with os.fdopen(os.open(self.path, os.O_RDONLY | os.O_NONBLOCK), "rb") as pipe:
             # a writer that has given up isn't waited for
             os.set_blocking(pipe.fileno(), True)
-            content = reader.submit(pipe.read)
-            time.sleep(1.5)
-            replies += ask_all(server.port, [line] * LAST_LINES)
-            expect_told(logs, "a pipe", server.end())
-            found = lines_of(content.result(WAIT))
-    dropped = [int(line.removeprefix(b"# dropped ")) for line in found if line.startswith(b"# dropped ")]
-    requests = [request_of(line) for line in found if not line.startswith(b"# dropped ")]
+            found = lines_of(pipe.read())
+        dropped = [int(line.removeprefix(b"# dropped ")) for line in found if line.startswith(b"# dropped ")]
+        return [request_of(line) for line in found if not line.startswith(b"# dropped ")], dropped
+
+
+def check_unread(logs):
+    """A pipe that nobody reads stalls nobody; once it is read, its lines and the number of dropped ones make up all."""
+    pipe, count = Pipe(logs, "pipe"), LINES_FOR_PIPE + LAST_LINES
+    with logs.serving("--log", pipe.path, "--requests", count) as server, ThreadPoolExecutor(1) as reader:
+        replies = ask_all(server.port, [pipe.LINE] * LINES_FOR_PIPE)
+        time.sleep(SECONDS_UNREAD)
+        content = reader.submit(pipe.read)
+        time.sleep(1.5)
+        replies += ask_all(server.port, [pipe.LINE] * LAST_LINES)
+        expect_told(logs, "a pipe", server.end())
+        requests, dropped = content.result(WAIT)
     logs.expect("a pipe: replies", (len(replies), len(set(replies))), (count, 1))
-    logs.expect("a pipe: whole lines", {request[2] for request in requests}, {escaped(line.strip())})
+    logs.expect("a pipe: whole lines", {request[2] for request in requests}, {escaped(pipe.LINE.strip())})
     logs.expect("a pipe: the lines of many batches are kept", len(requests) >= KEPT_FOR_PIPE, True)
     logs.expect("a pipe: lines and dropped ones", (len(requests) + sum(dropped), sum(dropped) > 0), (count, True))
 
 
 def check_read_at_the_end(logs):
     """Threads that end wait for a pipe that is read soon: its lines and the number of dropped ones make up all."""
-    path = logs.folder / "soon"
-    os.mkfifo(path)
-    with logs.serving("--log", path, "--requests", LINES_FOR_PIPE) as server:
-        ask_all(server.port, [b"/" + b"\xff" * 1_000 + b"\r\n"] * LINES_FOR_PIPE)
-        with os.fdopen(os.open(path, os.O_RDONLY | os.O_NONBLOCK), "rb") as pipe:
-            os.set_blocking(pipe.fileno(), True)
-            found = lines_of(pipe.read())
+    pipe = Pipe(logs, "soon")
+    with logs.serving("--log", pipe.path, "--requests", LINES_FOR_PIPE) as server:
+        ask_all(server.port, [pipe.LINE] * LINES_FOR_PIPE)
+        requests, dropped = pipe.read()
         server.end()
-    dropped = [int(line.removeprefix(b"# dropped ")) for line in found if line.startswith(b"# dropped ")]
-    logs.expect("a pipe that is read soon: lines and dropped ones", len(found) - len(dropped) + sum(dropped), LINES_FOR_PIPE)
+    logs.expect("a pipe that is read soon: lines and dropped ones", len(requests) + sum(dropped), LINES_FOR_PIPE)
 
 
 def check_never_read(logs):
     """A server whose log is a pipe that nobody ever reads ends all the same."""
-    path = logs.folder / "never"
-    os.mkfifo(path)
-    with logs.serving("--log", path, "--requests", 100) as server:
-        ask_all(server.port, [b"/" + b"\xff" * 1_000 + b"\r\n"] * 100)
+    pipe = Pipe(logs, "never")
+    with logs.serving("--log", pipe.path, "--requests", 100) as server:
+        ask_all(server.port, [pipe.LINE] * 100)
         expect_told(logs, "a pipe that is never read", server.end())
 
 

@@ -217,7 +217,7 @@ def check_replays(test):
     test.expect("replay: the script is the example's", script, file.read_text())
     (command, shown), = commands(answers)
     test.expect("replay: its command", command, "hole replay < examples/first_crawl.script")
-    words = [ROOT / "tools/run_replay.py", "--program", test.program, file]
+    words = [ROOT / "tools/run_example.py", "--program", test.program, "--replay", file]
     ran = subprocess.run(words, capture_output=True, text=True, timeout=WAIT)
     test.expect("replay: its answers", (ran.returncode, ran.stdout, ran.stderr), (0, shown, ""))
     script = (ROOT / "examples/whole_search.script").read_bytes()
@@ -251,7 +251,7 @@ def check_toolchain(test):
     for words in (
         ("make", "wrong-bodies"),
         (ROOT / "tools/run_example.py", *gone),
-        (ROOT / "tools/run_replay.py", *gone, ROOT / "examples/first_crawl.script"),
+        (ROOT / "tools/run_example.py", *gone, "--replay", ROOT / "examples/first_crawl.script"),
     ):
         ran = subprocess.run(words, cwd=ROOT, env={"PATH": str(tools)}, capture_output=True, text=True, timeout=WAIT)
         lines = [line for line in ran.stderr.splitlines() if not line.startswith("make: ")]

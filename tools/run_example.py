@@ -2,8 +2,10 @@
 """Serves a folder by its settings, and prints how to ask it. Ctrl-C ends it.
 
     tools/run_example.py [--program FILE] [SETTINGS]
+    tools/run_example.py [--program FILE] --replay SCRIPT
 
-Without SETTINGS it serves examples/site by examples/hole.toml. A relative root in them starts at the working directory.
+Without SETTINGS it serves examples/site by examples/hole.toml. A relative root in them starts at the working directory. With
+--replay it prints what `hole replay` answers to a script, and ends with its status.
 
 Without --program it runs the one that `make build` has left, if no source is younger, or else builds one without its proofs, by
 `rt try`. The server ends with this script, whatever ends the script: a guard in a session of its own waits for that.
@@ -69,19 +71,29 @@ def serve(words, place, host, port, hint):
         server.wait()
 
 
+def replay(program, script):
+    """Replays a script. `rt try` adds lines of its own on standard error."""
+    start, where = command(program, "replay")
+    with open(script, "rb") as given:
+        return subprocess.run(start, cwd=where, stdin=given).returncode
+
+
 def main():
     words = argparse.ArgumentParser(description="Serves a folder by its settings, and prints how to ask it.")
     words.add_argument("settings", nargs="?", metavar="SETTINGS", help="examples/hole.toml without it")
     words.add_argument("--program", type=pathlib.Path, default=PROVED, help="what `make build` left without it")
-    program, given = words.parse_args().program.resolve(), words.parse_args().settings
+    words.add_argument("--replay", metavar="SCRIPT", help="such as examples/first_crawl.script")
+    program, given, script = words.parse_args().program.resolve(), words.parse_args().settings, words.parse_args().replay
     for number in (signal.SIGTERM, signal.SIGHUP):
         signal.signal(number, lambda number, _: sys.exit(128 + number))
     try:
+        if script:
+            return replay(program, script)
         text = pathlib.Path(given or ROOT / "examples/hole.toml").read_text()
         settings = tomllib.loads(text)
         host, port, root = settings["host"], settings.get("port", 70), settings["root"]
     except (OSError, KeyError, tomllib.TOMLDecodeError) as fault:
-        print(f"{given}: {fault}", file=sys.stderr)
+        print(f"{script or given}: {fault}", file=sys.stderr)
         return 1
     with tempfile.TemporaryDirectory() as folder:
         place = pathlib.Path(folder) / "hole.toml"
