@@ -6,6 +6,7 @@ pub mod Lists
 pub mod Legal
 pub mod Counting
 pub mod States
+pub mod QueueOrder
 pub mod LegalSizes
 pub mod Calls
 pub mod KnownPlaces

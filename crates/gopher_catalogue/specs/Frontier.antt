@@ -1,6 +1,6 @@
 -- The crawl frontier: what a record says of places. A record is an opening and the events after it,
 -- oldest first. Each definition reads the whole record; the code keeps tables instead.
-use Rattle.std.specs.Prelude.{ℕ, ◌+◌, ◌-◌, Bool, false, ◌||◌, not, List, [], ◌∷◌, ◌++◌, length, take, drop, filter, count_by, ◌==◌, nat_lt, nat_le, if◌then◌else◌}
+use Rattle.std.specs.Prelude.{ℕ, ◌+◌, ◌-◌, Bool, true, false, ◌||◌, not, List, [], ◌∷◌, ◌++◌, length, take, drop, filter, count_by, ◌==◌, nat_lt, nat_le, if◌then◌else◌}
 use Rattle.std.specs.List.{flat_map, range_with_len}
 use Rattle.gopher_item.specs.Place.{PlaceData, distinct, is_among}
 use Rattle.gopher_item.specs.Scope.{allows}
@@ -44,6 +44,10 @@ abbrev pub is_failure_of : ℕ → EventData → Bool
 is_failure_of number (Failed other why) = number == other
 is_failure_of number event = false
 
+abbrev pub is_claim : EventData → Bool
+is_claim (Claimed number) = true
+is_claim event = false
+
 -- how often a number was claimed, found or failed
 unfoldable pub claims : List EventData → ℕ → ℕ
 claims events number = count_by (is_claim_of number) events
@@ -76,6 +80,26 @@ waiting_along opening before queue (event ∷ events) =
 unfoldable pub waiting : OpeningData → List EventData → List ℕ
 waiting opening events =
     waiting_along opening [] (range_with_len 0 (length (known opening []))) events
+
+-- the numbers that an event appends to the queue, after the events before it: those of the places
+-- that become known, or its own if it failed with tries left
+abbrev pub entered : OpeningData → List EventData → EventData → List ℕ
+entered opening before (Found number page) =
+    let old = length (known opening before) in
+    range_with_len old (length (known opening (before ++ Found number page ∷ [])) - old)
+entered opening before (Failed number why) =
+    if nat_lt (claims before number) opening.tries then number ∷ [] else []
+entered opening before event = []
+
+abbrev pub entered_along : OpeningData → List EventData → List EventData → List ℕ
+entered_along opening before [] = []
+entered_along opening before (event ∷ events) =
+    entered opening before event ++ entered_along opening (before ++ event ∷ []) events
+
+-- every number that ever entered the queue, in order: the seeds first
+unfoldable pub entries : OpeningData → List EventData → List ℕ
+entries opening events =
+    range_with_len 0 (length (known opening [])) ++ entered_along opening [] events
 
 -- a number is out while it has one claim more than outcomes
 unfoldable pub is_out : List EventData → ℕ → Bool
