@@ -162,18 +162,11 @@ fn steps_of_prefixes(alloc: Global) -> Option<u32> {
     steps(alloc, &index.share(alloc).ok()?, b"a* b* c* d*")
 }
 
-// The steps of four words in 33 runs of large pages, which take part in several segments.
-fn steps_in_large_pages(alloc: Global) -> Option<u32> {
-    let index = runs(alloc, &page(alloc, 30_000)?, 33)?;
-    steps(alloc, &index, b"a b c d")
-}
-
 #[test]
 fn long_searches_are_done_in_steps(rt: HostRuntime) {
     let alloc = rt.alloc();
     assert!(rt; steps_of_five_words(alloc).is_some_and(|steps| steps > 3 * (5 + 1)));
     assert!(rt; steps_of_prefixes(alloc).is_some_and(|steps| steps > 0));
-    assert!(rt; steps_in_large_pages(alloc).is_some_and(|steps| steps > 0));
 }
 
 // How many runs of 64 pages of 1,100 words are due once one was merged.
