@@ -9,6 +9,7 @@
 //! RFC 1436 leaves search results to the server: this profile defines words, queries and pages.
 #![tactic(auto)]
 
+mod counting;
 mod counts;
 mod each_count;
 mod fault;
@@ -20,7 +21,6 @@ mod query;
 mod ranking;
 mod repeats;
 mod search;
-mod tally;
 mod title;
 mod word;
 

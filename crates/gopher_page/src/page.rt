@@ -9,10 +9,10 @@ ghost use Rattle.gopher_page.specs.Counts.{count_meant};
 ghost use Rattle.gopher_page.specs.Page.{IsPageOfLines, is_large, links_kept, page_of, page_of_menu, page_of_text};
 ghost use Rattle.gopher_page.specs.Size.{links_size, page_size, words_size};
 
+use crate::counting::count_words;
 use crate::counts::Counts;
 use crate::line::{entry_lines, text_lines};
 use crate::links::links_of_entries;
-use crate::tally::count_words;
 use crate::title::title_of;
 use gopher_item::{ByteString, EachPlace, NoMemory, Place, Places, Scope, read_menu};
 use gopher_text::MAX_REPLY;

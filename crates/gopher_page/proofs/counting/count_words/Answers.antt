@@ -9,7 +9,7 @@ use Rattle.gopher_page.specs.Counts.{counts_of}
 use Rattle.gopher_page.proofs.Lengths.{counted_sorted}
 use Rattle.gopher_page.proofs.AddedWords.{compare}
 use Rattle.gopher_page.proofs.Lowered.{words_of_lines, lines_words_count}
-use Rattle.gopher_page.proofs.tally.count_words.Goals as goal
+use Rattle.gopher_page.proofs.counting.count_words.Goals as goal
 
 pub packed-requires : goal.packed-requires
 packed-requires c =

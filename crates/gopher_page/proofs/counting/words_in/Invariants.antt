@@ -1,6 +1,6 @@
 use Rattle.std.proofs.Common.{◌≡◌, ◌++◌, length}
 use Rattle.gopher_page.specs.Words.{bare_words}
-use Rattle.gopher_page.proofs.tally.words_in.Given as goal
+use Rattle.gopher_page.proofs.counting.words_in.Given as goal
 
 abbrev pub invariant-loop-word : goal.invariant-loop-word
 invariant-loop-word l = l.words.items ++ bare_words l.rest ≡ bare_words l.text
