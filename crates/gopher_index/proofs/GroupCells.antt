@@ -1,24 +1,24 @@
 -- What groups of terms say of the pages of a segment.
-use Rattle.std.proofs.Common.{◌≡◌, ℕ, zero, suc, ◌+◌, ◌*◌, ◌<◌, ◌≤◌, Bool, List, [], ◌∷◌, ◌++◌, length, map, max, replicate, get_or, take, refl, sym, ap, subst, ◌∙◌, arith}
+use Rattle.std.proofs.Common.{◌≡◌, ℕ, zero, suc, ◌+◌, ◌*◌, ◌<◌, ◌≤◌, List, [], ◌∷◌, ◌++◌, length, map, max, replicate, get_or, take, refl, sym, ap, subst, ◌∙◌, arith}
 use Rattle.std.specs.List.{All, length_refill}
 use Rattle.std.specs.Vec.{with_items}
 use Rattle.std.proofs.lemmas.List.{length-map, with_items_is}
-use Rattle.std.proofs.lemmas.Simd.{map-map}
+use Rattle.std.proofs.lemmas.List.Elements.{All-map}
+use Rattle.std.proofs.lemmas.Simd.{map-map, splat_is_map}
 use Rattle.gopher_page.specs.Page.{PageData}
 use Rattle.gopher_page.specs.Query.{TermData, count_of_term, score}
-use Rattle.gopher_index.specs.Cells.{AreCells, scores_of, term_counts, truths_of, zipped}
+use Rattle.gopher_index.specs.Cells.{AreCells, term_counts, zipped}
 use Rattle.gopher_index.specs.Joined.{AreJoined}
 use Rattle.gopher_index.specs.Plan.{is_match, verdict_by, verdict, total, wanted_in, AreTermGroups, AreGroupCells}
 use Rattle.gopher_index.specs.declared.joined.Joined.{Joined}
 use Rattle.gopher_index.specs.declared.plan.Group.{Group}
 use Rattle.gopher_index.proofs.Groups.{next_group, verdict_push, total_push, times_few}
-use Rattle.gopher_index.proofs.Lists.{map-constant}
 use Rattle.gopher_index.proofs.Zipping.{zipped_map}
 
 pub no_group : (pages : List PageData) (verdicts scores : List ℕ) → verdicts ≡ replicate (length pages) 1 → scores ≡ replicate (length pages) 0 → AreGroupCells [] pages verdicts scores
 no_group pages verdicts scores ones zeros = record {
-  deciding = ones ∙ map-constant (λ (page : PageData). verdict [] page.counts) 1 pages (λ page. refl);
-  scoring = zeros ∙ map-constant (λ (page : PageData). total [] page.counts) 0 pages (λ page. refl);
+  deciding = ones ∙ splat_is_map pages (length pages) 1 refl;
+  scoring = zeros ∙ splat_is_map pages (length pages) 0 refl;
 }
 
 module _ (groups : List Group) (group : Group) (pages : List PageData) (counts : List ℕ) (counted : counts ≡ term_counts group.term pages) where
@@ -47,22 +47,18 @@ group_few times (score ∷ scores) (count ∷ counts) bound few small =
     by rest (suc k) d less = rest k d (omega arith)
 
 -- what the groups of terms say is what the terms say
-pub groups_cells : (terms : List TermData) (groups : List Group) (pages : List PageData) (verdicts scores : List ℕ) → AreTermGroups terms groups → AreGroupCells groups pages verdicts scores → AreCells terms pages (map is_match verdicts) scores
-groups_cells terms groups pages verdicts scores are cells = record {
+pub groups_cells : (terms : List TermData) (groups : List Group) (pages : List PageData) (verdicts read scores counted : List ℕ) → AreTermGroups terms groups → AreGroupCells groups pages verdicts scores → read ≡ verdicts → counted ≡ scores
+    → AreCells terms pages (map is_match read) counted
+groups_cells terms groups pages verdicts read scores counted are cells same alike = record {
   matching =
-      ap (map is_match) cells.deciding ∙ map-map is_match (λ (page : PageData). verdict groups page.counts) pages
+      ap (map is_match) (same ∙ cells.deciding) ∙ map-map is_match (λ (page : PageData). verdict groups page.counts) pages
       ∙ (λ i. map (λ (page : PageData). sym (are.matching page.counts) i) pages);
-  scoring = cells.scoring ∙ (λ i. map (λ (page : PageData). sym (are.scoring page.counts) i) pages);
+  scoring = alike ∙ cells.scoring ∙ (λ i. map (λ (page : PageData). sym (are.scoring page.counts) i) pages);
 }
 
 -- scores that are multiples of counts
 pub times_all : (times : ℕ) (counts : List ℕ) → All (λ count. count ≤ 1048576) counts → All (λ score. score ≤ 1048576 * times) (map (λ count. times * count) counts)
-times_all times [] small = λ k d less. absurd (omega (arith, less))
-times_all times (count ∷ counts) small = by (times_all times counts (λ k d less. small (suc k) d (omega arith)))
-  where
-    by : All (λ score. score ≤ 1048576 * times) (map (λ count. times * count) counts) → All (λ score. score ≤ 1048576 * times) (times * count ∷ map (λ count. times * count) counts)
-    by rest zero d less = times_few times count 1048576 (small 0 d (omega arith))
-    by rest (suc k) d less = rest k d (omega arith)
+times_all times counts small = All-map (λ score. score ≤ 1048576 * times) (λ count. times * count) counts (λ k d less. times_few times (get_or counts k d) 1048576 (small k d less))
 
 -- the cells after the first group was joined
 pub joined_first : (groups : List Group) (group : Group) (pages : List PageData) (old : Joined) (verdicts scores : List ℕ) → 0 < length groups → group ≡ get_or groups 0 group → length old.counts.items ≡ length pages → length old.verdicts.items ≡ length pages → length old.scores.items ≡ length pages
@@ -84,13 +80,6 @@ joined_first groups group pages old verdicts scores some is counts verdicts_long
   where
     plain : (n : ℕ) → n + 0 ≡ n
     plain n = omega arith
-
--- cells are those of the same pages
-pub same_cells : (terms : List TermData) (pages other : List PageData) (truths truths_other : List Bool) (scores scores_other : List ℕ) → pages ≡ other → truths ≡ truths_other → scores ≡ scores_other → AreCells terms pages truths scores → AreCells terms other truths_other scores_other
-same_cells terms pages other truths truths_other scores scores_other is truth scored cells = record {
-  matching = sym truth ∙ cells.matching ∙ ap (truths_of terms) is;
-  scoring = sym scored ∙ cells.scoring ∙ ap (scores_of terms) is;
-}
 
 -- the cells after more groups were joined
 pub joined_more : (groups : List Group) (pages : List PageData) (old : Joined) (end : ℕ) (counts verdicts scores : List ℕ) → AreJoined groups pages old → end ≤ length groups → AreGroupCells (take end groups) pages verdicts scores

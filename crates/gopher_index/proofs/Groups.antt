@@ -1,7 +1,7 @@
 -- Terms of a query in groups of equal ones.
 use Rattle.std.proofs.Common.{◌≡◌, ℕ, zero, suc, ◌+◌, ◌*◌, ◌%◌, ◌≤◌, ◌<◌, Bool, true, false, cond, List, [], ◌∷◌, ◌++◌, length, max, take, get_or, set, refl, sym, ap, subst, ◌∙◌, arith, length-append, mul-le-mul_left}
 use Rattle.std.specs.Prelude.{◌==◌, nat_lt}
-use Rattle.std.proofs.lemmas.List.{take_more}
+use Rattle.std.proofs.lemmas.List.{get_or_default, take_more}
 use Rattle.gopher_page.specs.Counts.{count_meant}
 use Rattle.gopher_page.specs.Query.{TermData, count_of_term, is_not, joined}
 use Rattle.gopher_page.specs.declared.query.Operator.{Operator}
@@ -179,15 +179,10 @@ means_same : (a b : TermData) (counts : List (List ℕ × ℕ)) → a.word ≡ b
 unfolding count_of_term
 means_same a b counts word prefix = λ i. count_meant (prefix i) (word i) counts
 
-same_or : {X : Type 0} (xs : List X) (i : ℕ) (d e : X) → i < length xs → get_or xs i d ≡ get_or xs i e
-same_or [] i d e within = absurd (omega (arith, within))
-same_or (x ∷ xs) zero d e within = refl
-same_or (x ∷ xs) (suc i) d e within = same_or xs i d e (omega (arith, within))
-
 pub adds_term : (term : TermData) (number index : ℕ) (old found new : List Group) (here : Group) → SayAlike old found → IsGroupOf term found index → (read : Group) → read ≡ get_or found index read → Joins term number read here → new ≡ set found index here → AddsTerm term number old new
 adds_term term number index old found new here alike group read at joins is =
     let same : (counts : List (List ℕ × ℕ)) → count_of_term counts group.group.term ≡ count_of_term counts term = λ counts. means_same group.group.term term counts group.word group.prefix in
-    let joined : Joins term number group.group here = subst (λ g. Joins term number g here) (at ∙ same_or found index read group.group group.within ∙ sym group.at) joins in
+    let joined : Joins term number group.group here = subst (λ g. Joins term number g here) (at ∙ get_or_default found index read group.group group.within ∙ sym group.at) joins in
     record {
       verdicts = λ counts. ap (λ l. verdict l counts) is ∙ set_verdict term number here found index group.group counts group.within group.at (same counts) joined ∙ ap (λ n. max n (verdict_of term.operator number (nat_lt 0 (count_of_term counts term)))) (alike.verdicts counts);
       totals = λ counts. ap (λ l. total l counts) is ∙ set_total term number here found index group.group counts group.within group.at (same counts) joined ∙ ap (λ n. n + wanted_once term.operator * count_of_term counts term) (alike.totals counts);

@@ -9,13 +9,17 @@ use Rattle.std.specs.BTreeSet.{insert_key}
 use Rattle.std.specs.Cmp.{nat_cmp_is}
 use Rattle.std.proofs.lemmas.List.{length-take, take-append-le}
 use Rattle.std.proofs.lemmas.Bool.{eqb-true, le-leb}
+use Rattle.std.proofs.lemmas.List.Elements.{All-from_recursion, recursion_from_All}
+use Rattle.std.proofs.lemmas.Map.Views.{All-insert_key}
 use Rattle.gopher_item.specs.Place.{place_cmp}
 use Rattle.gopher_page.specs.Page.{PageData}
 use Rattle.gopher_page.specs.Query.{TermData}
 use Rattle.gopher_index.specs.Answer.{rank_cmp, ranked, hits_among, answer_of}
 use Rattle.gopher_index.specs.Best.{BestData, reaches, answer_from, is_whole}
 use Rattle.gopher_index.specs.declared.hit.Hit.{Hit}
-use Rattle.gopher_index.proofs.AnswerLemmas.{all_insert_key, rank_cmp_total}
+
+all_with : (P : Hit → Type 0) (hits : List Hit) (hit : Hit) → AllByRecursion P hits → P hit → AllByRecursion P (insert_key rank_cmp hits hit)
+all_with P hits hit all here = recursion_from_All P (insert_key rank_cmp hits hit) (All-insert_key rank_cmp hit P hits (All-from_recursion P hits all) here)
 
 module _ (least : ℕ) where
   abbrev IsHigh : Hit → Type 0
@@ -58,7 +62,7 @@ module _ (least : ℕ) where
       by : (b : Bool) → nat_le least hit.score ≡ b → ((highs lows : List Hit) → AllByRecursion IsHigh highs → AllByRecursion IsLow lows → Splits hits highs lows) → Splits (hit ∷ hits) highs lows
       by true kept later =
           let above : IsHigh hit = grind (arith, kept) in
-          let more = later (insert_key rank_cmp highs hit) lows (all_insert_key rank_cmp rank_cmp_total IsHigh highs hit high above) low in
+          let more = later (insert_key rank_cmp highs hit) lows (all_with IsHigh highs hit high above) low in
           record {
             rest = more.rest;
             whole = ap (λ l. fold (insert_key rank_cmp) l hits) (insert_high highs lows hit low above) ∙ more.whole
@@ -66,7 +70,7 @@ module _ (least : ℕ) where
           }
       by false left_out later =
           let below : IsLow hit = grind (arith, left_out) in
-          let more = later highs (insert_key rank_cmp lows hit) high (all_insert_key rank_cmp rank_cmp_total IsLow lows hit low below) in
+          let more = later highs (insert_key rank_cmp lows hit) high (all_with IsLow lows hit low below) in
           record {
             rest = more.rest;
             whole = ap (λ l. fold (insert_key rank_cmp) l hits) (insert_low highs lows hit high below) ∙ more.whole

@@ -1,5 +1,5 @@
 -- Elements of lists by their place.
-use Rattle.std.proofs.Common.{◌≡◌, ℕ, ◌+◌, ◌<◌, List, [], ◌∷◌, ◌++◌, length, map, take, get_or, replicate, refl, sym, ap, ◌∙◌, arith}
+use Rattle.std.proofs.Common.{◌≡◌, ℕ, ◌+◌, ◌<◌, List, [], ◌∷◌, ◌++◌, length, map, take, get_or, sym, ap, ◌∙◌, arith}
 use Rattle.std.proofs.lemmas.List.{take_more, get_or-map, length-map, map-append}
 
 -- what the next element of a list gives, at the end of what those before it give
@@ -11,8 +11,3 @@ map-next f xs i x within is =
 pub made-at : {X Y Z : Type 0} (f : Y → Z) (g : X → Y) (xs : List X) (zs : List Z) (i : ℕ) (x : X) (d : Z) → i < length xs → x ≡ get_or xs i x → zs ≡ map f (map g xs) → get_or zs i d ≡ f (g x)
 made-at f g xs zs i x d within is made =
     ap (λ l. get_or l i d) made ∙ get_or-map f (map g xs) i (g x) d (omega (arith, length-map xs g)) ∙ ap f (get_or-map g xs i x (g x) within ∙ ap g (sym is))
-
--- where each element gives the same
-pub map-constant : {X Y : Type 0} (f : X → Y) (y : Y) (xs : List X) → ((x : X) → f x ≡ y) → replicate (length xs) y ≡ map f xs
-map-constant f y [] same = refl
-map-constant f y (x ∷ xs) same = (λ i. sym (same x) i ∷ map-constant f y xs same i)

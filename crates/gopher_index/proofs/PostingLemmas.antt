@@ -1,8 +1,8 @@
 -- A query of one term.
 use Rattle.std.proofs.Common.{◌≡◌, ℕ, zero, suc, ◌+◌, ◌<◌, ◌≤◌, Bool, true, false, cond, refl, List, [], ◌∷◌, length, get_or, set, sym, ap, subst, ◌∙◌, arith}
-use Rattle.std.proofs.lemmas.List.Sums.{sum_by-cons}
-use Rattle.std.specs.List.{All, sum_by}
-use Rattle.gopher_page.specs.Counts.{count_where, count_meant, is_meant}
+use Rattle.std.proofs.lemmas.List.Sums.{sum_by-le-sum_by}
+use Rattle.std.specs.List.{All}
+use Rattle.gopher_page.specs.Counts.{count_meant, is_meant}
 use Rattle.gopher_page.specs.Packed.{AreCounts}
 use Rattle.std.specs.Prelude.{Option, None, Some, IfSome, nat_lt}
 use Rattle.gopher_page.specs.Page.{PageData}
@@ -56,15 +56,11 @@ at_most : (b : Bool) (n : ℕ) → cond b n 0 ≤ n
 at_most true n = omega arith
 at_most false n = omega arith
 
-count_where_le : (test : List ℕ → Bool) (counts : List (List ℕ × ℕ)) → count_where test counts ≤ sum_by (λ entry. entry.1) counts
-count_where_le test [] = omega arith
-count_where_le test (entry ∷ counts) =
-    omega (arith, count_where_le test counts, sum_by-cons (λ (e : List ℕ × ℕ). cond (test e.0) e.1 0) entry counts, sum_by-cons (λ (e : List ℕ × ℕ). e.1) entry counts, at_most (test entry.0) entry.1)
-
 -- a page has a word, or the words that begin with one, at most `MAX_REPLY` times
 pub meant_few : (is_prefix : Bool) (sought : List ℕ) (counts : List (List ℕ × ℕ)) (count : ℕ) → count ≡ count_meant is_prefix sought counts → AreCounts counts → count ≤ 1048576
 unfolding count_meant
-meant_few is_prefix sought counts count is sound = omega (arith, is, sound.few, count_where_le (is_meant is_prefix sought) counts)
+meant_few is_prefix sought counts count is sound =
+    omega (arith, is, sound.few, sum_by-le-sum_by (λ (e : List ℕ × ℕ). cond (is_meant is_prefix sought e.0) e.1 0) (λ (e : List ℕ × ℕ). e.1) counts (λ e. at_most (is_meant is_prefix sought e.0) e.1))
 
 pub few_in_one : (cells : List ℕ) (count : ℕ) → cells ≡ 0 ∷ [] → count ≤ 1048576 → All (λ c. c ≤ 1048576) (set cells 0 count)
 few_in_one cells count one few k d within = by k (subst (λ l. k < length (set l 0 count)) one within)

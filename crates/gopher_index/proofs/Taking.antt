@@ -1,6 +1,6 @@
 -- Pages taken in among the best.
-use Rattle.std.proofs.Common.{◌≡◌, ℕ, ◌<◌, Bool, true, false, nat_le, List, [], ◌∷◌, ◌++◌, take, filter, slice_get, refl, sym, ap, ◌∙◌, arith}
-use Rattle.std.specs.Prelude.{Option, Some, None, Result, Ok, Err, IfOk, OnOk}
+use Rattle.std.proofs.Common.{◌≡◌, ℕ, ◌<◌, Bool, true, false, max, nat_le, List, [], ◌∷◌, ◌++◌, take, filter, slice_get, refl, sym, ap, ◌∙◌, arith}
+use Rattle.std.specs.Prelude.{Option, Some, None, IfSome}
 use Rattle.std.specs.List.{flat_map}
 use Rattle.std.specs.Option.{option_map_or}
 use Rattle.std.specs.Ordering.{is_gt, ordering_then}
@@ -14,7 +14,7 @@ use Rattle.gopher_item.specs.Place.{place_cmp}
 use Rattle.gopher_page.specs.Page.{PageData}
 use Rattle.gopher_page.specs.Query.{TermData, matches, score}
 use Rattle.gopher_index.specs.Answer.{rank_cmp, ranked, hit_of, hits_among}
-use Rattle.gopher_index.specs.Best.{BestData, hit_with, reaches, answer_from, lowest_score, TakesIn}
+use Rattle.gopher_index.specs.Best.{BestData, hit_with, reaches, answer_from, lowest_score, IsBestOf, TakesIn}
 use Rattle.gopher_index.specs.declared.hit.Hit.{Hit}
 use Rattle.gopher_index.proofs.AnswerLemmas.{best_beyond, ranked_none}
 
@@ -117,8 +117,11 @@ pub answer_of_none : (least : ℕ) (terms : List TermData) → [] ≡ answer_fro
 unfolding answer_from hits_among
 answer_of_none least terms = ranked_none
 
--- ---- what is handed on
-
-pub ok_from : {A E : Type 0} (result : Result A E) (P Q : A → Type 0) → ((x : A) → P x → Q x) → IfOk result P → IfOk result Q
-ok_from (Ok x) P Q f h = f x h
-ok_from (Err e) P Q f h = h
+-- a guess of the least score, before there are pages
+pub guessed : (wanted : Option ℕ) (guess : ℕ) (terms : List TermData) (before : List PageData) (old new : BestData) → (wanted ≡ None → guess ≡ 0) → new.least ≡ max old.least guess → new.hits ≡ old.hits
+    → IsBestOf terms before old → IfSome wanted (λ _. before ≡ []) → IsBestOf terms before new
+guessed None guess terms before old new none least hits best first =
+    let same : old.least ≡ new.least = omega (arith, none refl, least) in
+    hits ∙ best ∙ ap (λ n. answer_from n before terms) same
+guessed (Some wanted) guess terms before old new none least hits best first =
+    hits ∙ best ∙ ap (λ pages. answer_from old.least pages terms) first ∙ sym (answer_of_none old.least terms) ∙ answer_of_none new.least terms ∙ ap (λ pages. answer_from new.least pages terms) (sym first)

@@ -1,6 +1,6 @@
 -- Hits that come behind the last of the best, and others behind these.
 use Rattle.std.proofs.Common.{◌≡◌, ◌⊎◌, ℕ, ◌+◌, ◌<◌, ◌≤◌, Bool, true, false, ◌&&◌, nat_le, nat_lt, List, [], ◌∷◌, ◌++◌, length, map, take, filter, get_or, slice_get, refl, sym, ap, subst, ◌∙◌, inl, inr, arith}
-use Rattle.std.specs.Prelude.{Option, Some, None, option_map, Result, Ok, Err, OnOk}
+use Rattle.std.specs.Prelude.{Option, Some, None, option_map}
 use Rattle.std.specs.Cmp.{nat_cmp_is}
 use Rattle.std.specs.Option.{option_map_or}
 use Rattle.std.specs.Ordering.{is_gt, is_lt, ordering_reverse, ordering_then}
@@ -90,10 +90,6 @@ covered_beyond pages ranks tied score below page best are here beyond most index
     (subst (λ (p : PageData). is_lt (place_cmp p.place (get_or pages tied other).place) ≡ false) (get_or_from_slice_get pages index other other there)
     (are.ordered tied index other (slice_get_within pages tied page here) (slice_get_within pages index other there) higher)) in
     later_beyond best (hit_with score page) (hit_with n other) (omega (arith, under, most)) late (beyond (omega (arith, under)))
-
-pub on_ok_from : {A E : Type 0} (result : Result A E) (P Q : Type 0) → (P → Q) → OnOk result P → OnOk result Q
-on_ok_from (Ok x) P Q f h = f h
-on_ok_from (Err e) P Q f h = tt
 
 -- ---- the page at an index
 

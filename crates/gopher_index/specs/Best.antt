@@ -1,5 +1,5 @@
 -- The best of the candidates of a search.
-use Rattle.std.specs.Prelude.{◌≡◌, ℕ, ◌<◌, Bool, true, false, ◌||◌, ◌==◌, nat_le, max, List, [], ◌∷◌, ◌++◌, length, map, take, filter, slice_get, Result, OnOk}
+use Rattle.std.specs.Prelude.{◌≡◌, ℕ, ◌<◌, Bool, true, false, ◌||◌, ◌==◌, nat_le, max, List, [], ◌∷◌, ◌++◌, length, map, take, filter, slice_get, Option, Result, IfSome, OnOk}
 use Rattle.std.specs.Arc.{arc_value}
 use Rattle.std.specs.BTreeSet.{insert_key}
 use Rattle.std.specs.List.Sorted.{IsStrictlySortedBy}
@@ -61,13 +61,6 @@ Inserts candidate old new =
     AreRanked old
     → map ranked_hit new ≡ insert_key rank_cmp (map ranked_hit old) (ranked_hit candidate)
 
--- if `old` has the first 50 of some hits, `new` has the first 50 of these hits and the candidate's,
--- unless it fails
-abbrev pub InsertsAmong : {T E : Type 0} → Ranked → List Ranked → List Ranked → Result T E → Type 0
-InsertsAmong candidate old new result =
-    (hits : List Hit) → map ranked_hit old ≡ take 50 (ranked hits)
-    → OnOk result (map ranked_hit new ≡ take 50 (ranked (hits ++ ranked_hit candidate ∷ [])))
-
 abbrev pub reaches : ℕ → Hit → Bool
 reaches least hit = nat_le least hit.score
 
@@ -106,6 +99,14 @@ pub record TakesIn (terms : List TermData) (pages : List PageData) (old new : Be
   pub least : new.least ≡ old.least
   pub answers : (before : List PageData) → old.hits ≡ answer_from old.least before terms
       → new.hits ≡ answer_from new.least (before ++ pages) terms
+
+-- if `old` has the best of the pages before a part, `new` has the best of these pages and the
+-- part's, unless it fails; if a number of hits is wanted, no pages come before
+abbrev pub RanksPart : {T E : Type 0} → List TermData → List PageData → Option ℕ → BestData
+    → BestData → Result T E → Type 0
+RanksPart terms pages wanted old new result =
+    (before : List PageData) → IsBestOf terms before old → IfSome wanted (λ _. before ≡ [])
+    → OnOk result (IsBestOf terms (before ++ pages) new)
 
 -- if `old` has the best of some hits, `new` has the best of these hits and one more, unless it
 -- fails

@@ -1,8 +1,8 @@
 //! The best of many hits, kept in rank order without sorting all of them.
 
-ghost use Rattle.std.specs.Prelude.{◌≡◌, ◌≤◌, false, [], length, map, IfOk, OnOk};
+ghost use Rattle.std.specs.Prelude.{◌≡◌, ◌≤◌, length, map, max, IfOk, OnOk};
 ghost use Rattle.std.specs.Arc.{arc_value};
-ghost use Rattle.gopher_index.specs.Best.{kept_hit, ranked_hit, hit_with, rank_of, is_behind_at, is_equal_at, is_beyond, Inserts, is_whole, lowest_score, AddsHit, InsertsAmong, RankBefore};
+ghost use Rattle.gopher_index.specs.Best.{kept_hit, ranked_hit, hit_with, rank_of, is_equal_at, is_beyond, Inserts, is_whole, lowest_score, AddsHit, RankBefore};
 
 use crate::hit::Hit;
 use gopher_item::{ByteString, NoMemory};
@@ -33,16 +33,6 @@ fn rank(a: &Ranked, b: &Ranked) -> Ordering
     ensures { result ≡ rank_of a.now b.now }
 {
     a.page.rank(a.score, b.page, b.score)
-}
-
-// Returns whether the candidate ranks after the one at `index`.
-fn is_behind(best: &[Ranked], index: usize, candidate: &Ranked) -> bool
-    ensures { result ≡ is_behind_at candidate.now best.now index false }
-{
-    match best.get(index) {
-        Some(other) => rank(candidate, other).is_gt(),
-        None => false,
-    }
 }
 
 // Returns how many of the best rank before the candidate. `best` is in rank order.
@@ -77,61 +67,6 @@ fn put<'a>(best: &mut Vec<Ranked<'a>>, candidate: Ranked<'a>) -> Result<(), NoMe
     Ok(())
 }
 
-// Inserts a candidate into the first 50 of the hits so far and drops what is no longer among them.
-fn insert_candidate<'a>(best: &mut Vec<Ranked<'a>>, candidate: Ranked<'a>) -> Result<(), NoMemory>
-    ensures { InsertsAmong candidate.entry best.old.items best.new.items result }
-{
-    if is_behind(best, MOST_HITS - 1, &candidate) {
-        return Ok(());
-    }
-    put(best, candidate)?;
-    best.truncate(MOST_HITS);
-    Ok(())
-}
-
-fn hits_of(alloc: Global, best: &[Ranked]) -> Result<Vec<Hit>, NoMemory>
-    ensures { IfOk result (λ hits. hits.items ≡ map ranked_hit best.now) }
-{
-    let mut hits = Vec::with_capacity(alloc, best.len())?;
-    for ranked in best {
-        hits.push(Hit {
-            place: ranked.page.place().clone()?,
-            title: ByteString::from_slice(alloc, ranked.page.title())?,
-            score: ranked.score,
-        })?;
-    }
-    Ok(hits)
-}
-
-// Borrows kept candidates. Reserves room for one more than a search returns, because `put` inserts
-// before the last one is dropped.
-fn ranked_of(alloc: Global, kept: &[Kept]) -> Result<Vec<Ranked<'_>>, NoMemory>
-    ensures { IfOk result (λ best. map ranked_hit best.items ≡ map kept_hit kept.now) }
-{
-    let mut best = Vec::with_capacity(alloc, MOST_HITS + 1)?;
-    for one in kept {
-        best.push(Ranked {
-            score: one.score,
-            page: &one.page,
-        })?;
-    }
-    Ok(best)
-}
-
-// Shares the pages of borrowed candidates.
-fn kept_of(alloc: Global, best: &[Ranked]) -> Result<Vec<Kept>, NoMemory>
-    ensures { IfOk result (λ kept. map kept_hit kept.items ≡ map ranked_hit best.now) }
-{
-    let mut kept = Vec::with_capacity(alloc, best.len())?;
-    for one in best {
-        kept.push(Kept {
-            score: one.score,
-            page: one.page.clone()?,
-        })?;
-    }
-    Ok(kept)
-}
-
 /// The first 50 of the hits so far that reach a least score.
 #[derive(Drop)]
 pub(crate) struct Best<'a> {
@@ -149,33 +84,42 @@ impl<'a> Model for Best<'a> {
 }
 
 impl<'a> Best<'a> {
-    /// Creates an empty list for hits with a score of at least `least`.
-    pub fn new(alloc: Global, least: u64) -> Result<Best<'a>, NoMemory>
-        ensures least { IfOk result (λ best. best.least ≡ least) }
-        ensures hits { IfOk result (λ best. best.hits ≡ []) }
-    {
-        Ok(Best {
-            least,
-            ranked: Vec::with_capacity(alloc, MOST_HITS + 1)?,
-        })
-    }
-
-    /// Goes on from kept hits, with no least score.
+    /// Goes on from kept hits, or begins with none. There is no least score.
     pub fn of(alloc: Global, kept: &'a [Kept]) -> Result<Best<'a>, NoMemory>
         ensures least { IfOk result (λ best. best.least ≡ 0) }
         ensures hits { IfOk result (λ best. best.hits ≡ map kept_hit kept.now) }
     {
-        Ok(Best {
-            least: 0,
-            ranked: ranked_of(alloc, kept)?,
-        })
+        // One more than a search returns, because `put` inserts before the last one is dropped.
+        let mut ranked = Vec::with_capacity(alloc, MOST_HITS + 1)?;
+        for one in kept {
+            ranked.push(Ranked {
+                score: one.score,
+                page: &one.page,
+            })?;
+        }
+        Ok(Best { least: 0, ranked })
+    }
+
+    /// Raises the least score that hits must have. Those so far stay.
+    pub fn raise_least(&mut self, least: u64)
+        ensures least { self.new.least ≡ max self.old.least least }
+        ensures hits { self.new.hits ≡ self.old.hits }
+    {
+        self.least = self.least.max(least);
     }
 
     /// Returns the hits as candidates that share their pages.
     pub fn kept(&self, alloc: Global) -> Result<Vec<Kept>, NoMemory>
         ensures { IfOk result (λ kept. map kept_hit kept.items ≡ self.now.hits) }
     {
-        kept_of(alloc, &self.ranked)
+        let mut kept = Vec::with_capacity(alloc, self.ranked.len())?;
+        for one in &self.ranked {
+            kept.push(Kept {
+                score: one.score,
+                page: one.page.clone()?,
+            })?;
+        }
+        Ok(kept)
     }
 
     /// Returns whether these are the best of all hits: there is no least score, or there are 50 of
@@ -190,7 +134,10 @@ impl<'a> Best<'a> {
     pub fn rejects(&self, score: u64, page: &Arc<Page>) -> bool
         ensures { result ≡ is_beyond (hit_with score (arc_value page.now)) self.now }
     {
-        is_behind(&self.ranked, MOST_HITS - 1, &Ranked { score, page })
+        match self.ranked.get(MOST_HITS - 1) {
+            Some(last) => rank(&Ranked { score, page }, last).is_gt(),
+            None => false,
+        }
     }
 
     /// Returns the lowest score with which a page can still get among the best.
@@ -201,21 +148,32 @@ impl<'a> Best<'a> {
         self.least.max(last.map_or(0, |last| last.score))
     }
 
-    /// Inserts a page with its score, unless the score is below the least.
+    /// Inserts a page with its score, unless the score is below the least or the page ranks after
+    /// 50 of the hits. Drops what is no longer among the first 50.
     pub fn insert(&mut self, score: u64, page: &'a Arc<Page>) -> Result<(), NoMemory>
         ensures least { self.new.least ≡ self.old.least }
         ensures hits { AddsHit (hit_with score (arc_value page.now)) self.old self.new result }
     {
-        if score < self.least {
+        if score < self.least || self.rejects(score, page) {
             return Ok(());
         }
-        insert_candidate(&mut self.ranked, Ranked { score, page })
+        put(&mut self.ranked, Ranked { score, page })?;
+        self.ranked.truncate(MOST_HITS);
+        Ok(())
     }
 
     /// Returns the hits.
     pub fn hits(&self, alloc: Global) -> Result<Vec<Hit>, NoMemory>
         ensures { IfOk result (λ hits. hits.items ≡ self.now.hits) }
     {
-        hits_of(alloc, &self.ranked)
+        let mut hits = Vec::with_capacity(alloc, self.ranked.len())?;
+        for ranked in &self.ranked {
+            hits.push(Hit {
+                place: ranked.page.place().clone()?,
+                title: ByteString::from_slice(alloc, ranked.page.title())?,
+                score: ranked.score,
+            })?;
+        }
+        Ok(hits)
     }
 }

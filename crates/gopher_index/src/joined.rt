@@ -274,6 +274,9 @@ impl Joined {
         requires { length self.now.scores.items ≡ length self.now.verdicts.items }
         ensures { wanted ≡ None → result ≡ 0 }
     {
+        let Some(wanted) = wanted else {
+            return 0;
+        };
         let mut highest = Highest::new();
         highest.note_scores(&self.verdicts, &self.scores);
         highest.reached(wanted)

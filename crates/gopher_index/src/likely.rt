@@ -6,6 +6,7 @@
 ghost use Rattle.std.specs.Prelude.{◌≡◌, None, length};
 
 use crate::best::MOST_HITS;
+use crate::part::Part;
 use gopher_segment::Postings;
 
 // The number of postings or pages in a block. It is small, so that a first segment of 1,024 pages
@@ -67,14 +68,8 @@ impl Highest {
         }
     }
 
-    /// Returns the highest score that `wanted` blocks reach, or 0 if there is none or nothing is
-    /// wanted.
-    pub fn reached(&self, wanted: Option<usize>) -> u64
-        ensures { wanted ≡ None → result ≡ 0 }
-    {
-        let Some(wanted) = wanted else {
-            return 0;
-        };
+    /// Returns the highest score that `wanted` blocks reach, or 0 if there is none.
+    pub fn reached(&self, wanted: usize) -> u64 {
         let mut blocks = 0_usize;
         for score in 1..256 {
             let score = 256 - score;
@@ -87,9 +82,12 @@ impl Highest {
     }
 }
 
-/// Guesses how many of the first 50 hits are among `some` of `all` pages: one and a half times
-/// their share. `None` if fewer than an eighth are among them.
-pub(crate) fn likely_hits(some: usize, all: usize) -> Option<usize> {
+/// Guesses how many of the first 50 hits are in the first of these parts: one and a half times its
+/// share of all pages. `None` if that is less than an eighth.
+pub(crate) fn likely_hits(parts: &[Part]) -> Option<usize> {
+    let last = parts.last()?;
+    let all = last.first().saturating_add(last.pages().len());
+    let some = parts.first()?.pages().len();
     if some < all / 8 {
         return None;
     }
@@ -102,6 +100,9 @@ pub(crate) fn likely_hits(some: usize, all: usize) -> Option<usize> {
 pub(crate) fn likely_score(postings: &Postings, wanted: Option<usize>) -> u64
     ensures { wanted ≡ None → result ≡ 0 }
 {
+    let Some(wanted) = wanted else {
+        return 0;
+    };
     if postings.counts.len() < MOST_HITS {
         return 0;
     }

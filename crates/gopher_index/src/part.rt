@@ -195,11 +195,3 @@ pub(crate) fn pages_in(alloc: Global, parts: &[Part]) -> Result<Vec<Arc<Page>>, 
     }
     Ok(pages)
 }
-
-/// Returns the number of pages of consecutive parts, of which the first has number 0.
-pub(crate) fn pages_len(parts: &[Part]) -> usize {
-    let Some(last) = parts.last() else {
-        return 0;
-    };
-    last.first().saturating_add(last.pages().len())
-}

@@ -76,24 +76,6 @@ impl<'a> Ties<'a> {
         };
     }
 
-    // Inserts a page with its score into the best.
-    fn insert_read(&mut self, index: usize, score: u64, best: &mut Best<'a>) -> Result<(), NoMemory>
-        requires within { index < length self.old.pages.now }
-        requires ties { AreTies self.old best.old }
-        ensures same { self.new.pages ≡ self.old.pages }
-        ensures ties { OnOk result (AreTies self.new best.new) }
-        ensures takes { TakesPageAt self.old index score best.old best.new result }
-    {
-        let page = &self.pages[index];
-        best.insert(score, page)?;
-        if best.rejects(score, page) {
-            self.tied = index;
-            self.score = score;
-        }
-        self.renew(best);
-        Ok(())
-    }
-
     /// Inserts the page at an index of the part, with its score, into the best. The page is read
     /// only if it isn't known that it can't get among them.
     pub fn insert(&mut self, index: usize, score: u64, best: &mut Best<'a>) -> Result<(), NoMemory>
@@ -106,6 +88,13 @@ impl<'a> Ties<'a> {
         if self.covers(index, score) {
             return Ok(());
         }
-        self.insert_read(index, score, best)
+        let page = &self.pages[index];
+        best.insert(score, page)?;
+        if best.rejects(score, page) {
+            self.tied = index;
+            self.score = score;
+        }
+        self.renew(best);
+        Ok(())
     }
 }

@@ -2,10 +2,10 @@ use Rattle.std.proofs.Common.{◌≡◌, map}
 use Rattle.gopher_index.specs.Best.{kept_hit}
 use Rattle.gopher_index.specs.Progress.{AddsPages}
 use Rattle.gopher_index.proofs.Steps.{adds_pages}
-use Rattle.gopher_index.proofs.Taking.{ok_from}
+use Rattle.std.proofs.lemmas.Result.{IfOk-weaker}
 use Rattle.gopher_index.proofs.progress.kept_with_cells.Goals as goal
 
 pub returns : goal.returns
 returns c = λ terms are.
-    ok_from c.kept.result (λ kept. map kept_hit kept.items ≡ c.rank_cells.new.best.hits) (λ kept. AddsPages terms c.args.part.now.pages c.args.kept.now kept.items)
+    IfOk-weaker c.kept.result (λ kept. map kept_hit kept.items ≡ c.rank_cells.new.best.hits) (λ kept. AddsPages terms c.args.part.now.pages c.args.kept.now kept.items)
     (λ kept is. adds_pages terms c.args.part.now.pages c.args.kept.now kept.items c.in_ok-best.best c.rank_cells.new.best c.in_ok-best.ensures.least c.in_ok-best.ensures.hits (c.in_ok-rank_cells.ensures terms are) is) c.kept.ensures

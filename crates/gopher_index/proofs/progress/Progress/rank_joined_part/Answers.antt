@@ -1,10 +1,10 @@
-use Rattle.std.proofs.Common.{◌≡◌, ◌++◌, map, refl, sym, ap, subst, ◌∙◌, arith}
+use Rattle.std.proofs.Common.{map, refl, sym, ap, subst, ◌∙◌, arith}
 use Rattle.std.proofs.lemmas.List.{take_all}
 use Rattle.gopher_index.specs.Best.{answer_from, kept_hit}
 use Rattle.gopher_index.specs.Cells.{AreCells}
 use Rattle.gopher_index.specs.Plan.{is_match, AreGroupCells}
 use Rattle.gopher_index.specs.Progress.{pages_done}
-use Rattle.gopher_index.proofs.GroupCells.{groups_cells, same_cells}
+use Rattle.gopher_index.proofs.GroupCells.{groups_cells}
 use Rattle.gopher_index.proofs.Segments.{pages-next}
 use Rattle.gopher_index.proofs.progress.Progress.rank_joined_part.Goals as goal
 
@@ -16,7 +16,8 @@ returns-clause-same c =
     let joined = c.requires.is.under_way part c.index-part.ensures (omega (arith, c.requires.groups, c.requires.planned)) in
     let all : AreGroupCells old.groups.items part.pages old.joined.verdicts.items old.joined.scores.items =
     subst (λ groups. AreGroupCells groups part.pages old.joined.verdicts.items old.joined.scores.items) (take_all old.joined.groups old.groups.items (omega (arith, c.requires.groups))) joined.cells in
-    let cells : AreCells terms part.pages (map is_match old.joined.verdicts.items) old.joined.scores.items = groups_cells terms old.groups.items part.pages old.joined.verdicts.items old.joined.scores.items (c.requires.is.plan c.requires.planned).groups_are all in
+    let cells : AreCells terms part.pages (map is_match c.deref-2.result.now) c.deref-3.result.now =
+    groups_cells terms old.groups.items part.pages old.joined.verdicts.items c.deref-2.result.now old.joined.scores.items c.deref-3.result.now (c.requires.is.plan c.requires.planned).groups_are all c.deref-2.ensures.value c.deref-3.ensures.value in
     record {
       is = record {
         query = c.requires.is.query;
@@ -26,8 +27,7 @@ returns-clause-same c =
         at_rest = λ end. refl;
         under_way = λ part at more. absurd (omega (arith, more));
         best =
-            c.in_ok-self.ensures terms
-            (same_cells terms part.pages part.pages (map is_match old.joined.verdicts.items) (map is_match c.deref-2.result.now) old.joined.scores.items c.deref-3.result.now refl (ap (map is_match) (sym c.deref-2.ensures.value)) (sym c.deref-3.ensures.value) cells)
+            c.in_ok-self.ensures terms cells
             (pages_done old) (ap (map kept_hit) c.deref.ensures.value ∙ c.requires.is.best)
             ∙ ap (λ pages. answer_from 0 pages terms) (sym (pages-next old.parts.items old.done part c.requires.ahead c.index-part.ensures));
       };
