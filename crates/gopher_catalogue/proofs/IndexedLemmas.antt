@@ -17,9 +17,10 @@ use Rattle.gopher_catalogue.specs.Tables.{FrontierData, Learned, Begins, unclaim
 use Rattle.gopher_catalogue.specs.Indexed.{standing_of, Tells}
 use Rattle.gopher_catalogue.proofs.Places.{known_of, dropped_of, known_of_old, known_of_new, known_of_full, dropped_of_old, dropped_of_new, dropped_of_full}
 use Rattle.gopher_catalogue.proofs.Legal.{IsLegal-push}
-use Rattle.gopher_catalogue.proofs.Steps.{claims_push, finds_push, failures_push, is_out_from_claims, not_out_from_claims, standing_other, mentions-nil, known_is, dropped_is, known-mentions, dropped-mentions, known_same, dropped_same, length-known_push, waiting_push}
+use Rattle.gopher_catalogue.proofs.Steps.{claims_push, finds_push, failures_push, is_out_from_claims, not_out_from_claims, standing_other, mentions-nil, known_is, dropped_is, known-mentions, dropped-mentions, known_same, dropped_same, length-known_push}
 use Rattle.gopher_catalogue.proofs.Counting.{one-same}
-use Rattle.gopher_catalogue.proofs.States.{waiting-nil, waits_at, out_at, unknown_at}
+use Rattle.gopher_catalogue.proofs.Queue.{waiting-nil, waiting_push}
+use Rattle.gopher_catalogue.proofs.States.{waits_at, out_at, unknown_at}
 use Rattle.gopher_catalogue.proofs.LegalSizes.{state_sizes, out_counted, out_push}
 use Rattle.gopher_catalogue.proofs.StandingLemmas.{replicate_map_range, set_map_range, slice_get-map_range, extend_map_range}
 
@@ -113,7 +114,7 @@ Tells-claim opening events frontier n standing legal tells first at' =
     let stood = (standing_known opening events frontier tells n standing at').1 in
     let next : Standing = record { claims = standing.claims + 1; is_out = true } in
     let stands : next ≡ standing_of after n = λ i. record { claims = (ap (λ s. s.claims + 1) stood ∙ sym more) i; is_out = sym now_out i } in
-    let waiting_now : waiting opening after ≡ drop 1 (waiting opening events) = waiting_push opening events e in
+    let waiting_now : waiting opening after ≡ drop 1 (waiting opening events) = waiting_push opening events legal.1 e in
     let sizes = out_push opening events e legal legal' in
     record {
       places_is = tells.places_is ∙ sym same;
@@ -143,7 +144,7 @@ module _ (opening : OpeningData) (events : List EventData) (frontier : FrontierD
       let now_in : is_out after n ≡ false = not_out_from_claims after n (λ is. omega (arith, finds_push events e n, failures_push events e n, one-same n n refl)) in
       let next : Standing = record { claims = standing.claims; is_out = false } in
       let stands : next ≡ standing_of after n = λ i. record { claims = (claimed ∙ sym as_often) i; is_out = sym now_in i } in
-      let waiting_now : waiting opening after ≡ cond (ltb (claims events n) opening.tries) (waiting opening events ++ n ∷ []) (waiting opening events) = waiting_push opening events e in
+      let waiting_now : waiting opening after ≡ cond (ltb (claims events n) opening.tries) (waiting opening events ++ n ∷ []) (waiting opening events) = waiting_push opening events legal.1 e in
       let sizes = out_push opening events e legal legal' in
       let states = state_sizes opening events legal in
       let states_now = state_sizes opening after legal' in
@@ -213,7 +214,7 @@ module _ (opening : OpeningData) (events : List EventData) (before after : Front
       let now_in : is_out later n ≡ false = not_out_from_claims later n (λ is. omega (arith, finds_push events e n, failures_push events e n, one-same n n refl)) in
       let next : Standing = record { claims = standing.claims; is_out = false } in
       let stands : next ≡ standing_of later n = λ i. record { claims = (ap (λ s. s.claims) stood ∙ sym as_often) i; is_out = sym now_in i } in
-      let waiting_now : waiting opening later ≡ waiting opening events ++ range_with_len count (length (known opening later) - count) = waiting_push opening events e in
+      let waiting_now : waiting opening later ≡ waiting opening events ++ range_with_len count (length (known opening later) - count) = waiting_push opening events legal.1 e in
       let long = ap length waiting_now ∙ length-append (waiting opening events) (range_with_len count (length (known opening later) - count)) in
       let sizes = out_push opening events e legal legal' in
       record {

@@ -4,9 +4,9 @@ pub mod Places
 pub mod Steps
 pub mod Lists
 pub mod Legal
+pub mod Queue
 pub mod Counting
 pub mod States
-pub mod QueueOrder
 pub mod LegalSizes
 pub mod Calls
 pub mod KnownPlaces

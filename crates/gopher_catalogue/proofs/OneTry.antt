@@ -12,9 +12,10 @@ use Rattle.gopher_catalogue.specs.Laws.{outcomes, numbers, HasSimpleStates}
 use Rattle.gopher_catalogue.proofs.Places.{bools_agree}
 use Rattle.gopher_catalogue.proofs.Ranges.{range-append, filter_range_none, filter_range_agree}
 use Rattle.gopher_catalogue.proofs.Legal.{legal_ind}
-use Rattle.gopher_catalogue.proofs.Steps.{is_out-claims, is_out_from_claims, is_done_is, known_same, length-known_push, waiting_push}
+use Rattle.gopher_catalogue.proofs.Steps.{is_out-claims, is_out_from_claims, is_done_is, known_same, length-known_push}
+use Rattle.gopher_catalogue.proofs.Queue.{waiting-nil, waiting_push}
 use Rattle.gopher_catalogue.proofs.Counting.{times, times-range_within, times-range_outside}
-use Rattle.gopher_catalogue.proofs.States.{State, Waiting, Outside, WasFound, GivenUp, NotKnown, state, waiting-nil, bounds}
+use Rattle.gopher_catalogue.proofs.States.{State, Waiting, Outside, WasFound, GivenUp, NotKnown, state, bounds}
 use Rattle.gopher_catalogue.proofs.LegalSizes.{claimed_by, length_by_push, claimed_most, out_is, done_is}
 
 pub filter_range_every : (p : ℕ → Bool) (a n : ℕ) → ((m : ℕ) → a ≤ m → m < a + n → p m ≡ true) → filter p (range_with_len a n) ≡ range_with_len a n
@@ -30,7 +31,7 @@ one_try-waiting opening events legal one = legal_ind (λ es. waiting opening es 
       → waiting opening (es ++ e ∷ []) ≡ drop (length (flat_map claimed_by (es ++ e ∷ []))) (numbers opening (es ++ e ∷ []))
   step es (Opened other) follows may ih = absurd may
   step es (Claimed n) follows may ih =
-      waiting_push opening es (Claimed n) ∙ ap (drop 1) ih ∙ drop-drop 1 (length (flat_map claimed_by es)) (numbers opening es)
+      waiting_push opening es follows (Claimed n) ∙ ap (drop 1) ih ∙ drop-drop 1 (length (flat_map claimed_by es)) (numbers opening es)
       ∙ rw (length_by_push claimed_by es (Claimed n), known_same opening es (Claimed n) refl) refl
   step es (Found n page) follows may ih =
       let made : ℕ = length (flat_map claimed_by es) in
@@ -43,13 +44,13 @@ one_try-waiting opening events legal one = legal_ind (λ es. waiting opening es 
       let e3 : length (flat_map claimed_by (es ++ Found n page ∷ [])) ≡ made = length_by_push claimed_by es (Found n page) ∙ omega arith in
       let joined : range_with_len 0 before ++ range_with_len before (after - before) ≡ range_with_len 0 (before + (after - before)) =
       rw e2 at (sym (range-append 0 before (after - before))) in
-      waiting_push opening es (Found n page) ∙ ap (λ ns. ns ++ range_with_len before (after - before)) ih
+      waiting_push opening es follows (Found n page) ∙ ap (λ ns. ns ++ range_with_len before (after - before)) ih
       ∙ sym (drop-append-le made (range_with_len 0 before) (range_with_len before (after - before)) fits)
       ∙ ap (drop made) (joined ∙ ap (range_with_len 0) e1) ∙ ap (λ k. drop k (range_with_len 0 after)) (sym e3)
   step es (Failed n why) follows may ih =
       let last : opening.tries ≤ claims es n = omega (arith, is_out-claims es n may.is_out) in
       let same : length (flat_map claimed_by (es ++ Failed n why ∷ [])) ≡ length (flat_map claimed_by es) = length_by_push claimed_by es (Failed n why) ∙ omega arith in
-      waiting_push opening es (Failed n why) ∙ rw (le-ltb (claims es n) opening.tries last, same, known_same opening es (Failed n why) refl) ih
+      waiting_push opening es follows (Failed n why) ∙ rw (le-ltb (claims es n) opening.tries last, same, known_same opening es (Failed n why) refl) ih
 
 -- a known number waits until it is claimed
 claimed_or_waits : {tries known n w c f l : ℕ} → tries ≡ 1 → n < known → State tries known n w c f l → c + w ≡ 1

@@ -10,7 +10,8 @@ use Rattle.gopher_catalogue.specs.Frontier.{known, claims, finds, failures, wait
 use Rattle.gopher_catalogue.specs.Legal.{MayFollow, FollowEachOther, IsLegal}
 use Rattle.gopher_catalogue.proofs.Legal.{legal_ind}
 use Rattle.gopher_catalogue.proofs.Lists.{slice_get_at}
-use Rattle.gopher_catalogue.proofs.Steps.{claims_push, finds_push, failures_push, is_out-claims, known_same, length-known_push, waiting_push}
+use Rattle.gopher_catalogue.proofs.Steps.{claims_push, finds_push, failures_push, is_out-claims, known_same, length-known_push}
+use Rattle.gopher_catalogue.proofs.Queue.{waiting-nil, waiting_push}
 use Rattle.gopher_catalogue.proofs.Counting.{times, times-nil, times-cons, times-append, times_at, times-range_outside, times-range_within, one-same, one-other}
 
 -- the state of the number n: how often it waits, was claimed, found and failed, in each state
@@ -93,10 +94,6 @@ first_and_rest : (ns : List ℕ) (n : ℕ) → slice_get ns 0 ≡ Some n → ns 
 first_and_rest [] n h = cc
 first_and_rest (m ∷ ns) n h = let e : m ≡ n = cc in rw e refl
 
-pub waiting-nil : (opening : OpeningData) → waiting opening [] ≡ range_with_len 0 (length (known opening []))
-unfolding waiting
-waiting-nil opening = refl
-
 none_counted : (n : ℕ) → (claims [] n ≡ 0) × (finds [] n ≡ 0) × (failures [] n ≡ 0)
 unfolding claims finds failures
 none_counted n = (refl, refl, refl)
@@ -111,12 +108,12 @@ module _ (opening : OpeningData) where
         | inr beyond ↦ NotKnown beyond (ap (times n) (waiting-nil opening) ∙ times-range_outside n 0 count (inr (omega arith))) none.0 none.1 none.2
       ]
 
-  module _ (es : List EventData) (ih : (n : ℕ) → StateIn opening es n) (n : ℕ) where
+  module _ (es : List EventData) (follows : FollowEachOther opening es) (ih : (n : ℕ) → StateIn opening es n) (n : ℕ) where
     claim_state : slice_get (waiting opening es) 0 ≡ Some n → (m : ℕ) → StateIn opening (es ++ Claimed n ∷ []) m
     claim_state first m =
         let e : EventData = Claimed n in
         let k = ap length (known_same opening es e refl) in
-        let w = ap (times m) (first_and_rest (waiting opening es) n first ∙ ap (λ ns. n ∷ ns) (sym (waiting_push opening es e))) ∙ times-cons m n (waiting opening (es ++ e ∷ [])) in
+        let w = ap (times m) (first_and_rest (waiting opening es) n first ∙ ap (λ ns. n ∷ ns) (sym (waiting_push opening es follows e))) ∙ times-cons m n (waiting opening (es ++ e ∷ [])) in
         let c = claims_push es e m in
         let f = finds_push es e m in
         let l = failures_push es e m in
@@ -139,7 +136,7 @@ module _ (opening : OpeningData) where
         let count : ℕ = length (known opening es) in
         let more : ℕ = length (known opening (es ++ e ∷ [])) - count in
         let k = length-known_push opening es e in
-        let w = ap (times m) (waiting_push opening es e) ∙ times-append m (waiting opening es) (range_with_len count more) in
+        let w = ap (times m) (waiting_push opening es follows e) ∙ times-append m (waiting opening es) (range_with_len count more) in
         let c = claims_push es e m in
         let f = finds_push es e m in
         let l = failures_push es e m in
@@ -179,15 +176,15 @@ module _ (opening : OpeningData) where
               let old = out_if (ih m) (is_out-claims es m (ap (is_out es) same ∙ is_out')) in
               elim (cases_lt (claims es n) opening.tries) as (λ q. StateIn opening (es ++ e ∷ []) m) [
                 | inl left ↦
-                    let w : times m (waiting opening (es ++ e ∷ [])) ≡ 1 = ap (times m) (waiting_push opening es e) ∙ rw (lt-ltb (claims es n) opening.tries left) (again m old.not_waiting one) in
+                    let w : times m (waiting opening (es ++ e ∷ [])) ≡ 1 = ap (times m) (waiting_push opening es follows e) ∙ rw (lt-ltb (claims es n) opening.tries left) (again m old.not_waiting one) in
                     Waiting (omega arith) w (omega arith) (omega arith) (omega (arith, ap (claims es) same))
                 | inr last ↦
-                    let w : times m (waiting opening (es ++ e ∷ [])) ≡ 0 = ap (times m) (waiting_push opening es e) ∙ rw (le-ltb (claims es n) opening.tries last) old.not_waiting in
+                    let w : times m (waiting opening (es ++ e ∷ [])) ≡ 0 = ap (times m) (waiting_push opening es follows e) ∙ rw (le-ltb (claims es n) opening.tries last) old.not_waiting in
                     GivenUp (omega arith) w (omega arith) (omega arith) (omega (arith, ap (claims es) same))
               ]
           | inr ne ↦
               let none = one-other m n ne in
-              let w : times m (waiting opening (es ++ e ∷ [])) ≡ times m (waiting opening es) = ap (times m) (waiting_push opening es e) ∙ either (ltb (claims es n) opening.tries) none in
+              let w : times m (waiting opening (es ++ e ∷ [])) ≡ times m (waiting opening es) = ap (times m) (waiting_push opening es follows e) ∙ either (ltb (claims es n) opening.tries) none in
               elim (cases_lt m (length (known opening es))) as (λ q. StateIn opening (es ++ e ∷ []) m) [
                 | inl within ↦ kept (ih m) (omega arith) (inl within) w (omega arith) (omega arith) (omega arith)
                 | inr beyond ↦ kept (ih m) (omega arith) (inr (omega arith)) w (omega arith) (omega arith) (omega arith)
@@ -210,9 +207,9 @@ module _ (opening : OpeningData) (events : List EventData) (legal : IsLegal (Ope
     where
       step : (es : List EventData) (e : EventData) → FollowEachOther opening es → MayFollow opening es e → ((n : ℕ) → StateIn opening es n) → (n : ℕ) → StateIn opening (es ++ e ∷ []) n
       step es (Opened other) follows may ih = absurd may
-      step es (Claimed n) follows may ih = claim_state opening es ih n may
-      step es (Found n page) follows may ih = found_state opening es ih n page legal.0.some_try may.0.is_known may.0.is_out
-      step es (Failed n why) follows may ih = failed_state opening es ih n why may.is_out
+      step es (Claimed n) follows may ih = claim_state opening es follows ih n may
+      step es (Found n page) follows may ih = found_state opening es follows ih n page legal.0.some_try may.0.is_known may.0.is_out
+      step es (Failed n why) follows may ih = failed_state opening es follows ih n why may.is_out
 
   abbrev pub WaitsNow : ℕ → Type 0
   WaitsNow n = Waits opening.tries (length (known opening events)) n (times n (waiting opening events)) (claims events n) (finds events n) (failures events n)

@@ -7,7 +7,7 @@ use Rattle.std.proofs.lemmas.List.Concat.{flat_map-append}
 use Rattle.std.proofs.lemmas.List.Sums.{sum_by_push}
 use Rattle.gopher_item.specs.Place.{PlaceData}
 use Rattle.gopher_catalogue.specs.Event.{OpeningData, EventData}
-use Rattle.gopher_catalogue.specs.Frontier.{mentioned, mentions, known, dropped, is_claim_of, is_find_of, is_failure_of, claims, finds, failures, waiting_after, waiting_along, waiting, is_out, is_done}
+use Rattle.gopher_catalogue.specs.Frontier.{mentioned, mentions, known, dropped, is_claim_of, is_find_of, is_failure_of, claims, finds, failures, is_out, is_done}
 use Rattle.gopher_catalogue.specs.Indexed.{standing_of}
 use Rattle.gopher_catalogue.specs.Pages.{page_of_event, pages_found}
 use Rattle.gopher_catalogue.proofs.Places.{known_of, dropped_of, length-known_of, known_of-append}
@@ -108,15 +108,3 @@ module _ (opening : OpeningData) (events : List EventData) where
   length-known_push e =
       let more = ap length (known-mentions e ∙ known_of-append opening.limit (mentions opening events) (mentioned opening e)) in
       omega (arith, more, ap length known_is, length-append {A = PlaceData})
-
--- ---- the queue
-
-waiting_along_push : (opening : OpeningData) (before : List EventData) (queue : List ℕ) (events : List EventData) (e : EventData) → waiting_along opening before queue (events ++ e ∷ []) ≡ waiting_after opening (before ++ events) (waiting_along opening before queue events) e
-waiting_along_push opening before queue [] e = ap (λ b. waiting_after opening b queue e) (sym (append-nil before))
-waiting_along_push opening before queue (x ∷ events) e =
-    waiting_along_push opening (before ++ x ∷ []) (waiting_after opening before queue x) events e
-    ∙ ap (λ b. waiting_after opening b (waiting_along opening (before ++ x ∷ []) (waiting_after opening before queue x) events) e) (append_assoc before (x ∷ []) events)
-
-pub waiting_push : (opening : OpeningData) (events : List EventData) (e : EventData) → waiting opening (events ++ e ∷ []) ≡ waiting_after opening events (waiting opening events) e
-unfolding waiting
-waiting_push opening events e = waiting_along_push opening [] _ events e

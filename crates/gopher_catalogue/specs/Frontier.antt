@@ -60,27 +60,6 @@ failures events number = count_by (is_failure_of number) events
 
 -- ---- states
 
--- the numbers that wait after an event: a claim takes the first; the numbers of places that become
--- known enter behind the others, and so does that of a place that failed with tries left
-abbrev pub waiting_after : OpeningData → List EventData → List ℕ → EventData → List ℕ
-waiting_after opening before queue (Claimed number) = drop 1 queue
-waiting_after opening before queue (Found number page) =
-    let old = length (known opening before) in
-    queue ++ range_with_len old (length (known opening (before ++ Found number page ∷ [])) - old)
-waiting_after opening before queue (Failed number why) =
-    if nat_lt (claims before number) opening.tries then queue ++ number ∷ [] else queue
-waiting_after opening before queue event = queue
-
-abbrev pub waiting_along : OpeningData → List EventData → List ℕ → List EventData → List ℕ
-waiting_along opening before queue [] = queue
-waiting_along opening before queue (event ∷ events) =
-    waiting_along opening (before ++ event ∷ []) (waiting_after opening before queue event) events
-
--- the numbers that wait to be claimed, in order: at first those of the seeds
-unfoldable pub waiting : OpeningData → List EventData → List ℕ
-waiting opening events =
-    waiting_along opening [] (range_with_len 0 (length (known opening []))) events
-
 -- the numbers that an event appends to the queue, after the events before it: those of the places
 -- that become known, or its own if it failed with tries left
 abbrev pub entered : OpeningData → List EventData → EventData → List ℕ
@@ -100,6 +79,10 @@ entered_along opening before (event ∷ events) =
 unfoldable pub entries : OpeningData → List EventData → List ℕ
 entries opening events =
     range_with_len 0 (length (known opening [])) ++ entered_along opening [] events
+
+-- the numbers that wait to be claimed, in order; each claim takes the first
+unfoldable pub waiting : OpeningData → List EventData → List ℕ
+waiting opening events = drop (count_by is_claim events) (entries opening events)
 
 -- a number is out while it has one claim more than outcomes
 unfoldable pub is_out : List EventData → ℕ → Bool

@@ -1,10 +1,10 @@
 -- Laws of every legal record. Each one is the contract of a function of `laws`.
-use Rattle.std.specs.Prelude.{◌≡◌, ℕ, ◌+◌, ◌≤◌, ◌&&◌, List, ◌∷◌, length, take, drop, filter, count_by, Some, slice_get, ◌==◌, nat_lt, if◌then◌else◌}
+use Rattle.std.specs.Prelude.{◌≡◌, ℕ, ◌+◌, ◌≤◌, ◌&&◌, List, ◌∷◌, length, take, filter, count_by, Some, slice_get, ◌==◌, nat_lt, if◌then◌else◌}
 use Rattle.std.specs.List.{All, range_with_len}
 use Rattle.gopher_item.specs.Place.{PlaceData}
 use Rattle.gopher_item.specs.Scope.{IsAllowed}
 use Rattle.gopher_catalogue.specs.Event.{OpeningData, EventData, Opened, Claimed}
-use Rattle.gopher_catalogue.specs.Frontier.{known, is_claim, claims, finds, failures, entries, waiting, out, done}
+use Rattle.gopher_catalogue.specs.Frontier.{known, claims, finds, failures, waiting, out, done}
 use Rattle.gopher_catalogue.specs.Legal.{IsLegal}
 
 -- ---- places
@@ -66,13 +66,6 @@ EachKnownPlaceHasOneState =
     times_listed (waiting opening events) number + times_listed (out opening events) number
     + times_listed (done opening events) number
     ≡ (if nat_lt number (length (known opening events)) then 1 else 0)
-
--- the queue is first in, first out: the waiting numbers are those that entered it, in order,
--- without as many of the first as were claimed
-abbrev pub QueueIsFirstInFirstOut : Type 0
-QueueIsFirstInFirstOut =
-    (opening : OpeningData) (events : List EventData) → IsLegal (Opened opening ∷ events)
-    → waiting opening events ≡ drop (count_by is_claim events) (entries opening events)
 
 -- the sizes of the three lists add up to the number of known places
 abbrev pub StateSizesAddUp : Type 0

@@ -2,7 +2,7 @@
 
 ghost use Rattle.std.specs.Prelude.{◌≡◌, ◌+◌, ◌-◌, ◌^◌, ◌<◌, ◌≤◌, length, map, take, slice_get, MatchOption, Some, IfOk, OnOk, OnErr};
 ghost use Rattle.std.specs.Arc.{arc_value};
-ghost use Rattle.gopher_catalogue.specs.Tables.{FrontierData, Begins, KeepsCounts, KeepsFrontier, Extends, known_part, MayLearn, Learns, allowed, IsNotOut, IsOutAs, is_place_at, frontier_status, after_claim, after_outcome, after_find, after_failure};
+ghost use Rattle.gopher_catalogue.specs.Tables.{FrontierData, Begins, KeepsCounts, KeepsFrontier, MayLearn, Learns, allowed, IsNotOut, IsOutAs, is_place_at, frontier_status, after_claim, after_outcome, after_find, after_failure};
 
 mod known;
 mod queue;
@@ -164,33 +164,18 @@ impl Frontier {
         ensures err { OnErr result (KeepsFrontier self.old self.new) }
     {
         let before = self.known.len();
-        let learned = self.try_learn(alloc, scope, limit, links);
-        if learned.is_err() {
-            self.known.truncate(before);
-        }
-        learned
-    }
-
-    // Does what `learn` does, but when out of memory it can leave new places known.
-    fn try_learn(
-        &mut self,
-        alloc: Global,
-        scope: &Scope,
-        limit: u32,
-        links: &Places,
-    ) -> Result<Added, NoMemory>
-        requires { MayLearn limit (length links.now) self.old }
-        ensures ok { IfOk result (Learns limit (allowed scope.now links.now) self.old self.new) }
-        ensures grows { Extends (known_part self.old) (known_part self.new) }
-        ensures keeps { KeepsCounts self.old self.new }
-        ensures more_room { self.old.room ≤ self.new.room }
-    {
-        let before = self.known.len();
-        let dropped = self
+        let Ok(dropped) = self
             .known
-            .mention_links(alloc, scope, limit as usize, links)?;
+            .mention_links(alloc, scope, limit as usize, links)
+        else {
+            self.known.truncate(before);
+            return Err(NoMemory);
+        };
         let fresh = self.known.len() - before;
-        self.queue.reserve(fresh + self.out as usize)?;
+        if self.queue.reserve(fresh + self.out as usize).is_err() {
+            self.forget(before);
+            return Err(NoMemory);
+        }
         Ok(Added {
             fresh: fresh as u32,
             dropped,

@@ -1,6 +1,6 @@
 //! Laws of every legal record. Each function does nothing: its contract is the law.
 
-ghost use Rattle.gopher_catalogue.specs.Laws.{BeginningsAreLegal, EachKnownPlaceHasOneState, KnownPlacesAreAllowed, KnownPlacesAreDistinct, NoClaimAfterAFind, NoMoreClaimsThanTries, NoPlaceIsOutTwice, OneTryHasSimpleStates, OneTryIsOneClaim, QueueIsFirstInFirstOut, RecordsAreShort, StateSizesAddUp};
+ghost use Rattle.gopher_catalogue.specs.Laws.{BeginningsAreLegal, EachKnownPlaceHasOneState, KnownPlacesAreAllowed, KnownPlacesAreDistinct, NoClaimAfterAFind, NoMoreClaimsThanTries, NoPlaceIsOutTwice, OneTryHasSimpleStates, OneTryIsOneClaim, RecordsAreShort, StateSizesAddUp};
 
 /// The scope allows each known place.
 pub fn known_places_are_allowed()
@@ -31,13 +31,6 @@ pub fn no_more_claims_than_tries()
 /// state.
 pub fn each_known_place_has_one_state()
     ensures { EachKnownPlaceHasOneState }
-{}
-
-/// The queue is first in, first out: the numbers that wait are those that entered the queue, in
-/// order, without as many of the first as were claimed. The seeds enter first, then the places that
-/// become known, and a place again whenever it fails with tries left.
-pub fn queue_is_first_in_first_out()
-    ensures { QueueIsFirstInFirstOut }
 {}
 
 /// The numbers of places that wait, are out and are done add up to the number of known places.
