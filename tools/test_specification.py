@@ -33,15 +33,16 @@ SETTINGS = {key: text for head, text in entries(manual("hole.toml.5")) for key i
 
 class Manual(unittest.TestCase):
     def test_settings_are_those_of_the_code_in_the_order_of_their_checks(self):
-        code = re.findall(r'Key::\w+ => (\w+)\("(\w+)"(?:, ([\d_]+), (\w+))?', sources("gopher_scope"))
-        self.assertEqual([*SETTINGS], [key for _, key, _, _ in code])
+        row = r'Key::\w+ => \("(\w+)", Form::(?:Scalar\(Scalar::)?(\w+)\((?:([\d_]+), (\w+))?'
+        code = re.findall(row, sources("gopher_scope"))
+        self.assertEqual([*SETTINGS], [key for key, _, _, _ in code])
         limits = dict(re.findall(r"const (MAX_\w+): u32 = ([\d_]+);", sources("gopher_item")))
-        for form, key, absent, most in code:
+        for key, form, absent, most in code:
             most, absent = limits.get(most, most).replace("_", ""), absent.replace("_", "")
-            kinds = {"text": "A string, required", "tables": r"rrays? of at most 256 tables(?: each)?; empty if absent"}
+            kinds = {"Text": "A string, required", "Tables": r"rrays? of at most 256 tables(?: each)?; empty if absent"}
             self.assertRegex(SETTINGS[key], kinds.get(form, f"An integer, 1 to {most}; {absent} if absent"), key)
-            if form == "integer":
-                self.assertIn(f'Key::{key.title()} => "use a number from 1 to {most}"', sources("gopher_check"))
+            if form == "Integer":
+                self.assertIn(f'Key::{key.title().replace("_", "")} => "use a number from 1 to {most}"', sources("gopher_check"))
 
     def test_example_settings_have_keys_of_the_manual(self):
         for file in (ROOT / "examples/hole.toml", ROOT / "packaging/debian/hole.toml"):

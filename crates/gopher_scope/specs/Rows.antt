@@ -46,19 +46,19 @@ abbrev pub element_fields : Element → List Field
 element_fields element.Seed = field.Kind ∷ field.Host ∷ field.Port ∷ field.Selector ∷ []
 element_fields element.Rule = field.Host ∷ field.Port ∷ field.Prefix ∷ []
 
+-- the name of a key of such a table, and its valid values
+abbrev pub field_row : Field → List ℕ × Scalar
+field_row field.Kind = (codes "type", Text PlaceKind)
+field_row field.Host = (codes "host", Text Host)
+field_row field.Port = (codes "port", Integer 70 65535)
+field_row field.Selector = (codes "selector", Text Selector)
+field_row field.Prefix = (codes "prefix", Text Selector)
+
 abbrev pub field_name : Field → List ℕ
-field_name field.Kind = codes "type"
-field_name field.Host = codes "host"
-field_name field.Port = codes "port"
-field_name field.Selector = codes "selector"
-field_name field.Prefix = codes "prefix"
+field_name field = (field_row field).0
 
 abbrev pub field_scalar : Field → Scalar
-field_scalar field.Kind = Text PlaceKind
-field_scalar field.Host = Text Host
-field_scalar field.Port = Integer 70 65535
-field_scalar field.Selector = Text Selector
-field_scalar field.Prefix = Text Selector
+field_scalar field = (field_row field).1
 
 -- the value of such a text if its key is missing; the keys of a host and a path are required
 abbrev pub absent_text : TextKind → Option (List ℕ)

@@ -1,5 +1,6 @@
 -- All unknown keys of settings.
-use Rattle.std.specs.Prelude.{ℕ, Bool, true, not, List, [], ◌∷◌, ◌++◌, filter, map, Option, None, Some}
+use Rattle.std.specs.Prelude.{◌≡◌, ℕ, Bool, true, not, List, [], ◌∷◌, ◌++◌, filter, map, Option, None, Some, Result, OnOk}
+use Rattle.std.specs.Global.{Vec}
 use Rattle.std.specs.List.{flat_map}
 use Rattle.std.specs.Option.{option_map_or}
 use Rattle.toml.specs.Data.{Data, Members, no_members, member, as_table}
@@ -18,6 +19,15 @@ Unknown = Option Key × List ℕ
 
 abbrev pub unknown_data : UnknownKey → Unknown
 unknown_data key = (key.array, key.name.now)
+
+-- these unknown keys were appended, unless the call failed
+abbrev pub AddsUnknown : {T E : Type 0} → Vec UnknownKey → Vec UnknownKey → List Unknown
+    → Result T E → Type 0
+AddsUnknown old new keys result =
+    OnOk result (map unknown_data new.items ≡ map unknown_data old.items ++ keys)
+
+abbrev pub AreUnknown : List Unknown → Vec UnknownKey → Type 0
+AreUnknown keys found = map unknown_data found.items ≡ keys
 
 -- the names of a table's keys, in its order
 abbrev pub table_names : Members → List (List ℕ)
@@ -48,6 +58,9 @@ abbrev pub array_unknown : Members → Key → List Unknown
 array_unknown table array =
     flat_map (element_unknown array) (values_read (key_value table array))
 
+abbrev pub arrays_unknown : Members → List Key → List Unknown
+arrays_unknown table keys = flat_map (array_unknown table) keys
+
 -- the settings' own, then those of the tables in each array
 abbrev pub unknown_keys : Members → List Unknown
-unknown_keys table = unknown_in None table ++ flat_map (array_unknown table) all_keys
+unknown_keys table = unknown_in None table ++ arrays_unknown table all_keys

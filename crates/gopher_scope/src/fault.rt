@@ -4,6 +4,7 @@ ghost use Rattle.std.specs.Prelude.{◌≡◌};
 ghost use Rattle.gopher_scope.specs.Settings.{settings_fault_code};
 
 use crate::settings::Key;
+use gopher_item::NoMemory;
 use thiserror::Error;
 
 /// Why a text isn't valid settings.
@@ -42,5 +43,15 @@ impl SettingsFault {
             SettingsFault::UnknownKey => 34,
             SettingsFault::NoMemory => 90,
         }
+    }
+}
+
+impl From<NoMemory> for SettingsFault {
+    ghost use Rattle.gopher_scope.specs.declared.fault.SettingsFault.TheVariants.{NoMemory};
+
+    ghost from_gives = { λ _ fault. fault ≡ NoMemory };
+
+    fn from(_refused: NoMemory) -> SettingsFault {
+        SettingsFault::NoMemory
     }
 }

@@ -2,7 +2,7 @@
 
 ghost use Rattle.std.specs.Prelude.{◌≡◌, None, IfOk, IfErr};
 ghost use Rattle.toml.specs.View.{table_view};
-ghost use Rattle.gopher_scope.specs.Settings.{settings_data, settings_fault, integer_at, text_at, seeds_at, rules_at, ReadsTable, AreReadFrom, AreSettingsOf, AreInRange, AreValuesInText, IsFaultOf};
+ghost use Rattle.gopher_scope.specs.Settings.{settings_data, settings_fault, integer_at, text_at, rules_at, ReadsTable, AreReadFrom, AreSettingsOf, AreInRange, AreValuesInText, IsFaultOf};
 
 mod check;
 mod items;
@@ -46,9 +46,9 @@ pub struct Settings {
 fn text_at<'a>(table: &'a Table, key: Key) -> &'a str
     ensures { result.now ≡ text_at (table_view table.now) key }
 {
-    match key.form() {
-        Form::Scalar(scalar) => scalar.text(table, key.name()),
-        Form::Tables(_) => "",
+    match key.row() {
+        (name, Form::Scalar(scalar)) => scalar.text(table, name),
+        (_, Form::Tables(_)) => "",
     }
 }
 
@@ -56,9 +56,9 @@ fn integer_at(table: &Table, key: Key) -> u32
     requires { settings_fault (table_view table.now) ≡ None }
     ensures { result ≡ integer_at (table_view table.now) key }
 {
-    match key.form() {
-        Form::Scalar(scalar) => scalar.integer(table, key.name()),
-        Form::Tables(_) => 0,
+    match key.row() {
+        (name, Form::Scalar(scalar)) => scalar.integer(table, name),
+        (_, Form::Tables(_)) => 0,
     }
 }
 
@@ -75,13 +75,6 @@ fn home(alloc: Global, table: &Table) -> Result<Home, NoMemory>
             _ => unreachable!(),
         },
     }
-}
-
-fn seeds_at(alloc: Global, table: &Table) -> Result<Vec<Place>, NoMemory>
-    requires { settings_fault (table_view table.now) ≡ None }
-    ensures { IfOk result (λ seeds. seeds.items ≡ seeds_at (table_view table.now)) }
-{
-    seeds(alloc, values_at(table, Key::Seeds.name()))
 }
 
 fn scope_at(alloc: Global, table: &Table) -> Result<Scope, NoMemory>
@@ -101,25 +94,13 @@ fn settings_read(alloc: Global, table: &Table) -> Result<Settings, NoMemory>
     Ok(Settings {
         home: home(alloc, table)?,
         root: String::from_str(alloc, text_at(table, Key::Root))?,
-        seeds: seeds_at(alloc, table)?,
+        seeds: seeds(alloc, values_at(table, Key::Seeds.name()))?,
         scope: scope_at(alloc, table)?,
         places: integer_at(table, Key::Places),
         workers: integer_at(table, Key::Workers),
         threads: integer_at(table, Key::Threads),
         tries: integer_at(table, Key::Tries),
     })
-}
-
-fn settings_of(alloc: Global, table: &Table) -> Result<Settings, SettingsFault>
-    ensures { ReadsTable (table_view table.now) result }
-{
-    if let Some(fault) = settings_fault(table) {
-        return Err(fault);
-    }
-    match settings_read(alloc, table) {
-        Ok(settings) => Ok(settings),
-        Err(_) => Err(SettingsFault::NoMemory),
-    }
 }
 
 impl Settings {
@@ -145,9 +126,19 @@ impl Settings {
         ensures refused { IfErr result (IsFaultOf text.now) }
     {
         match toml::table_from_str(alloc, text) {
-            Ok(table) => settings_of(alloc, &table),
+            Ok(table) => Settings::of_table(alloc, &table),
             Err(fault) if fault.is_memory() => Err(SettingsFault::NoMemory),
             Err(_) => Err(SettingsFault::NotToml),
+        }
+    }
+
+    /// Reads the settings of a TOML table. The errors are those of `read` for a text with it.
+    pub fn of_table(alloc: Global, table: &Table) -> Result<Settings, SettingsFault>
+        ensures { ReadsTable (table_view table.now) result }
+    {
+        match settings_fault(table) {
+            Some(fault) => Err(fault),
+            None => Ok(settings_read(alloc, table)?),
         }
     }
 }

@@ -15,10 +15,9 @@ use toml::Table;
 pub fn key_fault(table: &Table, key: Key) -> Option<SettingsFault>
     ensures { result ≡ key_fault (table_view table.now) key }
 {
-    match key.form().problem(table, key.name()) {
-        None => None,
-        Some(problem) => Some(problem.at(key)),
-    }
+    let (name, form) = key.row();
+    let problem = form.problem(table, name)?;
+    Some(problem.at(key))
 }
 
 fn first_fault(table: &Table, keys: &[Key]) -> Option<SettingsFault>
@@ -56,7 +55,8 @@ fn has_unknown_key(table: &Table) -> bool
 fn key_has_unknown(table: &Table, key: Key) -> bool
     ensures { result ≡ key_has_unknown (table_view table.now) key }
 {
-    key.form().has_unknown(table, key.name())
+    let (name, form) = key.row();
+    form.has_unknown(table, name)
 }
 
 fn arrays_have_unknown(table: &Table, keys: &[Key]) -> bool

@@ -28,21 +28,16 @@ pub(crate) fn values_at<'a>(table: &'a Table, name: &str) -> &'a [Value]
 fn field_text<'a>(table: &'a Table, field: Field) -> &'a str
     ensures { result.now ≡ field_text (table_view table.now) field }
 {
-    field.scalar().text(table, field.name())
-}
-
-fn field_integer(table: &Table, field: Field) -> u32
-    requires { field_problem (table_view table.now) field ≡ None }
-    ensures { result ≡ field_integer (table_view table.now) field }
-{
-    field.scalar().integer(table, field.name())
+    let (name, scalar) = field.row();
+    scalar.text(table, name)
 }
 
 fn port(table: &Table) -> u16
     requires { field_problem (table_view table.now) Field.Port ≡ None }
     ensures { result ≡ field_integer (table_view table.now) Field.Port }
 {
-    field_integer(table, Field::Port) as u16
+    let (name, scalar) = Field::Port.row();
+    scalar.integer(table, name) as u16
 }
 
 fn kind(table: &Table) -> u8

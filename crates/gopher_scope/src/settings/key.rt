@@ -72,43 +72,6 @@ impl Form {
     }
 }
 
-/// The name and the valid values of a key.
-#[derive(Clone, Copy)]
-struct Row {
-    name: &'static str,
-    form: Form,
-}
-
-fn integer(name: &'static str, absent: u32, most: u32) -> Row
-    ensures name { result.name.now ≡ name.now }
-    ensures form { result.form ≡ Form.Scalar (Scalar.Integer absent most) }
-{
-    Row {
-        name,
-        form: Form::Scalar(Scalar::Integer { absent, most }),
-    }
-}
-
-fn text(name: &'static str, kind: TextKind) -> Row
-    ensures name { result.name.now ≡ name.now }
-    ensures form { result.form ≡ Form.Scalar (Scalar.Text kind) }
-{
-    Row {
-        name,
-        form: Form::Scalar(Scalar::Text(kind)),
-    }
-}
-
-fn tables(name: &'static str, element: Element) -> Row
-    ensures name { result.name.now ≡ name.now }
-    ensures form { result.form ≡ Form.Tables element }
-{
-    Row {
-        name,
-        form: Form::Tables(element),
-    }
-}
-
 impl Key {
     /// All keys, in the order in which they are checked.
     pub const ALL: [Key; 10] = [
@@ -124,21 +87,22 @@ impl Key {
         Key::Tries,
     ];
 
-    fn row(self) -> Row
-        ensures name { result.name.now ≡ key_name self }
-        ensures form { result.form ≡ key_form self }
+    /// Returns the name of the key in the text, and its valid values.
+    pub(crate) fn row(self) -> (&'static str, Form)
+        ensures name { result.0.now ≡ key_name self }
+        ensures form { result.1 ≡ key_form self }
     {
         match self {
-            Key::Host => text("host", TextKind::Host),
-            Key::Port => integer("port", 70, MAX_PORT),
-            Key::Root => text("root", TextKind::Path),
-            Key::Seeds => tables("seeds", Element::Seed),
-            Key::Allow => tables("allow", Element::Rule),
-            Key::Deny => tables("deny", Element::Rule),
-            Key::Places => integer("places", 4_096, MAX_PLACES),
-            Key::Workers => integer("workers", 4, 16),
-            Key::Threads => integer("threads", 2, 8),
-            Key::Tries => integer("tries", 1, MAX_TRIES),
+            Key::Host => ("host", Form::Scalar(Scalar::Text(TextKind::Host))),
+            Key::Port => ("port", Form::Scalar(Scalar::Integer(70, MAX_PORT))),
+            Key::Root => ("root", Form::Scalar(Scalar::Text(TextKind::Path))),
+            Key::Seeds => ("seeds", Form::Tables(Element::Seed)),
+            Key::Allow => ("allow", Form::Tables(Element::Rule)),
+            Key::Deny => ("deny", Form::Tables(Element::Rule)),
+            Key::Places => ("places", Form::Scalar(Scalar::Integer(4_096, MAX_PLACES))),
+            Key::Workers => ("workers", Form::Scalar(Scalar::Integer(4, 16))),
+            Key::Threads => ("threads", Form::Scalar(Scalar::Integer(2, 8))),
+            Key::Tries => ("tries", Form::Scalar(Scalar::Integer(1, MAX_TRIES))),
         }
     }
 
@@ -146,14 +110,7 @@ impl Key {
     pub fn name(self) -> &'static str
         ensures { result.now ≡ key_name self }
     {
-        self.row().name
-    }
-
-    /// Returns the valid values of the key.
-    pub(crate) fn form(self) -> Form
-        ensures { result ≡ key_form self }
-    {
-        self.row().form
+        self.row().0
     }
 }
 

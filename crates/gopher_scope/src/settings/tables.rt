@@ -31,31 +31,17 @@ pub(crate) enum Field {
 }
 
 impl Field {
-    /// Returns the name of the key in the text.
-    pub(crate) fn name(self) -> &'static str
-        ensures { result.now ≡ field_name self }
+    /// Returns the name of the key in the text, and its valid values.
+    pub(crate) fn row(self) -> (&'static str, Scalar)
+        ensures name { result.0.now ≡ field_name self }
+        ensures values { result.1 ≡ field_scalar self }
     {
         match self {
-            Field::Kind => "type",
-            Field::Host => "host",
-            Field::Port => "port",
-            Field::Selector => "selector",
-            Field::Prefix => "prefix",
-        }
-    }
-
-    /// Returns the kind and the range of the key's value.
-    pub(crate) fn scalar(self) -> Scalar
-        ensures { result ≡ field_scalar self }
-    {
-        match self {
-            Field::Kind => Scalar::Text(TextKind::PlaceKind),
-            Field::Host => Scalar::Text(TextKind::Host),
-            Field::Port => Scalar::Integer {
-                absent: 70,
-                most: MAX_PORT,
-            },
-            Field::Selector | Field::Prefix => Scalar::Text(TextKind::Selector),
+            Field::Kind => ("type", Scalar::Text(TextKind::PlaceKind)),
+            Field::Host => ("host", Scalar::Text(TextKind::Host)),
+            Field::Port => ("port", Scalar::Integer(70, MAX_PORT)),
+            Field::Selector => ("selector", Scalar::Text(TextKind::Selector)),
+            Field::Prefix => ("prefix", Scalar::Text(TextKind::Selector)),
         }
     }
 }
@@ -85,7 +71,8 @@ impl Element {
     {
         let fields = self.fields();
         for field in fields {
-            if let Some(problem) = field.scalar().problem(table, field.name()) {
+            let (name, scalar) = field.row();
+            if let Some(problem) = scalar.problem(table, name) {
                 return Some(problem);
             }
         }
@@ -126,12 +113,9 @@ impl Element {
     pub(crate) fn problem(self, table: &Table, name: &str) -> Option<Problem>
         ensures { result ≡ tables_problem self (get_member name.now (table_view table.now)) }
     {
-        match value_at(table, name) {
-            None => None,
-            Some(value) => match value.as_array() {
-                None => Some(Problem::WrongKind),
-                Some(array) => self.array_problem(array),
-            },
+        match value_at(table, name)?.as_array() {
+            None => Some(Problem::WrongKind),
+            Some(array) => self.array_problem(array),
         }
     }
 
@@ -140,7 +124,7 @@ impl Element {
     pub(crate) fn is_field_name(self, name: &str) -> bool
         ensures { result ≡ is_field_name self name.now }
     {
-        self.fields().iter().any(|field| field.name() == name)
+        self.fields().iter().any(|field| field.row().0 == name)
     }
 
     fn has_unknown_field(self, table: &Table) -> bool

@@ -90,8 +90,8 @@ impl TextKind {
 /// The valid values of a key whose value is an integer or a text.
 #[derive(Clone, Copy, Debug, PartialEq, Eq)]
 pub(crate) enum Scalar {
-    /// An integer from 1 to `most`; `absent` if the key is missing.
-    Integer { absent: u32, most: u32 },
+    /// An integer from 1 to the second number; the first number if the key is missing.
+    Integer(u32, u32),
     /// A text. Its kind gives its range, and its value if the key is missing.
     Text(TextKind),
 }
@@ -131,8 +131,8 @@ impl Scalar {
         ensures { result ≡ scalar_problem self (get_member name.now (table_view table.now)) }
     {
         match (self, value_at(table, name)) {
-            (Scalar::Integer { .. }, None) => None,
-            (Scalar::Integer { most, .. }, Some(value)) => integer_problem(most, value),
+            (Scalar::Integer(..), None) => None,
+            (Scalar::Integer(_, most), Some(value)) => integer_problem(most, value),
             (Scalar::Text(kind), Some(value)) => kind.problem(value),
             (Scalar::Text(kind), None) => match kind.absent() {
                 Some(_) => None,
@@ -147,8 +147,8 @@ impl Scalar {
         ensures { result ≡ integer_read self (get_member name.now (table_view table.now)) }
     {
         match (self, value_at(table, name)) {
-            (Scalar::Integer { absent, .. }, None) => absent,
-            (Scalar::Integer { most, .. }, Some(value)) => number_read(most, value),
+            (Scalar::Integer(absent, _), None) => absent,
+            (Scalar::Integer(_, most), Some(value)) => number_read(most, value),
             (Scalar::Text(_), _) => 0,
         }
     }
@@ -158,7 +158,7 @@ impl Scalar {
         ensures { result.now ≡ text_read self (get_member name.now (table_view table.now)) }
     {
         match (self, value_at(table, name)) {
-            (Scalar::Integer { .. }, _) => "",
+            (Scalar::Integer(..), _) => "",
             (Scalar::Text(kind), None) => kind.absent().unwrap_or(""),
             (Scalar::Text(_), Some(value)) => value.as_str().unwrap_or(""),
         }

@@ -3,7 +3,7 @@ use Rattle.gopher_scope.proofs.Faultless.{form_problem-none, values_read-none}
 use Rattle.gopher_scope.specs.Settings.{key_value}
 use Rattle.gopher_scope.specs.declared.settings.tables.Element.TheVariants.{Seed}
 use Rattle.gopher_scope.specs.declared.settings.key.Key.TheVariants.{Seeds}
-use Rattle.gopher_scope.proofs.settings.seeds_at.Goals as goal
+use Rattle.gopher_scope.proofs.settings.settings_read.Goals as goal
 
 pub seeds-requires : goal.seeds-requires
 seeds-requires c =
