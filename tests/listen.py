@@ -6,25 +6,21 @@ handed, and check them.
 
 The last line is 'listen: N passed, M failed'. It takes some seconds.
 """
+import pathlib
 import re
 import socket
 import sys
+import time
 
-from running.server import HOST, ask, ask_whole, free_port, run_test
+from running.server import HOST, ask, ask_whole, connect, free_port, is_open, run_test, with_few_files
 
 FILES = {"a.txt": b"hello\n"}
 OTHER, ABSENT, REPLY = "127.0.0.2", "192.0.2.1", b"hello\r\n.\r\n"
+# How many files a server keeps for what isn't a connection, and how many connections it may hold then.
+FILES_LEFT, PLACES = 64, 40
 NOT_LISTENING = b"hole: 81\n"
+IPV6, LOOPBACK = pathlib.Path("/proc/net/if_inet6"), f"{1:032}"
 NO_SEEDS = "warning: searches find nothing, because the settings have no [[seeds]]\n"
-
-
-def has_ipv6():
-    try:
-        with socket.socket(socket.AF_INET6) as probe:
-            probe.bind(("::1", 0))
-        return True
-    except OSError:
-        return False
 
 
 def listening(test, root, *words, hosts=(HOST,), **how):
@@ -56,7 +52,7 @@ def check_named(test):
     with test.serving(root) as server:
         are_served = [ask_whole(server.port, b"/a.txt\r\n", host) == REPLY for host in (HOST, OTHER)]
         test.expect("without --listen the host alone is served", are_served, [True, False])
-    if not has_ipv6():
+    if not IPV6.exists() or LOOPBACK not in IPV6.read_text():
         return print("listen: skipped: this machine has no IPv6")
     listening(test, root, "--listen", "::1", hosts=("::1",))
     listening(test, root, "--listen", "[::1]", hosts=("::1",))
@@ -108,6 +104,26 @@ def check_activation(test):
         test.expect("the same with --progress", told, (True, b"hole: 81", 1))
 
 
+def check_lost_thread(test):
+    """A thread ends whose listener is broken. The other accepts what was reported to it, at each listener, and has its places."""
+    before = (*with_few_files(FILES_LEFT + PLACES), *test.preload("refusing", BROKEN_ACCEPTS=1))
+    words = ("--progress", "--listen", HOST, "--listen", OTHER)
+    with test.serving(test.site(FILES), *words, more="threads = 2\n", before=before) as server:
+        at_second = ask_whole(server.port, b"/a.txt\r\n", OTHER)
+        test.expect("a client that was reported to a thread that ended", at_second, REPLY)
+        idle = []
+        for _ in range(PLACES):
+            idle.append(connect(server.port))
+            # so that a thread accepts one in each round
+            time.sleep(0.02)
+        test.expect("a client after as many idle ones as there are places", ask_whole(server.port, b"/a.txt\r\n"), REPLY)
+        test.expect("as many are kept", sum(map(is_open, idle)) >= PLACES - 2, True)
+        for each in idle:
+            each.close()
+        error = server.terminate()[1]
+    test.expect("the thread that ended is told", error.count(b"hole: connections can't be accepted: "), 1)
+
+
 class Checks:
     """Checks of a site at one port."""
 
@@ -157,4 +173,4 @@ def check_checks(test):
 
 
 if __name__ == "__main__":
-    run_test("listen", __doc__, check_named, check_addresses, check_activation, check_checks)
+    run_test("listen", __doc__, check_named, check_addresses, check_activation, check_lost_thread, check_checks)

@@ -1,11 +1,33 @@
 -- Whether a server thread accepts connections.
-use Rattle.std.specs.Prelude.{ℕ, ◌+◌, ◌^◌, ◌-◌, Bool, true, false, not, ◌&&◌, nat_le, min, if◌then◌else◌, Option, None, Some}
+use Rattle.std.specs.Prelude.{ℕ, ◌+◌, ◌^◌, ◌-◌, ◌==◌, Bool, true, false, not, ◌&&◌, nat_le, min, if◌then◌else◌, Option, None, Some}
 use Rattle.gopher_server.specs.declared.decisions.accepting.Accepting.{Accepting}
 use Rattle.gopher_server.specs.declared.decisions.accepting.Accepting.TheVariants.{Watches, Leaves, Pauses, Ended}
 use Rattle.gopher_server.specs.declared.decisions.accepting.AcceptEvent.{AcceptEvent}
 use Rattle.gopher_server.specs.declared.decisions.accepting.AcceptEvent.TheVariants.{IsShort, Ends, Round}
 use Rattle.gopher_server.specs.declared.decisions.accepting.AcceptDuty.{AcceptDuty}
 use Rattle.gopher_server.specs.declared.decisions.accepting.AcceptDuty.TheVariants.{Nothing, Watch, HandOver, End}
+use Rattle.gopher_server.specs.declared.decisions.accept_range.AcceptRange.{AcceptRange}
+
+-- the token of a thread's waker
+abbrev pub waker : ℕ
+waker = 2 ^ 64 - 1_026
+
+-- the token of the first listener; the others follow, and keys of connections are lower
+abbrev pub first_listener : ℕ
+first_listener = 2 ^ 64 - 1_025
+
+-- where an event has a thread accept: at all of its listeners if another thread woke it, otherwise
+-- at the one that it names
+abbrev pub accept_range : ℕ → ℕ → Option AcceptRange
+accept_range token listeners =
+    if token == waker then Some (record { first = 0; end = listeners; is_woken = true })
+    else (if nat_le first_listener token
+    then Some (record {
+      first = token - first_listener;
+      end = token - first_listener + 1;
+      is_woken = false;
+    })
+    else None)
 
 -- a pause that begins now ends after 100 ms
 abbrev pub pause : ℕ → Accepting

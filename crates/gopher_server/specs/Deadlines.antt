@@ -1,6 +1,5 @@
 -- Deadlines, the earliest first: pairs of a key and a time.
-use Rattle.std.specs.Prelude.{◌≡◌, ℕ, ◌<◌, ◌≤◌, List, [], ◌∷◌, ◌++◌, Option, None, Some, MatchOption}
-use Rattle.gopher_server.specs.declared.decisions.deadlines.Deadlines.{Deadlines}
+use Rattle.std.specs.Prelude.{◌≡◌, ℕ, ◌<◌, ◌≤◌, List, [], ◌∷◌, Option, None, Some, MatchOption}
 
 abbrev pub first_deadline : List (ℕ × ℕ) → Option ℕ
 first_deadline [] = None
@@ -16,12 +15,7 @@ abbrev pub NoneIsDue : ℕ → List (ℕ × ℕ) → Type 0
 NoneIsDue now [] = Unit {0}
 NoneIsDue now (pair ∷ pairs) = now < pair.1
 
--- the deadline of a key was set, after all others
-abbrev pub SetsDeadline : ℕ → ℕ → Deadlines → Deadlines → Type 0
-SetsDeadline key deadline old new = new.queue.items ≡ old.queue.items ++ (key, deadline) ∷ []
-
 -- the first deadline is taken if it isn't after `now`; otherwise nothing changes
-abbrev pub TakesIfDue : ℕ → Deadlines → Deadlines → Option ℕ → Type 0
+abbrev pub TakesIfDue : ℕ → List (ℕ × ℕ) → List (ℕ × ℕ) → Option ℕ → Type 0
 TakesIfDue now old new taken =
-    MatchOption taken (NoneIsDue now old.queue.items × (new.queue.items ≡ old.queue.items))
-    (TakesDue now old.queue.items new.queue.items)
+    MatchOption taken (NoneIsDue now old × (new ≡ old)) (TakesDue now old new)

@@ -1,10 +1,9 @@
 -- The connections that a server thread holds, and what each is doing.
-use Rattle.std.specs.Prelude.{ℕ, ◌+◌, ◌-◌, ◌^◌, ◌≤◌, ◌==◌, length, min, nat_eq, Bool, if◌then◌else◌, List, Option}
+use Rattle.std.specs.Prelude.{◌≡◌, ℕ, ◌+◌, ◌-◌, ◌^◌, ◌≤◌, ◌==◌, length, min, nat_eq, Bool, if◌then◌else◌, List, [], ◌∷◌, ◌++◌, Option}
 use Rattle.std.specs.Borrow.{Fml, LendsIf, MutBor, RattleType}
 use Rattle.std.specs.Option.{is_some}
 use Rattle.std.specs.Map.{lookup}
 use Rattle.gopher_server.specs.UseOrder.{PutsConnection, connection_at, with_connection}
-use Rattle.gopher_server.specs.Deadlines.{SetsDeadline}
 use Rattle.gopher_server.specs.WorkQueue.{has_key, occurs, with_key, without_key}
 use Rattle.gopher_server.specs.declared.decisions.held.Held.{Held}
 use Rattle.gopher_server.specs.contracts.decisions.held.Held.{the_row}
@@ -18,6 +17,10 @@ queue held = held.searching.keys.items
 -- the keys of the connections that have a larger queue
 abbrev pub large_of : {T : Type 0} → Held T → List ℕ
 large_of held = held.large.keys.items
+
+-- the deadlines of those that linger: pairs of a key and a time, the earliest first
+abbrev pub deadlines : {T : Type 0} → Held T → List (ℕ × ℕ)
+deadlines held = held.deadlines.items
 
 -- all connections in their order, the most recently used first
 abbrev pub held_entries : {T : Type 0} → Held T → List (ℕ × T)
@@ -68,8 +71,9 @@ queue_after goes_on key keys = if goes_on then keys else without_key key keys
 abbrev pub lingers_until : ℕ → ℕ
 lingers_until now = min (now + 16_000) (2 ^ 64 - 1)
 
+-- the deadline of a key was set, after all others
 abbrev pub Lingers : {T : Type 0} → Held T → Held T → ℕ → ℕ → Type 0
-Lingers old new key now = SetsDeadline key (lingers_until now) old.deadlines new.deadlines
+Lingers old new key now = deadlines new ≡ deadlines old ++ (key, lingers_until now) ∷ []
 
 -- all connections in their states, with this one in place of the one at a key
 abbrev pub with_written : {T : Type 0} → Held T → ℕ → T → Held T

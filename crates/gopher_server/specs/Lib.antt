@@ -11,6 +11,6 @@ pub mod Places
 pub mod Rests
 pub mod Timing
 pub mod UseOrder
-pub mod Waits
 pub mod WorkQueue
 pub mod Held
+pub mod Waits

@@ -1,9 +1,13 @@
 -- The lines of a server thread, until it hands them on.
-use Rattle.std.specs.Prelude.{◌≡◌, ◌⊎◌, ℕ, List}
+use Rattle.std.specs.Prelude.{◌≡◌, ◌⊎◌, ℕ, List, Option, None, Some, if◌then◌else◌}
 use Rattle.std.specs.Net.Text.{ip_text}
 use Rattle.std.specs.declared.net.ip_addr.IpAddr.{IpAddr}
 use Rattle.gopher_server.specs.RequestLine.{RequestData}
-use Rattle.gopher_server.specs.Batch.{BatchData, no_lines, with_request, with_dropped}
+use Rattle.gopher_server.specs.Batch.{BatchData, is_empty, no_lines, with_request, with_dropped}
+
+-- lines wait for 250 ms at most; without lines there is nothing to wait for
+abbrev pub poll_timeout : BatchData → Option ℕ
+poll_timeout batch = if is_empty batch then None else Some 250
 
 -- a batch was handed on whole, or was kept whole
 abbrev pub IsHandedOn : BatchData → BatchData → Type 0

@@ -1,4 +1,4 @@
--- UseOrder and their keys.
+-- Connections by their keys, in the order of their last use.
 use Rattle.std.specs.Prelude.{◌≡◌, ℕ, ◌+◌, min, nat_eq, Option}
 use Rattle.std.specs.Borrow.{Fml, LendsIf, MutBor, RattleType}
 use Rattle.std.specs.Map.{lookup, set_value}

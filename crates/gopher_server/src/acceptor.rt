@@ -1,7 +1,8 @@
 //! How a server thread accepts connections: its listeners, its quota, and its pauses.
 
-ghost use Rattle.std.specs.Prelude.{◌≡◌};
+ghost use Rattle.std.specs.Prelude.{◌≡◌, None};
 ghost use Rattle.gopher_server.specs.declared.decisions.accepting.Accepting.TheVariants.{Ended};
+ghost use Rattle.gopher_server.specs.declared.decisions.accepting.AcceptDuty.TheVariants.{End};
 ghost use Rattle.gopher_server.specs.declared.decisions.accepting.AcceptEvent.TheVariants.{Ends};
 
 use crate::decisions::{AcceptDuty, AcceptEvent, Accepting};
@@ -58,7 +59,8 @@ impl Acceptor {
 
     // Does what a change of its state asks. Returns false if the system refuses.
     fn fulfil(&mut self, poll: &Poll, duty: AcceptDuty) -> bool
-        ensures { self.new.state ≡ self.old.state }
+        ensures state { self.new.state ≡ self.old.state }
+        ensures closed { duty ≡ End → self.new.listeners ≡ None }
     {
         match duty {
             AcceptDuty::Nothing => true,
@@ -74,7 +76,8 @@ impl Acceptor {
             AcceptDuty::End => {
                 self.unwatch(poll);
                 let _closed = self.listeners.take();
-                self.shared.lose_thread();
+                self.shared.places.lose_thread();
+                self.shared.wake_all();
                 true
             }
         }

@@ -22,7 +22,8 @@ pub(crate) const BUFFER_BYTES: usize = 4_096;
 // A connection lingers after a reply of more bytes.
 const LINGER_ABOVE: usize = 65_536;
 
-// A search string of more bytes is long: beginning its search would take up to a millisecond.
+// A search string of more bytes is long: its search isn't begun while others wait. A shorter one
+// has at most 64 terms; its search is begun, and dropped again if it then waits for its turn.
 const LONG_SEARCH: usize = 128;
 
 // The most steps up to the end of a line: a line has at most 1,026 bytes.
@@ -56,10 +57,10 @@ pub(crate) struct Connection<'a> {
     lingers: bool,
     // What the poll reports of it; nothing so far if `None`.
     reported: Option<Interest>,
-    // Whether the system queues more for its client than for others.
-    is_large: bool,
-    // Whether it failed because memory ran out.
-    lacked_memory: bool,
+    /// Whether the system queues more for its client than for others.
+    pub(crate) is_large: bool,
+    /// Whether it failed because memory ran out.
+    pub(crate) lacked_memory: bool,
 }
 
 // Adds the line of a conversation to the log, if a line was asked.
@@ -106,16 +107,6 @@ impl<'a> Connection<'a> {
             is_large: false,
             lacked_memory: false,
         }
-    }
-
-    /// Returns whether it failed because memory ran out.
-    pub(crate) fn lacked_memory(&self) -> bool {
-        self.lacked_memory
-    }
-
-    /// Returns whether the system queues more for its client than for others.
-    pub(crate) fn is_large(&self) -> bool {
-        self.is_large
     }
 
     // What it waits for. It waits for room to write only while it has a reply to send, because a

@@ -12,8 +12,8 @@
 //! Error 90 (`AllocError`) means out of memory, and leaves everything unchanged. Calls that can't
 //! fail with it allocate nothing.
 
+mod accept_range;
 mod accepting;
-mod deadlines;
 mod held;
 mod places;
 mod quota;
@@ -21,6 +21,7 @@ mod use_order;
 mod waits;
 mod work_queue;
 
+pub use accept_range::{AcceptRange, FIRST_LISTENER, WAKER};
 pub use accepting::{AcceptDuty, AcceptEvent, AcceptRun, Accepting};
 pub use held::{EventMeaning, Held};
 pub use places::{Places, max_places, other_files, serves_crawl};

@@ -1,5 +1,6 @@
-//! Listeners in a poll: their tokens, and watching them.
+//! Watching listeners in a poll.
 
+use crate::decisions::FIRST_LISTENER;
 use mio::Poll;
 use mio::net::TcpListener;
 use std::os::fd::AsRawFd;
@@ -7,20 +8,8 @@ use std::os::fd::AsRawFd;
 /// The most listeners of a server.
 pub const MAX_LISTENERS: usize = 1_024;
 
-// The token of the first listener's events; each further listener has the next number. Keys of
-// connections are lower.
-const FIRST_LISTENER: usize = usize::MAX - 1_024;
-
 // Wakes one thread for each connection instead of all (`EPOLLEXCLUSIVE` of Linux).
 const EPOLLEXCLUSIVE: u32 = 1 << 28;
-
-/// The token of the events of a thread's waker.
-pub(crate) const WAKER: usize = usize::MAX - 1_025;
-
-/// Returns the number of an event's listener; `None` for other events.
-pub(crate) fn listener_index(token: usize) -> Option<usize> {
-    token.checked_sub(FIRST_LISTENER)
-}
 
 /// Starts reports of the connections that wait at the listeners. Returns false if the system
 /// refuses.

@@ -31,4 +31,5 @@ mod writer;
 pub use queue::LogQueue;
 pub use request_line::search_of;
 pub use thread_log::{Accepted, ThreadLog};
+pub(crate) use timing::micros_of;
 pub use writer::{Log, OpenLog, start_log};

@@ -3,17 +3,17 @@
 ghost use Rattle.std.specs.Prelude.{◌≡◌, ◌&&◌};
 ghost use Rattle.gopher_server.specs.Accepting.{has_ended};
 ghost use Rattle.gopher_server.specs.Held.{has_none};
+ghost use Rattle.gopher_server.specs.Waits.{IsLongestWait};
 ghost use Rattle.gopher_server.specs.declared.decisions.accepting.Accepting.TheVariants.{Ended};
 ghost use Rattle.gopher_server.specs.declared.thread_end.ThreadEnd.TheVariants.{Failed};
 
 use crate::accept_failure::{AcceptFailure, failure_of};
 use crate::acceptor::Acceptor;
 use crate::connection::{BUFFER_BYTES, Connection, NextStep};
-use crate::decisions::{AcceptEvent, AcceptRun, Held, longest_wait};
-use crate::listeners::{WAKER, listener_index};
+use crate::decisions::{AcceptEvent, AcceptRange, AcceptRun, Held, longest_wait};
 use crate::logging::ThreadLog;
 use crate::setup::ThreadSetup;
-use crate::thread_clock::{ThreadClock, millis_of};
+use crate::thread_clock::ThreadClock;
 use crate::thread_end::ThreadEnd;
 use gopher_conversation::Answers;
 use mio::net::TcpStream;
@@ -24,20 +24,9 @@ use std::net::SocketAddr;
 use std::sync::Wait;
 use std::time::{Clock, Duration};
 
-// The most connections that are accepted before other events are handled. A round in which searches
-// wait takes about a millisecond, and 64 are more than connect meanwhile.
+// The most connections that are accepted at a listener before other events are handled. Those left
+// wait in the system's queue, which reports them again in the next round.
 const MAX_ACCEPTS: u32 = 64;
-
-/// Whether a client got no whole reply because memory ran out.
-#[derive(Clone, Copy, PartialEq, Eq)]
-pub(crate) enum Shortage {
-    /// No client so far.
-    NotMet,
-    /// A client did, and nobody was told.
-    Met,
-    /// A client did, and that was told.
-    Told,
-}
 
 /// A server thread.
 #[derive(Drop)]
@@ -52,9 +41,11 @@ pub(crate) struct Server<'a, A: Answers<'a> + Drop> {
     pub(crate) clock: ThreadClock,
     pub(crate) end: ThreadEnd,
     /// Whether a client got no whole reply because memory ran out.
-    pub(crate) shortage: Shortage,
+    pub(crate) is_short: bool,
     /// Whether it prints on the error stream why it fails.
     pub(crate) tells: bool,
+    // Whether it prints that a client got no whole reply.
+    tells_shortage: bool,
 }
 
 // If `tells`, prints on the error stream what failed, and the system's error.
@@ -69,9 +60,10 @@ impl<'a, A: Answers<'a> + Drop> Server<'a, A> {
     // ---- accepting
 
     // Accepts the connections that wait at a listener, or the first of them: the system reports the
-    // others again. While a search waits it accepts all, because each round then takes longer.
-    fn accept<R: Wait + Clock + Eprint>(&mut self, rt: &R, index: usize) {
-        if self.connections.next_search().is_some() {
+    // others again, unless another thread woke this one. While a search waits it accepts all,
+    // because each round then takes longer.
+    fn accept<R: Wait + Clock + Eprint>(&mut self, rt: &R, index: usize, is_woken: bool) {
+        if is_woken || self.connections.next_search().is_some() {
             self.acceptor.expect_more();
         }
         let mut run = AcceptRun::new();
@@ -91,15 +83,6 @@ impl<'a, A: Answers<'a> + Drop> Server<'a, A> {
                 }
                 None => return,
             }
-        }
-    }
-
-    // Accepts the connections that wait at any listener. The system reports a connection to one
-    // thread, which may have paused or have left it to the others.
-    fn accept_all<R: Wait + Clock + Eprint>(&mut self, rt: &R) {
-        for index in 0..self.acceptor.number_of_listeners() {
-            self.acceptor.expect_more();
-            self.accept(rt, index);
         }
     }
 
@@ -156,7 +139,7 @@ impl<'a, A: Answers<'a> + Drop> Server<'a, A> {
             may_enlarge,
             is_held_back,
         );
-        self.meet_shortage(connection.lacked_memory());
+        self.is_short |= connection.lacked_memory;
         if step == NextStep::Ends {
             connection.log_request(rt, self.alloc, &mut self.log);
         } else {
@@ -164,20 +147,11 @@ impl<'a, A: Answers<'a> + Drop> Server<'a, A> {
         }
     }
 
-    /// Records that a client got no whole reply because memory ran out, if `lacked_memory`.
-    pub(crate) fn meet_shortage(&mut self, lacked_memory: bool) {
-        if lacked_memory && self.shortage == Shortage::NotMet {
-            self.shortage = Shortage::Met;
-        }
-    }
-
     // Prints once on the error stream that a client got no whole reply, if it tells.
     fn tell_shortage(&mut self, rt: &impl Eprint) {
-        if self.shortage == Shortage::Met {
-            self.shortage = Shortage::Told;
-            if self.tells {
-                let _ = rt.eprintln("hole: a client got no whole reply: out of memory");
-            }
+        if self.is_short && self.tells_shortage {
+            self.tells_shortage = false;
+            let _ = rt.eprintln("hole: a client got no whole reply: out of memory");
         }
     }
 
@@ -185,12 +159,11 @@ impl<'a, A: Answers<'a> + Drop> Server<'a, A> {
 
     // Goes on with what an event names. `is_gone` says that a client takes nothing more.
     fn handle_event<R: Wait + Clock + Eprint>(&mut self, rt: &R, token: usize, is_gone: bool) {
-        if token == WAKER {
-            return self.accept_all(rt);
-        }
-        match listener_index(token) {
-            Some(index) => self.accept(rt, index),
-            None => self.meet_event(rt, token, is_gone),
+        let Some(range) = AcceptRange::at(token, self.acceptor.number_of_listeners()) else {
+            return self.meet_event(rt, token, is_gone);
+        };
+        for index in range.first..range.end {
+            self.accept(rt, index, range.is_woken);
         }
     }
 
@@ -207,14 +180,14 @@ impl<'a, A: Answers<'a> + Drop> Server<'a, A> {
     }
 
     // How long it may wait for events; `None` if it may wait until one comes.
-    fn poll_timeout(&self, clock: &impl Clock) -> Option<Duration> {
+    fn poll_timeout(&self, clock: &impl Clock) -> Option<Duration>
+        ensures { IsLongestWait self.now.connections self.now.acceptor.state
+            self.now.log.batch result }
+    {
         let searches = self.connections.next_search().is_some();
         let resume = self.acceptor.state.pause_end();
         let deadline = self.connections.first_deadline();
-        let log = match self.log.poll_timeout() {
-            Some(kept) => Some(millis_of(kept)),
-            None => None,
-        };
+        let log = self.log.poll_timeout();
         let now = self.time_if(clock, resume.is_some() || deadline.is_some());
         let wait = longest_wait(searches, resume, deadline, log, now)?;
         Some(Duration::from_millis(wait))
@@ -328,8 +301,9 @@ pub fn serve<'a, A: Answers<'a> + Drop, R: Wait + Clock + Eprint>(
         log,
         clock,
         end: ThreadEnd::Served,
-        shortage: Shortage::NotMet,
+        is_short: false,
         tells,
+        tells_shortage: tells,
     };
     server.work_to_end(rt, &mut events)
 }

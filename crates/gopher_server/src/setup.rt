@@ -1,7 +1,7 @@
 //! What server threads need of the system, made before they start (`set_up`).
 
-use crate::decisions::{AcceptQuota, Places, max_places, other_files, serves_crawl};
-use crate::listeners::{WAKER, watch};
+use crate::decisions::{AcceptQuota, Places, WAKER, max_places, other_files, serves_crawl};
+use crate::listeners::watch;
 use crate::logging::{LogQueue, ThreadLog};
 use crate::shared::ServerShared;
 use gopher_item::NoMemory;

@@ -19,10 +19,4 @@ impl ServerShared {
             let _refused = waker.wake();
         }
     }
-
-    /// Records that one thread fewer accepts connections, and wakes the others.
-    pub(crate) fn lose_thread(&self) {
-        self.places.lose_thread();
-        self.wake_all();
-    }
 }

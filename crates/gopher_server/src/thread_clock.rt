@@ -3,6 +3,7 @@
 ghost use Rattle.std.specs.Prelude.{◌≡◌, ◌/◌, ◌-◌, ◌^◌, min};
 ghost use Rattle.std.specs.Duration.{as_nanos};
 
+use crate::logging::micros_of;
 use std::io;
 use std::time::{Clock, Duration, Instant};
 
@@ -12,22 +13,12 @@ pub(crate) struct ThreadClock {
     began: Instant,
 }
 
-/// Returns the whole milliseconds of a time, at most 2^64 - 1.
-pub(crate) fn millis_of(time: Duration) -> u64
+// The whole milliseconds of a time, at most 2^64 - 1.
+fn millis_of(time: Duration) -> u64
     ensures { result ≡ min (as_nanos time / 1_000_000) (2 ^ 64 - 1) }
 {
     match u64::try_from(time.as_millis()) {
         Ok(millis) => millis,
-        Err(_) => u64::MAX,
-    }
-}
-
-// The whole microseconds of a time, at most 2^64 - 1.
-fn micros_of(time: Duration) -> u64
-    ensures { result ≡ min (as_nanos time / 1_000) (2 ^ 64 - 1) }
-{
-    match u64::try_from(time.as_micros()) {
-        Ok(micros) => micros,
         Err(_) => u64::MAX,
     }
 }

@@ -23,7 +23,7 @@ impl<'a, A: Answers<'a> + Drop> Server<'a, A> {
         connection: Connection<'a>,
         step: NextStep,
     ) {
-        let is_large = connection.is_large();
+        let is_large = connection.is_large;
         match self.connections.take_in(connection) {
             Ok(key) => {
                 self.acceptor.shared.places.take();
@@ -135,9 +135,8 @@ impl<'a, A: Answers<'a> + Drop> Server<'a, A> {
             may_enlarge,
             is_held_back,
         );
-        let is_large = connection.is_large();
-        let lacked_memory = connection.lacked_memory();
-        self.meet_shortage(lacked_memory);
+        let is_large = connection.is_large;
+        self.is_short |= connection.lacked_memory;
         self.connections.touch(key);
         if self.mark_if_large(key, is_large) {
             self.meet_later_step(rt, key, step);
@@ -207,14 +206,9 @@ impl<'a, A: Answers<'a> + Drop> Server<'a, A> {
         if self.connections.queue_search(key).is_err() {
             self.close(rt, key);
         } else if self.connections.waits_for_turn(key) {
-            self.put_back(key);
-        }
-    }
-
-    // Drops the search of the connection at a key, which begins anew at its turn.
-    fn put_back(&mut self, key: usize) {
-        if let Some(connection) = self.connections.get_mut(key) {
-            connection.put_back();
+            if let Some(connection) = self.connections.get_mut(key) {
+                connection.put_back();
+            }
         }
     }
 
@@ -233,8 +227,7 @@ impl<'a, A: Answers<'a> + Drop> Server<'a, A> {
                 false,
             );
             if step != NextStep::Works || self.clock.micros(clock) >= until {
-                let lacked_memory = connection.lacked_memory();
-                self.meet_shortage(lacked_memory);
+                self.is_short |= connection.lacked_memory;
                 return step;
             }
         }

@@ -7,12 +7,12 @@ ghost use Rattle.std.specs.Map.{remove_entry};
 ghost use Rattle.lru.specs.LruCache.{last_entry, promoted};
 ghost use Rattle.gopher_server.specs.Deadlines.{TakesIfDue, first_deadline};
 ghost use Rattle.gopher_server.specs.WorkQueue.{first_key, is_behind, without_key};
-ghost use Rattle.gopher_server.specs.Held.{added, connection, held_entries, IsSound, large_of, Lingers, LendsHeld, meaning_at, queue, queue_after, PutsHeld};
+ghost use Rattle.gopher_server.specs.Held.{added, connection, deadlines, held_entries, IsSound, large_of, Lingers, LendsHeld, meaning_at, queue, queue_after, PutsHeld};
 
-use crate::decisions::deadlines::Deadlines;
 use crate::decisions::use_order::UseOrder;
 use crate::decisions::work_queue::WorkQueue;
 use std::alloc::{AllocError, Global};
+use std::collections::VecDeque;
 
 // For how many milliseconds a connection lingers at most. No more than 128 KiB of its reply are
 // still in the system by then, so that each client receives all that takes 8 KiB a second.
@@ -44,7 +44,8 @@ pub struct Held<T: Drop> {
     connections: UseOrder<T>,
     searching: WorkQueue,
     large: WorkQueue,
-    deadlines: Deadlines,
+    // The deadlines of those that linger. Each gets the same time, so the first is the earliest.
+    deadlines: VecDeque<(usize, u64)>,
 }
 
 impl<T: Drop> Held<T> {
@@ -53,13 +54,14 @@ impl<T: Drop> Held<T> {
         ensures none { IfOk result (λ none. held_entries none ≡ []) }
         ensures queue { IfOk result (λ none. queue none ≡ []) }
         ensures large { IfOk result (λ none. large_of none ≡ []) }
+        ensures deadlines { IfOk result (λ none. deadlines none ≡ []) }
         ensures sound { IfOk result IsSound }
     {
         Ok(Held {
             connections: UseOrder::new(alloc)?,
             searching: WorkQueue::new(alloc),
             large: WorkQueue::new(alloc),
-            deadlines: Deadlines::new(alloc),
+            deadlines: VecDeque::new(alloc),
         })
     }
 
@@ -74,7 +76,7 @@ impl<T: Drop> Held<T> {
     pub fn is_empty(&self) -> bool
         ensures { result ≡ (length (held_entries self.now) == 0) }
     {
-        self.connections.is_empty()
+        self.connections.len() == 0
     }
 
     /// Takes in a connection at a new key and returns the key. The connection is then the most
@@ -117,7 +119,7 @@ impl<T: Drop> Held<T> {
         ensures large { large_of self.new ≡ large_of self.old }
         ensures sound { IsSound self.old → IsSound self.new }
     {
-        let _found = self.connections.touch(key);
+        self.connections.touch(key);
     }
 
     /// Ends the connection at a key: removes it from all that it was in. Returns it, or `None` if
@@ -198,32 +200,41 @@ impl<T: Drop> Held<T> {
 
     // ---- lingering
 
-    /// Has the connection at a key linger for 16 s (`LINGER`) from `now`. All connections linger
-    /// for the same time, so the first deadline is the earliest.
+    /// Has the connection at a key linger for 16 s (`LINGER`) from `now`. Times are milliseconds by
+    /// one clock.
     pub fn linger(&mut self, key: usize, now: u64) -> Result<(), AllocError>
         ensures set { OnOk result (Lingers self.old self.new key now) }
         ensures others { held_entries self.new ≡ held_entries self.old }
         ensures queue { queue self.new ≡ queue self.old }
         ensures large { large_of self.new ≡ large_of self.old }
     {
-        self.deadlines.set(key, now.saturating_add(LINGER))
+        self.deadlines.push_back((key, now.saturating_add(LINGER)))?;
+        Ok(())
     }
 
     /// Returns the first deadline, or `None` if there is none.
     pub fn first_deadline(&self) -> Option<u64>
-        ensures { result ≡ first_deadline self.now.deadlines.queue.items }
+        ensures { result ≡ first_deadline (deadlines self.now) }
     {
-        self.deadlines.first()
+        match self.deadlines.front() {
+            Some((_key, deadline)) => Some(*deadline),
+            None => None,
+        }
     }
 
     /// Removes the first deadline and returns its key, if the deadline isn't after the time `now`.
     pub fn take_due(&mut self, now: u64) -> Option<usize>
-        ensures due { TakesIfDue now self.old.deadlines self.new.deadlines result }
+        ensures due { TakesIfDue now (deadlines self.old) (deadlines self.new) result }
         ensures others { held_entries self.new ≡ held_entries self.old }
         ensures queue { queue self.new ≡ queue self.old }
         ensures large { large_of self.new ≡ large_of self.old }
     {
-        self.deadlines.take_due(now)
+        let (key, deadline) = self.deadlines.front().copied()?;
+        if deadline > now {
+            return None;
+        }
+        let _taken = self.deadlines.pop_front();
+        Some(key)
     }
 
     // ---- larger queues

@@ -112,8 +112,11 @@ impl Places {
     }
 
     /// Returns whether a thread that holds `held` connections leaves new ones to other threads: it
-    /// holds over 16 (`MAX_ABOVE_SHARE`) more than its share of the places that are taken.
-    pub fn leaves_to_others(&self, held: u64) -> bool {
+    /// holds over 16 (`MAX_ABOVE_SHARE`) more than its share of the places that are taken, which is
+    /// at least 1.
+    pub fn leaves_to_others(&self, held: u64) -> bool
+        ensures within { held ≤ 17 → result ≡ false }
+    {
         let taken = self.taken.load(Ordering::SeqCst);
         let share = fair_share(taken, self.threads.load(Ordering::SeqCst));
         held > share.saturating_add(MAX_ABOVE_SHARE)

@@ -1,6 +1,6 @@
-//! UseOrder by their keys, in the order of their last use.
+//! `UseOrder`: connections by their keys, in the order of their last use.
 
-ghost use Rattle.std.specs.Prelude.{◌≡◌, ◌==◌, [], Some, length, nat_eq, IfOk, IfErr, OnErr, OnOk};
+ghost use Rattle.std.specs.Prelude.{◌≡◌, [], Some, length, nat_eq, IfOk, IfErr, OnErr, OnOk};
 ghost use Rattle.std.specs.Option.{is_some, option_map, option_copied_mut};
 ghost use Rattle.std.specs.Borrow.{sem};
 ghost use Rattle.std.specs.Map.{remove_entry};
@@ -10,7 +10,7 @@ ghost use Rattle.gopher_server.specs.UseOrder.{key_after, connection_at, LendsCo
 use lru::LruCache;
 use std::alloc::{AllocError, Global};
 
-/// UseOrder that wait, each at a key of its own, in the order of their last use. Keys are
+/// Connections that wait, each at a key of its own, in the order of their last use. Keys are
 /// numbers from 0, and no key is used twice.
 ///
 /// Contracts see the pairs of keys and connections as `held.entries`, the most recently used first,
@@ -38,13 +38,6 @@ impl<T: Drop> UseOrder<T> {
         ensures { result ≡ length self.now.held.entries }
     {
         self.held.len()
-    }
-
-    /// Returns whether there are no connections.
-    pub fn is_empty(&self) -> bool
-        ensures { result ≡ (length self.now.held.entries == 0) }
-    {
-        self.held.is_empty()
     }
 
     /// Returns whether there is a connection at a key.
@@ -88,14 +81,12 @@ impl<T: Drop> UseOrder<T> {
         }
     }
 
-    /// Makes the connection at a key the most recently used. Returns whether there is one. Takes
-    /// constant time.
-    pub fn touch(&mut self, key: usize) -> bool
-        ensures found { result ≡ is_some (connection_at self.old key) }
+    /// Makes the connection at a key the most recently used. Takes constant time.
+    pub fn touch(&mut self, key: usize)
         ensures first { self.new.held.entries ≡ promoted (nat_eq key) self.old.held.entries }
         ensures next { self.new.next ≡ self.old.next }
     {
-        self.held.promote(&key)
+        let _found = self.held.promote(&key);
     }
 
     /// Returns the connection at a key, or `None` if there is none. What is written to it stays at

@@ -22,8 +22,7 @@ pub struct Moment {
 
 impl Moment {
     /// Returns the moment `micros` microseconds after the beginning of 1970, or `None` after the
-    /// year
-    /// 9999.
+    /// year 9999.
     pub fn at(micros: u64) -> Option<Moment>
         ensures { MatchOption result (IsPastLastDay micros) (IsMomentAt micros) }
     {

@@ -1,16 +1,15 @@
 //! A server thread's part of the log: adding lines, and handing on batches.
 
-ghost use Rattle.std.specs.Prelude.{◌≡◌, not, true, false, None, IfSome};
-ghost use Rattle.std.specs.Option.{is_some};
+ghost use Rattle.std.specs.Prelude.{◌≡◌, true, false, None, IfSome};
 ghost use Rattle.gopher_server.specs.Batch.{is_empty, is_full, no_lines};
-ghost use Rattle.gopher_server.specs.ThreadLog.{AddsLine, AddsRequestTo, IsHandedOn};
+ghost use Rattle.gopher_server.specs.ThreadLog.{AddsLine, AddsRequestTo, IsHandedOn, poll_timeout};
 ghost use Rattle.gopher_server.specs.Timing.{IsDueAfter, KeepsDue, is_due};
 
 use crate::logging::batch::Batch;
 use crate::logging::moment::Moment;
 use crate::logging::queue::LogQueue;
 use crate::logging::request_line::RequestLine;
-use crate::logging::timing::{due_with, is_due, kept_until, max_kept, micros_of, moment_at};
+use crate::logging::timing::{MAX_KEPT, due_with, is_due, kept_until, micros_of, moment_at};
 use std::alloc::Global;
 use std::net::IpAddr;
 use std::sync::{Arc, Wait};
@@ -126,14 +125,15 @@ impl ThreadLog {
         let _refused = self.batch.add(request);
     }
 
-    /// Returns how long the thread may wait before it hands on its lines, or `None` if it has none.
-    pub fn poll_timeout(&self) -> Option<Duration>
-        ensures { is_some result ≡ not (is_empty self.now.batch) }
+    /// Returns for how many milliseconds the thread may wait before it hands on its lines. Returns
+    /// `None` if it has none.
+    pub fn poll_timeout(&self) -> Option<u64>
+        ensures { result ≡ poll_timeout self.now.batch }
     {
         if self.batch.is_empty() {
             None
         } else {
-            Some(max_kept())
+            Some(MAX_KEPT)
         }
     }
 

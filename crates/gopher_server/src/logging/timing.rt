@@ -8,15 +8,8 @@ ghost use Rattle.gopher_server.specs.Timing.{IsDueAfter, IsDueWith, is_due, micr
 use crate::logging::moment::Moment;
 use std::time::{Duration, Instant};
 
-// For how many milliseconds a server thread keeps a line to itself at most.
-const MAX_KEPT: u64 = 250;
-
-/// The longest time for which a server thread keeps a line to itself.
-pub(crate) fn max_kept() -> Duration
-    ensures { as_nanos result ≡ 250_000_000 }
-{
-    Duration::from_millis(MAX_KEPT)
-}
+/// For how many milliseconds a server thread keeps a line to itself at most.
+pub(crate) const MAX_KEPT: u64 = 250;
 
 /// Returns the whole microseconds of a time, at most 2^64 - 1.
 pub(crate) fn micros_of(time: Duration) -> u64
@@ -49,7 +42,7 @@ pub(crate) fn is_due(due: Option<Instant>, now: Instant) -> bool
 pub(crate) fn kept_until(now: Instant) -> Option<Instant>
     ensures { IsDueAfter now result }
 {
-    now.checked_add(max_kept())
+    now.checked_add(Duration::from_millis(MAX_KEPT))
 }
 
 /// Returns when lines are due once a line of now is added. A due time that is set isn't put off.

@@ -6,5 +6,5 @@ pub returns-clause-sound : goal.returns-clause-sound
 returns-clause-sound g c =
     let old = c.args.self.now in
     let es = old.connections.held.entries in
-    let first = c.touch-found.ensures.first in
+    let first = c.touch.ensures.first in
     λ sound. (moved _ _ refl first (promoted_once c.args.key old.searching.keys.items es sound.0), moved _ _ refl first (promoted_once c.args.key old.large.keys.items es sound.1))
