@@ -6,29 +6,32 @@
 A script that is replayed, a check of a site and a server that ends at once print `hole: 90` at their end, after what they wrote
 until then, or words that can't be read (status 2), if the refused allocation was theirs; or go on to their whole output, if the
 program can do without the allocation. A server that is refused an allocation for a request sends a beginning of the reply, and
-answers the same request with the whole of it then. Calls that change or consume what they
-are given are made by a test of crates/test_library, which makes a refused one again.
+answers the same request with the whole of it then. A worker of a crawl that stops is told while others fetch. Calls that change
+or consume what they are given are made by a test of crates/test_library, which makes a refused one again.
 
 The last line is 'refusals: N passed, M failed'.
 """
 import mmap
 import os
 import subprocess
+import threading
 
 from drawn.sizes import crawl_of_many_pages
 from models import model
 from models.site_model import Site
 from models.worked import COUNTS, DENY_RULE, FIRST_CRAWL, TWO_TRIES, WHOLE_SEARCH, searches
-from running.server import HOST, ROOT, ask, free_port, run_test, seeded, until_true
+from running.server import HOST, ROOT, Host, ask, crawling, free_port, run_test, seeded, until_true
 
 CRATE = ROOT / "crates" / "test_library"
 CALLS = CRATE / "out" / "test_library_tests"
 CALLED = "refusals::refused_calls_succeed_when_made_again"
-CALLED_WELL = b"pages: as wanted\nreplies: as wanted\na catalogue: as wanted\na desk: as wanted\na crawl: as wanted\n"
+CALLED_WELL = b"a desk: as wanted\n"
 MOST_RUNS = 100_000
 SECONDS = 20
 QUESTIONS = (b"moon and p2*", b"p* not moon", b"a or b or c or p1 or p2 or p3", b"not moon", b"and or p4", b" -- ")
 SETTINGS = seeded(more="threads = 1\nworkers = 1\n") + f'[[deny]]\nhost = "{HOST}"\nport = PORT\nprefix = "/private"\n'
+# What --progress prints of the first worker that stops.
+STOPPED = b"hole: workers that stopped, out of memory: 1\n"
 FOUND_LAST = b"/search\thel* or wel* not mars"
 LINES = (
     b"", b"/docs", b"/a.txt", b"/docs/b.gif", b"/docs/.menu", b"/search\t -- ", b"/a\0b", b"/search\thello", FOUND_LAST,
@@ -166,6 +169,42 @@ def check_crawl(test):
     test.expect("a crawl without workers is told", is_told, True)
 
 
+def stops_worker(test, number):
+    """Whether --progress tells that a worker stopped while another fetched, with this allocation refused after both began; and
+    whether it was refused."""
+    may_go, may_end = threading.Event(), threading.Event()
+    waits = {b"/text": may_go, b"/held": may_end}
+
+    def answer(line):
+        if line in waits:
+            waits[line].wait(SECONDS)
+        return menu if line == b"" else b".\r\n"
+
+    left, path = shared_number(test.folder / "left"), test.folder / "told"
+    before = test.preload("refusals", LEFT=test.folder / "left")
+    with Host(answer) as host, path.open("wb") as told:
+        menu = host.menu(b"0", (b"/held", b"/text", b"/rest"))
+        settings = seeded(host.port, "threads = 1\nworkers = 2")
+        with crawling(test, settings, "--progress", before=before, stderr=told):
+            until_true(lambda: set(waits) <= set(host.asked))
+            left[0] = number
+            may_go.set()
+            is_told = lambda: STOPPED in path.read_bytes()
+            until_true(lambda: is_told() or b"/rest" in host.asked, pause=0.002)
+            result = is_told(), left[0] <= 0
+            may_end.set()
+    return result
+
+
+def check_workers(test):
+    """A worker that has no memory for its next claim stops: --progress tells it at once, while the other fetches."""
+    is_told, is_refused, number = False, True, 0
+    while is_refused and not is_told:
+        number += 1
+        is_told, is_refused = stops_worker(test, number)
+    test.expect(f"a worker that stops is told; {number} allocations were refused", is_told, True)
+
+
 def check_calls(test):
     """The test that makes each refused call again. Behind what it prints stands what says that it passed."""
     if not os.access(CALLS, os.X_OK):
@@ -177,4 +216,4 @@ def check_calls(test):
 
 
 if __name__ == "__main__":
-    run_test("refusals", __doc__, check_calls, check_replays, check_starts, check_requests, check_crawl)
+    run_test("refusals", __doc__, check_calls, check_replays, check_starts, check_requests, check_crawl, check_workers)

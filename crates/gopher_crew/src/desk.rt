@@ -344,6 +344,11 @@ impl<C: Crew, R: Wait + Drop> Desk<C, R> {
         self.memory.refused()
     }
 
+    /// Returns how many workers stopped so far because memory ran out.
+    pub fn stopped_workers(&self) -> u64 {
+        self.memory.stopped()
+    }
+
     /// The memory that the pages of workers take.
     pub(crate) fn memory(&self) -> &PageMemory {
         &self.memory

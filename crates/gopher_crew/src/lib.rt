@@ -8,23 +8,20 @@
 //!
 //! The *record* is the list of a crawl's events. A *record prefix* (`RecordPrefix`) is a token that
 //! the record begins with certain events. The *history* is the record as the crate `logbook` keeps
-//! it in proofs: one list that only grows. The history lags behind the record, hence a second name.
+//! it in proofs: one list that only grows. It may lag behind the record, hence a second name. A
+//! *crew* (`Crew`) is a type by which contracts name one desk and all that belongs to it. A *blank*
+//! (`Blank`) is what a desk is opened with: a ledger that counts nothing yet, and an empty history.
 //!
 //! # The way of a found page
 //!
-//! ```text
-//! worker --page--> Desk (lock) --event--> Catalogue --record--> RecordFollower
-//!                                      frontier, index             history
-//! RecordFollower --update--> Publisher --version--> Pass
-//!                            two copies
-//! ```
-//!
-//! A worker claims a place, fetches it and makes its page while it holds no lock. Behind the desk's
-//! lock, `Kept` adds the event to the catalogue and counts it for the worker's share. The follower
-//! enters the event into the history and gives the publisher an `Update`. The publisher
-//! (`left_right`) keeps two copies: readers use one while the writer changes the other, and each
-//! update is applied to both. An update changes no pages, adds one page, or replaces all pages by
-//! those of an index if segments were merged since.
+//! The picture `docs/found.svg` shows it. A worker claims a place under the desk's lock. It fetches
+//! the place and makes its page while it holds no lock. Behind the lock again, `Kept` adds the
+//! event to the catalogue and counts it for the worker's share. The follower enters the event into
+//! the history and gives the publisher the index and the token of the record. The publisher
+//! compares that index with the published one to make an `Update`. It (`left_right`) keeps two
+//! copies: readers use one while the writer changes the other, and each update is applied to both.
+//! An update changes no pages, adds one page, or replaces all pages by those of an index if
+//! segments were merged since.
 //!
 //! If a publication runs out of memory, its update waits, and the next publication publishes it
 //! first. So at most one update waits, however often memory runs out.

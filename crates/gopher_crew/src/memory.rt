@@ -1,4 +1,4 @@
-//! The limit of the memory that the pages of a crawl may take.
+//! The limit of the memory that the pages of a crawl may take, and the workers that had none.
 
 ghost use Rattle.std.specs.Prelude.{◌≡◌, ◌+◌, nat_lt, None, Some, if◌then◌else◌};
 
@@ -11,6 +11,7 @@ pub(crate) struct PageMemory {
     limit: AtomicU64,
     taken: AtomicU64,
     refused: AtomicU64,
+    stopped: AtomicU64,
 }
 
 // What is taken once a page of `size` bytes is too; `None` if the page doesn't fit.
@@ -31,6 +32,7 @@ impl PageMemory {
             limit: AtomicU64::new(u64::MAX),
             taken: AtomicU64::new(0),
             refused: AtomicU64::new(0),
+            stopped: AtomicU64::new(0),
         }
     }
 
@@ -57,6 +59,16 @@ impl PageMemory {
     /// Gives back the memory of a page that wasn't added.
     pub fn give_back(&self, size: u64) {
         let _before = self.taken.fetch_sub(size, Ordering::SeqCst);
+    }
+
+    /// Records that a worker stopped because memory ran out.
+    pub fn stop_worker(&self) {
+        let _before = self.stopped.fetch_add(1, Ordering::SeqCst);
+    }
+
+    /// Returns how many workers stopped because memory ran out.
+    pub fn stopped(&self) -> u64 {
+        self.stopped.load(Ordering::SeqCst)
     }
 
     /// Returns how many pages didn't fit.

@@ -191,7 +191,10 @@ fn work_once<C: Crew, R: Wait + Drop, W: Wait, F: Fetch<W> + Drop>(
         }
         Ok(Turn::Idle) => unreachable!(),
         Ok(Turn::Finished) => Some(Stop::Finished),
-        Err(_refused) => Some(Stop::NoMemory),
+        Err(_refused) => {
+            desk.memory().stop_worker();
+            Some(Stop::NoMemory)
+        }
     }
 }
 

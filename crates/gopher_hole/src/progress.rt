@@ -3,7 +3,7 @@
 use crate::crawl_fetch::CrawlFetch;
 use crate::failures::Failures;
 use gopher_catalogue::Status;
-use gopher_crew::{CrawlRefused, Crew, Desk, Share, Stop, WorkEnd, crawl};
+use gopher_crew::{CrawlRefused, Crew, Desk, Share, WorkEnd, crawl};
 use std::alloc::Global;
 use std::io::Eprint;
 use std::net::{Net, TcpListener, TcpStream};
@@ -43,49 +43,39 @@ pub fn tell_limit<C: Crew, R: Wait + Drop>(rt: &impl Eprint, desk: &Desk<C, R>) 
     is_reached
 }
 
-// The number of workers that stopped because memory ran out.
-fn short_workers<F: Drop, C: Crew>(ends: &[WorkEnd<F, C>]) -> u32 {
-    let mut short: u32 = 0;
-    for end in ends {
-        if end.stop == Stop::NoMemory {
-            short = short.saturating_add(1);
-        }
+// Prints on the error stream how many workers stopped because memory ran out, if they are more than
+// `told`. Returns how many.
+fn tell_stopped<C: Crew, R: Wait + Drop>(rt: &impl Eprint, desk: &Desk<C, R>, told: u64) -> u64 {
+    let stopped = desk.stopped_workers();
+    if stopped > told {
+        let _ = rt.eprint("hole: workers that stopped, out of memory: ");
+        let _ = rt.eprintln(stopped);
     }
-    short
+    stopped
 }
 
-// Prints on the error stream that a crawl, or workers of it, had no memory, if that is so.
-fn tell_memory<F: Drop, C: Crew>(
-    rt: &impl Eprint,
-    crawled: &Result<Vec<WorkEnd<F, C>>, CrawlRefused<F, C>>,
-) {
-    match crawled {
-        Ok(ends) => {
-            let short = short_workers(ends);
-            if short > 0 {
-                let _ = rt.eprint("hole: workers that stopped, out of memory: ");
-                let _ = rt.eprintln(short);
-            }
-        }
-        Err(_refused) => {
-            let _ = rt.eprintln("hole: the crawl can't start: out of memory");
-        }
-    }
-}
-
-// Waits until the crawl is over, for ten seconds at most, and returns whether it is.
-fn wait_for_end(clock: &impl Clock, is_over: &AtomicBool) -> bool {
+// Waits until the crawl is over, for ten seconds at most, and returns whether it is. Prints at once
+// if workers stop; `stopped` is how many had stopped.
+fn wait_for_end<C: Crew, R: Wait + Drop, W: Clock + Eprint>(
+    rt: &W,
+    desk: &Desk<C, R>,
+    is_over: &AtomicBool,
+    stopped: &mut u64,
+) -> bool {
     for _rest in 0..RESTS {
-        if is_over.load(Ordering::SeqCst) {
+        let was_over = is_over.load(Ordering::SeqCst);
+        *stopped = tell_stopped(rt, desk, *stopped);
+        if was_over {
             return true;
         }
-        thread::sleep(clock, Duration::from_millis(REST));
+        thread::sleep(rt, Duration::from_millis(REST));
     }
-    is_over.load(Ordering::SeqCst)
+    false
 }
 
 // Prints the sizes every ten seconds if they or the number of failed places have changed, and once
-// the crawl is over. Prints once if the crawl reaches its limit of memory.
+// the crawl is over. Prints at once if workers stop, and once if the crawl reaches its limit of
+// memory.
 fn tell_until_over<C: Crew, R: Wait + Drop, W: Wait + Clock + Eprint>(
     rt: &W,
     desk: &Desk<C, R>,
@@ -94,8 +84,9 @@ fn tell_until_over<C: Crew, R: Wait + Drop, W: Wait + Clock + Eprint>(
 ) {
     let mut told = None;
     let mut is_limit_told = false;
+    let mut stopped = 0;
     for _round in rt.forever() {
-        let was_over = wait_for_end(rt, is_over);
+        let was_over = wait_for_end(rt, desk, is_over, &mut stopped);
         let (status, failed) = (desk.status(rt), failures.count());
         if told != Some((status, failed)) {
             tell(rt, status, failed);
@@ -152,6 +143,8 @@ pub fn crawl_and_tell<
         move || tell_until_over(rt, desk, failures, is_over),
         move || crawl_until_over(rt, alloc, desk, pairs, is_over),
     );
-    tell_memory(rt, &crawled);
+    if crawled.is_err() {
+        let _ = rt.eprintln("hole: the crawl can't start: out of memory");
+    }
     crawled
 }
