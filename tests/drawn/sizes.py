@@ -25,7 +25,6 @@ QUESTIONS = (
 )
 SOUGHT = (b"m", b"p0", b"p7", b"p63", b"p64", b"p1023", b"p5119", b"p16384", b"lark", b"k", b"absent", b"willowherbwillowt")
 
-
 # A page is large if its different words have more bytes than this.
 LARGE = 131_072
 # Words of large pages, and what is sought among large and small ones; the last questions are done in steps.
@@ -137,8 +136,8 @@ def crawl_of_a_large_page():
 
 
 def crawl_of_most_places():
-    """A menu of one place more than a catalogue may know, with one of them twice."""
-    names = short_names(65_536)
+    """A menu of more places than a catalogue may know, or sixteen bits count, with one of them twice."""
+    names = short_names(65_600)
     yield from (b"allow\th\t7\t", b"seed\t1\th\t7\t", b"start\t65536", b"claim", b"found\t0\t1\th\t7\t")
     yield from (b"|0\t%s\th\t7" % name for name in [*names, names[0]])
     yield from (b"status", b"claim", b"fail\t1\t1", b"claim", b"status")

@@ -2,38 +2,41 @@
 
 ghost use Rattle.std.specs.Prelude.{◌≡◌, ◌≤◌, vec_len, IfOk};
 
-use crate::tables::Host;
 use gopher_catalogue::Why;
 use gopher_crew::{Calls, Fetch};
 use gopher_item::Place;
 use std::alloc::Global;
-use std::time::Clock;
+
+/// A file.
+pub const MOON: &[u8] = b"moon\r\n.\r\n";
+
+/// The menu of a root with two files.
+pub const TWO_FILES: &[u8] = b"0A\t/a\th\t70\r\n0B\t/b\th\t70\r\n.\r\n";
 
 // The limit that a worker gives.
 const LIMIT: usize = 1_048_576;
 
-/// Fetches the replies of a host.
+/// Fetches the menu of a root, and a file for each other place.
 #[derive(Drop)]
-pub struct Fetcher<'a, R> {
+pub struct Fetcher<'a> {
     calls: u64,
-    /// The host.
-    pub host: &'a Host<'a, R>,
+    root: &'a [u8],
     /// Which of several fetchers it is.
     pub number: u8,
 }
 
-impl<'a, R> Fetcher<'a, R> {
+impl<'a> Fetcher<'a> {
     /// One that has fetched nothing.
-    pub fn new(host: &'a Host<'a, R>, number: u8) -> Fetcher<'a, R> {
+    pub fn new(root: &'a [u8], number: u8) -> Fetcher<'a> {
         Fetcher {
             calls: 0,
-            host,
+            root,
             number,
         }
     }
 }
 
-impl<'a, R> Calls for Fetcher<'a, R> {
+impl<'a> Calls for Fetcher<'a> {
     ghost called = { λ fetcher. fetcher.calls };
 
     fn calls(&self) -> u64 {
@@ -41,7 +44,7 @@ impl<'a, R> Calls for Fetcher<'a, R> {
     }
 }
 
-impl<'a, R: Clock, W> Fetch<W> for Fetcher<'a, R> {
+impl<'a, W> Fetch<W> for Fetcher<'a> {
     fn fetch(
         &mut self,
         _rt: &W,
@@ -50,10 +53,12 @@ impl<'a, R: Clock, W> Fetch<W> for Fetcher<'a, R> {
         limit: usize,
     ) -> Result<Vec<u8>, Why> {
         self.calls = self.calls.saturating_add(1);
-        match self.host.reply(place.selector()) {
-            Ok(reply) => copy(alloc, reply, limit),
-            Err(why) => Err(why),
-        }
+        let reply = if place.selector().is_empty() {
+            self.root
+        } else {
+            MOON
+        };
+        copy(alloc, reply, limit)
     }
 }
 

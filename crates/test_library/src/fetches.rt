@@ -1,80 +1,64 @@
-// Fetches over streams in memory.
+// Fetches over streams in memory. That a reply over the limit is refused is shown by
+// tests/crawling.py.
 use crate::stream::{Ending, Stream};
 use gopher_catalogue::Why;
 use gopher_item::Place;
 use gopher_serve::fetch_over;
 use gopher_text::Watched;
 use std::alloc::Global;
+use std::io::{Read, Write};
 
 const REQUEST: &[u8] = b"/moon\r\n";
 
-// Fetches `/moon` over a stream that returns these bytes and takes `room` bytes of the request.
-fn fetched(
-    alloc: Global,
-    bytes: &[u8],
-    room: usize,
-    ending: Ending,
-) -> (Result<Vec<u8>, Why>, usize) {
+// What a stream gives, how much of the request it takes, and how it goes on; the length of the
+// reply, or why there is none, and how much of the request is unsent.
+const FETCHES: &[(&[u8], usize, Ending, (Result<usize, Why>, usize))] = &[
+    (b"1Mo", 7, Ending::Ends, (Ok(3), 0)),
+    (b"", 7, Ending::Ends, (Ok(0), 0)),
+    (b"1Mo", 7, Ending::Fails, (Err(Why::Read), 0)),
+    (b"", 7, Ending::Fails, (Err(Why::Read), 0)),
+    (b"1Mo", 7, Ending::Waits, (Err(Why::Read), 0)),
+    (b"1Mo", 6, Ending::Fails, (Err(Why::Write), 1)),
+    (b"1Mo", 0, Ending::Ends, (Err(Why::Write), 7)),
+];
+
+// How a fetch of `/moon` ends, and how much of the request is unsent.
+fn fetched(alloc: Global, stream: Stream) -> (Result<usize, Why>, usize) {
     let Ok(place) = Place::new(alloc, b'1', b"/moon", b"h", 70) else {
         return (Err(Why::NoMemory), 0);
     };
-    let mut stream = Watched::new(Stream {
-        left: REQUEST,
-        room,
-        ..Stream::giving(bytes, 65_536, ending)
-    });
-    let reply = fetch_over(alloc, &mut stream, &place, 1_048_576);
-    (reply, stream.into_inner().left.len())
-}
-
-// Whether a reply is fetched, after the whole request.
-fn fetches(alloc: Global, bytes: &[u8]) -> bool {
-    match fetched(alloc, bytes, REQUEST.len(), Ending::Ends) {
-        (Ok(reply), 0) => reply.as_slice() == bytes,
-        _ => false,
-    }
-}
-
-// Whether a fetch fails for this reason, with so much of the request unsent.
-fn fails(alloc: Global, bytes: &[u8], room: usize, ending: Ending, wanted: Why) -> bool {
-    let (reply, left) = fetched(alloc, bytes, room, ending);
-    left == REQUEST.len().saturating_sub(room) && reply.is_err_and(|why| why == wanted)
+    let mut stream = Watched::new(stream);
+    let length = match fetch_over(alloc, &mut stream, &place, 1_048_576) {
+        Ok(reply) => Ok(reply.len()),
+        Err(why) => Err(why),
+    };
+    (length, stream.into_inner().left.len())
 }
 
 #[test]
-fn replies_are_fetched(rt: HostRuntime) {
-    assert!(rt; fetches(rt.alloc(), b"1Mo"));
-    assert!(rt; fetches(rt.alloc(), b""));
-    let bytes = vec![in rt.alloc(); b'a'; 1_048_577].expect(&rt, "memory");
-    assert!(rt; fetches(rt.alloc(), &bytes[1..]));
-    assert!(rt;
-        fails(
-            rt.alloc(),
-            &bytes,
-            REQUEST.len(),
-            Ending::Ends,
-            Why::TooLong
-        )
-    );
+fn fetches_end_with_a_reply_or_say_why(rt: HostRuntime) {
+    for (bytes, room, ending, wanted) in FETCHES {
+        let stream = Stream {
+            left: REQUEST,
+            room: *room,
+            ..Stream::giving(bytes, 65_536, *ending)
+        };
+        assert!(rt; fetched(rt.alloc(), stream) == *wanted);
+    }
+}
+
+// Whether a call with this buffer has all of it.
+fn has_whole_buffer(buffer: &mut [u8]) -> bool {
+    let bytes = [b'a'; 5_000];
+    let mut device = Stream::giving(&bytes, 5_000, Ending::Ends);
+    (device.left, device.room, device.interruptions, device.now) = (&bytes, 5_000, 0, 0);
+    let mut watched = Watched::new(device);
+    let is_read = matches!(watched.read(buffer), Ok(count) if count == buffer.len());
+    is_read && matches!(watched.write(buffer), Ok(count) if count == buffer.len())
 }
 
 #[test]
-fn fetches_that_fail_say_why(rt: HostRuntime) {
-    let reply = b"1Mo";
-    for length in 0..4usize {
-        for ending in [Ending::Fails, Ending::Waits] {
-            assert!(rt;
-                fails(
-                    rt.alloc(),
-                    &reply[..length],
-                    REQUEST.len(),
-                    ending,
-                    Why::Read
-                )
-            );
-        }
-    }
-    for room in 0..REQUEST.len() {
-        assert!(rt; fails(rt.alloc(), reply, room, Ending::Fails, Why::Write));
-    }
+fn a_watched_call_has_the_whole_buffer(rt: HostRuntime) {
+    let mut buffer = [0; 4_097];
+    assert!(rt; has_whole_buffer(&mut buffer));
 }

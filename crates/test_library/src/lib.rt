@@ -1,20 +1,14 @@
 //! Tests of the crates up to gopher_serve, of what no script and no request can show: streams that
-//! fail, what calls of the catalogue, the book and a desk hand out and give back, crews, merges,
-//! and calls of the library that the program doesn't make. Then calls that are made again after a
-//! refused allocation (`refusals`), for `tests/refusals.py`. The rows of `proofs/WorkedRows.antt`
-//! show definitions.
+//! fail, several workers, which runs of pages are merged, searches in steps, and calls of the
+//! library that the program doesn't make. Calls that change or consume what they are given are made
+//! again after a refused allocation (`refusals`), for `tests/refusals.py`. The rows of
+//! `proofs/WorkedRows.antt` show definitions.
 #![tactic(auto)]
 
-#[cfg(test)]
-mod answers;
-#[cfg(test)]
-mod books;
 #[cfg(test)]
 mod conversations;
 #[cfg(test)]
 mod crawls;
-#[cfg(test)]
-mod desks;
 #[cfg(test)]
 mod fetcher;
 #[cfg(test)]
@@ -24,13 +18,11 @@ mod indexes;
 #[cfg(test)]
 mod menus;
 #[cfg(test)]
-mod merges;
-#[cfg(test)]
 mod opening;
 #[cfg(test)]
-mod refusals;
+mod pages;
 #[cfg(test)]
-mod refused_catalogues;
+mod refusals;
 #[cfg(test)]
 mod refused_crawls;
 #[cfg(test)]
@@ -38,12 +30,8 @@ mod refused_desks;
 #[cfg(test)]
 mod refused_opening;
 #[cfg(test)]
-mod refused_pages;
+mod refused_requests;
 #[cfg(test)]
 mod stream;
-#[cfg(test)]
-mod streams;
-#[cfg(test)]
-mod tables;
 #[cfg(test)]
 mod trees;

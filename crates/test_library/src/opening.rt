@@ -2,10 +2,10 @@
 
 ghost use Rattle.std.specs.Prelude.{◌≤◌, length};
 
-use gopher_catalogue::{Catalogue, Turn};
+use gopher_catalogue::{Catalogue, Status};
 use gopher_crew::{Desk, Pass, Share};
 use gopher_item::{Place, Rule, Scope};
-use gopher_page::{Page, Query};
+use gopher_page::Query;
 use std::alloc::Global;
 
 /// What a check gives, or what was not as wanted.
@@ -27,51 +27,38 @@ pub fn at_last<T: Drop, F: Fn() -> Option<T>>(call: F) -> Option<T>
     }
 }
 
-fn rules(alloc: Global, host: &[u8], prefix: &[u8]) -> Option<Vec<Rule>> {
-    let rule = Rule::new(alloc, host, 70, prefix).ok()?;
-    let mut rules = Vec::new(alloc);
-    rules.push(rule).ok()?;
-    Some(rules)
-}
-
-/// The scope of a host without its private part.
+/// The scope of a host.
 pub fn scope(alloc: Global, host: &[u8]) -> Option<Scope> {
-    let allow = rules(alloc, host, b"")?;
-    let deny = rules(alloc, host, b"/private")?;
-    Some(Scope::new(allow, deny))
+    let rule = Rule::new(alloc, host, 70, b"").ok()?;
+    let mut allow = Vec::new(alloc);
+    allow.push(rule).ok()?;
+    Some(Scope::new(allow, Vec::new(alloc)))
 }
 
-/// The root of a host.
-pub fn seeds(alloc: Global, host: &[u8]) -> Option<Vec<Place>> {
+// The root of a host.
+fn seeds(alloc: Global, host: &[u8]) -> Option<Vec<Place>> {
+    let root = Place::new(alloc, b'1', b"", host, 70).ok()?;
     let mut seeds = Vec::new(alloc);
-    seeds
-        .push(Place::new(alloc, b'1', b"", host, 70).ok()?)
-        .ok()?;
+    seeds.push(root).ok()?;
     Some(seeds)
 }
 
 /// A crawl that begins in the root of a host.
-pub fn crawl(alloc: Global, host: &[u8], places: u32, tries: u32) -> Option<Catalogue> {
+pub fn crawl(alloc: Global, host: &[u8], places: u32) -> Option<Catalogue> {
     let seeds = seeds(alloc, host)?;
     let scope = scope(alloc, host)?;
-    Catalogue::open(alloc, scope, seeds, places, tries).ok()
+    Catalogue::open(alloc, scope, seeds, places, 1).ok()
 }
 
-/// The number of the place that is claimed.
-pub fn claimed(catalogue: &mut Catalogue) -> Option<u32> {
-    match catalogue.claim() {
-        Ok(Turn::Take(claim)) => Some(claim.number),
-        _ => None,
+/// The status of a finished crawl with `known` places.
+pub fn all_done(known: u32) -> Status {
+    Status {
+        known,
+        waiting: 0,
+        out: 0,
+        done: known,
+        dropped: 0,
     }
-}
-
-/// The page of a place of a host.
-pub fn page(alloc: Global, kind: u8, selector: &[u8], host: &[u8], bytes: &[u8]) -> Option<Page>
-    requires { length bytes.now ≤ 1048576 }
-{
-    let place = Place::new(alloc, kind, selector, host, 70).ok()?;
-    let scope = scope(alloc, host)?;
-    Page::of(alloc, &scope, &place, bytes).ok()
 }
 
 /// A query.

@@ -5,12 +5,11 @@
 //! turn. It also shows the calls that only read what they are given, by the built program.
 
 use crate::opening::Checked;
-use crate::{refused_catalogues, refused_crawls, refused_desks, refused_pages};
+use crate::refused_desks;
 use gopher_crew::Blank;
 use std::marker::Brand;
 use std::rt::Runtime;
 use std::sync::Wait;
-use std::time::Clock;
 
 /// A call didn't end as wanted.
 #[derive(Clone, Copy, Debug)]
@@ -21,21 +20,12 @@ fn tell<R: Runtime>(rt: &R, subject: &str, checked: Checked<()>) -> Option<()> {
     checked.ok()
 }
 
-// Makes each of these calls, and prints for each kind whether it ended as wanted.
-fn check<R: Runtime + AllocGlobal + Wait + Clock>(rt: &R) -> Option<()> {
-    let alloc = rt.alloc();
-    tell(rt, "pages", refused_pages::check(alloc))?;
-    tell(rt, "replies", refused_pages::check_replies(alloc))?;
-    tell(rt, "a catalogue", refused_catalogues::check(alloc))?;
+// Makes the calls, and prints whether they ended as wanted.
+fn check<R: Runtime + AllocGlobal + Wait>(rt: &R) -> Option<()> {
     tell(
         rt,
         "a desk",
         refused_desks::check::<Brand, R>(rt, Blank::new()),
-    )?;
-    tell(
-        rt,
-        "a crawl",
-        refused_crawls::check::<Brand, R>(rt, Blank::new()),
     )
 }
 

@@ -32,7 +32,7 @@ pub fn opened<'a, C: Crew, R: Wait + AllocGlobal>(
     requires blank { IsBlankOf C.name C.parts C.history blank }
     requires begun { blank.begun ≡ [] }
 {
-    let catalogue = at_last(|| crawl(rt.alloc(), host, 10, 1)).ok_or(TWICE)?;
+    let catalogue = at_last(|| crawl(rt.alloc(), host, 10)).ok_or(TWICE)?;
     match Desk::<C, &R>::open(rt, rt.alloc(), catalogue, 2, 1, blank) {
         Ok(opened) => Ok(opened),
         Err(refused) => opened_again(rt, refused),

@@ -1,4 +1,4 @@
-use Rattle.test_library.proofs.crawls.workers_crawl.Given as goal
+use Rattle.test_library.proofs.crawls.pages_that_were_merged_are_found.Given as goal
 
 -- the names of the blank that was made
 abbrev pub ghosts-crawled-C-Ledger : goal.ghosts-crawled-C-Ledger
