@@ -6,7 +6,8 @@
 takes the built programs. For each kind of request the two servers are asked in turn, ROUNDS times, by 16 clients, and the
 medians are printed: requests a second, megabytes a second for the long text, and microseconds of the server's processor
 time a request, each with the quotient to the C server's. Then the same for small menus by one client, and with silent clients
-beside the 16 (the C server without any), and searches a second by 8 clients while a crawl writes.
+beside the 16 (the C server without any), small menus of a server that logs beside one that doesn't, and searches a second by 8
+clients while a crawl writes.
 """
 import os
 import pathlib
@@ -91,6 +92,17 @@ def compare(name, rounds, quantity, wanted):
     print(f"{name}: {ours:,.0f} (C {plain:,.0f}), quotient {ours / plain:.2f}, goal {wanted}")
 
 
+def compare_log(hole, clients, room, root):
+    """What a log costs of the rate for small menus."""
+    ports, places = (free_port(), free_port()), (f"{room}/plain.toml", f"{room}/logging.toml")
+    for port, place in zip(ports, places):
+        pathlib.Path(place).write_text(settings(root, port, False))
+    with Server([hole, "serve", places[0]]) as plain, Server([hole, "serve", places[1], "--log", f"{room}/log"]) as logging:
+        ask_both = lambda: (timed(clients, one, port, 20_000, 0, f"{room}/list")[0] for one, port in zip((plain, logging), ports))
+        without, with_log = (statistics.median(rates) for rates in zip(*(ask_both() for _ in range(ROUNDS))))
+    print(f"small menu with a log, requests a second: {with_log:,.0f} (without {without:,.0f}), quotient {with_log / without:.2f}")
+
+
 def main(hole, plain_server, clients):
     with tempfile.TemporaryDirectory() as room:
         root = pathlib.Path(room) / "site"
@@ -128,6 +140,7 @@ def main(hole, plain_server, clients):
                 for silent in (100, 1_000):
                     rounds = [both(20_000, silent, f"{room}/list") for _ in range(ROUNDS)]
                     compare(f"small menu beside {silent} silent clients, requests a second", rounds, 0, "at least 0.75")
+        compare_log(hole, clients, room, root)
         (pathlib.Path(room) / "hole.toml").write_text(settings(root, port, True))
         pathlib.Path(room, "list").write_text("/search\tmoon\n/search\tword7 and word9\n/search\tword1*\n")
         with Server([hole, "serve", f"{room}/hole.toml"]) as ours:

@@ -9,8 +9,7 @@ without an end, clients that send on, more silent clients than there are places,
 that are short, clients that ask for 8 MiB or a large menu and read nothing, and clients that ask the heaviest searches. Every
 ordinary client has to be answered whole within SOON seconds, the program's memory has to stay below KIB (24,576 without it; a
 build with an address sanitizer, as `rt try` makes, takes some 64,000), and the program has to end well. The last line is
-'attack: N passed, M failed'. It takes about N + 70 seconds, and at most some minutes if the program fails, because a server
-that goes on for too long is killed.
+'attack: N passed, M failed'. It takes about N + 70 seconds, and some minutes if the program fails.
 
 While 1,000 heavy searches wait for their turn, the program takes less than 8 MiB for them, and an ordinary reply takes less than
 SOON seconds. Beside heavy searches of 4,096 texts, ordinary replies take less than 50 ms in the median and 500 ms at the 99th
@@ -498,7 +497,6 @@ def raise_limit():
 
 def attack_in_turn(test):
     """Makes the attacks, each on a server of its own."""
-    test.expect("--seconds is 4 to 900", 4 <= test.given.seconds <= 900, True)
     test.expect("files may be open for so many clients", raise_limit(), True)
     attacked = Attacked(test)
     for attack in (attack_by_searches,) if test.given.heavy else ATTACKS:

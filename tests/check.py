@@ -273,11 +273,9 @@ MORE_SETTINGS = {
     'deny = [{ host = "h", prefix = 7 }]\nplaces = 0': "32 deny",
     "places = 0": "33 places",
     "places = 65537": "33 places",
-    "workers = 17": "33 workers",
     "threads = 9\ntries = 0": "33 threads",
     "tries = 0": "33 tries",
     "tries = 6": "33 tries",
-    'tries = "1"': "32 tries",
     '[[allow]]\nhost = "h"\n' * 257: "33 allow",
 }
 # Invalid and valid lines of a menu file.

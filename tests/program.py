@@ -103,13 +103,9 @@ def check_writes(test):
     for count in range(len(output)):
         ended = run(test, ["replay"], script, fails_1=count)
         test.expect(f"a write fails after {count} bytes", ended, (output[:count], b"hole: 13\n", 1))
-    test.expect("the whole output has room", run(test, ["replay"], script, fails_1=len(output)), (output, b"", 0))
     output, _, writes = counted(test, ["replay"], b"start\t2\nstatus\nclaim\n")
     wanted = b"ok\nknown 0 waiting 0 out 0 done 0 dropped 0\nfinished\n"
     test.expect("each of three answers goes out in a write of its own", (output, writes), (wanted, 3))
-    with open("/dev/full", "wb") as full:
-        ended = test.run("replay", input=b"start\t1\n", stdout=full)
-        test.expect("a full device", ended[1:], (b"hole: 13\n", 1))
 
 
 def check_errors(test):

@@ -2,11 +2,11 @@
 """Serves folders that were worked out by hand, and folders that are drawn; asks lines that are drawn, and compares each reply
 with the plain model of models/site_model.py.
 
-    tests/requests.py [--lines N] [--seed S] [--site K] [PROGRAM]
+    tests/requests.py [--lines N] [--seed S] [PROGRAM]
 
 N lines in all (500 without N, always the same without S), 50 for each folder, many at once; the server crawls itself, and is
-asked once that crawl is at its end. --site K asks the K-th folder alone. The last line is 'requests: N passed, M failed';
-the first 20 lines that fail are shown, and no other folder is asked after that.
+asked once that crawl is at its end. The last line is 'requests: N passed, M failed'; the first 20 lines that fail are shown, and
+no other folder is asked after that.
 """
 import os
 import random
@@ -97,11 +97,10 @@ def check_site(test, number, count):
 
 def check_drawn(test):
     """Serves drawn folders until twenty lines failed."""
-    lines, site = test.given.lines, test.given.site
-    for number in range(-(-lines // LINES_OF_A_SITE)) if site < 0 else [site]:
+    for start in range(0, test.given.lines, LINES_OF_A_SITE):
         if test.failed < MOST_SHOWN:
-            check_site(test, number, min(LINES_OF_A_SITE, lines - number * LINES_OF_A_SITE) if site < 0 else LINES_OF_A_SITE)
+            check_site(test, start // LINES_OF_A_SITE, min(LINES_OF_A_SITE, test.given.lines - start))
 
 
 if __name__ == "__main__":
-    run_test("requests", __doc__, check_worked, check_drawn, lines=500, seed="hole", site=-1)
+    run_test("requests", __doc__, check_worked, check_drawn, lines=500, seed="hole")

@@ -125,7 +125,7 @@ class Tree:
             if item in order:
                 return
             order.append(item)
-            for word in WORD.findall("\n".join(item.read())):
+            for word in WORD.findall("\n".join([item.name, *item.read()])):  # the name of a method has its receiver's type
                 meaning = self.meaning(item, word)
                 if isinstance(meaning, str):
                     kit.add(meaning)

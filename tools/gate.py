@@ -42,7 +42,7 @@ MEMORY_OF_A_CHECK = 5 << 30
 BY_HAND = {"clients"}
 # tests of `make quick`, with more words if the program was built without its proofs
 QUICK = {
-    "program": (), "requests": (), "check": (), "replays": ("--scripts", "200", "--pages", "257"), "log": ("--ratio", "0"),
+    "program": (), "requests": (), "check": (), "replays": ("--scripts", "200", "--pages", "257"), "log": (),
     "attack": ("--memory", "100000"),
 }
 # tests that measure time or memory, or that wait for a second or two only: nothing else runs beside them

@@ -61,7 +61,7 @@ def counted():
         "lines of contracts": lines("src/**/*.rt") - plain,
         "lines of definitions": lines("specs/**/*.antt"),
         "lines of proofs": lines("proofs/**/*.antt"),
-        "lines to audit": tree.text(tree.promises)[1],
+        "lines to read for all promises": tree.text(tree.promises)[1],
         "wrong bodies": len([*ROOT.glob("crates/*/wrong-bodies/*.edit"), *ROOT.glob("crates/*/must-fail/*")]),
     }
 

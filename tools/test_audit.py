@@ -9,10 +9,11 @@ sys.path.insert(0, str(pathlib.Path(__file__).resolve().parent))
 import audit
 
 TREE = audit.Tree()
-# what the text of each promise has: definitions that it speaks of or that a field's name reaches, constants, and clauses
+# what the text of each promise has: definitions that it speaks of, that a field's name or a receiver reaches, constants, clauses
 PRINTED = {
     "search": (
         "answer_of pages query = take 50 (ranked (hits_among query pages))", "is_out events number = claims events number", "ensures hits",
+        "pub record PassData", "type Pass, as contracts see it",
     ),
     "tries": (),
     "one-catalogue": (),

@@ -81,6 +81,17 @@ class Documents(unittest.TestCase):
             for crate in re.findall(r"\b((?:gopher|test|bench|example)_[a-z_]+)\b", page):
                 self.assertTrue([*ROOT.glob(f"crates/{crate}"), *ROOT.glob(f"t*/{crate}*")], f"{name}: {crate}")
 
+    def test_files_that_the_architecture_names_are_in_the_crates_that_it_names(self):
+        rows = re.findall(r"(?m)^- \*\*(gopher_\w+)\*\*(.*)$", PAGES["ARCHITECTURE.md"])
+        named = [(crate, file) for crate, row in rows for file in re.findall(r"`([\w/]*\w)`", row)]
+        for step in re.findall(r"(?m)^(?:\d\. |With ).*$", PAGES["ARCHITECTURE.md"]):
+            crate = "gopher_crew"
+            for word in re.findall(r"`([\w/.]+)`", step):
+                crate = word if (ROOT / "crates" / word).is_dir() else crate
+                named += [(crate, word.removesuffix(".rt"))] if word.endswith(".rt") else []
+        lost = [f"{crate}: {file}" for crate, file in named if not [*ROOT.glob(f"crates/{crate}/src/**/{file}.rt")]]
+        self.assertEqual(lost, [] if len(named) > 100 else "names of files")
+
     def test_installed_documents_name_none_that_stays_here(self):
         installed = {pathlib.Path(name).name: (ROOT / name).read_text() for name in dist.DOCUMENTS}
         for name, page in installed.items():
@@ -113,6 +124,7 @@ class Documents(unittest.TestCase):
 class Definitions(unittest.TestCase):
     def test_each_name_has_one_meaning_and_cites_no_lemma(self):
         counts = collections.Counter(name for text in SPECS.values() for name in names(text))
+        self.assertGreater(len(counts), 1000)
         self.assertEqual([name for name, count in counts.items() if count > 1], [])
         self.assertEqual([str(path) for path, text in SPECS.items() if LEMMAS.search(text)], [])
 
@@ -120,12 +132,6 @@ class Definitions(unittest.TestCase):
         for kind, pattern in SHORT.items():
             for text in numbers_of_code.texts(kind):
                 self.assertEqual([line for line in re.findall(pattern, text) if len(line) > 100], [])
-
-    def test_names_are_found(self):
-        text = "use Rattle.std.specs.Prelude.{ℕ}\n-- one more\nabbrev pub one_more : ℕ → ℕ\none_more n = n + 1\n"
-        text += "pub record IsLong (length : ℕ)\n    (bytes : List ℕ) : Type 0 where\n  pub is : 9 < length\n"
-        text += "parted (first : ℕ) (rest : ℕ) : ℕ\nparted first rest = (other : ℕ) × first\n"
-        self.assertEqual(names(text), ["one_more", "IsLong", "parted"])
 
 
 if __name__ == "__main__":
