@@ -13,7 +13,7 @@ help:
 run:
 	@tools/run_example.py $(SETTINGS)
 
-# Replays a script of a crawl and its searches by a program like that of `make run`, and prints the answers.
+# Replays a script of a crawl by a program like that of `make run`, and prints the answers.
 # make replay SCRIPT=examples/first_crawl.script
 .PHONY: replay
 replay:
@@ -31,7 +31,8 @@ test:
 	$(NEEDS_TOOLCHAIN)
 	tools/gate.py
 
-# What needs no proof, in minutes: scripts, links, and the tests of the program, built without its proofs if need be.
+# What needs no proof, in minutes: scripts, links, and the tests of the program, built without its proofs if need be. Some tests
+# measure times, and may fail on a busy machine.
 .PHONY: quick
 quick:
 	$(NEEDS_TOOLCHAIN)
@@ -51,7 +52,7 @@ wrong-bodies:
 	tools/wrong_bodies.py --reasons $(CRATE)
 
 # Prints what to read to believe a promise: its clauses and the definitions that they reach. make audit PROMISE=search
-# make audit CRATE=gopher_item prints the contracts of a crate.
+# make audit CRATE=gopher_item prints the contracts of a crate; make audit alone lists the promises.
 .PHONY: audit
 audit:
 	@tools/audit.py $(if $(CRATE),--crate $(CRATE)) $(PROMISE)
