@@ -3,13 +3,15 @@ use Rattle.std.proofs.Common.{◌≡◌, ℕ, ◌+◌, ◌-◌, ◌<◌, ◌≤�
 use Rattle.std.proofs.Math.Seq.{take-append_seam}
 use Rattle.std.proofs.lemmas.List.{take_all}
 use Rattle.std.proofs.lemmas.List.Folds.{list_any_at}
+use Rattle.std.proofs.lemmas.Bool.{and_parts, or_parts, true≢false}
 use Rattle.std.proofs.lemmas.Bool.Decides.{nat_tests}
+use Rattle.std.specs.Result.{IsErrAnd}
 use Rattle.std.specs.declared.option.Option.{Option}
 use Rattle.std.specs.Io.KnownBytes.{Consumes}
 use Rattle.std.specs.Io.BufRead.{take_through, drop_through, ends_with_byte, strip_last, first_line, DropsThrough}
 use Rattle.gopher_text.specs.Reply.{SpendsTurns}
 use Rattle.gopher_text.specs.Watched.{WatchedData, HasRead}
-use Rattle.gopher_text.specs.Line.{has_feed, without_end, IsWholeLine, StopsInLine, RefusesLine, RefusesLength, FailsToReadLine}
+use Rattle.gopher_text.specs.Line.{has_feed, without_end, IsWholeLine, StopsInLine, FailsToReadLine}
 use Rattle.gopher_text.specs.declared.fault.LineFault.{LineFault}
 use Rattle.gopher_text.specs.declared.fault.LineFault.TheVariants.{LineTooLong, ReadFailed, TooManyTurns, NoMemory}
 
@@ -23,24 +25,17 @@ pub record InLine (old new : Option (List ℕ)) (before after turns filled : ℕ
   pub slowly : after + filled ≤ before + turns
   pub spent : SpendsTurns turns before after filled
 
-true_false : true ≡ false → ⊥
-true_false e = cc
-
-neither : (s t : Bool) → (s || t) ≡ false → (s ≡ false) × (t ≡ false)
-neither true t e = absurd (cc)
-neither false t e = (refl, e)
-
 -- the bytes through the first LF, after bytes without LF
 take_through-unfed : (front rest : List ℕ) → has_feed front ≡ false → take_through 10 (front ++ rest) ≡ front ++ take_through 10 rest
 take_through-unfed [] rest unfed = refl
 take_through-unfed (byte ∷ front) rest unfed =
-    let parts = neither (byte == 10) (has_feed front) unfed in
+    let parts = or_parts (byte == 10) (has_feed front) unfed in
     rw (parts.0, take_through-unfed front rest parts.1) refl
 
 drop_through-unfed : (front rest : List ℕ) → has_feed front ≡ false → drop_through 10 (front ++ rest) ≡ drop_through 10 rest
 drop_through-unfed [] rest unfed = refl
 drop_through-unfed (byte ∷ front) rest unfed =
-    let parts = neither (byte == 10) (has_feed front) unfed in
+    let parts = or_parts (byte == 10) (has_feed front) unfed in
     rw (parts.0, drop_through-unfed front rest parts.1) refl
 
 -- a whole line was read, and no byte after it
@@ -97,18 +92,14 @@ length-without_end bytes = by (ends_with_byte 10 bytes)
     by false = omega (arith, length-strip_last 10 bytes)
 
 -- bytes without LF have no end
-both : (s t : Bool) → (s && t) ≡ true → (s ≡ true) × (t ≡ true)
-both true t e = (refl, e)
-both false t e = absurd (cc)
-
 pub unfed_end : (bytes : List ℕ) → has_feed bytes ≡ false → ends_with_byte 10 bytes ≡ false
 unfed_end bytes unfed = by (ends_with_byte 10 bytes) refl
   where
     by : (ends : Bool) → ends_with_byte 10 bytes ≡ ends → ends ≡ false
     by true e =
-        let parts = both _ _ e in
+        let parts = and_parts _ _ e in
         let some : 0 < length bytes = grind (arith, nat_tests) in
-        absurd (true_false (sym (list_any_at (λ byte. byte == 10) bytes (length bytes - 1) 0 (omega arith) parts.1) ∙ unfed))
+        absurd (true≢false (sym (list_any_at (λ byte. byte == 10) bytes (length bytes - 1) 0 (omega arith) parts.1) ∙ unfed))
     by false e = refl
 
 without_end-unfed : (bytes : List ℕ) → has_feed bytes ≡ false → without_end bytes ≡ bytes
@@ -139,34 +130,7 @@ line_refused remaining old new bytes ReadFailed read stop = (bytes, (read, stop.
 line_refused remaining old new bytes TooManyTurns read stop = (bytes, ((read, stop.0, stop.1, stop.2), stop.3))
 line_refused remaining old new bytes NoMemory read stop = absurd stop
 
--- the whole line was read, but the call fails
-pub whole_line_refused : (old new : Option (List ℕ)) (before after : ℕ) (bytes : List ℕ) (fault : LineFault) → Consumes old new bytes → IsWholeLine new bytes
-    → length bytes ≤ 1026 → RefusesLength (length (without_end bytes)) fault → RefusesLine old new before after fault
-whole_line_refused old new before after bytes LineTooLong read whole within long = long_line_read old new bytes read whole within long
-whole_line_refused old new before after bytes ReadFailed read whole within refused = absurd refused
-whole_line_refused old new before after bytes TooManyTurns read whole within refused = absurd refused
-whole_line_refused old new before after bytes NoMemory read whole within short =
-    let line = line_read old new bytes read whole in (short_line_read old bytes line.0 short, line.1)
-
--- the result for a whole line, in terms of the reader
-pub line_answered : {V : Type 0} (items : V → List ℕ) (old : Option (List ℕ)) (bytes : List ℕ) (result : Result V LineFault)
-    → IfSome old (λ all. take_through 10 all ≡ bytes) → IfOk result (λ line. items line ≡ without_end bytes)
-    → IfOk result (λ line. IfSome old (λ all. items line ≡ first_line all))
-line_answered items old bytes (Ok line) read same = first_line_read old bytes (items line) read same
-line_answered items old bytes (Err fault) read same = tt
-
-pub rest_answered : {V : Type 0} (old new : Option (List ℕ)) (result : Result V LineFault) → DropsThrough old new 10 → OnOk result (DropsThrough old new 10)
-rest_answered old new (Ok line) dropped = dropped
-rest_answered old new (Err fault) dropped = tt
-
-pub refusal_answered : {V : Type 0} (old new : Option (List ℕ)) (before after : ℕ) (bytes : List ℕ) (result : Result V LineFault)
-    → Consumes old new bytes → IsWholeLine new bytes → length bytes ≤ 1026
-    → IfErr result (RefusesLength (length (without_end bytes))) → IfErr result (RefusesLine old new before after)
-refusal_answered old new before after bytes (Ok line) read whole within refused = tt
-refusal_answered old new before after bytes (Err fault) read whole within refused = whole_line_refused old new before after bytes fault read whole within refused
-
--- at most 4,096 turns read these bytes
-pub few_turns : (old new : Option (List ℕ)) (before after filled : ℕ) (held : List ℕ) → Consumes old new (take filled held)
-    → before ≤ after → after + filled ≤ before + 4096
-    → (before ≤ after) × ((bytes : List ℕ) × Consumes old new bytes × (after + length bytes ≤ before + 4096))
-few_turns old new before after filled held read rises few = (rises, (take filled held, read, omega (arith, length-take filled held)))
+-- a call that fails because it is out of memory
+pub no_memory_answered : {T : Type 0} (result : Result T LineFault) (P : LineFault → Type 0) → IsErrAnd result (λ fault. fault ≡ NoMemory) → P NoMemory → IfErr result P
+no_memory_answered (Ok value) P is refused = tt
+no_memory_answered (Err fault) P is refused = subst P (sym is) refused

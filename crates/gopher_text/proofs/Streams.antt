@@ -1,5 +1,5 @@
 -- Several reads or writes of known bytes, and how many turns they took.
-use Rattle.std.proofs.Common.{◌≡◌, ℕ, ◌+◌, ◌<◌, ◌≤◌, List, take, drop, length, sym, subst, arith, inl, inr}
+use Rattle.std.proofs.Common.{◌≡◌, ℕ, ◌+◌, ◌<◌, ◌≤◌, List, take, drop, length, sym, subst, arith, inl, inr, ◌⊎◌}
 use Rattle.std.proofs.Math.Seq.{take-add}
 use Rattle.std.specs.declared.option.Option.{Option}
 use Rattle.std.specs.Io.KnownBytes.{Appends, Consumes, Keeps}
@@ -75,3 +75,9 @@ filled_interrupted a b c before between after limit turns filled old new so_far 
   slowly = omega (arith, so_far.slowly, counted);
   spent = spent_interrupted before between after turns filled so_far.spent counted;
 }
+
+-- a write that took bytes isn't counted as failed
+pub counts_nothing : (before after taken size : ℕ) → ((taken ≡ 0) × (0 < size) × CountsFailure before after) ⊎ (((0 < taken) ⊎ (size ≡ 0)) × (after ≡ before))
+    → (taken ≡ 0 → ⊥) → after ≡ before
+counts_nothing before after taken size (inl none) some = absurd (some none.0)
+counts_nothing before after taken size (inr took) some = took.1

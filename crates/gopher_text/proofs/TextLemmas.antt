@@ -4,6 +4,7 @@ use Rattle.std.specs.Io.{StartsWith}
 use Rattle.std.specs.List.{slice_split, flat_map, AllByRecursion}
 use Rattle.std.specs.Str.Lines.{strip_carriage_return}
 use Rattle.std.proofs.KnownBytes.{starts_with_rest}
+use Rattle.std.proofs.lemmas.Bool.{or_from, or_parts}
 use Rattle.std.proofs.lemmas.Bool.Decides.{nat_tests}
 use Rattle.std.proofs.lemmas.List.{take_at}
 use Rattle.std.proofs.lemmas.List.Concat.{flat_map-cons}
@@ -28,17 +29,10 @@ text_bytes-line line lines =
 
 -- ---- one line, read back
 
-parts_false : (s t : Bool) → (s || t) ≡ false → (s ≡ false) × (t ≡ false)
-parts_false true t h = absurd cc
-parts_false false t h = (refl, h)
-
-neither : (s t : Bool) → s ≡ false → t ≡ false → (s || t) ≡ false
-neither s t p q = rw p q
-
 cut_at_feed : (front rest : List ℕ) → has_feed front ≡ false → slice_split (λ b. eqb b 10) (front ++ 10 ∷ rest) ≡ front ∷ slice_split (λ b. eqb b 10) rest
 cut_at_feed [] rest unfed = slice_split-cons_yes (λ b. eqb b 10) 10 rest (grind (arith, nat_tests))
 cut_at_feed (byte ∷ front) rest unfed =
-    let both = parts_false _ _ unfed in
+    let both = or_parts _ _ unfed in
     slice_split-cons_no (λ b. eqb b 10) byte (front ++ 10 ∷ rest) both.0 ∙ rw (cut_at_feed front rest both.1) refl
 
 strip_return : (line : List ℕ) → strip_carriage_return (line ++ 13 ∷ []) ≡ line
@@ -51,7 +45,7 @@ ended_line : (line rest : List ℕ) → has_feed line ≡ false → lines_of ((l
 ended_line line rest unfed =
     let whole : (line ++ 13 ∷ 10 ∷ []) ++ rest ≡ (line ++ 13 ∷ []) ++ 10 ∷ rest =
     append_assoc line (13 ∷ 10 ∷ []) rest ∙ sym (append_assoc line (13 ∷ []) (10 ∷ rest)) in
-    let none : has_feed (line ++ 13 ∷ []) ≡ false = list_any-append (λ byte. eqb byte 10) line (13 ∷ []) ∙ neither _ _ unfed refl in
+    let none : has_feed (line ++ 13 ∷ []) ≡ false = list_any-append (λ byte. eqb byte 10) line (13 ∷ []) ∙ or_from _ _ unfed refl in
     ap lines_of whole
     ∙ lines_of_cut ((line ++ 13 ∷ []) ++ 10 ∷ rest) (line ++ 13 ∷ []) rest (cut_at_feed (line ++ 13 ∷ []) rest none)
     ∙ ap (λ (l : List ℕ). l ∷ lines_of rest) (strip_return line)
@@ -60,7 +54,7 @@ sent_unfed : (line : List ℕ) → has_feed line ≡ false → has_feed (line_se
 sent_unfed line unfed = by (begins_with_period line)
   where
     by : (begins : Bool) → has_feed (cond begins (46 ∷ line) line) ≡ false
-    by true = neither (eqb 46 10) (has_feed line) refl unfed
+    by true = or_from (eqb 46 10) (has_feed line) refl unfed
     by false = unfed
 
 -- a sent line isn't a single period, and is read as it was

@@ -8,20 +8,6 @@ use Rattle.gopher_text.specs.Watched.{WatchedData, CountsFailure, HasFailed, Has
 use Rattle.gopher_text.specs.Reply.{SpendsTurns}
 use Rattle.gopher_text.specs.declared.fault.LineFault.{LineFault}
 use Rattle.gopher_text.specs.declared.fault.LineFault.TheVariants.{LineTooLong, ReadFailed, TooManyTurns, NoMemory}
-use Rattle.gopher_text.specs.declared.reading.ByteRead.{ByteRead}
-use Rattle.gopher_text.specs.declared.reading.ByteRead.TheVariants.{Byte, Ended, Interrupted, Failed}
-
--- the outcome of reading one byte: the reader before and after
-abbrev pub ReadsByte : {R : Type 0} → (R → Option (List ℕ)) → WatchedData R → WatchedData R
-    → ByteRead → Type 0
-ReadsByte remaining old new (Byte byte) =
-    HasRead remaining old new (byte ∷ []) × (new.failures ≡ old.failures)
-ReadsByte remaining old new Ended =
-    HasRead remaining old new [] × IsAtEnd (remaining new.device) × (new.failures ≡ old.failures)
-ReadsByte remaining old new Interrupted =
-    HasRead remaining old new [] × CountsFailure old.failures new.failures
-ReadsByte remaining old new Failed =
-    HasRead remaining old new [] × CountsFailure old.failures new.failures
 
 -- the bytes of a line without its end
 abbrev pub without_end : List ℕ → List ℕ
@@ -66,12 +52,6 @@ StopsInLine remaining old new bytes (Err TooManyTurns) =
     (has_feed bytes ≡ false) × (length bytes ≤ 1025) × HasFailed old.failures new.failures
     × SpendsTurns 4096 old.failures new.failures (length bytes)
 StopsInLine remaining old new bytes (Err NoMemory) = ⊥
-
--- why a call fails after it has read all of a line of this length
-abbrev pub RefusesLength : ℕ → LineFault → Type 0
-RefusesLength length LineTooLong = MAX_LINE < length
-RefusesLength length NoMemory = length ≤ MAX_LINE
-RefusesLength length _ = ⊥
 
 -- the line is the reader's next one, without its end
 abbrev pub IsNextLine : {R : Type 0} → (R → Option (List ℕ)) → WatchedData R → List ℕ → Type 0

@@ -42,18 +42,11 @@ FailsToReadReply remaining old new limit fault =
     (bytes : List ℕ) × HasRead remaining old new bytes
     × RefusesReply limit old.failures new.failures bytes fault
 
--- why reading stopped after these bytes, at the end of the input or before it: the reader before
--- and after, and the limit
-abbrev pub StopsReading : {R T : Type 0} → (R → Option (List ℕ)) → WatchedData R → WatchedData R
-    → ℕ → List ℕ → Result T ReplyFault → Type 0
-StopsReading remaining old new limit bytes (Ok value) =
-    IsAtEnd (remaining new.device) × (length bytes ≤ limit)
-StopsReading remaining old new limit bytes (Err fault) =
-    RefusesReply limit old.failures new.failures bytes fault
-
 -- why reading into this buffer stopped, with the number of bytes read: the reader before and after,
 -- and the limit
 abbrev pub StopsFilling : {R T : Type 0} → (R → Option (List ℕ)) → WatchedData R → WatchedData R
     → ℕ → List ℕ → ℕ × Result T ReplyFault → Type 0
-StopsFilling remaining old new limit buffer result =
-    StopsReading remaining old new limit (take result.0 buffer) result.1
+StopsFilling remaining old new limit buffer (filled, Ok value) =
+    IsAtEnd (remaining new.device) × (filled ≤ limit)
+StopsFilling remaining old new limit buffer (filled, Err fault) =
+    RefusesReply limit old.failures new.failures (take filled buffer) fault

@@ -1,11 +1,11 @@
 //! Reading one line of a stream: `read_line_from`.
 
 ghost use Rattle.std.specs.Prelude.{◌≡◌, ◌≤◌, length, take, IfErr, IfOk, OnOk, vec_len};
-ghost use Rattle.gopher_text.specs.Line.{FailsToReadLine, IsNextLine, ReadsAndFailsAtMost, ReadsLine, RefusesLength, StopsInLine, TakesAndFailsAtMost, without_end};
+ghost use Rattle.gopher_text.specs.Line.{FailsToReadLine, IsNextLine, ReadsAndFailsAtMost, ReadsLine, StopsInLine, TakesAndFailsAtMost, without_end};
 ghost use Rattle.gopher_text.specs.Watched.{HasRead};
 
 use crate::fault::LineFault;
-use crate::reading::{ByteRead, read_byte};
+use crate::reading::{Reading, read_once};
 use crate::watched::Watched;
 use gopher_bytes::MAX_LINE;
 use std::alloc::Global;
@@ -39,19 +39,10 @@ pub fn read_line_from<R: Read>(alloc: Global, reader: &mut Watched<R>) -> Result
 {
     let mut held = [0; MAX_WITH_END];
     let (filled, end) = fill(reader, &mut held);
-    match end {
-        Ok(()) => line_of(alloc, &held[..filled]),
-        Err(fault) => Err(fault),
+    if let Err(fault) = end {
+        return Err(fault);
     }
-}
-
-// The line that was read, without its end.
-fn line_of(alloc: Global, bytes: &[u8]) -> Result<Vec<u8>, LineFault>
-    ensures line { IfOk result (λ line. line.items ≡ without_end bytes.now) }
-    ensures short { OnOk result (length (without_end bytes.now) ≤ MAX_LINE) }
-    ensures refused { IfErr result (RefusesLength (length (without_end bytes.now))) }
-{
-    let line = without_end(bytes);
+    let line = without_end(&held[..filled]);
     if line.len() > MAX_LINE {
         return Err(LineFault::LineTooLong);
     }
@@ -69,20 +60,21 @@ fn fill<R: Read>(reader: &mut Watched<R>, held: &mut [u8]) -> (usize, Result<(),
 {
     let mut filled = 0;
     for _turn in 0..MAX_TURNS {
-        match read_byte(reader) {
-            ByteRead::Byte(byte) => {
-                held[filled] = byte;
+        let mut byte = [0];
+        match read_once(reader, &mut byte) {
+            Reading::Took(_) => {
+                held[filled] = byte[0];
                 filled += 1;
-                if byte == b'\n' {
+                if byte[0] == b'\n' {
                     return (filled, Ok(()));
                 }
                 if filled == MAX_WITH_END {
                     return (filled, Err(LineFault::LineTooLong));
                 }
             }
-            ByteRead::Ended => return (filled, Ok(())),
-            ByteRead::Interrupted => {}
-            ByteRead::Failed => return (filled, Err(LineFault::ReadFailed)),
+            Reading::Ended => return (filled, Ok(())),
+            Reading::Interrupted => {}
+            Reading::Failed => return (filled, Err(LineFault::ReadFailed)),
         }
     }
     (filled, Err(LineFault::TooManyTurns))

@@ -1,8 +1,7 @@
-//! One call of a reader and its outcome: `read_once`, `read_byte`.
+//! One call of a reader and its outcome: `read_once`.
 
 ghost use Rattle.std.specs.Prelude.{◌<◌, length};
 ghost use Rattle.gopher_text.specs.Reply.{ReadsAfter};
-ghost use Rattle.gopher_text.specs.Line.{ReadsByte};
 
 use crate::watched::Watched;
 use std::io::{ErrorKind, Read};
@@ -35,31 +34,5 @@ pub(crate) fn read_once<R: Read>(reader: &mut Watched<R>, buffer: &mut [u8]) -> 
                 Reading::Failed
             }
         }
-    }
-}
-
-/// The outcome of a read of one byte.
-#[derive(Clone, Copy)]
-pub(crate) enum ByteRead {
-    /// The read returned this byte.
-    Byte(u8),
-    /// The input has ended.
-    Ended,
-    /// The read was interrupted.
-    Interrupted,
-    /// The read failed.
-    Failed,
-}
-
-/// Reads one byte, in one read.
-pub(crate) fn read_byte<R: Read>(reader: &mut Watched<R>) -> ByteRead
-    ensures { ReadsByte R.remaining reader.old reader.new result }
-{
-    let mut byte = [0];
-    match read_once(reader, &mut byte) {
-        Reading::Took(_) => ByteRead::Byte(byte[0]),
-        Reading::Ended => ByteRead::Ended,
-        Reading::Interrupted => ByteRead::Interrupted,
-        Reading::Failed => ByteRead::Failed,
     }
 }

@@ -2,7 +2,7 @@
 
 ghost use Rattle.std.specs.Prelude.{◌≡◌, ◌+◌, ◌<◌, ◌≤◌, length, take, IfOk, IfErr, OnOk, vec_len};
 ghost use Rattle.std.specs.Io.KnownBytes.{IsAtEnd};
-ghost use Rattle.gopher_text.specs.Reply.{FailsToReadReply, ReadsAfter, StopsFilling, StopsReading};
+ghost use Rattle.gopher_text.specs.Reply.{FailsToReadReply, ReadsAfter, StopsFilling};
 ghost use Rattle.gopher_text.specs.Watched.{FailsAtMost, HasRead};
 
 use crate::fault::ReplyFault;
@@ -45,25 +45,10 @@ pub fn read_reply<R: Read>(
     ensures turns { FailsAtMost reader.old reader.new 2097152 }
 {
     let mut bytes = Vec::new(alloc);
-    read_within(reader, &mut bytes, limit)?;
-    Ok(bytes)
-}
-
-// Appends all bytes of `reader` to the empty `bytes`, up to one byte more than `limit`.
-fn read_within<R: Read>(
-    reader: &mut Watched<R>,
-    bytes: &mut Vec<u8>,
-    limit: usize,
-) -> Result<(), ReplyFault>
-    requires limit { limit ≤ MAX_REPLY }
-    requires empty { length bytes.old.items ≡ 0 }
-    ensures read { HasRead R.remaining reader.old reader.new bytes.new.items }
-    ensures stop { StopsReading R.remaining reader.old reader.new limit bytes.new.items result }
-    ensures turns { FailsAtMost reader.old reader.new 2097152 }
-{
-    let (filled, end) = fill(reader, bytes, limit);
+    let (filled, end) = fill(reader, &mut bytes, limit);
+    end?;
     bytes.truncate(filled);
-    end
+    Ok(bytes)
 }
 
 // Reads into `bytes`. Returns the number of bytes read, and why reading stopped.

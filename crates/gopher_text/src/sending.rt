@@ -2,7 +2,7 @@
 
 ghost use Rattle.std.specs.Prelude.{◌<◌, length, IfErr, OnOk, OnErr};
 ghost use Rattle.gopher_text.specs.Watched.{FailsAtMost, HasFailed, HasSent};
-ghost use Rattle.gopher_text.specs.Send.{HasSentPart, WritesAfter};
+ghost use Rattle.gopher_text.specs.Send.{HasSentPart};
 
 use crate::fault::SendFault;
 use crate::watched::Watched;
@@ -10,17 +10,6 @@ use std::io::{ErrorKind, Write};
 
 // A call fails after this many interrupted writes.
 const MAX_INTERRUPTIONS: u64 = 4_096;
-
-// The outcome of one write.
-#[derive(Clone, Copy)]
-enum Writing {
-    // The write took this many bytes, at least one.
-    Took(usize),
-    // The write was interrupted and took no bytes.
-    Interrupted,
-    // The write failed or took no bytes.
-    Failed,
-}
 
 /// Sends all of `bytes`, in as many writes as `writer` needs. Interrupted writes are tried again.
 ///
@@ -39,34 +28,19 @@ pub fn send<W: Write>(writer: &mut Watched<W>, bytes: &[u8]) -> Result<(), SendF
     let mut sent = 0;
     let mut interruptions = 0;
     while sent < bytes.len() {
-        match write_after(writer, bytes, sent) {
-            Writing::Took(count) => sent += count,
-            Writing::Interrupted => {
+        match writer.write(&bytes[sent..]) {
+            Ok(0) => return Err(SendFault { sent }),
+            Ok(count) => sent += count,
+            Err(error) => {
+                if error.kind() != ErrorKind::Interrupted {
+                    return Err(SendFault { sent });
+                }
                 interruptions += 1;
                 if interruptions == MAX_INTERRUPTIONS {
                     return Err(SendFault { sent });
                 }
             }
-            Writing::Failed => return Err(SendFault { sent }),
         }
     }
     Ok(())
-}
-
-// Writes once from the part of `bytes` after the first `sent` bytes.
-fn write_after<W: Write>(writer: &mut Watched<W>, bytes: &[u8], sent: usize) -> Writing
-    requires { sent < length bytes.now }
-    ensures { WritesAfter W.contents writer.old writer.new bytes.now sent result }
-{
-    match writer.write(&bytes[sent..]) {
-        Ok(0) => Writing::Failed,
-        Ok(count) => Writing::Took(count),
-        Err(error) => {
-            if error.kind() == ErrorKind::Interrupted {
-                Writing::Interrupted
-            } else {
-                Writing::Failed
-            }
-        }
-    }
 }

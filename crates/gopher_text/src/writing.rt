@@ -56,11 +56,9 @@ fn room_for_file(bytes: &[u8]) -> usize {
 
 // At least as many bytes as the text of the lines has.
 fn room_for(lines: &[Vec<u8>]) -> usize {
-    let mut room = MOST_MORE;
-    for line in lines {
-        room = room.saturating_add(line.len()).saturating_add(MOST_MORE);
-    }
-    room
+    lines.iter().fold(MOST_MORE, |room, line| {
+        room.saturating_add(line.len()).saturating_add(MOST_MORE)
+    })
 }
 
 // Appends the lines and the last line.

@@ -1,30 +1,26 @@
-use Rattle.std.proofs.Common.{arith, take, length, length-take, ◌≤◌}
-use Rattle.gopher_text.proofs.LineLemmas.{line_read, line_answered, rest_answered, refusal_answered, line_refused, few_turns}
+use Rattle.std.proofs.Common.{arith, take, length, length-take, ◌≤◌, ◌∙◌}
+use Rattle.gopher_text.specs.Line.{without_end}
+use Rattle.gopher_text.proofs.LineLemmas.{first_line_read, line_read, line_refused, long_line_read, no_memory_answered, short_line_read}
 use Rattle.gopher_text.proofs.line_reader.read_line_from.Goals as goal
-
-pub returns-in-Ok-clause-line : goal.returns-in-Ok-clause-line
-returns-in-Ok-clause-line g c =
-    let whole = rw c.in-Ok.is at c.fill-filled.ensures.stop in
-    line_answered (λ line. line.items) _ _ c.line_of.result (line_read _ _ _ c.fill-filled.ensures.read whole).0 c.line_of.ensures.line
-
-pub returns-in-Ok-clause-rest : goal.returns-in-Ok-clause-rest
-returns-in-Ok-clause-rest g c =
-    let whole = rw c.in-Ok.is at c.fill-filled.ensures.stop in
-    rest_answered _ _ c.line_of.result (line_read _ _ _ c.fill-filled.ensures.read whole).1
-
-pub returns-in-Ok-clause-refused : goal.returns-in-Ok-clause-refused
-returns-in-Ok-clause-refused g c =
-    let whole = rw c.in-Ok.is at c.fill-filled.ensures.stop in
-    let within : length (take c.fill-filled.result.0 c.fill-filled.new.held) ≤ 1026 = omega (arith, length-take c.fill-filled.result.0 c.fill-filled.new.held) in
-    refusal_answered _ _ _ _ _ c.line_of.result c.fill-filled.ensures.read whole within c.line_of.ensures.refused
 
 pub returns-in-Err-clause-refused : goal.returns-in-Err-clause-refused
 returns-in-Err-clause-refused g c = line_refused g.R.Read.remaining _ _ _ _ c.fill-filled.ensures.read (rw c.in-Err.is at c.fill-filled.ensures.stop)
 
-pub returns-in-Ok-clause-turns : goal.returns-in-Ok-clause-turns
-returns-in-Ok-clause-turns g c =
-    few_turns _ _ _ _ c.fill-filled.result.0 c.fill-filled.new.held c.fill-filled.ensures.read c.fill-filled.ensures.turns.0 c.fill-filled.ensures.turns.1
+pub returns-then-line-gt-MAX_LINE-clause-refused : goal.returns-then-line-gt-MAX_LINE-clause-refused
+returns-then-line-gt-MAX_LINE-clause-refused g c =
+    let within : length (take c.fill-filled.result.0 c.fill-filled.new.held) ≤ 1026 = omega (arith, length-take c.fill-filled.result.0 c.fill-filled.new.held) in
+    long_line_read _ _ _ c.fill-filled.ensures.read (rw c.in_default.is at c.fill-filled.ensures.stop) within (rw c.without_end-line.ensures at c.if-line-gt-MAX_LINE.true)
 
-pub returns-in-Err-clause-turns : goal.returns-in-Err-clause-turns
-returns-in-Err-clause-turns g c =
-    few_turns _ _ _ _ c.fill-filled.result.0 c.fill-filled.new.held c.fill-filled.ensures.read c.fill-filled.ensures.turns.0 c.fill-filled.ensures.turns.1
+pub returns-in_err-from_slice-clause-refused : goal.returns-in_err-from_slice-clause-refused
+returns-in_err-from_slice-clause-refused g c =
+    let line = line_read _ _ _ c.fill-filled.ensures.read (rw c.in_default.is at c.fill-filled.ensures.stop) in
+    let short : length (without_end (take c.fill-filled.result.0 c.fill-filled.new.held)) ≤ 1024 = rw (← c.without_end-line.ensures) (omega arith) in
+    no_memory_answered c.from_residual.result _ c.from_residual.ensures.1 (short_line_read _ _ line.0 short, line.1)
+
+pub returns-clause-line : goal.returns-clause-line
+returns-clause-line g c =
+    let line = line_read _ _ _ c.fill-filled.ensures.read (rw c.in_default.is at c.fill-filled.ensures.stop) in
+    first_line_read _ _ _ line.0 (c.in_ok-from_slice.ensures.items ∙ c.without_end-line.ensures)
+
+pub returns-clause-rest : goal.returns-clause-rest
+returns-clause-rest g c = (line_read _ _ _ c.fill-filled.ensures.read (rw c.in_default.is at c.fill-filled.ensures.stop)).1
