@@ -2,6 +2,7 @@
 use Rattle.std.proofs.Common.{◌≡◌, ℕ, ◌-◌, ◌<◌, Bool, true, false, ◌&&◌, ◌||◌, not, eqb, List, [], ◌∷◌, ◌++◌, length, get_or, take, drop, refl, sym, ap, ◌∙◌, arith}
 use Rattle.std.specs.List.{list_any, list_all, onto_first}
 use Rattle.std.proofs.lemmas.List.Splits.{slice_split-cons_yes, slice_split-cons_no}
+use Rattle.std.proofs.lemmas.Bool.{and_parts, not-true, or_parts}
 use Rattle.std.proofs.lemmas.List.{take_all}
 use Rattle.gopher_item.specs.Special.{is_special, has_special}
 use Rattle.gopher_item.specs.Menu.{BeginsWithField, HasFields, HasFirstField, fields_of}
@@ -21,13 +22,9 @@ not_special b tab feed other = by (eqb b 13) (eqb b 0) other
     by true n h = absurd cc
     by false n h = rw (tab, feed) h
 
-first_of_none : (s t : Bool) → (s || t) ≡ false → (s ≡ false) × (t ≡ false)
-first_of_none true t h = absurd cc
-first_of_none false t h = (refl, h)
-
 pub plain_fields : (line : List ℕ) → list_any (λ b. eqb b 10) line ≡ false → list_any (λ b. eqb b 13 || eqb b 0) line ≡ false → list_all is_plain (fields_of line) ≡ true
 plain_fields [] feed other = refl
-plain_fields (b ∷ bs) feed other = by (eqb b 9) refl (first_of_none _ _ feed) (first_of_none _ _ other)
+plain_fields (b ∷ bs) feed other = by (eqb b 9) refl (or_parts _ _ feed) (or_parts _ _ other)
     (λ f o. plain_fields bs f o)
   where
     by : (t : Bool) → eqb b 9 ≡ t → (eqb b 10 ≡ false) × (list_any (λ b. eqb b 10) bs ≡ false) → ((eqb b 13 || eqb b 0) ≡ false) × (list_any (λ b. eqb b 13 || eqb b 0) bs ≡ false)
@@ -36,28 +33,21 @@ plain_fields (b ∷ bs) feed other = by (eqb b 9) refl (first_of_none _ _ feed) 
     by true e f o rest = ap (list_all is_plain) (slice_split-cons_yes (λ b. eqb b 9) b bs e) ∙ rest f.1 o.1
     by false e f o rest = ap (list_all is_plain) (slice_split-cons_no (λ b. eqb b 9) b bs e) ∙ plain_onto b (fields_of bs) (not_special b e f.0 o.0) (rest f.1 o.1)
 
-plain_is : (field : List ℕ) (rest : Bool) → (is_plain field && rest) ≡ true → (has_special field ≡ false) × (rest ≡ true)
-plain_is field rest h = by (has_special field) refl h
-  where
-    by : (t : Bool) → has_special field ≡ t → (not t && rest) ≡ true → (t ≡ false) × (rest ≡ true)
-    by true e h = absurd cc
-    by false e h = (refl, h)
-
 -- the first three of at least four fields contain no special byte
 pub plain_three : (fields : List (List ℕ)) (a b c d : List ℕ) (more : List (List ℕ)) → fields ≡ a ∷ b ∷ c ∷ d ∷ more → list_all is_plain fields ≡ true
     → (has_special a ≡ false) × (has_special b ≡ false) × (has_special c ≡ false)
 plain_three fields a b c d more e h =
-    let first = plain_is a _ (sym (ap (list_all is_plain) e) ∙ h) in
-    let second = plain_is b _ first.1 in
-    let third = plain_is c _ second.1 in
-    (first.0, second.0, third.0)
+    let first = and_parts (is_plain a) _ (sym (ap (list_all is_plain) e) ∙ h) in
+    let second = and_parts (is_plain b) _ first.1 in
+    let third = and_parts (is_plain c) _ second.1 in
+    (not-true _ first.0, not-true _ second.0, not-true _ third.0)
 
 -- neither the first byte of a field nor the rest contains a special byte
 pub plain_parts : (field : List ℕ) → 0 < length field → has_special field ≡ false
     → (is_special (get_or field 0 0) ≡ false) × (has_special (take (length field - 1) (drop 1 field)) ≡ false)
 plain_parts [] some h = absurd (omega arith)
 plain_parts (b ∷ bs) some h =
-    let parts : (is_special b ≡ false) × (has_special bs ≡ false) = first_of_none _ _ h in
+    let parts : (is_special b ≡ false) × (has_special bs ≡ false) = or_parts _ _ h in
     let whole : take (length (b ∷ bs) - 1) bs ≡ bs = take_all _ bs (omega arith) in
     (parts.0, ap has_special whole ∙ parts.1)
 

@@ -7,6 +7,7 @@ use Rattle.std.specs.Int.{IsInRange}
 use Rattle.std.specs.Str.Lines.{strip_carriage_return}
 use Rattle.std.specs.Str.Parse.{digits_value, AllDigits}
 use Rattle.std.specs.Cmp.Lexicographic.{unequal}
+use Rattle.std.proofs.lemmas.Bool.{or_from, or_parts}
 use Rattle.std.proofs.lemmas.Bool.Decides.{nat_tests}
 use Rattle.std.proofs.lemmas.Fmt.{decimal_is_IsNumeral}
 use Rattle.std.proofs.lemmas.Str.Parse.{digit_from_value}
@@ -28,43 +29,36 @@ use Rattle.gopher_item.proofs.MenuLemmas.{entries_of-line}
 
 -- ---- tests that no byte passes
 
-neither : (s t : Bool) → s ≡ false → t ≡ false → (s || t) ≡ false
-neither s t p q = rw p q
-
-parts_false : (s t : Bool) → (s || t) ≡ false → (s ≡ false) × (t ≡ false)
-parts_false true t h = absurd cc
-parts_false false t h = (refl, h)
-
 none_of_fewer : (p q : ℕ → Bool) → ((b : ℕ) → p b ≡ false → q b ≡ false) → (xs : List ℕ) → list_any p xs ≡ false → list_any q xs ≡ false
 none_of_fewer p q fewer [] h = refl
-none_of_fewer p q fewer (x ∷ xs) h = let both = parts_false _ _ h in neither _ _ (fewer x both.0) (none_of_fewer p q fewer xs both.1)
+none_of_fewer p q fewer (x ∷ xs) h = let both = or_parts _ _ h in or_from _ _ (fewer x both.0) (none_of_fewer p q fewer xs both.1)
 
 none_in_both : (p : ℕ → Bool) (xs ys : List ℕ) → list_any p xs ≡ false → list_any p ys ≡ false → list_any p (xs ++ ys) ≡ false
-none_in_both p xs ys a b = list_any-append p xs ys ∙ neither _ _ a b
+none_in_both p xs ys a b = list_any-append p xs ys ∙ or_from _ _ a b
 
 plain_tab : (b : ℕ) → is_special b ≡ false → eqb b 9 ≡ false
-plain_tab b h = (parts_false _ _ (parts_false _ _ (parts_false _ _ h).0).0).0
+plain_tab b h = (or_parts _ _ (or_parts _ _ (or_parts _ _ h).0).0).0
 
 plain_feed : (b : ℕ) → is_special b ≡ false → eqb b 10 ≡ false
-plain_feed b h = (parts_false _ _ (parts_false _ _ (parts_false _ _ h).0).0).1
+plain_feed b h = (or_parts _ _ (or_parts _ _ (or_parts _ _ h).0).0).1
 
 plain_return : (b : ℕ) → is_special b ≡ false → (eqb b 13 || eqb b 0) ≡ false
 plain_return b h =
-    let both = parts_false ((eqb b 9 || eqb b 10) || eqb b 13) (eqb b 0) h in
-    neither (eqb b 13) (eqb b 0) (parts_false (eqb b 9 || eqb b 10) (eqb b 13) both.0).1 both.1
+    let both = or_parts ((eqb b 9 || eqb b 10) || eqb b 13) (eqb b 0) h in
+    or_from (eqb b 13) (eqb b 0) (or_parts (eqb b 9 || eqb b 10) (eqb b 13) both.0).1 both.1
 
 -- ---- cuts
 
 cut_at : (c : ℕ) (xs ys : List ℕ) → list_any (λ b. eqb b c) xs ≡ false → slice_split (λ b. eqb b c) (xs ++ c ∷ ys) ≡ xs ∷ slice_split (λ b. eqb b c) ys
 cut_at c [] ys h = slice_split-cons_yes (λ b. eqb b c) c ys (grind (arith, nat_tests))
 cut_at c (x ∷ xs) ys h =
-    let both = parts_false _ _ h in
+    let both = or_parts _ _ h in
     slice_split-cons_no (λ b. eqb b c) x (xs ++ c ∷ ys) both.0 ∙ rw (cut_at c xs ys both.1) refl
 
 cut_nowhere : (c : ℕ) (xs : List ℕ) → list_any (λ b. eqb b c) xs ≡ false → slice_split (λ b. eqb b c) xs ≡ xs ∷ []
 cut_nowhere c [] h = refl
 cut_nowhere c (x ∷ xs) h =
-    let both = parts_false _ _ h in
+    let both = or_parts _ _ h in
     slice_split-cons_no (λ b. eqb b c) x xs both.0 ∙ rw (cut_nowhere c xs both.1) refl
 
 strip_return : (xs : List ℕ) → strip_carriage_return (xs ++ 13 ∷ []) ≡ xs
@@ -83,11 +77,11 @@ digits_plain [] h = (refl, refl, refl)
 digits_plain (d ∷ ds) h =
     let first = in_digits d (digit_from_value d h.0) in
     let rest = digits_plain ds h.1 in
-    (neither _ _ first.0 rest.0, neither _ _ first.1 rest.1, rw first.2 rest.2)
+    (or_from _ _ first.0 rest.0, or_from _ _ first.1 rest.1, rw first.2 rest.2)
 
 trim_front_none : (xs : List ℕ) → list_any (λ b. eqb b 32) xs ≡ false → trim_front xs ≡ xs
 trim_front_none [] h = refl
-trim_front_none (x ∷ xs) h = ap (λ t. cond t (trim_front xs) (x ∷ xs)) (parts_false (eqb x 32) (list_any (λ b. eqb b 32) xs) h).0
+trim_front_none (x ∷ xs) h = ap (λ t. cond t (trim_front xs) (x ∷ xs)) (or_parts (eqb x 32) (list_any (λ b. eqb b 32) xs) h).0
 
 trim_none : (xs : List ℕ) → list_any (λ b. eqb b 32) xs ≡ false → trim_spaces xs ≡ xs
 trim_none xs h =
@@ -120,17 +114,17 @@ module _ (line : MenuLineData) (is : IsMenuLine line) where
   none_in_body : (q : ℕ → Bool) → ((b : ℕ) → is_special b ≡ false → q b ≡ false) → q 9 ≡ false → list_any q (body line) ≡ false
   none_in_body q fewer tab =
       let none : (xs : List ℕ) → has_special xs ≡ false → list_any q xs ≡ false = λ xs h. none_of_fewer is_special q fewer xs h in
-      let after_host = none_in_both q line.host (9 ∷ decimal line.port) (none line.host is.host) (neither _ _ tab (none (decimal line.port) port_plain.0)) in
-      let after_selector = none_in_both q line.selector (9 ∷ (line.host ++ 9 ∷ decimal line.port)) (none line.selector is.selector) (neither _ _ tab after_host) in
+      let after_host = none_in_both q line.host (9 ∷ decimal line.port) (none line.host is.host) (or_from _ _ tab (none (decimal line.port) port_plain.0)) in
+      let after_selector = none_in_both q line.selector (9 ∷ (line.host ++ 9 ∷ decimal line.port)) (none line.selector is.selector) (or_from _ _ tab after_host) in
       none_in_both q (line.kind ∷ line.display) (9 ∷ (line.selector ++ 9 ∷ (line.host ++ 9 ∷ decimal line.port)))
-      (neither _ _ (fewer line.kind is.kind) (none line.display is.display)) (neither _ _ tab after_selector)
+      (or_from _ _ (fewer line.kind is.kind) (none line.display is.display)) (or_from _ _ tab after_selector)
 
   tab_free : (xs : List ℕ) → has_special xs ≡ false → list_any (λ b. eqb b 9) xs ≡ false
   tab_free xs h = none_of_fewer is_special (λ b. eqb b 9) plain_tab xs h
 
   fields_of_body : fields_of (body line) ≡ (line.kind ∷ line.display) ∷ line.selector ∷ line.host ∷ decimal line.port ∷ []
   fields_of_body =
-      cut_at 9 (line.kind ∷ line.display) _ (neither _ _ (plain_tab line.kind is.kind) (tab_free line.display is.display))
+      cut_at 9 (line.kind ∷ line.display) _ (or_from _ _ (plain_tab line.kind is.kind) (tab_free line.display is.display))
       ∙ ap (λ (l : List (List ℕ)). (line.kind ∷ line.display) ∷ l)
       (cut_at 9 line.selector _ (tab_free line.selector is.selector)
       ∙ ap (λ (l : List (List ℕ)). line.selector ∷ l)
@@ -181,27 +175,21 @@ read_back lines h = let both = read_lines lines h in record { all_entries = sym 
 
 -- ---- lines that are made
 
-printed : (b : ℕ) → (eqb b 32 || (ltb b 32 || eqb b 127)) ≡ false → is_special b ≡ false
-printed b h = by (is_special b) refl
+printed : (b : ℕ) → ltb b 32 ≡ false → is_special b ≡ false
+printed b high = by (is_special b) refl
   where
-    small : (t : Bool) → (eqb b 32 || (t || eqb b 127)) ≡ false → t ≡ false
-    small t e = (parts_false t (eqb b 127) (parts_false (eqb b 32) (t || eqb b 127) e).1).0
-
     by : (t : Bool) → is_special b ≡ t → t ≡ false
-    by true e = absurd (grind (arith, nat_tests, small (ltb b 32) h))
+    by true e = absurd (grind (arith, nat_tests))
     by false e = refl
 
 -- a valid host contains no special byte, and has no space at its ends
 pub host_is_plain : (host : List ℕ) → list_any (λ b. eqb b 32 || (ltb b 32 || eqb b 127)) host ≡ false → (has_special host ≡ false) × (trim_spaces host ≡ host)
-host_is_plain host h = (
-  none_of_fewer (λ b. eqb b 32 || (ltb b 32 || eqb b 127)) is_special printed host h,
-  trim_none host (none_of_fewer (λ b. eqb b 32 || (ltb b 32 || eqb b 127)) (λ b. eqb b 32) (λ b e. (parts_false (eqb b 32) (ltb b 32 || eqb b 127) e).0) host h),
-)
+host_is_plain host h =
+    let parts : (b : ℕ) → (eqb b 32 || (ltb b 32 || eqb b 127)) ≡ false → (eqb b 32 ≡ false) × ((ltb b 32 || eqb b 127) ≡ false) = λ b e. or_parts _ _ e in (
+      none_of_fewer (λ b. eqb b 32 || (ltb b 32 || eqb b 127)) is_special (λ b e. printed b (or_parts _ _ (parts b e).1).0) host h,
+      trim_none host (none_of_fewer (λ b. eqb b 32 || (ltb b 32 || eqb b 127)) (λ b. eqb b 32) (λ b e. (parts b e).0) host h),
+    )
 
 -- a type that isn't a control byte isn't special
 pub kind_is_plain : (kind : ℕ) → (ltb kind 32 || eqb kind 127) ≡ false → is_special kind ≡ false
-kind_is_plain kind h = by (is_special kind) refl
-  where
-    by : (t : Bool) → is_special kind ≡ t → t ≡ false
-    by true e = absurd (grind (arith, nat_tests, (parts_false (ltb kind 32) (eqb kind 127) h).0))
-    by false e = refl
+kind_is_plain kind h = printed kind (or_parts (ltb kind 32) (eqb kind 127) h).0

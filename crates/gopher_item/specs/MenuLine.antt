@@ -1,7 +1,8 @@
 -- One item of a menu (RFC 1436, section 2, and appendix: DirEntity).
-use Rattle.std.specs.Prelude.{◌≡◌, ℕ, ◌+◌, ◌^◌, ◌<◌, ◌≤◌, Bool, false, ◌||◌, ◌&&◌, not, nat_eq, List, [], ◌∷◌, ◌++◌, codes, length, drop, slice_range, Option, None, Some, is_some, Result, IfOk, OnOk, ◌==◌, if◌then◌else◌}
+use Rattle.std.specs.Prelude.{◌≡◌, ℕ, ◌+◌, ◌^◌, ◌<◌, ◌≤◌, Bool, false, ◌||◌, ◌&&◌, not, nat_eq, List, [], ◌∷◌, ◌++◌, codes, length, drop, slice_range, Option, None, Some, is_some, Result, OnOk, ◌==◌, if◌then◌else◌}
 use Rattle.std.specs.List.{flat_map}
 use Rattle.std.specs.Arc.{arc_value}
+use Rattle.std.specs.Borrow.{Bor}
 use Rattle.std.specs.Fmt.{decimal}
 use Rattle.std.specs.Global.{Vec}
 use Rattle.std.specs.Cmp.Lexicographic.{pointwise}
@@ -98,16 +99,15 @@ tabbed display selector host = display ++ 9 ∷ (selector ++ 9 ∷ host)
 abbrev pub joined_after : ℕ → List ℕ → List ℕ → List ℕ → List ℕ
 joined_after kind display selector host = tabbed (kind ∷ display) selector host
 
--- a call that succeeds returns a type, and three fields with a TAB between them
-abbrev pub JoinsFields : {E : Type 0} → ℕ → List ℕ → List ℕ → List ℕ → Result (Vec ℕ) E → Type 0
-JoinsFields kind display selector host result =
-    IfOk result (λ text. text.items ≡ joined_after kind display selector host)
-
 -- at `start` the shared text contains a type, and three fields with a TAB between them
 abbrev pub FieldsStandAt : {Z : Type 0} → Arc (List ℕ) Z → ℕ → ℕ → List ℕ → List ℕ → List ℕ
     → Type 0
 FieldsStandAt text start kind display selector host =
     StandsAt (arc_value text) start (joined_after kind display selector host)
+
+-- the bytes of these parts in sequence
+abbrev pub in_sequence : List (Bor (List ℕ)) → List ℕ
+in_sequence parts = flat_map (λ part. part.now) parts
 
 -- the bytes of a menu line: type, display, TAB, selector, TAB, host, TAB, port, CR LF (RFC 1436,
 -- appendix: DirEntity)

@@ -67,11 +67,6 @@ abbrev pub MakesPlace : ℕ → List ℕ → List ℕ → ℕ → Result PlaceDa
 MakesPlace kind selector host port result =
     Makes (place_fault kind selector host port) (place_of kind selector host port) result
 
--- the place has these four parts
-abbrev pub IsPlaceOf : List ℕ → ℕ → List ℕ → ℕ → PlaceData → Type 0
-IsPlaceOf host port selector kind place =
-    place ≡ record { host = host; port = port; selector = selector; kind = kind }
-
 -- two places have the same parts
 abbrev pub same_place : PlaceData → PlaceData → Bool
 same_place a b =

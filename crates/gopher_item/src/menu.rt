@@ -6,7 +6,7 @@ ghost use Rattle.gopher_item.specs.Menu.{ReadsMenu};
 use crate::item::entry_of;
 use crate::menu_line::MenuLine;
 use gopher_bytes::{ByteString, NoMemory, first_line, is_last_line};
-use std::alloc::{AllocError, Global};
+use std::alloc::Global;
 use std::sync::Arc;
 
 // Most menu lines are at least this long: room for all entries is reserved at once.
@@ -28,29 +28,6 @@ pub struct Menu {
     pub entries: Vec<Entry>,
     /// Whether a line with a single period ended the menu.
     pub ended: bool,
-}
-
-impl Clone for Entry {
-    ghost is_clone = { λ entry copy. copy ≡ entry };
-
-    fn clone(&self) -> Result<Entry, AllocError> {
-        match self {
-            Entry::Item(line) => Ok(Entry::Item(line.clone()?)),
-            Entry::Odd(bytes) => Ok(Entry::Odd(bytes.clone()?)),
-        }
-    }
-}
-
-impl Clone for Menu {
-    ghost is_clone = { λ menu copy.
-        (copy.entries.items ≡ menu.entries.items) × (copy.ended ≡ menu.ended) };
-
-    fn clone(&self) -> Result<Menu, AllocError> {
-        Ok(Menu {
-            entries: self.entries.clone()?,
-            ended: self.ended,
-        })
-    }
 }
 
 /// Reads a menu from any bytes (RFC 1436, section 2, and appendix: Menu).

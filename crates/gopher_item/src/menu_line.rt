@@ -4,14 +4,15 @@ ghost use Rattle.std.specs.Prelude.{◌≡◌, IfOk, IfNone};
 ghost use Rattle.std.specs.Cmp;
 ghost use Rattle.gopher_item.specs.Place.{MakesPlace};
 ghost use Rattle.gopher_item.specs.Laws.{same_line_equiv};
-ghost use Rattle.gopher_item.specs.MenuLine.{FieldsStandAt, IsMenuLine, IsMenuLineOf, IsMenuLineWithAnyPort, JoinsFields, MakesMenuLine, is_bad_type, menu_line_fault, menu_line_of, same_line};
+ghost use Rattle.gopher_item.specs.MenuLine.{FieldsStandAt, IsMenuLine, IsMenuLineOf, IsMenuLineWithAnyPort, MakesMenuLine, is_bad_type, menu_line_fault, menu_line_of, same_line};
 
 use crate::fault::ItemFault;
 use crate::fields::{is_host, is_selector};
 use crate::place::Place;
 use crate::special::{has_special, is_control};
+use crate::writing::push_parts;
 use gopher_bytes::{ByteString, NoMemory};
-use std::alloc::{AllocError, Global};
+use std::alloc::Global;
 use std::fmt;
 use std::marker::Model;
 use std::sync::Arc;
@@ -46,31 +47,6 @@ impl Model for MenuLine {
         (cuts_at m.start m.display_end m.selector_end m.end) (arc_value m.text) };
 }
 
-// The type and the three texts in sequence, with a TAB between the texts.
-fn joined(
-    alloc: Global,
-    kind: u8,
-    display: &[u8],
-    selector: &[u8],
-    host: &[u8],
-) -> Result<Vec<u8>, AllocError>
-    ensures { JoinsFields kind display.now selector.now host.now result }
-{
-    let length = display
-        .len()
-        .saturating_add(selector.len())
-        .saturating_add(host.len())
-        .saturating_add(3);
-    let mut text = Vec::with_capacity(alloc, length)?;
-    text.push(kind)?;
-    text.extend_from_slice(display)?;
-    text.push(b'\t')?;
-    text.extend_from_slice(selector)?;
-    text.push(b'\t')?;
-    text.extend_from_slice(host)?;
-    Ok(text)
-}
-
 /// Returns whether a line can't be made with this type: a control byte, a space or a period.
 pub fn is_bad_type(kind: u8) -> bool
     ensures { result ≡ is_bad_type kind }
@@ -97,6 +73,7 @@ fn menu_line_fault(kind: u8, display: &[u8], selector: &[u8], host: &[u8]) -> Op
 
 impl MenuLine {
     // Makes the line of valid fields. The text contains them, with the type at `start`.
+    #[tactic(auto, using(crate::proofs::MenuLines::within))]
     pub(crate) fn in_text(
         text: &Arc<ByteString>,
         start: usize,
@@ -128,19 +105,20 @@ impl MenuLine {
     }
 
     // Makes the line of valid fields, with a text of its own.
-    pub(crate) fn of_fields(
+    pub(crate) fn of_fields<'a>(
         alloc: Global,
         kind: u8,
-        display: &[u8],
-        selector: &[u8],
-        host: &[u8],
+        display: &'a [u8],
+        selector: &'a [u8],
+        host: &'a [u8],
         port: u16,
     ) -> Result<MenuLine, NoMemory>
         requires { IsMenuLine (menu_line_of kind display.now selector.now host.now port) }
         ensures { IfOk result (IsMenuLineOf kind display.now selector.now host.now port) }
     {
-        let text = ByteString::from(joined(alloc, kind, display, selector, host)?);
-        let text = Arc::new(alloc, text)?;
+        let mut text = Vec::new(alloc);
+        push_parts(&[&[kind], display, b"\t", selector, b"\t", host], &mut text)?;
+        let text = Arc::new(alloc, ByteString::from(text))?;
         MenuLine::in_text(&text, 0, kind, display, selector, host, port)
     }
 
@@ -249,20 +227,4 @@ impl PartialEq for MenuLine {
 
 impl Eq for MenuLine {
     ghost laws = { same_line_equiv };
-}
-
-impl Clone for MenuLine {
-    ghost is_clone = { λ line copy. copy ≡ line };
-
-    fn clone(&self) -> Result<MenuLine, AllocError> {
-        Ok(MenuLine {
-            kind: self.kind,
-            port: self.port,
-            start: self.start,
-            display_end: self.display_end,
-            selector_end: self.selector_end,
-            end: self.end,
-            text: Arc::try_clone(&self.text)?,
-        })
-    }
 }

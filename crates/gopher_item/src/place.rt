@@ -4,7 +4,7 @@ ghost use Rattle.std.specs.Prelude.{◌≡◌, refl, IfOk};
 ghost use Rattle.std.specs.Cmp;
 ghost use Rattle.std.specs.Ordering.{as_partial_cmp};
 ghost use Rattle.gopher_item.specs.Laws.{same_place_equiv, place_cmp_total, same_place_ties};
-ghost use Rattle.gopher_item.specs.Place.{MakesPlace, IsPlaceOf, same_place, place_cmp};
+ghost use Rattle.gopher_item.specs.Place.{MakesPlace, same_place, place_cmp};
 
 use crate::fault::ItemFault;
 use crate::fields::{is_selector, lowered_host};
@@ -18,10 +18,10 @@ use std::marker::Model;
 /// Place order is by host (its bytes), port (as a number), selector (its bytes) and type.
 #[derive(Debug, Drop, Eq, Hash)]
 pub struct Place {
-    host: ByteString,
-    port: u16,
-    selector: ByteString,
-    kind: u8,
+    pub(crate) host: ByteString,
+    pub(crate) port: u16,
+    pub(crate) selector: ByteString,
+    pub(crate) kind: u8,
 }
 
 impl Model for Place {
@@ -99,24 +99,6 @@ impl Place {
         ensures { result ≡ self.now.kind }
     {
         self.kind
-    }
-
-    /// Copies the parts of a place, which are valid.
-    pub(crate) fn of_parts(
-        alloc: Global,
-        host: &[u8],
-        port: u16,
-        selector: &[u8],
-        kind: u8,
-    ) -> Result<Place, NoMemory>
-        ensures { IfOk result (IsPlaceOf host.now port selector.now kind) }
-    {
-        Ok(Place {
-            host: ByteString::from_slice(alloc, host)?,
-            port,
-            selector: ByteString::from_slice(alloc, selector)?,
-            kind,
-        })
     }
 
     /// Copies the place.

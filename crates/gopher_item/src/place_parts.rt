@@ -3,7 +3,7 @@
 ghost use Rattle.std.specs.Prelude.{◌≡◌, IfOk};
 
 use crate::place::Place;
-use gopher_bytes::NoMemory;
+use gopher_bytes::{ByteString, NoMemory};
 use std::alloc::Global;
 use std::marker::Model;
 
@@ -58,6 +58,11 @@ impl<'a> PlaceParts<'a> {
     pub fn to_place(&self, alloc: Global) -> Result<Place, NoMemory>
         ensures { IfOk result (λ place. place ≡ self.now) }
     {
-        Place::of_parts(alloc, self.host, self.port, self.selector, self.kind)
+        Ok(Place {
+            host: ByteString::from_slice(alloc, self.host)?,
+            port: self.port,
+            selector: ByteString::from_slice(alloc, self.selector)?,
+            kind: self.kind,
+        })
     }
 }

@@ -7,7 +7,7 @@ use crate::fault::RequestFault;
 use crate::fields::is_selector;
 use crate::item::field;
 use gopher_bytes::{ByteString, MAX_LINE};
-use std::alloc::{AllocError, Global};
+use std::alloc::Global;
 
 /// A request of a client (RFC 1436, sections 2 and 3.7).
 #[derive(Debug, Drop, PartialEq, Eq)]
@@ -16,17 +16,6 @@ pub struct Request {
     pub selector: ByteString,
     /// The search string, if the line contains a TAB.
     pub search: Option<ByteString>,
-}
-
-impl Clone for Request {
-    ghost is_clone = { λ request copy. copy ≡ request };
-
-    fn clone(&self) -> Result<Request, AllocError> {
-        Ok(Request {
-            selector: self.selector.clone()?,
-            search: self.search.clone()?,
-        })
-    }
 }
 
 /// Reads a request line, without its CR LF (RFC 1436, section 2, and appendix: Full-Text Search
@@ -52,16 +41,9 @@ pub fn read_request(alloc: Global, line: &[u8]) -> Result<Request, RequestFault>
         return Err(RequestFault::BadSelector);
     }
     let selector = ByteString::from_slice(alloc, selector)?;
-    let Some(rest) = rest else {
-        return Ok(Request {
-            selector,
-            search: None,
-        });
+    let search = match rest {
+        Some(rest) => Some(ByteString::from_slice(alloc, field(rest).0)?),
+        None => None,
     };
-    let (search, _) = field(rest);
-    let search = ByteString::from_slice(alloc, search)?;
-    Ok(Request {
-        selector,
-        search: Some(search),
-    })
+    Ok(Request { selector, search })
 }

@@ -1,13 +1,7 @@
 //! The bytes that RFC 1436 keeps out of fields: special bytes and control bytes.
 
 ghost use Rattle.std.specs.Prelude.{◌≡◌};
-ghost use Rattle.gopher_item.specs.Special.{is_special, is_control, has_special};
-
-fn is_special(byte: u8) -> bool
-    ensures { result ≡ is_special byte }
-{
-    matches!(byte, b'\t' | b'\n' | b'\r' | 0)
-}
+ghost use Rattle.gopher_item.specs.Special.{is_control, has_special};
 
 /// Returns whether the byte is an ASCII control byte: 0 to 31, or 127.
 pub fn is_control(byte: u8) -> bool
@@ -21,5 +15,7 @@ pub fn is_control(byte: u8) -> bool
 pub fn has_special(bytes: &[u8]) -> bool
     ensures { result ≡ has_special bytes.now }
 {
-    bytes.iter().any(|byte| is_special(*byte))
+    bytes
+        .iter()
+        .any(|byte| matches!(*byte, b'\t' | b'\n' | b'\r' | 0))
 }

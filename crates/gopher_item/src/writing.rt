@@ -2,54 +2,31 @@
 
 ghost use Rattle.std.specs.Prelude.{◌≡◌, ◌++◌, true, codes, map, All, OnOk, OnErr};
 ghost use Rattle.std.specs.Io.{StartsWith};
-ghost use Rattle.gopher_item.specs.MenuLine.{IsMenuLine, PutsFront, PutsItem, PutsServer, menu_line_bytes, menu_bytes};
+ghost use Rattle.gopher_item.specs.MenuLine.{IsMenuLine, PutsFront, PutsItem, PutsServer, in_sequence, menu_bytes};
 ghost use Rattle.gopher_item.specs.Menu.{ReadsMenu};
 ghost use Rattle.gopher_item.specs.declared.menu.Entry.TheVariants.{Item};
 
 use crate::menu_line::MenuLine;
 use gopher_bytes::NoMemory;
 use itoa::Buffer;
-use std::alloc::AllocError;
 
-// Appends the start of a menu line. If out of memory, `out` can end with a prefix of it.
-fn put_front(kind: u8, display: &[u8], out: &mut Vec<u8>) -> Result<(), AllocError>
-    ensures written { PutsFront kind display.now out.old out.new result }
-    ensures kept { StartsWith out.new.items out.old.items }
+// Appends these parts in sequence. If out of memory, `out` stays unchanged.
+pub(crate) fn push_parts(parts: &[&[u8]], out: &mut Vec<u8>) -> Result<(), NoMemory>
+    ensures written { OnOk result (out.new.items ≡ out.old.items ++ in_sequence parts.now) }
+    ensures refused { OnErr result (out.new.items ≡ out.old.items) }
 {
-    out.push(kind)?;
-    out.extend_from_slice(display)?;
-    out.push(b'\t')?;
+    let length = out.len();
+    let room = parts
+        .iter()
+        .fold(0_usize, |room, part| room.saturating_add(part.len()));
+    out.reserve(room)?;
+    for part in parts {
+        if out.extend_from_slice(part).is_err() {
+            out.truncate(length);
+            return Err(NoMemory);
+        }
+    }
     Ok(())
-}
-
-// Appends the end of a menu line. If out of memory, `out` can end with a prefix of it.
-fn put_server(host: &[u8], port: u16, out: &mut Vec<u8>) -> Result<(), AllocError>
-    ensures written { PutsServer host.now port out.old out.new result }
-    ensures kept { StartsWith out.new.items out.old.items }
-{
-    let mut digits = Buffer::new();
-    out.push(b'\t')?;
-    out.extend_from_slice(host)?;
-    out.push(b'\t')?;
-    out.extend_from_slice(digits.format(port).as_bytes())?;
-    out.extend_from_slice(b"\r\n")
-}
-
-// Appends a menu line. If out of memory, `out` can end with a prefix of it.
-fn put_menu_line(
-    kind: u8,
-    display: &[u8],
-    selector: &[u8],
-    host: &[u8],
-    port: u16,
-    out: &mut Vec<u8>,
-) -> Result<(), AllocError>
-    ensures written { PutsItem kind display.now selector.now host.now port out.old out.new result }
-    ensures kept { StartsWith out.new.items out.old.items }
-{
-    put_front(kind, display, out)?;
-    out.extend_from_slice(selector)?;
-    put_server(host, port, out)
 }
 
 /// Appends the start of a menu line: the type, the display string and a TAB.
@@ -59,12 +36,7 @@ pub fn push_front(kind: u8, display: &[u8], out: &mut Vec<u8>) -> Result<(), NoM
     ensures written { PutsFront kind display.now out.old out.new result }
     ensures refused { OnErr result (out.new.items ≡ out.old.items) }
 {
-    let length = out.len();
-    if put_front(kind, display, out).is_err() {
-        out.truncate(length);
-        return Err(NoMemory);
-    }
-    Ok(())
+    push_parts(&[&[kind], display, b"\t"], out)
 }
 
 /// Appends the end of a menu line: a TAB, the host, a TAB, the port and CR LF.
@@ -74,35 +46,42 @@ pub fn push_server(host: &[u8], port: u16, out: &mut Vec<u8>) -> Result<(), NoMe
     ensures written { PutsServer host.now port out.old out.new result }
     ensures refused { OnErr result (out.new.items ≡ out.old.items) }
 {
-    let length = out.len();
-    if put_server(host, port, out).is_err() {
-        out.truncate(length);
-        return Err(NoMemory);
-    }
-    Ok(())
+    let mut digits = Buffer::new();
+    let port = digits.format(port).as_bytes();
+    push_parts(&[b"\t", host, b"\t", port, b"\r\n"], out)
 }
 
 /// Appends a menu line (RFC 1436, appendix: DirEntity). The caller ensures that no part contains a
 /// TAB, CR, LF or NUL.
 ///
 /// If out of memory, `out` stays unchanged.
-pub fn push_menu_line(
+pub fn push_menu_line<'a>(
     kind: u8,
-    display: &[u8],
-    selector: &[u8],
-    host: &[u8],
+    display: &'a [u8],
+    selector: &'a [u8],
+    host: &'a [u8],
     port: u16,
     out: &mut Vec<u8>,
 ) -> Result<(), NoMemory>
     ensures written { PutsItem kind display.now selector.now host.now port out.old out.new result }
     ensures refused { OnErr result (out.new.items ≡ out.old.items) }
 {
-    let length = out.len();
-    if put_menu_line(kind, display, selector, host, port, out).is_err() {
-        out.truncate(length);
-        return Err(NoMemory);
-    }
-    Ok(())
+    let mut digits = Buffer::new();
+    let port = digits.format(port).as_bytes();
+    push_parts(
+        &[
+            &[kind],
+            display,
+            b"\t",
+            selector,
+            b"\t",
+            host,
+            b"\t",
+            port,
+            b"\r\n",
+        ],
+        out,
+    )
 }
 
 /// Appends the line that ends a menu: a single period and CR LF (RFC 1436, appendix: Lastline).
@@ -116,21 +95,6 @@ pub fn push_last_line(out: &mut Vec<u8>) -> Result<(), NoMemory>
     Ok(())
 }
 
-fn push_line(line: &MenuLine, out: &mut Vec<u8>) -> Result<(), AllocError>
-    ensures plain { IsMenuLine line.now }
-    ensures written { OnOk result (out.new.items ≡ out.old.items ++ menu_line_bytes line.now) }
-    ensures kept { StartsWith out.new.items out.old.items }
-{
-    put_menu_line(
-        line.kind(),
-        line.display(),
-        line.selector(),
-        line.host(),
-        line.port(),
-        out,
-    )
-}
-
 // Appends the lines and the last line.
 fn push_lines(lines: &[MenuLine], out: &mut Vec<u8>) -> Result<(), NoMemory>
     ensures plain { OnOk result (All IsMenuLine lines.now) }
@@ -138,7 +102,14 @@ fn push_lines(lines: &[MenuLine], out: &mut Vec<u8>) -> Result<(), NoMemory>
     ensures kept { StartsWith out.new.items out.old.items }
 {
     for line in lines {
-        push_line(line, out)?;
+        push_menu_line(
+            line.kind(),
+            line.display(),
+            line.selector(),
+            line.host(),
+            line.port(),
+            out,
+        )?;
     }
     push_last_line(out)
 }

@@ -4,15 +4,6 @@ use Rattle.gopher_item.specs.MenuLine.{IsMenuLine, StandsAt, tabbed}
 use Rattle.gopher_item.proofs.MenuLines.{are_cuts, line_in-cuts_of, within}
 use Rattle.gopher_item.proofs.menu_line.MenuLine.in_text.Goals as goal
 
-pub overflow_add-display_start : goal.overflow_add-display_start
-overflow_add-display_start c = let all = within c.args.kind c.args.start c.args.display.now c.args.selector.now c.args.host.now _ c.requires.stands in grind arith
-
-pub overflow_add-display_end : goal.overflow_add-display_end
-overflow_add-display_end c = let all = within c.args.kind c.args.start c.args.display.now c.args.selector.now c.args.host.now _ c.requires.stands in grind arith
-
-pub overflow_add-selector_end : goal.overflow_add-selector_end
-overflow_add-selector_end c = let all = within c.args.kind c.args.start c.args.display.now c.args.selector.now c.args.host.now _ c.requires.stands in grind arith
-
 pub overflow_add-selector_end-2 : goal.overflow_add-selector_end-2
 overflow_add-selector_end-2 c = let all = within c.args.kind c.args.start c.args.display.now c.args.selector.now c.args.host.now _ c.requires.stands in grind arith
 
