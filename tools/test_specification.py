@@ -33,7 +33,7 @@ SETTINGS = {key: text for head, text in entries(manual("hole.toml.5")) for key i
 
 class Manual(unittest.TestCase):
     def test_settings_are_those_of_the_code_in_the_order_of_their_checks(self):
-        row = r'Key::\w+ => \("(\w+)", Form::(?:Scalar\(Scalar::)?(\w+)\((?:([\d_]+), (\w+))?'
+        row = r'Key::\w+ => \("(\w+)", Form::(\w+)\((?:([\d_]+), (\w+))?'
         code = re.findall(row, sources("gopher_scope"))
         self.assertEqual([*SETTINGS], [key for key, _, _, _ in code])
         limits = dict(re.findall(r"const (MAX_\w+): u32 = ([\d_]+);", sources("gopher_item")))

@@ -1,6 +1,6 @@
 -- Settings and how they are read.
-use Rattle.std.specs.Prelude.{◌≡◌, ◌≢◌, ℕ, pos, ◌<◌, ◌≤◌, Bool, ◌||◌, List, [], length, map, Option, None, Some, IfSome, IsSomeAnd, MatchOption, Result, Ok, Err, nat_eq, codes, string_bytes, if◌then◌else◌}
-use Rattle.std.specs.List.{list_any, filter_map}
+use Rattle.std.specs.Prelude.{◌≡◌, ◌≢◌, ℕ, pos, ◌<◌, ◌≤◌, List, length, map, Option, None, Some, IfSome, IsSomeAnd, MatchOption, Result, Ok, Err, nat_eq, codes, string_bytes, if◌then◌else◌}
+use Rattle.std.specs.List.{filter_map}
 use Rattle.std.specs.Option.{option_map}
 use Rattle.std.specs.Cmp.Lexicographic.{pointwise}
 use Rattle.toml.specs.Data.{Data, Members, get_member, as_integer, as_str, as_table}
@@ -8,8 +8,9 @@ use Rattle.toml.specs.Parse.{parse_document}
 use Rattle.gopher_item.specs.Place.{PlaceData, HomeData, place_of}
 use Rattle.gopher_item.specs.Rule.{RuleData, rule_of}
 use Rattle.gopher_item.specs.Scope.{ScopeData}
-use Rattle.gopher_scope.specs.Rows.{all_keys, key_name, key_form, field_scalar}
-use Rattle.gopher_scope.specs.Reading.{first_of, form_problem, field_value, has_unknown, form_has_unknown, integer_read, text_read, values_read}
+use Rattle.gopher_scope.specs.Rows.{all_keys, key_row, field_row}
+use Rattle.gopher_scope.specs.Reading.{first_of, form_problem, key_value, integer_read, text_read}
+use Rattle.gopher_scope.specs.Unknown.{elements_at, have_unknown}
 use Rattle.gopher_scope.specs.declared.fault.SettingsFault.{SettingsFault}
 use Rattle.gopher_scope.specs.declared.fault.SettingsFault.TheVariants as fault
 use Rattle.gopher_scope.specs.declared.settings.Settings.{Settings}
@@ -17,10 +18,8 @@ use Rattle.gopher_scope.specs.declared.settings.key.Key.{Key}
 use Rattle.gopher_scope.specs.declared.settings.key.Key.TheVariants as key
 use Rattle.gopher_scope.specs.declared.settings.tables.Field.{Field}
 use Rattle.gopher_scope.specs.declared.settings.tables.Field.TheVariants as field
-use Rattle.gopher_scope.specs.declared.settings.key.Form.{Form}
-use Rattle.gopher_scope.specs.declared.settings.key.Form.TheVariants.{Scalar as One, Tables}
-use Rattle.gopher_scope.specs.declared.settings.value.Problem.{Problem}
-use Rattle.gopher_scope.specs.declared.settings.value.Problem.TheVariants as problem
+use Rattle.gopher_scope.specs.declared.settings.row.Problem.{Problem}
+use Rattle.gopher_scope.specs.declared.settings.row.Problem.TheVariants as problem
 
 -- settings as data
 pub record SettingsData : Type 0 where
@@ -93,51 +92,29 @@ fault_at key problem.Missing = fault.Missing key
 fault_at key problem.WrongKind = fault.WrongKind key
 fault_at key problem.OutOfRange = fault.OutOfRange key
 
-abbrev pub key_value : Members → Key → Option Data
-key_value table key = get_member (key_name key) table
-
 -- the fault of a key, if it has one; a fault inside an array is one of the array's key
 unfoldable pub key_fault : Members → Key → Option SettingsFault
-key_fault table key = option_map (fault_at key) (form_problem (key_form key) (key_value table key))
-
-unfoldable pub is_key_name : List ℕ → Bool
-is_key_name name = list_any (λ key. pointwise nat_eq (key_name key) name) all_keys
-
--- a table in the key's array has an unknown key
-unfoldable pub key_has_unknown : Members → Key → Bool
-key_has_unknown table key = form_has_unknown (key_form key) (key_value table key)
-
--- the settings, or a table in one of their arrays, have an unknown key
-abbrev pub settings_have_unknown : Members → Bool
-settings_have_unknown table =
-    has_unknown is_key_name table || list_any (key_has_unknown table) all_keys
+key_fault table key =
+    option_map (fault_at key) (form_problem (key_row key).1 (key_value table key))
 
 -- the fault of a table, if it has one: an unknown key anywhere or, without one, the fault of the
 -- first key with a fault, in order
 abbrev pub settings_fault : Members → Option SettingsFault
 settings_fault table =
-    if settings_have_unknown table then Some fault.UnknownKey
+    if have_unknown table then Some fault.UnknownKey
     else first_of (key_fault table) all_keys
 
-abbrev pub integer_in : Form → Option Data → ℕ
-integer_in (One scalar) value = integer_read scalar value
-integer_in (Tables element) value = 0
-
-abbrev pub text_in : Form → Option Data → List ℕ
-text_in (One scalar) value = text_read scalar value
-text_in (Tables element) value = []
-
 abbrev pub integer_at : Members → Key → ℕ
-integer_at table key = integer_in (key_form key) (key_value table key)
+integer_at table key = integer_read table (key_row key)
 
 abbrev pub text_at : Members → Key → List ℕ
-text_at table key = text_in (key_form key) (key_value table key)
+text_at table key = text_read table (key_row key)
 
 abbrev pub field_integer : Members → Field → ℕ
-field_integer table field = integer_read (field_scalar field) (field_value table field)
+field_integer table field = integer_read table (field_row field)
 
 abbrev pub field_text : Members → Field → List ℕ
-field_text table field = text_read (field_scalar field) (field_value table field)
+field_text table field = text_read table (field_row field)
 
 -- the type of a place: `0` is a file (48), `1` a directory (49)
 abbrev pub kind_read : List ℕ → ℕ
@@ -165,11 +142,11 @@ rules_read values = map rule_read (filter_map as_table values)
 
 -- the places of `seeds`
 abbrev pub seeds_at : Members → List PlaceData
-seeds_at table = seeds_read (values_read (key_value table key.Seeds))
+seeds_at table = seeds_read (elements_at table key.Seeds)
 
 -- the rules of `allow` or `deny`
 abbrev pub rules_at : Members → Key → List RuleData
-rules_at table key = rules_read (values_read (key_value table key))
+rules_at table key = rules_read (elements_at table key)
 
 -- the settings of a table without a fault
 abbrev pub settings_read : Members → SettingsData

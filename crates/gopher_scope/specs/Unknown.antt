@@ -1,14 +1,15 @@
 -- All unknown keys of settings.
-use Rattle.std.specs.Prelude.{◌≡◌, ℕ, Bool, true, not, List, [], ◌∷◌, ◌++◌, filter, map, Option, None, Some, Result, OnOk}
+use Rattle.std.specs.Prelude.{◌≡◌, ℕ, Bool, true, false, not, ◌||◌, nat_eq, List, [], ◌∷◌, ◌++◌, filter, map, Option, None, Some, Result, OnOk}
 use Rattle.std.specs.Global.{Vec}
-use Rattle.std.specs.List.{flat_map}
+use Rattle.std.specs.List.{flat_map, list_any}
 use Rattle.std.specs.Option.{option_map_or}
+use Rattle.std.specs.Cmp.Lexicographic.{pointwise}
 use Rattle.toml.specs.Data.{Data, Members, no_members, member, as_table}
-use Rattle.gopher_scope.specs.Rows.{all_keys, key_form}
-use Rattle.gopher_scope.specs.Reading.{is_field_name, values_read}
-use Rattle.gopher_scope.specs.Settings.{is_key_name, key_value}
-use Rattle.gopher_scope.specs.declared.settings.key.Form.{Form}
-use Rattle.gopher_scope.specs.declared.settings.key.Form.TheVariants.{Scalar as One, Tables}
+use Rattle.gopher_scope.specs.Rows.{all_keys, key_name, key_row, element_fields, field_row}
+use Rattle.gopher_scope.specs.Reading.{key_value, values_read}
+use Rattle.gopher_scope.specs.declared.settings.row.Form.{Form}
+use Rattle.gopher_scope.specs.declared.settings.row.Form.TheVariants.{Tables}
+use Rattle.gopher_scope.specs.declared.settings.tables.Element.{Element}
 use Rattle.gopher_scope.specs.declared.settings.key.Key.{Key}
 use Rattle.gopher_scope.specs.declared.settings.unknown.UnknownKey.{UnknownKey}
 
@@ -34,14 +35,21 @@ abbrev pub table_names : Members → List (List ℕ)
 table_names no_members = []
 table_names (member name value more) = name ∷ table_names more
 
+unfoldable pub is_key_name : List ℕ → Bool
+is_key_name name = list_any (λ key. pointwise nat_eq (key_name key) name) all_keys
+
+unfoldable pub is_field_name : Element → List ℕ → Bool
+is_field_name element name =
+    list_any (λ field. pointwise nat_eq (field_row field).0 name) (element_fields element)
+
 abbrev pub is_form_name : Form → List ℕ → Bool
-is_form_name (One scalar) name = true
 is_form_name (Tables element) name = is_field_name element name
+is_form_name form name = true
 
 -- a table in the array of this key, or the settings' own table, may have the key
 abbrev pub is_known_in : Option Key → List ℕ → Bool
 is_known_in None name = is_key_name name
-is_known_in (Some array) name = is_form_name (key_form array) name
+is_known_in (Some array) name = is_form_name (key_row array).1 name
 
 -- those of these names that are unknown there
 abbrev pub unknown_among : Option Key → List (List ℕ) → List Unknown
@@ -54,9 +62,12 @@ unknown_in array table = unknown_among array (table_names table)
 abbrev pub element_unknown : Key → Data → List Unknown
 element_unknown array value = option_map_or (unknown_in (Some array)) (as_table value) []
 
+-- the elements of the array of a key
+abbrev pub elements_at : Members → Key → List Data
+elements_at table array = values_read (key_value table array)
+
 abbrev pub array_unknown : Members → Key → List Unknown
-array_unknown table array =
-    flat_map (element_unknown array) (values_read (key_value table array))
+array_unknown table array = flat_map (element_unknown array) (elements_at table array)
 
 abbrev pub arrays_unknown : Members → List Key → List Unknown
 arrays_unknown table keys = flat_map (array_unknown table) keys
@@ -64,3 +75,18 @@ arrays_unknown table keys = flat_map (array_unknown table) keys
 -- the settings' own, then those of the tables in each array
 abbrev pub unknown_keys : Members → List Unknown
 unknown_keys table = unknown_in None table ++ arrays_unknown table all_keys
+
+-- a table, in the array of this key or the settings' own, has an unknown key
+abbrev pub has_unknown : Option Key → Members → Bool
+has_unknown array table = list_any (λ name. not (is_known_in array name)) (table_names table)
+
+abbrev pub elements_have_unknown : Key → List Data → Bool
+elements_have_unknown array values =
+    list_any (λ value. option_map_or (has_unknown (Some array)) (as_table value) false) values
+
+abbrev pub array_has_unknown : Members → Key → Bool
+array_has_unknown table array = elements_have_unknown array (elements_at table array)
+
+-- the settings, or a table in one of their arrays, have an unknown key
+unfoldable pub have_unknown : Members → Bool
+have_unknown table = has_unknown None table || list_any (array_has_unknown table) all_keys

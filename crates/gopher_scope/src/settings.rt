@@ -7,16 +7,15 @@ ghost use Rattle.gopher_scope.specs.Settings.{settings_data, settings_fault, int
 mod check;
 mod items;
 mod key;
+mod row;
 mod tables;
 mod unknown;
-mod value;
 
 use crate::fault::SettingsFault;
 pub use check::key_fault;
 use check::settings_fault;
 use gopher_item::{Home, ItemFault, NoMemory, Place, Scope};
-use items::{rules, seeds, values_at};
-use key::Form;
+use items::{rules, seeds};
 pub use key::Key;
 use std::alloc::Global;
 use toml::Table;
@@ -43,23 +42,11 @@ pub struct Settings {
     pub tries: u32,
 }
 
-fn text_at<'a>(table: &'a Table, key: Key) -> &'a str
-    ensures { result.now ≡ text_at (table_view table.now) key }
-{
-    match key.row() {
-        (name, Form::Scalar(scalar)) => scalar.text(table, name),
-        (_, Form::Tables(_)) => "",
-    }
-}
-
 fn integer_at(table: &Table, key: Key) -> u32
     requires { settings_fault (table_view table.now) ≡ None }
     ensures { result ≡ integer_at (table_view table.now) key }
 {
-    match key.row() {
-        (name, Form::Scalar(scalar)) => scalar.integer(table, name),
-        (_, Form::Tables(_)) => 0,
-    }
+    key.row().integer(table)
 }
 
 fn home(alloc: Global, table: &Table) -> Result<Home, NoMemory>
@@ -67,7 +54,7 @@ fn home(alloc: Global, table: &Table) -> Result<Home, NoMemory>
     ensures host { IfOk result (λ home. home.host ≡ text_at (table_view table.now) Key.Host) }
     ensures port { IfOk result (λ home. home.port ≡ integer_at (table_view table.now) Key.Port) }
 {
-    let host = text_at(table, Key::Host).as_bytes();
+    let host = Key::Host.row().text(table).as_bytes();
     match Home::new(alloc, host, integer_at(table, Key::Port) as u16) {
         Ok(home) => Ok(home),
         Err(fault) => match fault {
@@ -82,8 +69,8 @@ fn scope_at(alloc: Global, table: &Table) -> Result<Scope, NoMemory>
     ensures allow { IfOk result (λ scope. scope.allow ≡ rules_at (table_view table.now) Key.Allow) }
     ensures deny { IfOk result (λ scope. scope.deny ≡ rules_at (table_view table.now) Key.Deny) }
 {
-    let allow = rules(alloc, values_at(table, Key::Allow.name()))?;
-    let deny = rules(alloc, values_at(table, Key::Deny.name()))?;
+    let allow = rules(alloc, Key::Allow.row().values(table))?;
+    let deny = rules(alloc, Key::Deny.row().values(table))?;
     Ok(Scope::new(allow, deny))
 }
 
@@ -93,8 +80,8 @@ fn settings_read(alloc: Global, table: &Table) -> Result<Settings, NoMemory>
 {
     Ok(Settings {
         home: home(alloc, table)?,
-        root: String::from_str(alloc, text_at(table, Key::Root))?,
-        seeds: seeds(alloc, values_at(table, Key::Seeds.name()))?,
+        root: String::from_str(alloc, Key::Root.row().text(table))?,
+        seeds: seeds(alloc, Key::Seeds.row().values(table))?,
         scope: scope_at(alloc, table)?,
         places: integer_at(table, Key::Places),
         workers: integer_at(table, Key::Workers),

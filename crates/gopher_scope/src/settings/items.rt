@@ -1,49 +1,26 @@
 //! Reading seeds and rules from tables that have no fault.
 
 ghost use Rattle.std.specs.Prelude.{◌≡◌, map, Some, None, IfOk};
-ghost use Rattle.toml.specs.Data.{get_member};
 ghost use Rattle.toml.specs.View.{view, table_view};
-ghost use Rattle.gopher_scope.specs.Reading.{first_of, field_problem, table_problem, element_problem, values_read};
+ghost use Rattle.gopher_scope.specs.Reading.{first_of, field_problem, table_problem, element_problem};
 ghost use Rattle.gopher_scope.specs.Settings.{field_integer, field_text, kind_read, seed_read, rule_read, seeds_read, rules_read};
 
 use super::tables::{Element, Field};
-use super::value::value_at;
 use gopher_item::{ItemFault, NoMemory, Place, Rule};
 use std::alloc::Global;
 use toml::{Table, Value};
-
-/// Returns the elements of the array of a key; none if the key is missing.
-pub(crate) fn values_at<'a>(table: &'a Table, name: &str) -> &'a [Value]
-    ensures { map view result.now ≡ values_read (get_member name.now (table_view table.now)) }
-{
-    match value_at(table, name) {
-        None => &[],
-        Some(value) => match value.as_array() {
-            None => &[],
-            Some(array) => array,
-        },
-    }
-}
-
-fn field_text<'a>(table: &'a Table, field: Field) -> &'a str
-    ensures { result.now ≡ field_text (table_view table.now) field }
-{
-    let (name, scalar) = field.row();
-    scalar.text(table, name)
-}
 
 fn port(table: &Table) -> u16
     requires { field_problem (table_view table.now) Field.Port ≡ None }
     ensures { result ≡ field_integer (table_view table.now) Field.Port }
 {
-    let (name, scalar) = Field::Port.row();
-    scalar.integer(table, name) as u16
+    Field::Port.row().integer(table) as u16
 }
 
 fn kind(table: &Table) -> u8
     ensures { result ≡ kind_read (field_text (table_view table.now) Field.Kind) }
 {
-    if field_text(table, Field::Kind) == "0" {
+    if Field::Kind.row().text(table) == "0" {
         b'0'
     } else {
         b'1'
@@ -54,8 +31,8 @@ fn seed(alloc: Global, table: &Table) -> Result<Place, NoMemory>
     requires { table_problem Element.Seed (Some (table_view table.now)) ≡ None }
     ensures { IfOk result (λ seed. seed ≡ seed_read (table_view table.now)) }
 {
-    let selector = field_text(table, Field::Selector).as_bytes();
-    let host = field_text(table, Field::Host).as_bytes();
+    let selector = Field::Selector.row().text(table).as_bytes();
+    let host = Field::Host.row().text(table).as_bytes();
     match Place::new(alloc, kind(table), selector, host, port(table)) {
         Ok(seed) => Ok(seed),
         Err(fault) => match fault {
@@ -69,8 +46,8 @@ fn rule(alloc: Global, table: &Table) -> Result<Rule, NoMemory>
     requires { table_problem Element.Rule (Some (table_view table.now)) ≡ None }
     ensures { IfOk result (λ rule. rule ≡ rule_read (table_view table.now)) }
 {
-    let host = field_text(table, Field::Host).as_bytes();
-    let prefix = field_text(table, Field::Prefix).as_bytes();
+    let host = Field::Host.row().text(table).as_bytes();
+    let prefix = Field::Prefix.row().text(table).as_bytes();
     match Rule::new(alloc, host, port(table), prefix) {
         Ok(rule) => Ok(rule),
         Err(fault) => match fault {

@@ -1,16 +1,12 @@
-//! The keys of the settings, `Key`, with the name and the valid values, `Form`, of each.
+//! The keys of the settings, `Key`, with the row of each.
 
-ghost use Rattle.std.specs.Prelude.{◌≡◌, Some};
-ghost use Rattle.toml.specs.Data.{get_member};
-ghost use Rattle.toml.specs.View.{table_view};
-ghost use Rattle.gopher_scope.specs.Reading.{form_problem, form_has_unknown};
-ghost use Rattle.gopher_scope.specs.Rows.{key_name, key_form};
+ghost use Rattle.std.specs.Prelude.{◌≡◌};
+ghost use Rattle.gopher_scope.specs.Rows.{key_name, key_row};
 
+use super::row::{Form, Row, TextKind};
 use super::tables::Element;
-use super::value::{Problem, Scalar, TextKind, value_at};
 use gopher_item::{MAX_PLACES, MAX_PORT, MAX_TRIES};
 use std::fmt;
-use toml::Table;
 
 /// A key of the settings. Keys are checked in this order.
 #[derive(Clone, Copy, Debug, PartialEq, Eq)]
@@ -38,40 +34,6 @@ pub enum Key {
     Tries,
 }
 
-/// The valid values of a key of the settings.
-#[derive(Clone, Copy, Debug, PartialEq, Eq)]
-pub(crate) enum Form {
-    /// An integer or a text.
-    Scalar(Scalar),
-    /// An array of at most 256 tables; an empty one if the key is missing.
-    Tables(Element),
-}
-
-impl Form {
-    /// Returns the fault of the key's value, if it has one.
-    pub(crate) fn problem(self, table: &Table, name: &str) -> Option<Problem>
-        ensures { result ≡ form_problem self (get_member name.now (table_view table.now)) }
-    {
-        match self {
-            Form::Scalar(scalar) => scalar.problem(table, name),
-            Form::Tables(element) => element.problem(table, name),
-        }
-    }
-
-    /// Returns whether the key's value is an array with a table that has an unknown key.
-    pub(crate) fn has_unknown(self, table: &Table, name: &str) -> bool
-        ensures { result ≡ form_has_unknown self (get_member name.now (table_view table.now)) }
-    {
-        match (self, value_at(table, name)) {
-            (Form::Scalar(_), _) | (Form::Tables(_), None) => false,
-            (Form::Tables(element), Some(value)) => match value.as_array() {
-                None => false,
-                Some(array) => element.array_has_unknown(array),
-            },
-        }
-    }
-}
-
 impl Key {
     /// All keys, in the order in which they are checked.
     pub const ALL: [Key; 10] = [
@@ -87,30 +49,30 @@ impl Key {
         Key::Tries,
     ];
 
-    /// Returns the name of the key in the text, and its valid values.
-    pub(crate) fn row(self) -> (&'static str, Form)
-        ensures name { result.0.now ≡ key_name self }
-        ensures form { result.1 ≡ key_form self }
+    /// Returns the row of the key.
+    pub(crate) fn row(self) -> Row
+        ensures { result ≡ key_row self }
     {
-        match self {
-            Key::Host => ("host", Form::Scalar(Scalar::Text(TextKind::Host))),
-            Key::Port => ("port", Form::Scalar(Scalar::Integer(70, MAX_PORT))),
-            Key::Root => ("root", Form::Scalar(Scalar::Text(TextKind::Path))),
+        let (name, form) = match self {
+            Key::Host => ("host", Form::Text(TextKind::Host)),
+            Key::Port => ("port", Form::Integer(70, MAX_PORT)),
+            Key::Root => ("root", Form::Text(TextKind::Path)),
             Key::Seeds => ("seeds", Form::Tables(Element::Seed)),
             Key::Allow => ("allow", Form::Tables(Element::Rule)),
             Key::Deny => ("deny", Form::Tables(Element::Rule)),
-            Key::Places => ("places", Form::Scalar(Scalar::Integer(4_096, MAX_PLACES))),
-            Key::Workers => ("workers", Form::Scalar(Scalar::Integer(4, 16))),
-            Key::Threads => ("threads", Form::Scalar(Scalar::Integer(2, 8))),
-            Key::Tries => ("tries", Form::Scalar(Scalar::Integer(1, MAX_TRIES))),
-        }
+            Key::Places => ("places", Form::Integer(4_096, MAX_PLACES)),
+            Key::Workers => ("workers", Form::Integer(4, 16)),
+            Key::Threads => ("threads", Form::Integer(2, 8)),
+            Key::Tries => ("tries", Form::Integer(1, MAX_TRIES)),
+        };
+        Row { name, form }
     }
 
     /// Returns the name of the key in the text.
     pub fn name(self) -> &'static str
         ensures { result.now ≡ key_name self }
     {
-        self.row().0
+        self.row().name
     }
 }
 

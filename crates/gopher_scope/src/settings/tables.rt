@@ -1,13 +1,13 @@
 //! The tables in `seeds`, `allow` and `deny`: their keys, `Field`, and their kinds, `Element`.
 
-ghost use Rattle.std.specs.Prelude.{◌≡◌, map, Some, None};
-ghost use Rattle.std.specs.List.{list_any};
-ghost use Rattle.toml.specs.Data.{get_member};
+ghost use Rattle.std.specs.Prelude.{◌≡◌, map, Some};
+ghost use Rattle.toml.specs.Data.{as_array};
 ghost use Rattle.toml.specs.View.{view, array_view, table_view};
-ghost use Rattle.gopher_scope.specs.Rows.{element_fields, field_name, field_scalar};
-ghost use Rattle.gopher_scope.specs.Reading.{first_of, field_problem, table_problem, element_problem, array_problem, tables_problem, has_unknown, is_field_name, element_has_unknown, array_has_unknown};
+ghost use Rattle.gopher_scope.specs.Rows.{element_fields, field_row};
+ghost use Rattle.gopher_scope.specs.Reading.{first_of, table_problem, element_problem, array_problem};
+ghost use Rattle.gopher_scope.specs.Unknown.{is_field_name};
 
-use super::value::{Problem, Scalar, TextKind, value_at};
+use super::row::{Form, Problem, Row, TextKind};
 use gopher_item::MAX_PORT;
 use toml::value::Array;
 use toml::{Table, Value};
@@ -31,18 +31,18 @@ pub(crate) enum Field {
 }
 
 impl Field {
-    /// Returns the name of the key in the text, and its valid values.
-    pub(crate) fn row(self) -> (&'static str, Scalar)
-        ensures name { result.0.now ≡ field_name self }
-        ensures values { result.1 ≡ field_scalar self }
+    /// Returns the row of the key.
+    pub(crate) fn row(self) -> Row
+        ensures { result ≡ field_row self }
     {
-        match self {
-            Field::Kind => ("type", Scalar::Text(TextKind::PlaceKind)),
-            Field::Host => ("host", Scalar::Text(TextKind::Host)),
-            Field::Port => ("port", Scalar::Integer(70, MAX_PORT)),
-            Field::Selector => ("selector", Scalar::Text(TextKind::Selector)),
-            Field::Prefix => ("prefix", Scalar::Text(TextKind::Selector)),
-        }
+        let (name, form) = match self {
+            Field::Kind => ("type", Form::Text(TextKind::PlaceKind)),
+            Field::Host => ("host", Form::Text(TextKind::Host)),
+            Field::Port => ("port", Form::Integer(70, MAX_PORT)),
+            Field::Selector => ("selector", Form::Text(TextKind::Selector)),
+            Field::Prefix => ("prefix", Form::Text(TextKind::Selector)),
+        };
+        Row { name, form }
     }
 }
 
@@ -56,8 +56,8 @@ pub(crate) enum Element {
 }
 
 impl Element {
-    /// Returns the keys of such a table in the order in which they are checked.
-    pub(crate) fn fields(self) -> &'static [Field]
+    // The keys of such a table in the order in which they are checked.
+    fn fields(self) -> &'static [Field]
         ensures { result.now ≡ element_fields self }
     {
         match self {
@@ -71,8 +71,7 @@ impl Element {
     {
         let fields = self.fields();
         for field in fields {
-            let (name, scalar) = field.row();
-            if let Some(problem) = scalar.problem(table, name) {
+            if let Some(problem) = field.row().scalar_problem(table) {
                 return Some(problem);
             }
         }
@@ -109,59 +108,21 @@ impl Element {
         }
     }
 
-    /// Returns the fault of a key's value that has to be an array of such tables, if it has one.
-    pub(crate) fn problem(self, table: &Table, name: &str) -> Option<Problem>
-        ensures { result ≡ tables_problem self (get_member name.now (table_view table.now)) }
+    /// Returns the fault of a value that has to be an array of such tables, if it has one.
+    pub(crate) fn problem(self, value: &Value) -> Option<Problem>
+        ensures { result ≡ array_problem self (as_array (view value.now)) }
     {
-        match value_at(table, name)?.as_array() {
+        match value.as_array() {
             None => Some(Problem::WrongKind),
             Some(array) => self.array_problem(array),
         }
     }
 
     /// Returns whether such a table may have a key of this name.
-    #[tactic(auto, unfolding(crate::specs::Reading::is_field_name))]
+    #[tactic(auto, unfolding(crate::specs::Unknown::is_field_name))]
     pub(crate) fn is_field_name(self, name: &str) -> bool
         ensures { result ≡ is_field_name self name.now }
     {
-        self.fields().iter().any(|field| field.row().0 == name)
-    }
-
-    fn has_unknown_field(self, table: &Table) -> bool
-        ensures { result ≡ has_unknown (is_field_name self) (table_view table.now) }
-    {
-        for name in table.keys() {
-            if !self.is_field_name(name.as_str()) {
-                return true;
-            }
-        }
-        false
-    }
-
-    fn element_has_unknown(self, value: &Value) -> bool
-        ensures { result ≡ element_has_unknown self (view value.now) }
-    {
-        match value.as_table() {
-            None => false,
-            Some(table) => self.has_unknown_field(table),
-        }
-    }
-
-    fn elements_have_unknown(self, values: &[Value]) -> bool
-        ensures { result ≡ list_any (element_has_unknown self) (map view values.now) }
-    {
-        for value in values {
-            if self.element_has_unknown(value) {
-                return true;
-            }
-        }
-        false
-    }
-
-    /// Returns whether a table of the array has an unknown key.
-    pub(crate) fn array_has_unknown(self, array: &Array) -> bool
-        ensures { result ≡ array_has_unknown self (Some (array_view array.now)) }
-    {
-        self.elements_have_unknown(array)
+        self.fields().iter().any(|field| field.row().name == name)
     }
 }

@@ -1,15 +1,15 @@
 //! All unknown keys of settings.
 
-ghost use Rattle.std.specs.Prelude.{◌≡◌, None, IfOk};
-ghost use Rattle.toml.specs.View.{table_view};
-ghost use Rattle.gopher_scope.specs.Unknown.{is_known_in, unknown_in, array_unknown, arrays_unknown, unknown_keys, AddsUnknown, AreUnknown};
+ghost use Rattle.std.specs.Prelude.{◌≡◌, map, None, IfOk};
+ghost use Rattle.std.specs.List.{list_any};
+ghost use Rattle.toml.specs.View.{view, table_view};
+ghost use Rattle.gopher_scope.specs.Unknown.{is_key_name, is_known_in, has_unknown, elements_have_unknown, array_has_unknown, have_unknown, unknown_in, array_unknown, arrays_unknown, unknown_keys, AddsUnknown, AreUnknown};
 
-use super::check::is_key_name;
-use super::items::values_at;
-use super::key::{Form, Key};
+use super::key::Key;
+use super::row::Form;
 use gopher_item::NoMemory;
 use std::alloc::{AllocError, Global};
-use toml::Table;
+use toml::{Table, Value};
 
 /// An unknown key of settings.
 #[derive(Clone, Copy, Debug, PartialEq, Eq)]
@@ -20,6 +20,14 @@ pub struct UnknownKey<'a> {
     pub name: &'a str,
 }
 
+// Whether the settings have a key of this name.
+#[tactic(auto, unfolding(crate::specs::Unknown::is_key_name))]
+fn is_key_name(name: &str) -> bool
+    ensures { result ≡ is_key_name name.now }
+{
+    Key::ALL.iter().any(|key| key.name() == name)
+}
+
 // Whether a table in the array of this key, or the settings' own table, may have the key.
 fn is_known_in(array: Option<Key>, name: &str) -> bool
     ensures { result ≡ is_known_in array name.now }
@@ -27,10 +35,58 @@ fn is_known_in(array: Option<Key>, name: &str) -> bool
     let Some(array) = array else {
         return is_key_name(name);
     };
-    match array.row().1 {
-        Form::Scalar(_) => true,
+    match array.row().form {
         Form::Tables(element) => element.is_field_name(name),
+        _ => true,
     }
+}
+
+// Whether a table, in the array of this key or the settings' own, has an unknown key.
+fn has_unknown(table: &Table, array: Option<Key>) -> bool
+    ensures { result ≡ has_unknown array (table_view table.now) }
+{
+    for name in table.keys() {
+        if !is_known_in(array, name.as_str()) {
+            return true;
+        }
+    }
+    false
+}
+
+// Whether a table among the elements of the array of this key has an unknown key.
+fn elements_have_unknown(values: &[Value], array: Key) -> bool
+    ensures { result ≡ elements_have_unknown array (map view values.now) }
+{
+    for value in values {
+        if let Some(table) = value.as_table()
+            && has_unknown(table, Some(array))
+        {
+            return true;
+        }
+    }
+    false
+}
+
+// Whether a table in the array of this key has an unknown key.
+fn array_has_unknown(table: &Table, array: Key) -> bool
+    ensures { result ≡ array_has_unknown (table_view table.now) array }
+{
+    elements_have_unknown(array.row().values(table), array)
+}
+
+// Whether a table in the arrays of these keys has an unknown key.
+fn arrays_have_unknown(table: &Table, keys: &[Key]) -> bool
+    ensures { result ≡ list_any (array_has_unknown (table_view table.now)) keys.now }
+{
+    keys.iter().any(|key| array_has_unknown(table, *key))
+}
+
+/// Returns whether the settings, or a table in one of their arrays, have an unknown key.
+#[tactic(auto, unfolding(crate::specs::Unknown::have_unknown))]
+pub(crate) fn have_unknown(table: &Table) -> bool
+    ensures { result ≡ have_unknown (table_view table.now) }
+{
+    has_unknown(table, None) || arrays_have_unknown(table, &Key::ALL)
 }
 
 // Appends the unknown keys of a table.
@@ -60,7 +116,7 @@ fn push_array<'a>(
 ) -> Result<(), AllocError>
     ensures { AddsUnknown out.old out.new (array_unknown (table_view table.now) array) result }
 {
-    let values = values_at(table, array.name());
+    let values = array.row().values(table);
     for value in values {
         if let Some(table) = value.as_table() {
             push_table(table, Some(array), out)?;

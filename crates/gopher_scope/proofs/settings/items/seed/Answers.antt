@@ -9,5 +9,5 @@ unreachable-requires c =
     let host = c.as_bytes-host.result.now in
     let selector = c.as_bytes-selector.result.now in
     let none : place_fault c.kind.result selector host c.port.result ≡ None =
-    rw (c.kind.ensures, c.as_bytes-selector.ensures.value, c.as_bytes-host.ensures.value, c.field_text.ensures, c.field_text-2.ensures, c.port.ensures) (seed_fault-none (table_view c.args.table.now) c.requires) in
+    rw (c.kind.ensures, c.as_bytes-selector.ensures.value, c.as_bytes-host.ensures.value, c.text.ensures, c.row.ensures, c.text-2.ensures, c.row-2.ensures, c.port.ensures) (seed_fault-none (table_view c.args.table.now) c.requires) in
     c.in_default.not-NoMemory (Makes-none (place_fault c.kind.result selector host c.port.result) (place_of c.kind.result selector host c.port.result) c.in-Err.fault none (rw c.in-Err.is at c.new.ensures))

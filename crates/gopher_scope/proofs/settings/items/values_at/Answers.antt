@@ -1,6 +1,0 @@
-use Rattle.gopher_scope.proofs.Elements.{values_read-array}
-use Rattle.gopher_scope.proofs.settings.items.values_at.Goals as goal
-
-pub returns-in-Some-as_array : goal.returns-in-Some-as_array
-returns-in-Some-as_array c =
-    rw c.deref.ensures.value (values_read-array _ _ _ (rw c.in-Some.is at c.value_at.ensures) (rw c.in-Some-as_array.is at c.as_array.ensures))
