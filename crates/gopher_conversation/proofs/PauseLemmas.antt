@@ -6,10 +6,10 @@ use Rattle.std.specs.Io.BufRead.{first_line}
 use Rattle.gopher_text.specs.Line.{has_feed}
 use Rattle.gopher_text.specs.Watched.{CountsFailure}
 use Rattle.gopher_conversation.specs.Serve.{StreamData}
+use Rattle.gopher_conversation.specs.Advance.{Steps}
 use Rattle.gopher_conversation.specs.Talk.{Talk, Gathers, Asks, IsTooLong, LacksMemory, Responds, is_known, known_line, sent_of, stage_of, steps_of, talk_of}
 use Rattle.gopher_conversation.specs.declared.conversation.Stage.TheVariants as stage
 use Rattle.gopher_conversation.specs.declared.advancing.Progress.TheVariants.{Paused, Works}
-use Rattle.gopher_conversation.proofs.StepLemmas.{StepsOverStreams}
 
 -- ---- pauses
 
@@ -20,13 +20,6 @@ position (Asks line) = 1027
 position IsTooLong = 1027
 position LacksMemory = 1027
 position (Responds line reply steps sent) = 1028 + sent
-
-pub position_bound : (talk : Talk) → position talk ≤ 1028 + sent_of talk
-position_bound (Gathers bytes) = let few = min-le_right (length bytes) 1026 in omega (arith, few)
-position_bound (Asks line) = omega arith
-position_bound IsTooLong = omega arith
-position_bound LacksMemory = omega arith
-position_bound (Responds line reply steps sent) = omega arith
 
 -- how far it has come, and how many calls failed
 abbrev pub turns : Talk → StreamData → StreamData → ℕ
@@ -80,7 +73,7 @@ fails old new a b rest counts was is = by (count_up a b counts)
 
 -- each step after which it can go on at once counts
 pub pause_counts : {A : Type 0} (gives : A → A → List ℕ → List ℕ → Type 0) (talk next : Talk) (a b : A) (had left before after : StreamData)
-    → StepsOverStreams gives talk next a b had left before after Paused
+    → Steps gives talk next a b had left before after Paused
     → (turns talk had before < turns next left after) ⊎ (2 ^ 64 - 1 ≤ turns next left after)
 pause_counts gives (Gathers bytes) next a b had left before after (inl piece, answers, writer) =
     inl (omega (arith, piece.count, ap (λ (s : StreamData). s.failures) writer, by piece.hears))
@@ -113,7 +106,7 @@ counts_on step was is few so_far (inr most) = omega (arith, few, most)
 
 -- a search that goes on has fewer steps left
 pub works_near : {A : Type 0} (gives : A → A → List ℕ → List ℕ → Type 0) (talk next : Talk) (a b : A) (had left before after : StreamData)
-    → StepsOverStreams gives talk next a b had left before after Works → stage_of talk ≡ stage.Responds → steps_of next < steps_of talk
+    → Steps gives talk next a b had left before after Works → stage_of talk ≡ stage.Responds → steps_of next < steps_of talk
 works_near gives (Gathers bytes) next a b had left before after step responds = absurd cc
 works_near gives (Asks line) next a b had left before after step responds = absurd cc
 works_near gives IsTooLong next a b had left before after step responds = absurd cc
@@ -125,7 +118,7 @@ abbrev pub KeepsSteps : Talk → Talk → Type 0
 KeepsSteps old new = stage_of old ≡ stage.Responds → (stage_of new ≡ stage.Responds) × (steps_of new ≡ steps_of old)
 
 pub pause_keeps : {A : Type 0} (gives : A → A → List ℕ → List ℕ → Type 0) (talk next : Talk) (a b : A) (had left before after : StreamData)
-    → StepsOverStreams gives talk next a b had left before after Paused → KeepsSteps talk next
+    → Steps gives talk next a b had left before after Paused → KeepsSteps talk next
 pause_keeps gives (Gathers bytes) next a b had left before after step responds = absurd cc
 pause_keeps gives (Asks line) next a b had left before after step responds = absurd cc
 pause_keeps gives IsTooLong next a b had left before after step responds = absurd cc

@@ -3,7 +3,8 @@ use Rattle.std.proofs.Common.{◌≡◌, ◌==◌, ℕ, zero, suc, Bool, true, f
 use Rattle.std.specs.Prelude.{if◌then◌else◌}
 use Rattle.std.proofs.lemmas.Bool.Decides.{nat_tests}
 use Rattle.gopher_conversation.specs.Talk.{Talk, Gathers, Asks, IsTooLong, LacksMemory, Responds, put_back}
-use Rattle.gopher_conversation.specs.Advance.{Stands, Talks, Upholds}
+use Rattle.gopher_conversation.specs.Advance.{Stands, Upholds}
+use Rattle.gopher_conversation.proofs.StepLemmas.{stands_else}
 
 stands_back : (given : List ℕ → List ℕ → Type 0) (ended : Bool) (taken sent : List ℕ) (talk : Talk)
     → Stands given ended taken sent talk → Stands given ended taken sent (put_back talk)
@@ -20,21 +21,10 @@ stands_back given ended taken sent (Responds line reply (suc steps) count) stand
         (stands.line_is ∙ ap Asks (sym stands.asked_is), stands.asked_is, stands.sent_is ∙ ap (λ n. take n reply) none)
     by false e = stands
 
-talks_back : (given : List ℕ → List ℕ → Type 0) (had left before after : Option (List ℕ)) (old new : Talk)
-    → new ≡ put_back old → Talks given had left before after old → Talks given had left before after new
-talks_back given had left before after old new is so_far = record {
-  taken = so_far.taken;
-  sent = so_far.sent;
-  ended = so_far.ended;
-  consumed = so_far.consumed;
-  appended = so_far.appended;
-  all_taken = so_far.all_taken;
-  stands = subst (Stands given so_far.ended so_far.taken so_far.sent) (sym is)
-      (stands_back given so_far.ended so_far.taken so_far.sent old so_far.stands);
-}
-
 -- a conversation whose search is dropped agrees with the bytes that came in and went out
 pub upholds : (old new : Talk) → new ≡ put_back old → Upholds old new
 upholds old new is = record {
-  goes = λ answers had left before after so_far. talks_back (λ line reply. answers line reply ≡ true) had left before after old new is so_far;
+  goes = λ answers had left before after so_far.
+      stands_else (λ line reply. answers line reply ≡ true) (λ line reply. answers line reply ≡ true) had left left before after after old new so_far so_far.consumed so_far.appended
+      (rw is (stands_back (λ line reply. answers line reply ≡ true) so_far.ended so_far.taken so_far.sent old so_far.stands));
 }

@@ -6,42 +6,11 @@ use Rattle.std.specs.Io.KnownBytes.{Appends, Consumes, IsAtEnd, Keeps}
 use Rattle.std.proofs.KnownBytes.{Appends-trans, Appends-kept, Consumes-trans, Consumes-kept}
 use Rattle.std.proofs.Math.Seq.{take-add}
 use Rattle.gopher_text.specs.Line.{has_feed}
-use Rattle.gopher_conversation.specs.Serve.{StreamData, stream_of}
-use Rattle.gopher_conversation.specs.Talk.{Talk, Gathers, Asks, IsTooLong, LacksMemory, Responds, is_known, known_line, talk_of, said, stage_of, steps_of, unsent_of}
-use Rattle.gopher_conversation.specs.declared.conversation.Stage.TheVariants as stage
-use Rattle.gopher_conversation.specs.Advance.{IsStill, HearsPiece, HearsEnd, Listens, IsReplied, RepliesToLine, SaysSome, IsSaid, IsSilent, Says, ReadsIfGathering, RepliesIfAsked, WritesIfAnswered, FailsIfRefused, IsGiven, StandsAnswered, Stands, Talks, Advances}
+use Rattle.gopher_conversation.specs.Serve.{StreamData}
+use Rattle.gopher_conversation.specs.Talk.{Talk, Gathers, Asks, IsTooLong, LacksMemory, Responds, is_known, known_line, talk_of, steps_of}
+use Rattle.gopher_conversation.specs.Advance.{IsStill, HearsPiece, HearsEnd, Listens, IsReplied, RepliesToLine, SaysSome, IsSaid, IsSilent, Says, Steps, IsGiven, StandsAnswered, Stands, Talks, Advances}
 use Rattle.gopher_conversation.specs.declared.advancing.Progress.{Progress}
 use Rattle.gopher_conversation.specs.declared.advancing.Progress.TheVariants.{Done, Paused, Works, Waits, Failed}
-use Rattle.gopher_text.specs.Watched.{WatchedData}
-use Rattle.gopher_conversation.specs.declared.fault.ServeFault.TheVariants.{LineTooLong, NoMemory}
-
--- ---- one step over streams
-
--- one step, by the state of the conversation: the state before and after, the answers before and
--- after, the streams of the reader and of the writer before and after, and the progress
-abbrev pub StepsOverStreams : {A : Type 0} → (A → A → List ℕ → List ℕ → Type 0) → Talk → Talk
-    → A → A → StreamData → StreamData → StreamData → StreamData → Progress → Type 0
-StepsOverStreams gives (Gathers bytes) new a b had left before after progress =
-    Listens (Gathers bytes) new had left progress × (b ≡ a) × (after ≡ before)
-StepsOverStreams gives (Asks line) new a b had left before after progress =
-    RepliesToLine gives a b line new progress × (left ≡ had) × (after ≡ before)
-StepsOverStreams gives IsTooLong new a b had left before after progress =
-    (progress ≡ Failed LineTooLong) × (new ≡ IsTooLong) × (b ≡ a) × (left ≡ had) × (after ≡ before)
-StepsOverStreams gives LacksMemory new a b had left before after progress =
-    (progress ≡ Failed NoMemory) × (new ≡ LacksMemory) × (b ≡ a) × (left ≡ had) × (after ≡ before)
-StepsOverStreams gives (Responds line reply steps sent) new a b had left before after progress =
-    Says (Responds line reply steps sent) new before after progress × (b ≡ a) × (left ≡ had)
-
--- what each party sees of a step
-pub step_joins : {A : Type 0} (gives : A → A → List ℕ → List ℕ → Type 0) {R W : Type 0} (remaining : R → Option (List ℕ)) (contents : W → Option (List ℕ)) (talk next : Talk) (a b : A)
-    (had left : WatchedData R) (before after : WatchedData W) (turn : Progress)
-    → ReadsIfGathering remaining talk next had left turn → RepliesIfAsked gives talk next a b turn → WritesIfAnswered contents talk next before after turn → FailsIfRefused talk next turn
-    → StepsOverStreams gives talk next a b (stream_of remaining had) (stream_of remaining left) (stream_of contents before) (stream_of contents after) turn
-step_joins gives remaining contents (Gathers bytes) next a b had left before after turn reads asks writes fails = (reads, asks, writes)
-step_joins gives remaining contents (Asks line) next a b had left before after turn reads asks writes fails = (asks, reads, writes)
-step_joins gives remaining contents IsTooLong next a b had left before after turn reads asks writes fails = (fails.0, fails.1, asks, reads, writes)
-step_joins gives remaining contents LacksMemory next a b had left before after turn reads asks writes fails = (fails.0, fails.1, asks, reads, writes)
-step_joins gives remaining contents (Responds line reply steps sent) next a b had left before after turn reads asks writes fails = (writes, asks, reads)
 
 -- ---- what came in decides how it stands, before anything goes out
 
@@ -68,19 +37,25 @@ all_consumed (Some all) (Some left) bytes read end = read ∙ ap (λ l. bytes ++
 true_false : {A : Type 0} → false ≡ true → A
 true_false e = absurd cc
 
+-- the same bytes came in and went out, and the conversation stands so
+pub stands_else : (given more : List ℕ → List ℕ → Type 0) (first had left w0 w1 w2 : Option (List ℕ)) (talk next : Talk) (so_far : Talks given first had w0 w1 talk)
+    → Consumes first left so_far.taken → Appends w0 w2 so_far.sent → Stands more so_far.ended so_far.taken so_far.sent next → Talks more first left w0 w2 next
+stands_else given more first had left w0 w1 w2 talk next so_far consumed appended stands = record {
+  taken = so_far.taken;
+  sent = so_far.sent;
+  ended = so_far.ended;
+  consumed = consumed;
+  appended = appended;
+  all_taken = so_far.all_taken;
+  stands = stands;
+}
+
 -- ---- reads
 
 heard_still : (given : List ℕ → List ℕ → Type 0) (first w0 w1 : Option (List ℕ)) (talk next : Talk) (had left : StreamData)
     → IsStill talk next had left → Talks given first had.bytes w0 w1 talk → Talks given first left.bytes w0 w1 next
-heard_still given first w0 w1 talk next had left still so_far = record {
-  taken = so_far.taken;
-  sent = so_far.sent;
-  ended = so_far.ended;
-  consumed = Consumes-kept _ _ _ _ so_far.consumed still.bytes;
-  appended = so_far.appended;
-  all_taken = so_far.all_taken;
-  stands = subst (Stands given so_far.ended so_far.taken so_far.sent) (sym still.talk) so_far.stands;
-}
+heard_still given first w0 w1 talk next had left still so_far =
+    stands_else given given first had.bytes left.bytes w0 w1 w1 talk next so_far (Consumes-kept _ _ _ _ so_far.consumed still.bytes) so_far.appended (rw still.talk so_far.stands)
 
 -- what stands gathered is all that came in
 heard_on : (given : List ℕ → List ℕ → Type 0) (ended : Bool) (taken sent bytes piece : List ℕ) (talk : Talk)
@@ -132,32 +107,12 @@ listened given first w0 w1 bytes next had left Works never so_far = absurd never
 listened given first w0 w1 bytes next had left Waits still so_far = heard_still given first w0 w1 (Gathers bytes) next had left still so_far
 listened given first w0 w1 bytes next had left (Failed fault) (why, still) so_far = heard_still given first w0 w1 (Gathers bytes) next had left still so_far
 
--- the same bytes came in and went out, and the conversation stands so
-stands_else : (given more : List ℕ → List ℕ → Type 0) (first left w0 w1 : Option (List ℕ)) (talk next : Talk) (so_far : Talks given first left w0 w1 talk)
-    → Stands more so_far.ended so_far.taken so_far.sent next → Talks more first left w0 w1 next
-stands_else given more first left w0 w1 talk next so_far stands = record {
-  taken = so_far.taken;
-  sent = so_far.sent;
-  ended = so_far.ended;
-  consumed = so_far.consumed;
-  appended = so_far.appended;
-  all_taken = so_far.all_taken;
-  stands = stands;
-}
-
 -- ---- writes
 
 said_still : (given : List ℕ → List ℕ → Type 0) (first left w0 : Option (List ℕ)) (talk next : Talk) (before after : StreamData)
     → IsStill talk next before after → Talks given first left w0 before.bytes talk → Talks given first left w0 after.bytes next
-said_still given first left w0 talk next before after still so_far = record {
-  taken = so_far.taken;
-  sent = so_far.sent;
-  ended = so_far.ended;
-  consumed = so_far.consumed;
-  appended = Appends-kept _ _ _ _ so_far.appended still.bytes;
-  all_taken = so_far.all_taken;
-  stands = subst (Stands given so_far.ended so_far.taken so_far.sent) (sym still.talk) so_far.stands;
-}
+said_still given first left w0 talk next before after still so_far =
+    stands_else given given first left left w0 before.bytes after.bytes talk next so_far so_far.consumed (Appends-kept _ _ _ _ so_far.appended still.bytes) (rw still.talk so_far.stands)
 
 said_some : (given : List ℕ → List ℕ → Type 0) (first left w0 : Option (List ℕ)) (line reply : List ℕ) (steps count : ℕ) (next : Talk) (before after : StreamData)
     → SaysSome (Responds line reply steps count) next before after → Talks given first left w0 before.bytes (Responds line reply steps count) → Talks given first left w0 after.bytes next
@@ -181,16 +136,13 @@ said_some given first left w0 line reply steps count next before after said so_f
 
 said_all : (given : List ℕ → List ℕ → Type 0) (first left w0 : Option (List ℕ)) (talk next : Talk) (before after : StreamData)
     → IsSaid talk next before after → Talks given first left w0 before.bytes talk → Talks given first left w0 after.bytes next
-said_all given first left w0 talk next before after said so_far =
-    subst (λ (t : Talk). Talks given first left w0 after.bytes t) (sym said.talk)
-    (subst (λ (s : StreamData). Talks given first left w0 s.bytes talk) (sym said.same) so_far)
+said_all given first left w0 talk next before after said so_far = rw (said.talk, said.same) so_far
 
 said_none : (given : List ℕ → List ℕ → Type 0) (first left w0 : Option (List ℕ)) (line reply : List ℕ) (steps count : ℕ) (next : Talk) (before after : StreamData)
     → IsSilent (Responds line reply steps count) next before after → Talks given first left w0 before.bytes (Responds line reply steps count) → Talks given first left w0 after.bytes next
 said_none given first left w0 line reply steps count next before after silent so_far =
     subst (λ (t : Talk). Talks given first left w0 after.bytes t) (sym silent.talk)
-    (subst (λ (s : StreamData). Talks given first left w0 s.bytes (Responds line reply (steps_of next) count)) (sym silent.same)
-    (stands_else given given first left w0 before.bytes (Responds line reply steps count) (Responds line reply (steps_of next) count) so_far so_far.stands))
+    (rw silent.same (stands_else given given first left left w0 before.bytes before.bytes (Responds line reply steps count) (Responds line reply (steps_of next) count) so_far so_far.consumed so_far.appended so_far.stands))
 
 pub spoken : (given : List ℕ → List ℕ → Type 0) (first left w0 : Option (List ℕ)) (line reply : List ℕ) (steps count : ℕ) (next : Talk) (before after : StreamData) (turn : Progress)
     → Says (Responds line reply steps count) next before after turn → Talks given first left w0 before.bytes (Responds line reply steps count) → Talks given first left w0 after.bytes next
@@ -217,7 +169,7 @@ later given more ended taken sent (Responds line reply steps count) wider stands
 -- what was given stays given
 pub talks_later : (given more : List ℕ → List ℕ → Type 0) (first left w0 w1 : Option (List ℕ)) (talk : Talk) → ((line reply : List ℕ) → given line reply → more line reply)
     → Talks given first left w0 w1 talk → Talks more first left w0 w1 talk
-talks_later given more first left w0 w1 talk wider so_far = stands_else given more first left w0 w1 talk talk so_far (later given more so_far.ended so_far.taken so_far.sent talk wider so_far.stands)
+talks_later given more first left w0 w1 talk wider so_far = stands_else given more first left left w0 w1 w1 talk talk so_far so_far.consumed so_far.appended (later given more so_far.ended so_far.taken so_far.sent talk wider so_far.stands)
 
 pub given_later : {A : Type 0} (leads_to : A → A → Type 0) (gives : A → A → List ℕ → List ℕ → Type 0) (start seen now : A) (line reply : List ℕ)
     → ((a b c : A) → leads_to a b → leads_to b c → leads_to a c) → leads_to seen now → IsGiven leads_to gives start seen line reply → IsGiven leads_to gives start now line reply
@@ -229,7 +181,7 @@ replied : {A : Type 0} (leads_to : A → A → Type 0) (gives : A → A → List
     → leads_to start a → leads_to b b → IsReplied gives a b line next → Talks (IsGiven leads_to gives start a) first left w0 w1 (Asks line)
     → Talks (IsGiven leads_to gives start b) first left w0 w1 next
 replied leads_to gives start a b first left w0 w1 line next leads stays is so_far =
-    stands_else (IsGiven leads_to gives start a) (IsGiven leads_to gives start b) first left w0 w1 (Asks line) next so_far (subst (Stands (IsGiven leads_to gives start b) so_far.ended so_far.taken so_far.sent) (sym is.is) answered)
+    stands_else (IsGiven leads_to gives start a) (IsGiven leads_to gives start b) first left left w0 w1 w1 (Asks line) next so_far so_far.consumed so_far.appended (rw is.is answered)
   where
     answered : StandsAnswered (IsGiven leads_to gives start b) so_far.ended so_far.taken so_far.sent line is.reply 0
     answered = record {
@@ -247,78 +199,34 @@ answered leads_to gives start a b first left w0 w1 line next Paused leads stays 
 answered leads_to gives start a b first left w0 w1 line next Works leads stays (is, searches) so_far = replied leads_to gives start a b first left w0 w1 line next leads stays is so_far
 answered leads_to gives start a b first left w0 w1 line next Waits leads stays never so_far = absurd never
 answered leads_to gives start a b first left w0 w1 line next (Failed fault) leads stays (why, same) so_far =
-    subst (λ (t : Talk). Talks (IsGiven leads_to gives start b) first left w0 w1 t) (sym same) (stands_else (IsGiven leads_to gives start a) (IsGiven leads_to gives start b) first left w0 w1 (Asks line) (Asks line) so_far so_far.stands)
+    rw same (stands_else (IsGiven leads_to gives start a) (IsGiven leads_to gives start b) first left left w0 w1 w1 (Asks line) (Asks line) so_far so_far.consumed so_far.appended so_far.stands)
 
 -- ---- one step
 
-moved : (P : StreamData → Type 0) (a b : StreamData) → b ≡ a → P a → P b
-moved P a b same = subst P (sym same)
-
 pub steps_on : {A : Type 0} (leads_to : A → A → Type 0) (gives : A → A → List ℕ → List ℕ → Type 0) (talk next : Talk) (a b : A) (had left before after : StreamData) (turn : Progress)
     → ((x : A) → leads_to x x) → ((x y z : A) → leads_to x y → leads_to y z → leads_to x z)
-    → StepsOverStreams gives talk next a b had left before after turn → Advances leads_to gives talk next a b had.bytes left.bytes before.bytes after.bytes
+    → Steps gives talk next a b had left before after turn → Advances leads_to gives talk next a b had.bytes left.bytes before.bytes after.bytes
 steps_on {A = A} leads_to gives talk next a b had left before after turn stays joins step = record {
   goes = λ start seen first w0 leads since so_far.
       by talk step start first w0 (joins _ _ _ leads since)
       (talks_later _ _ first had.bytes w0 before.bytes talk (λ line reply given. given_later leads_to gives start seen a line reply joins since given) so_far);
 }
   where
-    same_answers : (start x y : A) (first l w0 w1 : Option (List ℕ)) (t : Talk) → y ≡ x → Talks (IsGiven leads_to gives start x) first l w0 w1 t → Talks (IsGiven leads_to gives start y) first l w0 w1 t
-    same_answers start x y first l w0 w1 t same = subst (λ (z : A). Talks (IsGiven leads_to gives start z) first l w0 w1 t) (sym same)
-
-    still : (start : A) (first w0 : Option (List ℕ)) (t : Talk) → next ≡ t → b ≡ a → left ≡ had → after ≡ before → Talks (IsGiven leads_to gives start a) first had.bytes w0 before.bytes t
-        → Talks (IsGiven leads_to gives start b) first left.bytes w0 after.bytes next
-    still start first w0 t same answers reader writer so_far =
-        same_answers start a b first left.bytes w0 after.bytes next answers
-        (moved (λ (s : StreamData). Talks (IsGiven leads_to gives start a) first s.bytes w0 after.bytes next) had left reader
-        (moved (λ (s : StreamData). Talks (IsGiven leads_to gives start a) first had.bytes w0 s.bytes next) before after writer
-        (subst (λ (u : Talk). Talks (IsGiven leads_to gives start a) first had.bytes w0 before.bytes u) (sym same) so_far)))
-
-    by : (t : Talk) → StepsOverStreams gives t next a b had left before after turn → (start : A) (first w0 : Option (List ℕ)) → leads_to start a
+    by : (t : Talk) → Steps gives t next a b had left before after turn → (start : A) (first w0 : Option (List ℕ)) → leads_to start a
         → Talks (IsGiven leads_to gives start a) first had.bytes w0 before.bytes t → Talks (IsGiven leads_to gives start b) first left.bytes w0 after.bytes next
     by (Gathers bytes) (heard, answers, writer) start first w0 leads so_far =
-        same_answers start a b first left.bytes w0 after.bytes next answers
-        (moved (λ (s : StreamData). Talks (IsGiven leads_to gives start a) first left.bytes w0 s.bytes next) before after writer
-        (listened (IsGiven leads_to gives start a) first w0 before.bytes bytes next had left turn heard so_far))
+        rw (answers, writer) (listened (IsGiven leads_to gives start a) first w0 before.bytes bytes next had left turn heard so_far)
     by (Asks line) (replied, reader, writer) start first w0 leads so_far =
-        moved (λ (s : StreamData). Talks (IsGiven leads_to gives start b) first s.bytes w0 after.bytes next) had left reader
-        (moved (λ (s : StreamData). Talks (IsGiven leads_to gives start b) first had.bytes w0 s.bytes next) before after writer
-        (answered leads_to gives start a b first had.bytes w0 before.bytes line next turn leads (stays b) replied so_far))
-    by IsTooLong (fails, same, answers, reader, writer) start first w0 leads so_far = still start first w0 IsTooLong same answers reader writer so_far
-    by LacksMemory (fails, same, answers, reader, writer) start first w0 leads so_far = still start first w0 LacksMemory same answers reader writer so_far
+        rw (reader, writer) (answered leads_to gives start a b first had.bytes w0 before.bytes line next turn leads (stays b) replied so_far)
+    by IsTooLong (fails, same, answers, reader, writer) start first w0 leads so_far = rw (same, answers, reader, writer) so_far
+    by LacksMemory (fails, same, answers, reader, writer) start first w0 leads so_far = rw (same, answers, reader, writer) so_far
     by (Responds line reply steps count) (said, answers, reader) start first w0 leads so_far =
-        same_answers start a b first left.bytes w0 after.bytes next answers
-        (moved (λ (s : StreamData). Talks (IsGiven leads_to gives start a) first s.bytes w0 after.bytes next) had left reader
-        (spoken (IsGiven leads_to gives start a) first had.bytes w0 line reply steps count next before after turn said so_far))
+        rw (answers, reader) (spoken (IsGiven leads_to gives start a) first had.bytes w0 line reply steps count next before after turn said so_far)
 
--- ---- one step of each kind
+-- ---- any number of steps
 
 module _ {A : Type 0} (leads_to : A → A → Type 0) (gives : A → A → List ℕ → List ℕ → Type 0) (stays : (x : A) → leads_to x x)
     (joins : (x y z : A) → leads_to x y → leads_to y z → leads_to x z) where
-  pub listens_on : (talk next : Talk) (a : A) (had left writer : StreamData) (turn : Progress) → stage.Listens ≡ stage_of talk
-      → Listens talk next had left turn → Advances leads_to gives talk next a a had.bytes left.bytes writer.bytes writer.bytes
-  listens_on (Gathers bytes) next a had left writer turn is listens = steps_on leads_to gives (Gathers bytes) next a a had left writer writer turn stays joins (listens, refl, refl)
-  listens_on (Asks line) next a had left writer turn is listens = absurd cc
-  listens_on IsTooLong next a had left writer turn is listens = absurd cc
-  listens_on LacksMemory next a had left writer turn is listens = absurd cc
-  listens_on (Responds line reply steps count) next a had left writer turn is listens = absurd cc
-
-  pub asks_on : (talk next : Talk) (a b : A) (reader writer : StreamData) (turn : Progress) → stage.Asks ≡ stage_of talk
-      → ((line : List ℕ) → talk ≡ Asks line → RepliesToLine gives a b line next turn) → Advances leads_to gives talk next a b reader.bytes reader.bytes writer.bytes writer.bytes
-  asks_on (Gathers bytes) next a b reader writer turn is replies = absurd cc
-  asks_on (Asks line) next a b reader writer turn is replies = steps_on leads_to gives (Asks line) next a b reader reader writer writer turn stays joins (replies line refl, refl, refl)
-  asks_on IsTooLong next a b reader writer turn is replies = absurd cc
-  asks_on LacksMemory next a b reader writer turn is replies = absurd cc
-  asks_on (Responds line reply steps count) next a b reader writer turn is replies = absurd cc
-
-  pub says_on : (talk next : Talk) (a : A) (reader before after : StreamData) (turn : Progress) → stage.Responds ≡ stage_of talk
-      → Says talk next before after turn → Advances leads_to gives talk next a a reader.bytes reader.bytes before.bytes after.bytes
-  says_on (Gathers bytes) next a reader before after turn is says = absurd cc
-  says_on (Asks line) next a reader before after turn is says = absurd cc
-  says_on IsTooLong next a reader before after turn is says = absurd cc
-  says_on LacksMemory next a reader before after turn is says = absurd cc
-  says_on (Responds line reply steps count) next a reader before after turn is says = steps_on leads_to gives (Responds line reply steps count) next a a reader reader before after turn stays joins (says, refl, refl)
-
   -- no step
   pub advances_stays : (talk : Talk) (a : A) (r w : Option (List ℕ)) → Advances leads_to gives talk talk a a r r w w
   advances_stays talk a r w = record {

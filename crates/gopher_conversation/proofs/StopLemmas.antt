@@ -4,12 +4,11 @@ use Rattle.std.proofs.lemmas.Bool.Decides.{nat_tests}
 use Rattle.gopher_text.specs.Watched.{CountsFailure, HasFailed}
 use Rattle.gopher_conversation.specs.Serve.{StreamData}
 use Rattle.gopher_conversation.specs.Talk.{Talk, Gathers, Asks, IsTooLong, LacksMemory, Responds, stage_of, unsent_of}
-use Rattle.gopher_conversation.specs.Advance.{Listens, RepliesToLine, Says, StopsWithCounts}
+use Rattle.gopher_conversation.specs.Advance.{Listens, RepliesToLine, Says, Steps, StopsWithCounts}
 use Rattle.gopher_conversation.specs.declared.advancing.Progress.{Progress}
 use Rattle.gopher_conversation.specs.declared.advancing.Progress.TheVariants.{Done, Paused, Works, Waits, Failed}
 use Rattle.gopher_conversation.specs.declared.fault.ServeFault.{ServeFault}
 use Rattle.gopher_conversation.specs.declared.fault.ServeFault.TheVariants.{LineTooLong, ReadFailed, TooManyTurns, WriteFailed, NoMemory}
-use Rattle.gopher_conversation.proofs.StepLemmas.{StepsOverStreams}
 
 -- ---- failures are counted
 
@@ -44,7 +43,7 @@ says_count talk next before after (Failed fault) (inl (why, still)) = counted _ 
 says_count talk next before after (Failed fault) (inr (why, silent, kept)) = same_count before after silent.same
 
 pub steps_count : {A : Type 0} (gives : A → A → List ℕ → List ℕ → Type 0) (talk next : Talk) (a b : A) (had left before after : StreamData) (turn : Progress)
-    → StepsOverStreams gives talk next a b had left before after turn → (had.failures ≤ left.failures) × (before.failures ≤ after.failures)
+    → Steps gives talk next a b had left before after turn → (had.failures ≤ left.failures) × (before.failures ≤ after.failures)
 steps_count gives (Gathers bytes) next a b had left before after turn (heard, answers, writer) =
     (listens_count (Gathers bytes) next had left turn heard, same_count before after writer)
 steps_count gives (Asks line) next a b had left before after turn (replied, reader, writer) = (same_count had left reader, same_count before after writer)
@@ -85,7 +84,7 @@ says_stop line reply steps count next r0 r1 before after (Failed fault) (inr (wh
     subst (λ (f : ServeFault). StopsWithCounts next r0 r1 before.failures after.failures (Failed f)) (sym why) tt
 
 pub steps_stop : {A : Type 0} (gives : A → A → List ℕ → List ℕ → Type 0) (talk next : Talk) (a b : A) (had left before after : StreamData) (turn : Progress)
-    → StepsOverStreams gives talk next a b had left before after turn → (turn ≡ Paused → ⊥) → StopsWithCounts next had.failures left.failures before.failures after.failures turn
+    → Steps gives talk next a b had left before after turn → (turn ≡ Paused → ⊥) → StopsWithCounts next had.failures left.failures before.failures after.failures turn
 steps_stop gives (Gathers bytes) next a b had left before after turn (heard, answers, writer) ends =
     listens_stop bytes next had left before.failures after.failures turn heard ends
 steps_stop gives (Asks line) next a b had left before after turn (replied, reader, writer) ends =

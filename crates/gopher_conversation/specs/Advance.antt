@@ -135,37 +135,20 @@ abbrev pub WritesOnce : {W : Type 0} → (W → Option (List ℕ)) → Talk → 
 WritesOnce contents old new before after progress =
     Says old new (stream_of contents before) (stream_of contents after) progress
 
--- one step of a conversation that gathers reads once, and any other leaves the reader: the
--- conversation before and after, the reader before and after, and the progress
-abbrev pub ReadsIfGathering : {R : Type 0} → (R → Option (List ℕ)) → Talk → Talk
-    → WatchedData R → WatchedData R → Progress → Type 0
-ReadsIfGathering remaining (Gathers bytes) new had left progress =
-    ReadsOnce remaining (Gathers bytes) new had left progress
-ReadsIfGathering remaining old new had left progress =
-    stream_of remaining left ≡ stream_of remaining had
-
--- one step of a conversation that asks gets the reply, and any other leaves the answers: the
--- conversation before and after, the answers before and after, and the progress
-abbrev pub RepliesIfAsked : {A : Type 0} → (A → A → List ℕ → List ℕ → Type 0) → Talk → Talk
-    → A → A → Progress → Type 0
-RepliesIfAsked gives (Asks line) new before after progress =
-    RepliesToLine gives before after line new progress
-RepliesIfAsked gives old new before after progress = after ≡ before
-
--- one step of a conversation that answers writes once or searches, and any other leaves the writer:
--- the conversation before and after, the writer before and after, and the progress
-abbrev pub WritesIfAnswered : {W : Type 0} → (W → Option (List ℕ)) → Talk → Talk
-    → WatchedData W → WatchedData W → Progress → Type 0
-WritesIfAnswered contents (Responds line reply steps sent) new before after progress =
-    WritesOnce contents (Responds line reply steps sent) new before after progress
-WritesIfAnswered contents old new before after progress =
-    stream_of contents after ≡ stream_of contents before
-
--- a conversation that can't go on fails, and stays as it is: before and after, and the progress
-abbrev pub FailsIfRefused : Talk → Talk → Progress → Type 0
-FailsIfRefused IsTooLong new progress = (progress ≡ Failed LineTooLong) × (new ≡ IsTooLong)
-FailsIfRefused LacksMemory new progress = (progress ≡ Failed NoMemory) × (new ≡ LacksMemory)
-FailsIfRefused old new progress = Unit {0}
+-- one step, by the state of the conversation: what it does with the streams and the answers; the
+-- conversation, the answers, the reader and the writer before and after, and the progress
+abbrev pub Steps : {A : Type 0} → (A → A → List ℕ → List ℕ → Type 0) → Talk → Talk → A → A
+    → StreamData → StreamData → StreamData → StreamData → Progress → Type 0
+Steps gives (Gathers bytes) new a b had left before after progress =
+    Listens (Gathers bytes) new had left progress × (b ≡ a) × (after ≡ before)
+Steps gives (Asks line) new a b had left before after progress =
+    RepliesToLine gives a b line new progress × (left ≡ had) × (after ≡ before)
+Steps gives IsTooLong new a b had left before after progress =
+    (progress ≡ Failed LineTooLong) × (new ≡ IsTooLong) × (b ≡ a) × (left ≡ had) × (after ≡ before)
+Steps gives LacksMemory new a b had left before after progress =
+    (progress ≡ Failed NoMemory) × (new ≡ LacksMemory) × (b ≡ a) × (left ≡ had) × (after ≡ before)
+Steps gives (Responds line reply steps sent) new a b had left before after progress =
+    Says (Responds line reply steps sent) new before after progress × (b ≡ a) × (left ≡ had)
 
 -- the progress of a call that failed
 abbrev pub IsProgressAfter : ServeFault → Progress → Type 0

@@ -1,8 +1,9 @@
 //! One step of a conversation (`advance`), with at most one call of a stream.
 
 ghost use Rattle.std.specs.Prelude.{◌≡◌, ◌<◌, ◌≤◌, ◌+◌, ◌^◌, ◌⊎◌, length, IfOk, OnErr};
-ghost use Rattle.gopher_conversation.specs.Advance.{FailsIfRefused, GoesOn, HearsOutcome, IsProgressAfter, ReadsIfGathering, ReadsOnce, Records, Replies, RepliesIfAsked, WritesIfAnswered, WritesOnce, progress_after};
+ghost use Rattle.gopher_conversation.specs.Advance.{HearsOutcome, IsProgressAfter, ReadsOnce, Records, Replies, Steps, WritesOnce, progress_after};
 ghost use Rattle.gopher_conversation.specs.Leads.{Leads};
+ghost use Rattle.gopher_conversation.specs.Serve.{stream_of};
 ghost use Rattle.gopher_conversation.specs.Talk.{NearsReply, OnlySearches, sent_of, steps_of, unsent_of};
 ghost use Rattle.gopher_conversation.specs.declared.advancing.Progress.TheVariants.{Failed, Works};
 ghost use Rattle.gopher_conversation.specs.declared.fault.ServeFault.TheVariants.{NoMemory, ReadFailed, WriteFailed};
@@ -57,13 +58,10 @@ pub fn advance<'a, A: Answers<'a>, R: Read, W: Write>(
     buffer: &mut [u8],
 ) -> Progress
     requires { 0 < length buffer.old }
-    ensures reads { ReadsIfGathering R.remaining talk.old talk.new reader.old reader.new result }
-    ensures asks { RepliesIfAsked A.gives talk.old talk.new answers.old answers.new result }
-    ensures writes { WritesIfAnswered W.contents talk.old talk.new writer.old writer.new result }
-    ensures fails { FailsIfRefused talk.old talk.new result }
+    ensures step { Steps A.gives talk.old talk.new answers.old answers.new
+        (stream_of R.remaining reader.old) (stream_of R.remaining reader.new)
+        (stream_of W.contents writer.old) (stream_of W.contents writer.new) result }
     ensures leads { Leads A.leads_to answers.old answers.new }
-    ensures goes_on { GoesOn A.leads_to A.gives R.remaining W.contents talk.old talk.new
-        answers.old answers.new reader.old reader.new writer.old writer.new }
 {
     match talk.stage() {
         Stage::Listens => listen(talk, reader, buffer),

@@ -1,6 +1,7 @@
 use Rattle.std.proofs.Common.{◌≡◌, refl, subst, arith, rules}
+use Rattle.gopher_conversation.specs.Advance.{Steps}
 use Rattle.gopher_conversation.specs.Leads.{Leads, leads_stays, leads_joins}
-use Rattle.gopher_conversation.proofs.StepLemmas.{StepsOverStreams, step_joins, advances_stays, advances_joins}
+use Rattle.gopher_conversation.proofs.StepLemmas.{steps_on, advances_stays, advances_joins}
 use Rattle.gopher_conversation.proofs.StopLemmas.{steps_count, steps_stop, stops_since}
 use Rattle.gopher_conversation.specs.declared.advancing.Progress.TheVariants.{Paused}
 use Rattle.gopher_conversation.proofs.PauseLemmas.{counts_on, keeps_joins, pause_counts, pause_keeps, works_near, works_since}
@@ -24,20 +25,18 @@ pub returns-then-ne-clause-goes_on : goal.returns-then-ne-clause-goes_on
 returns-then-ne-clause-goes_on g c =
     let leads_to = g.A.Answers.leads_to in
     advances_joins (Leads leads_to) g.A.Answers.gives (leads_stays leads_to) (leads_joins leads_to) _ _ _ _ _ _ _ _ _ _ _ _
-    c.loop-step.invariant.0 c.loop-step.invariant.1 c.advance-progress.ensures.goes_on
+    c.loop-step.invariant.0 c.loop-step.invariant.1 (steps_on (Leads leads_to) g.A.Answers.gives _ _ _ _ _ _ _ _ _ (leads_stays leads_to) (leads_joins leads_to) c.advance-progress.ensures.step)
 
 pub loop-step-preserved : goal.loop-step-preserved
 loop-step-preserved g c =
     let leads_to = g.A.Answers.leads_to in
-    let step = step_joins g.A.Answers.gives g.R.Read.remaining g.W.Write.contents c.loop-step.conversation c.advance-progress.new.talk c.loop-step.answers c.advance-progress.new.answers
-    c.loop-step.reader c.advance-progress.new.reader c.loop-step.writer c.advance-progress.new.writer c.advance-progress.result
-    c.advance-progress.ensures.reads c.advance-progress.ensures.asks c.advance-progress.ensures.writes c.advance-progress.ensures.fails in
+    let step = c.advance-progress.ensures.step in
     let counts = steps_count g.A.Answers.gives _ _ _ _ _ _ _ _ _ step in
     let is : c.advance-progress.result ≡ Paused = search rules in
-    let pauses = subst (StepsOverStreams g.A.Answers.gives _ _ _ _ _ _ _ _) is step in (
+    let pauses = subst (Steps g.A.Answers.gives _ _ _ _ _ _ _ _) is step in (
       leads_joins leads_to _ _ _ c.loop-step.invariant.0 c.advance-progress.ensures.leads,
       advances_joins (Leads leads_to) g.A.Answers.gives (leads_stays leads_to) (leads_joins leads_to) _ _ _ _ _ _ _ _ _ _ _ _
-          c.loop-step.invariant.0 c.loop-step.invariant.1 c.advance-progress.ensures.goes_on,
+          c.loop-step.invariant.0 c.loop-step.invariant.1 (steps_on (Leads leads_to) g.A.Answers.gives _ _ _ _ _ _ _ _ _ (leads_stays leads_to) (leads_joins leads_to) c.advance-progress.ensures.step),
       omega (arith, c.loop-step.invariant.2, counts.0),
       omega (arith, c.loop-step.invariant.3, counts.1),
       keeps_joins _ _ _ c.loop-step.invariant.4 (pause_keeps g.A.Answers.gives _ _ _ _ _ _ _ _ pauses),
@@ -46,17 +45,13 @@ loop-step-preserved g c =
 
 pub returns-then-ne-clause-nears : goal.returns-then-ne-clause-nears
 returns-then-ne-clause-nears g c = λ works.
-    let step = step_joins g.A.Answers.gives g.R.Read.remaining g.W.Write.contents c.loop-step.conversation c.advance-progress.new.talk c.loop-step.answers c.advance-progress.new.answers
-    c.loop-step.reader c.advance-progress.new.reader c.loop-step.writer c.advance-progress.new.writer c.advance-progress.result
-    c.advance-progress.ensures.reads c.advance-progress.ensures.asks c.advance-progress.ensures.writes c.advance-progress.ensures.fails in
+    let step = c.advance-progress.ensures.step in
     works_since c.args.conversation.now c.loop-step.conversation c.advance-progress.new.talk c.loop-step.invariant.4
-    (works_near g.A.Answers.gives _ _ _ _ _ _ _ _ (subst (StepsOverStreams g.A.Answers.gives _ _ _ _ _ _ _ _) works step))
+    (works_near g.A.Answers.gives _ _ _ _ _ _ _ _ (subst (Steps g.A.Answers.gives _ _ _ _ _ _ _ _) works step))
 
 pub returns-then-ne-clause-stops : goal.returns-then-ne-clause-stops
 returns-then-ne-clause-stops g c =
-    let step = step_joins g.A.Answers.gives g.R.Read.remaining g.W.Write.contents c.loop-step.conversation c.advance-progress.new.talk c.loop-step.answers c.advance-progress.new.answers
-    c.loop-step.reader c.advance-progress.new.reader c.loop-step.writer c.advance-progress.new.writer c.advance-progress.result
-    c.advance-progress.ensures.reads c.advance-progress.ensures.asks c.advance-progress.ensures.writes c.advance-progress.ensures.fails in
+    let step = c.advance-progress.ensures.step in
     let counts = steps_count g.A.Answers.gives _ _ _ _ _ _ _ _ _ step in
     let ends : c.advance-progress.result ≡ Paused → ⊥ = search rules in
     stops_since c.advance-progress.new.talk _ _ _ _ _ _ c.advance-progress.result c.loop-step.invariant.2 counts.0 c.loop-step.invariant.3 counts.1
