@@ -1,12 +1,10 @@
 -- A run, statement by statement.
 use Rattle.std.proofs.Common.{◌≡◌, ℕ, ◌≤◌, List, [], ◌∷◌, ◌++◌, Option, None, Some, Ok, Err, refl, sym, ap, subst, ◌∙◌, inl, inr, append_assoc, append-nil, arith}
-use Rattle.std.specs.Prelude.{All}
 use Rattle.std.specs.Option.{option_map_or}
 use Rattle.std.specs.Io.KnownBytes.{Appends}
 use Rattle.std.proofs.KnownBytes.{Appends-nil, Appends-trans}
-use Rattle.std.proofs.lemmas.List.Elements.{All-head, All-tail}
 use Rattle.gopher_text.specs.Watched.{HasFailed}
-use Rattle.gopher_script.specs.Statement.{StatementData, HasSmallReply}
+use Rattle.gopher_script.specs.Statement.{StatementData}
 use Rattle.gopher_script.specs.Script.{RunData, run_statements, prepend, answer_at, after_at, ended_at, ended_well}
 use Rattle.gopher_script.specs.Replay.{RunEnds, StatementEnds}
 use Rattle.gopher_script.specs.declared.stage.Stage.{Stage}
@@ -18,7 +16,6 @@ pub record RunsOn (run : RunData) (old now : Option (List ℕ)) (before after : 
   pub written : List ℕ
   pub appended : Appends old now written
   pub left : run ≡ prepend written (run_statements stage statements)
-  pub small : All HasSmallReply statements
   pub counted : before ≤ after
 
 prepend-append : (a b : List ℕ) (run : RunData) → prepend (a ++ b) run ≡ prepend a (prepend b run)
@@ -33,8 +30,8 @@ run-bad : (stage : Stage) (s : StatementData) (ss : List StatementData) → answ
 unfolding run_statements
 run-bad stage s ss e = ap (λ o. option_map_or (λ a. prepend a (run_statements (after_at stage s) ss)) o (ended_at s.number)) e
 
-pub begins : (stage : Stage) (ss : List StatementData) (old : Option (List ℕ)) (before : ℕ) → All HasSmallReply ss → RunsOn (run_statements stage ss) old old before before stage ss
-begins stage ss old before small = record { written = []; appended = Appends-nil old; left = refl; small = small; counted = omega arith }
+pub begins : (stage : Stage) (ss : List StatementData) (old : Option (List ℕ)) (before : ℕ) → RunsOn (run_statements stage ss) old old before before stage ss
+begins stage ss old before = record { written = []; appended = Appends-nil old; left = refl; counted = omega arith }
 
 pub goes_on : (run : RunData) (old now new : Option (List ℕ)) (before after later : ℕ) (stage next : Stage) (s : StatementData) (ss all : List StatementData) → all ≡ s ∷ ss
     → RunsOn run old now before after stage all → StatementEnds stage s now new after later (Ok next) → RunsOn run old new before later next ss
@@ -43,14 +40,8 @@ goes_on run old now new before after later stage next s ss all is so (answer, an
   appended = Appends-trans old now new so.written answer so.appended sent;
   left = so.left ∙ ap (prepend so.written) (ap (run_statements stage) is ∙ run-answered stage s ss answer answered ∙ ap (λ t. prepend answer (run_statements t ss)) (sym then))
       ∙ sym (prepend-append so.written answer (run_statements next ss));
-  small = All-tail HasSmallReply s ss (subst (All HasSmallReply) is so.small);
   counted = omega (arith, so.counted, counted);
 }
-
--- the next statement has a reply that is short enough for a page
-pub next-small : (run : RunData) (old now : Option (List ℕ)) (before after : ℕ) (stage : Stage) (s : StatementData) (ss all : List StatementData) → all ≡ s ∷ ss
-    → RunsOn run old now before after stage all → HasSmallReply s
-next-small run old now before after stage s ss all is so = All-head HasSmallReply s ss (subst (All HasSmallReply) is so.small)
 
 -- the run succeeds after the last statement
 pub ends_well : (run : RunData) (old now : Option (List ℕ)) (before after : ℕ) (stage : Stage) (all : List StatementData) → all ≡ []

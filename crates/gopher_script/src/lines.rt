@@ -2,29 +2,11 @@
 
 ghost use Rattle.std.specs.Prelude.{◌≡◌, ◌≢◌, ◌++◌, IfOk, OnOk};
 ghost use Rattle.gopher_item.specs.Fault.{item_fault_code};
-ghost use Rattle.gopher_script.specs.Answer.{ok_line, idle_line, finished_line, refused_line, place_fields, take_line, added_line, status_line};
+ghost use Rattle.gopher_script.specs.Answer.{refused_line, place_fields, take_line, added_line, status_line};
 
 use gopher_catalogue::{Added, Status};
 use gopher_item::{ItemFault, NoMemory, Place};
 use std::alloc::Global;
-
-pub fn ok_line(alloc: Global) -> Result<Vec<u8>, NoMemory>
-    ensures { IfOk result (λ line. line.items ≡ ok_line) }
-{
-    Ok(Vec::from_slice(alloc, b"ok\n")?)
-}
-
-pub fn idle_line(alloc: Global) -> Result<Vec<u8>, NoMemory>
-    ensures { IfOk result (λ line. line.items ≡ idle_line) }
-{
-    Ok(Vec::from_slice(alloc, b"idle\n")?)
-}
-
-pub fn finished_line(alloc: Global) -> Result<Vec<u8>, NoMemory>
-    ensures { IfOk result (λ line. line.items ≡ finished_line) }
-{
-    Ok(Vec::from_slice(alloc, b"finished\n")?)
-}
 
 pub fn refused_line(alloc: Global, code: u8) -> Result<Vec<u8>, NoMemory>
     ensures { IfOk result (λ line. line.items ≡ refused_line code) }

@@ -1,7 +1,5 @@
 //! Replaying scripts: running their statements, and sending the answers (`replay`).
 
-ghost use Rattle.std.specs.Prelude.{◌≤◌, length};
-ghost use Rattle.gopher_script.specs.Statement.{HasSmallReply};
 ghost use Rattle.gopher_script.specs.Replay.{SendsAnswer, RunsStatement, RunsScript, Replays};
 
 use crate::draft::Draft;
@@ -34,7 +32,6 @@ fn run_statement<W: Write>(
     statement: Statement<'_>,
     output: &mut Watched<W>,
 ) -> Result<Stage, ReplayFault>
-    requires { HasSmallReply statement }
     ensures { RunsStatement W.contents stage statement.entry output.old output.new result }
 {
     let Statement {
@@ -59,7 +56,6 @@ fn run_script<W: Write>(
     bytes: &[u8],
     output: &mut Watched<W>,
 ) -> Result<(), ReplayFault>
-    requires { length bytes.now ≤ MAX_REPLY }
     ensures { RunsScript W.contents bytes.now output.old output.new result }
 {
     let mut stage = Stage::Gathering(Draft::new(alloc));

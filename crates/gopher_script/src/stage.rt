@@ -1,6 +1,6 @@
 //! What each command does before the crawl and during it (`perform`).
 
-ghost use Rattle.std.specs.Prelude.{◌≡◌, ◌≤◌, ◌≢◌, [], IfOk, OnOk, length};
+ghost use Rattle.std.specs.Prelude.{◌≡◌, ◌≢◌, [], IfOk, OnOk};
 ghost use Rattle.gopher_catalogue.specs.Fault.{open_fault_code};
 ghost use Rattle.gopher_script.specs.Answer.{refused_line};
 ghost use Rattle.gopher_script.specs.Stage.{draft_of, start_line, fault_of_start, after_start, answer_in, after_in, IsAnswer, Performs, HasDraft};
@@ -8,10 +8,9 @@ ghost use Rattle.gopher_script.specs.Stage.{draft_of, start_line, fault_of_start
 use crate::command::Command;
 use crate::crawl::{claim, fail, found, occurs, search};
 use crate::draft::{Draft, add_rule, add_seed};
-use crate::lines::{ok_line, refused_line, status_line};
+use crate::lines::{refused_line, status_line};
 use gopher_catalogue::{Catalogue, OpenFault, OpenRefused};
 use gopher_item::{NoMemory, Scope};
-use gopher_text::MAX_REPLY;
 use std::alloc::Global;
 
 /// The stage of a script.
@@ -42,7 +41,7 @@ fn start(alloc: Global, draft: Draft, places: u32, tries: u32) -> Result<Perform
     match Catalogue::open(alloc, Scope::new(allow, deny), seeds, places, tries) {
         Ok(catalogue) => Ok(Performed {
             stage: Stage::Crawling(catalogue),
-            answer: ok_line(alloc)?,
+            answer: Vec::from_slice(alloc, b"ok\n")?,
         }),
         Err(refused) => restored(alloc, refused),
     }
@@ -101,7 +100,6 @@ fn answer_in(
     command: Command<'_>,
     reply: &[u8],
 ) -> Result<Option<Vec<u8>>, NoMemory>
-    requires { length reply.now ≤ MAX_REPLY }
     ensures answer { IfOk result (IsAnswer (answer_in catalogue.old command.entry reply.now)) }
     ensures record { OnOk result (catalogue.new ≡ after_in catalogue.old command.entry reply.now) }
 {
@@ -128,7 +126,6 @@ fn perform_in(
     command: Command<'_>,
     reply: &[u8],
 ) -> Result<Option<Performed>, NoMemory>
-    requires { length reply.now ≤ MAX_REPLY }
     ensures { IfOk result (Performs (Stage.Crawling catalogue) command.entry reply.now) }
 {
     let mut catalogue = catalogue;
@@ -147,7 +144,6 @@ pub fn perform(
     command: Command<'_>,
     reply: &[u8],
 ) -> Result<Option<Performed>, NoMemory>
-    requires { length reply.now ≤ MAX_REPLY }
     ensures { IfOk result (Performs stage command.entry reply.now) }
 {
     match stage {

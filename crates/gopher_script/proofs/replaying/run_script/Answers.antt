@@ -1,14 +1,8 @@
-use Rattle.gopher_script.proofs.Runs.{begins, goes_on, next-small, ends_well, stops}
-use Rattle.gopher_script.proofs.Sizes.{small_replies}
+use Rattle.gopher_script.proofs.Runs.{begins, goes_on, ends_well, stops}
 use Rattle.gopher_script.proofs.replaying.run_script.Goals as goal
 
 pub loop-stage-init : goal.loop-stage-init
-loop-stage-init g c = rw (c.new.ensures, c.of-script.ensures) (begins _ _ _ _ (small_replies c.args.bytes.now c.requires))
-
-pub run_statement-requires : goal.run_statement-requires
-run_statement-requires g c =
-    let is = rw c.in-Some.is at c.in_ok-statement.ensures in
-    next-small _ _ _ _ _ _ _ _ _ is c.loop-stage.invariant
+loop-stage-init g c = rw (c.new.ensures, c.of-script.ensures) (begins _ _ _ _)
 
 pub loop-stage-preserved : goal.loop-stage-preserved
 loop-stage-preserved g c =
