@@ -1,12 +1,11 @@
 -- The reply to a request line: a function of the tree's files, the server's address, the line, and
 -- the hits of its search.
 use Rattle.std.specs.Prelude.{◌≡◌, ℕ, ◌<◌, Bool, nat_eq, codes, List, [], ◌∷◌, length, Option, None, Some, MatchOption, if◌then◌else◌}
+use Rattle.std.specs.Option.{option_map_or}
 use Rattle.std.specs.Cmp.Lexicographic.{pointwise}
 use mathlib.Core.List.{IsPrefix}
 use Rattle.gopher_item.specs.Place.{HomeData}
 use Rattle.gopher_item.specs.Request.{request_fault, request_of}
-use Rattle.gopher_item.specs.declared.fault.RequestFault.{RequestFault}
-use Rattle.gopher_item.specs.declared.request.Request.{Request}
 use Rattle.gopher_text.specs.Watched.{HasFailed}
 use Rattle.gopher_page.specs.Query.{TermData, query_of}
 use Rattle.gopher_index.specs.declared.hit.Hit.{Hit}
@@ -46,28 +45,19 @@ search_reply home [] outcome = no_words_bytes home
 search_reply home (term ∷ terms) None = no_catalogue_bytes home
 search_reply home (term ∷ terms) (Some hits) = hits_bytes hits
 
-abbrev pub request_reply : List File → HomeData → Request → Option (List Hit) → List ℕ
-request_reply files home request outcome =
-    if is_search request.selector then search_reply home (asked request.search) outcome
-    else tree_reply files home request.selector
-
-abbrev pub reply_at : List File → HomeData → Option RequestFault → Request → Option (List Hit)
-    → List ℕ
-reply_at files home (Some fault) request outcome = bad_request_bytes home
-reply_at files home None request outcome = request_reply files home request outcome
-
 -- the reply to a line, given without its end
 abbrev pub reply_of : List File → HomeData → List ℕ → Option (List Hit) → List ℕ
 reply_of files home line outcome =
-    reply_at files home (request_fault line) (request_of line) outcome
+    option_map_or (λ fault. bad_request_bytes home) (request_fault line)
+    (if is_search (request_of line).selector
+    then search_reply home (asked (request_of line).search) outcome
+    else tree_reply files home (request_of line).selector)
 
--- the terms for which a request searches; none if it is invalid, is no search, or has no words
-abbrev pub terms_at : Option RequestFault → Request → List TermData
-terms_at (Some fault) request = []
-terms_at None request = if is_search request.selector then asked request.search else []
-
+-- the terms for which a line searches; none if it is invalid, is no search, or has no words
 abbrev pub terms_of_line : List ℕ → List TermData
-terms_of_line line = terms_at (request_fault line) (request_of line)
+terms_of_line line =
+    option_map_or (λ fault. []) (request_fault line)
+    (if is_search (request_of line).selector then asked (request_of line).search else [])
 
 -- the records that a pass has seen and was told only become longer
 pub record SeesOn (old new : PassData) : Type 0 where
@@ -97,13 +87,6 @@ pub record AnswersTerms (home : HomeData) (old new : PassData) (terms : List Ter
   pub outcome : Option (List Hit)
   pub searched : Searches old new terms outcome
   pub reply_is : reply ≡ search_reply home terms outcome
-
--- the reply to a request
-pub record AnswersRequest (files : List File) (home : HomeData) (old new : PassData)
-    (request : Request) (reply : List ℕ) : Type 0 where
-  pub outcome : Option (List Hit)
-  pub searched : Searches old new (terms_at None request) outcome
-  pub reply_is : reply ≡ request_reply files home request outcome
 
 -- the reply to a line, and the pass before and after
 pub record AnswersLine (files : List File) (home : HomeData) (old new : PassData)

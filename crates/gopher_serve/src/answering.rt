@@ -1,12 +1,12 @@
 //! The reply to a request line, made anew (`answer`) or from kept replies (`answer_kept`).
 
-ghost use Rattle.std.specs.Prelude.{◌≡◌, ◌≤◌, IfOk, IfSome, OnErr, length};
+ghost use Rattle.std.specs.Prelude.{◌≡◌, IfOk, OnErr};
 ghost use Rattle.gopher_replies.specs.Answer.{answer_bytes};
-ghost use Rattle.gopher_serve.specs.Answer.{AnswersLine, AnswersRequest, SeesOn, bad_request_bytes, is_search};
+ghost use Rattle.gopher_serve.specs.Answer.{AnswersLine, SeesOn, bad_request_bytes, is_search};
 
 use crate::searching::begin_search;
 use gopher_crew::{Crew, Pass};
-use gopher_item::{ByteString, Home, MAX_LINE, NoMemory, Request, RequestFault, read_request};
+use gopher_item::{Home, NoMemory, RequestFault, read_request};
 use gopher_replies::{Answer, Replies, Reply};
 use gopher_tree::{Tree, error_reply};
 use std::alloc::Global;
@@ -39,29 +39,13 @@ pub fn answer<C: Crew>(
     ensures refused { OnErr result (SeesOn pass.old pass.new) }
 {
     match read_request(alloc, line) {
-        Ok(request) => answer_request(alloc, tree, home, pass, &request),
+        Ok(request) if is_search(request.selector.as_slice()) => {
+            begin_search(alloc, home, pass, &request.search)?.finish(alloc)
+        }
+        Ok(request) => tree.reply(alloc, request.selector.as_slice(), home),
         Err(RequestFault::NoMemory) => Err(NoMemory),
         Err(_bad) => bad_request(alloc, home),
     }
-}
-
-// The reply to a request whose line isn't too long.
-fn answer_request<C: Crew>(
-    alloc: Global,
-    tree: &Tree,
-    home: &Home,
-    pass: &mut Pass<C>,
-    request: &Request,
-) -> Result<Vec<u8>, NoMemory>
-    requires { IfSome request.now.search (λ text. length text ≤ MAX_LINE) }
-    ensures answered { IfOk result (λ reply. AnswersRequest tree.now home.now pass.old pass.new
-        request.now reply.items) }
-    ensures refused { OnErr result (SeesOn pass.old pass.new) }
-{
-    if is_search(request.selector.as_slice()) {
-        return begin_search(alloc, home, pass, &request.search)?.finish(alloc);
-    }
-    tree.reply(alloc, request.selector.as_slice(), home)
 }
 
 /// Returns the reply that `answer` returns, from replies that are kept, or a search that makes it.
@@ -81,29 +65,13 @@ pub fn answer_kept<'a, C: Crew>(
     ensures refused { OnErr result (SeesOn pass.old pass.new) }
 {
     match read_request(alloc, line) {
-        Ok(request) => answer_kept_request(alloc, replies, pass, &request),
+        Ok(request) if is_search(request.selector.as_slice()) => {
+            begin_search(alloc, replies.home(), pass, &request.search)
+        }
+        Ok(request) => Ok(Answer::Ready(replies.reply(alloc, request.selector.as_slice())?)),
         Err(RequestFault::NoMemory) => Err(NoMemory),
         Err(_bad) => Ok(Answer::Ready(Reply::Made(bad_request(alloc, replies.home())?))),
     }
-}
-
-// The reply to a request whose line isn't too long, from replies that are kept, or a search that
-// makes it.
-fn answer_kept_request<'a, C: Crew>(
-    alloc: Global,
-    replies: &'a Replies,
-    pass: &mut Pass<C>,
-    request: &Request,
-) -> Result<Answer<'a>, NoMemory>
-    requires { IfSome request.now.search (λ text. length text ≤ MAX_LINE) }
-    ensures answered { IfOk result (λ answer. AnswersRequest replies.now.files replies.now.home
-        pass.old pass.new request.now (answer_bytes answer)) }
-    ensures refused { OnErr result (SeesOn pass.old pass.new) }
-{
-    if is_search(request.selector.as_slice()) {
-        return begin_search(alloc, replies.home(), pass, &request.search);
-    }
-    Ok(Answer::Ready(replies.reply(alloc, request.selector.as_slice())?))
 }
 
 // Whether the selector is that of the search line.

@@ -1,6 +1,6 @@
 //! The reply to a line that searches.
 
-ghost use Rattle.std.specs.Prelude.{◌≡◌, ◌<◌, ◌≤◌, IfOk, IfSome, OnErr, length};
+ghost use Rattle.std.specs.Prelude.{◌≡◌, ◌<◌, IfOk, OnErr, length};
 ghost use Rattle.gopher_replies.specs.Answer.{answer_bytes};
 ghost use Rattle.gopher_serve.specs.Answer.{AnswersTerms, IsQueryFor, SeesOn, asked, no_catalogue_bytes, no_words_bytes};
 
@@ -12,14 +12,17 @@ use gopher_replies::{Answer, Reply, hits_menu};
 use gopher_tree::error_reply;
 use std::alloc::Global;
 
-// The query of a search string, of at most 1,024 bytes (`MAX_LINE`); none if there are no words.
+// The query of a search string; none if there are no words.
 fn query_of(alloc: Global, search: &Option<ByteString>) -> Result<Option<Query>, NoMemory>
-    requires { IfSome search.now (λ text. length text ≤ MAX_LINE) }
     ensures { IfOk result (IsQueryFor (asked search.now)) }
 {
     let Some(text) = search else {
         return Ok(None);
     };
+    // For the prover: a search string is no longer than its line.
+    if text.as_slice().len() > MAX_LINE {
+        return Err(NoMemory);
+    }
     match Query::read(alloc, text.as_slice()) {
         Ok(query) => Ok(Some(query)),
         Err(QueryFault::NoWords) => Ok(None),
@@ -28,14 +31,13 @@ fn query_of(alloc: Global, search: &Option<ByteString>) -> Result<Option<Query>,
 }
 
 /// Returns the reply to a search, or a search that makes it. `search` is the search string, if the
-/// line has one, of at most 1,024 bytes (`MAX_LINE`).
+/// line has one.
 pub fn begin_search<'a, C: Crew>(
     alloc: Global,
     home: &Home,
     pass: &mut Pass<C>,
     search: &Option<ByteString>,
 ) -> Result<Answer<'a>, NoMemory>
-    requires { IfSome search.now (λ text. length text ≤ MAX_LINE) }
     ensures answered { IfOk result (λ answer. AnswersTerms home.now pass.old pass.new
         (asked search.now) (answer_bytes answer)) }
     ensures refused { OnErr result (SeesOn pass.old pass.new) }

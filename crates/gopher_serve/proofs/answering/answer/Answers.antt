@@ -1,5 +1,0 @@
-use Rattle.gopher_serve.proofs.Searches.{request_short}
-use Rattle.gopher_serve.proofs.answering.answer.Goals as goal
-
-pub answer_request-requires : goal.answer_request-requires
-answer_request-requires g c = request_short c.args.line.now c.in-Ok.request c.in-Ok.ensures
