@@ -1,5 +1,5 @@
 -- The pages of parts.
-use Rattle.std.proofs.Common.{◌≡◌, ℕ, ◌+◌, ◌<◌, List, [], ◌∷◌, ◌++◌, length, take, get_or, refl, sym, ap, ◌∙◌, arith}
+use Rattle.std.proofs.Common.{◌≡◌, ℕ, ◌+◌, ◌<◌, List, [], ◌∷◌, ◌++◌, length, take, get_or, sym, ap, ◌∙◌, arith}
 use Rattle.std.proofs.lemmas.List.{append-nil, take_more}
 use Rattle.std.proofs.lemmas.List.Concat.{flat_map-append}
 use Rattle.gopher_segment.specs.Segment.{SegmentData, pages_of}
@@ -11,7 +11,3 @@ pub pages-next : (parts : List SegmentData) (i : ℕ) (part : SegmentData) → i
 pages-next parts i part within is =
     ap pages_of (take_more parts i part within ∙ ap (λ p. take i parts ++ p ∷ []) (sym is)) ∙ pages_of-append (take i parts) (part ∷ [])
     ∙ ap (λ l. pages_of (take i parts) ++ l) (append-nil part.pages)
-
-pub pages-none : (parts : List SegmentData) → length parts ≡ 0 → [] ≡ pages_of parts
-pages-none [] none = refl
-pages-none (part ∷ parts) none = absurd (omega (arith, none))

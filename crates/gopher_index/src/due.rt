@@ -1,15 +1,47 @@
-//! Runs of pages that are due to be merged.
+//! Runs of pages that are due to be merged, and merging them.
 
-ghost use Rattle.std.specs.Prelude.{◌≡◌, IfOk};
+ghost use Rattle.std.specs.Prelude.{◌≡◌, map, IfOk};
+ghost use Rattle.std.specs.Arc.{arc_value};
+ghost use Rattle.gopher_segment.specs.Segment.{pages_of};
 ghost use Rattle.gopher_index.specs.Index.{IsIndexRun, run_data};
 
-use crate::merging::segment_of;
-use crate::part::{Part, copies};
+use crate::part::{Part, copies, pages_in};
 use gopher_item::NoMemory;
-use gopher_segment::Segment;
+use gopher_segment::{Segment, rows_len};
 use std::alloc::Global;
 use std::marker::Model;
 use std::sync::Arc;
+
+// The most rows that one list contains. A word of two pages counts twice.
+const MOST_ROWS: usize = 262_144;
+
+// Makes a segment of each part.
+fn segments_of(alloc: Global, parts: &[Part]) -> Result<Vec<Arc<Segment>>, NoMemory>
+    ensures { IfOk result (λ segments. map arc_value segments.items ≡ parts.now) }
+{
+    let mut segments = Vec::with_capacity(alloc, parts.len())?;
+    for part in parts {
+        segments.push(part.to_segment(alloc)?)?;
+    }
+    Ok(segments)
+}
+
+// Makes one segment of parts. `first` is the number of the first page.
+//
+// If single pages have too many words for one list of rows, a segment of each is made and merged.
+fn segment_of(alloc: Global, first: usize, parts: &[Part]) -> Result<Segment, NoMemory>
+    requires { IsIndexRun first parts.now }
+    ensures first { IfOk result (λ segment. segment.first ≡ first) }
+    ensures pages { IfOk result (λ segment. segment.pages ≡ pages_of parts.now) }
+{
+    if parts.iter().all(|part| part.as_segment().is_none()) {
+        let pages = pages_in(alloc, parts)?;
+        if rows_len(&pages) <= MOST_ROWS {
+            return Segment::of_pages(alloc, first, &pages);
+        }
+    }
+    Segment::merged(alloc, first, &segments_of(alloc, parts)?)
+}
 
 /// Consecutive pages of an index that are due to be merged into one segment.
 ///

@@ -142,22 +142,6 @@ impl Index {
         Ok(())
     }
 
-    // Returns a run of pages that is due to be merged and isn't being merged.
-    fn untaken(&self) -> Result<Option<Due>, NoMemory>
-        ensures { IfOk result (λ due. IfSome due (λ run. IsSliceOf run self.now)) }
-    {
-        let Some((start, end)) = due_span(&self.parts, &self.taken) else {
-            return Ok(None);
-        };
-        let part = &self.parts[start];
-        let due = Due::new(
-            *self.parts.allocator(),
-            part.first(),
-            &self.parts[start..end],
-        )?;
-        Ok(Some(due))
-    }
-
     /// Returns a run of pages that is due to be merged, if there is one, and marks it as taken
     /// until `install`.
     ///
@@ -170,10 +154,12 @@ impl Index {
         ensures same { self.new ≡ self.old }
         ensures stands { IfOk result (λ due. IfSome due (λ run. IsSliceOf run self.new)) }
     {
-        let Some(due) = self.untaken()? else {
+        let Some((start, end)) = due_span(&self.parts, &self.taken) else {
             return Ok(None);
         };
-        self.taken.push(due.first)?;
+        let first = self.parts[start].first();
+        let due = Due::new(*self.parts.allocator(), first, &self.parts[start..end])?;
+        self.taken.push(first)?;
         Ok(Some(due))
     }
 
@@ -197,25 +183,18 @@ impl Index {
         }
     }
 
-    // Merges one run that is due. Returns whether it did.
-    fn settle_one(&mut self) -> bool
-        ensures { self.new ≡ self.old }
-    {
-        let alloc = *self.parts.allocator();
-        let Ok(Some(mut due)) = self.due() else {
-            return false;
-        };
-        let was_merged = due.merge(alloc).is_ok();
-        self.install(due);
-        was_merged
-    }
-
     /// Merges what is due, at most 64 runs, until nothing is due or memory runs out.
     pub fn settle(&mut self)
         ensures { self.new ≡ self.old }
     {
+        let alloc = *self.parts.allocator();
         for _run in 0..MOST_RUNS {
-            if !self.settle_one() {
+            let Ok(Some(mut due)) = self.due() else {
+                return;
+            };
+            let was_merged = due.merge(alloc).is_ok();
+            self.install(due);
+            if !was_merged {
                 return;
             }
         }

@@ -9,7 +9,7 @@
 //! An index is a list of parts (`part`): segments, and *loose* pages, which `add` appends one by
 //! one. A run of parts is due to be merged when it is 64 loose pages, or four segments of one size
 //! (`picking`). Segments have 64 pages, then 256 and so on up to 16,384, or fewer if one can't hold
-//! all their words. `due` shares the pages of a run, so `merging` works without the index.
+//! all their words. `due` shares the pages of a run and merges them without the index.
 //! `installing` puts the new segment in place of its pages. Runs that are being merged are marked,
 //! and several can be merged at once. At 512 loose pages, `add` merges everything that is due
 //! itself and forgets all marks. Single-threaded callers call `settle` to merge segments.
@@ -58,7 +58,6 @@ mod index;
 mod installing;
 mod joined;
 mod likely;
-mod merging;
 mod occurrences;
 mod part;
 mod picking;

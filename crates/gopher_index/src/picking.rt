@@ -15,23 +15,6 @@ const MERGED_LOOSE: usize = 64;
 // Segments with at least this many pages are merged only if a fifth of their size follows.
 const LARGE: usize = 1_024;
 
-// Returns whether a run that begins at page `first` is being merged.
-fn is_taken(taken: &[usize], first: usize) -> bool {
-    taken.iter().any(|other| *other == first)
-}
-
-// Returns how many parts must follow each other, if `merged` of `pages` pages each are to be merged
-// into one.
-fn needed(pages: usize, merged: usize) -> usize
-    ensures { merged ≤ result }
-{
-    if pages < LARGE {
-        merged
-    } else {
-        merged.saturating_add(1)
-    }
-}
-
 // Returns whether each part has `pages` pages.
 fn are_alike(parts: &[Part], pages: usize) -> bool {
     parts.iter().all(|part| part.pages().len() == pages)
@@ -63,7 +46,11 @@ fn due_len(parts: &[Part]) -> Option<usize>
     let part = parts.first()?;
     let pages = part.pages().len();
     let merged = if pages == 1 { MERGED_LOOSE } else { MERGED };
-    let needed = needed(pages, merged);
+    let needed = if pages < LARGE {
+        merged
+    } else {
+        merged.saturating_add(1)
+    };
     if parts.len() < needed || part.first().checked_rem(pages.saturating_mul(merged)) != Some(0) {
         return None;
     }
@@ -80,7 +67,7 @@ pub(crate) fn due_span(parts: &[Part], taken: &[usize]) -> Option<(usize, usize)
     ensures { IfSome result (IsSpan (length parts.now)) }
 {
     for (start, part) in parts.iter().enumerate() {
-        if is_taken(taken, part.first()) {
+        if taken.contains(&part.first()) {
             continue;
         }
         if let Some(merged) = due_len(&parts[start..]) {

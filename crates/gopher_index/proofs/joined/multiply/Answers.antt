@@ -1,8 +1,8 @@
-use Rattle.std.proofs.Common.{◌≡◌, ℕ, ◌*◌, length, get_or, refl, sym, ap, ◌∙◌, arith}
+use Rattle.std.proofs.Common.{◌≡◌, ◌*◌, get_or, refl, ap, ◌∙◌, arith}
 use Rattle.std.proofs.lemmas.List.{take_all}
 use Rattle.gopher_index.specs.Cells.{zipped}
 use Rattle.gopher_index.proofs.Groups.{times_few}
-use Rattle.gopher_index.proofs.Zipping.{length-zipped, mapped_idle, zipped_at, zipped_next, zipped_none, zipped_own}
+use Rattle.gopher_index.proofs.Zipping.{zipped_at, zipped_next, zipped_none, zipped_own}
 use Rattle.gopher_index.proofs.joined.multiply.Goals as goal
 
 pub loop-index-init : goal.loop-index-init

@@ -1,4 +1,4 @@
-use Rattle.std.proofs.Common.{◌≡◌, [], ◌∷◌, length, sym, subst, ◌∙◌, arith}
+use Rattle.std.proofs.Common.{◌≡◌, [], ◌∷◌, sym, subst, ◌∙◌, arith}
 use Rattle.gopher_page.specs.Query.{BeginsWithAnd}
 use Rattle.gopher_index.proofs.PostingLemmas.{alone_is, listed}
 use Rattle.gopher_index.proofs.search.list_of.Goals as goal
