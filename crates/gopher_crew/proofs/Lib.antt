@@ -7,4 +7,4 @@ pub mod Joining
 pub mod MergeJobs
 pub mod Versions
 pub mod Pairing
-pub mod PublisherLemmas
+pub mod PublicationLemmas

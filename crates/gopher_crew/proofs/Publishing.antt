@@ -1,5 +1,5 @@
 -- Entries, publications and new readers keep the rule of what is published.
-use Rattle.std.proofs.Common.{◌≡◌, ◌≢◌, ℕ, List, [], refl, subst, ⊎_elim}
+use Rattle.std.proofs.Common.{◌≡◌, ◌≢◌, ℕ, List, [], refl, sym, subst, ⊎_elim}
 use mathlib.Core.Option.{some}
 use mathlib.Core.List.{IsPrefix}
 use lib.ListN.{get_elem?}
@@ -28,6 +28,10 @@ shows history seat v x y on views h at = (
   },
   record { began = h.begins seat v at; sees = refl; is_version = on.0 },
 )
+
+-- so may one that is equal to a version that goes on
+pub shows_same : (history : Book) (seat : ℕ) (v : List EventData) (x next y : VersionData) → FollowsVersion history x next → y ≡ next → TurnsAt (IsPublished history) seat v x y (Sees history)
+shows_same history seat v x next y on is = shows history seat v x y (subst (λ (z : VersionData). FollowsVersion history x z) (sym is) on)
 
 -- an entry changes nothing that is published
 pub looks : (history : Book) (seat : ℕ) (v : List EventData) → Turns (IsPublished history) seat v (λ x. x) (Sees history)

@@ -1,6 +1,5 @@
 -- What contracts see of a desk, its passes and its shares.
-use Rattle.std.specs.Prelude.{ℕ, ◌≡◌, ◌+◌, ◌<◌, Bool, true, false, List, length, Result, Ok, Err}
-use mathlib.Core.List.{IsPrefix}
+use Rattle.std.specs.Prelude.{ℕ, ◌≡◌, ◌+◌, List, length, Result, Ok, Err}
 use Rattle.gopher_catalogue.specs.declared.event.EventData.{EventData}
 use Rattle.gopher_catalogue.specs.Legal.{IsLegal}
 use Rattle.gopher_catalogue.specs.Pages.{pages_found}
@@ -33,43 +32,16 @@ pub record ShareData : Type 0 where
   pub parts : ℕ
   pub seen : List EventData
 
--- the record that is published, and the one that the waiting update will publish. If no update
--- waits, both are the same
-pub record PublisherData : Type 0 where
-  pub published : List EventData
-  pub next : List EventData
-
--- a record is published, and no update waits
-abbrev pub all_published : List EventData → PublisherData
-all_published record_ = record { published = record_; next = record_ }
-
--- the events that were entered into the history, and the record that is published
-pub record FollowerData : Type 0 where
-  pub entered : List EventData
-  pub published : List EventData
-
--- whether a prefix of a record is the whole record
-abbrev pub IsWhole : Bool → List EventData → List EventData → Type 0
-IsWhole true prefix record_ = prefix ≡ record_
-IsWhole false prefix record_ = length prefix < length record_
-
--- whether all events that were entered are published
-abbrev pub IsShown : Bool → List EventData → FollowerData → Type 0
-IsShown true entered new = new.published ≡ entered
-IsShown false entered new = length new.published < length entered
-
--- the record of a desk, and the record that is published
-pub record KeptData : Type 0 where
+-- a record, and the prefix of it that is published
+pub record PublicationData : Type 0 where
   pub events : List EventData
   pub published : List EventData
 
--- a legal record, a prefix of which was entered and a prefix of which is published, and the count
--- of its events after the first
-pub record KeepsRecord (record_ : List EventData) (follower : FollowerData) (count : ℕ)
+-- a legal record, which was entered, and the count of its events after the first
+pub record KeepsRecord (record_ : List EventData) (publication : PublicationData) (count : ℕ)
     : Type 0 where
   pub legal : IsLegal record_
-  pub entered : IsPrefix follower.entered record_
-  pub published : IsPrefix follower.published record_
+  pub entered : publication.events ≡ record_
   pub counted : length record_ ≡ count + 1
 
 -- the answer to a query over the pages that a record found

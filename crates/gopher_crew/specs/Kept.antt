@@ -13,16 +13,13 @@ use Rattle.gopher_catalogue.specs.declared.frontier.sizes.Added.{Added}
 use Rattle.gopher_catalogue.specs.declared.frontier.sizes.Status.{Status}
 use Rattle.gopher_catalogue.specs.Step.{TurnData, Take, Idle, turn_of, after_turn, added_by, found_fault, is_out_in, status_of}
 use Rattle.gopher_catalogue.specs.Turn.{IsTake}
-use Rattle.gopher_crew.specs.Crew.{KeptData, ShareData}
+use Rattle.gopher_crew.specs.Crew.{PublicationData, ShareData}
 
 -- there is a note exactly if the published record is the whole record, and the note is of that
 -- record
-abbrev pub IsNotedOn : Option (List EventData) → List EventData → List EventData → Type 0
-IsNotedOn (Some note) record_ published = (note ≡ record_) × (published ≡ record_)
-IsNotedOn None record_ published = published ≢ record_
-
-abbrev pub IsNoted : Option (List EventData) → KeptData → Type 0
-IsNoted note kept = IsNotedOn note kept.events kept.published
+abbrev pub IsNoted : Option (List EventData) → PublicationData → Type 0
+IsNoted (Some note) it = (note ≡ it.events) × (it.published ≡ it.events)
+IsNoted None it = it.published ≢ it.events
 
 -- by how much a share rises at a turn
 abbrev pub rise_of : TurnData → ℕ

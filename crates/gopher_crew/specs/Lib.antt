@@ -2,7 +2,7 @@ pub mod History
 pub mod Version
 pub mod MergeJob
 pub mod Merging
-pub mod Publisher
+pub mod Publication
 pub mod Crew
 pub mod Fault
 pub mod Kept

@@ -11,7 +11,6 @@ use Rattle.gopher_catalogue.specs.declared.event.EventData.{EventData}
 use Rattle.gopher_catalogue.specs.Legal.{IsLegal}
 use Rattle.gopher_catalogue.specs.Pages.{pages_found}
 use Rattle.gopher_page.specs.Page.{PageData}
-use Rattle.gopher_crew.specs.Crew.{PublisherData}
 use Rattle.gopher_crew.specs.History.{RecordPrefixData}
 use Rattle.gopher_crew.specs.declared.update.Change.{Change}
 use Rattle.gopher_crew.specs.declared.update.Change.TheVariants.{Nothing, Page, All}
@@ -30,10 +29,6 @@ abbrev pub pages_after : Change → List PageData → List PageData
 pages_after Nothing pages = pages
 pages_after (Page page) pages = pages ++ arc_value page ∷ []
 pages_after (All index) pages = arc_value index
-
--- the change makes these pages of any pages
-abbrev pub ReplacesAll : Change → List PageData → Type 0
-ReplacesAll change new = (pages : List PageData) → pages_after change pages ≡ new
 
 -- the shared pages after a change, if it succeeds; otherwise they stay
 abbrev pub Applies : {T E Z : Type 0} → Change → Arc (List PageData) Z → Arc (List PageData) Z
@@ -81,10 +76,6 @@ pub record Sees (history : Book) (seen : List EventData) (before after : Version
   pub sees : now ≡ after.prefix.events
   pub is_version : IsVersion history after
 
--- the prefix is one of this history, and its events are those that are seen
-abbrev pub IsSeen : Book → List EventData → RecordPrefixData → Type 0
-IsSeen history seen prefix = (prefix.history ≡ history) × (prefix.events ≡ seen)
-
 -- the version is one of this history, and its record is the one that is seen
 abbrev pub IsSeenVersion : Book → List EventData → VersionData → Type 0
 IsSeenVersion history seen version = IsVersion history version × (version.prefix.events ≡ seen)
@@ -93,15 +84,6 @@ IsSeenVersion history seen version = IsVersion history version × (version.prefi
 abbrev pub FollowsVersion : Book → VersionData → VersionData → Type 0
 FollowsVersion history before after =
     IsVersion history after × IsPrefix before.prefix.events after.prefix.events
-
--- the records of the published version and of the next one
-abbrev pub publisher_data : VersionData → VersionData → PublisherData
-publisher_data shown next = record { published = shown.prefix.events; next = next.prefix.events }
-
--- the published version is one of this history, and the next one goes on from it
-pub record IsPublisher (history : Book) (shown next : VersionData) : Type 0 where
-  pub is_version : IsVersion history shown
-  pub goes_on : FollowsVersion history shown next
 
 -- whether the updates that waited were applied and published
 abbrev pub CatchesUp : Bool → VersionData → List Update → VersionData → List Update → Type 0
@@ -114,16 +96,12 @@ Follows true version shown shown' updates' = (shown' ≡ version) × (updates' �
 Follows false version shown shown' updates' =
     (shown' ≡ shown) × ((updates' ≡ []) ⊎ (last_of shown' updates' ≡ version))
 
--- whether a record was published; if not, what is published now was so before, or waited
-abbrev pub Publishes : Bool → List EventData → PublisherData → PublisherData → Type 0
-Publishes true record_ old new = new.published ≡ record_
-Publishes false record_ old new = (new.published ≡ old.published) ⊎ (new.published ≡ old.next)
-
--- what was entered is a prefix of this history, and begins with the published record and the next
--- one
-pub record IsFollower (history head : Book) (prefix : RecordPrefixData) (publisher : PublisherData)
-    : Type 0 where
+-- the published version is one of this history, the next one goes on from it, and what was entered
+-- begins with the record of the next one
+pub record IsPublication (history head : Book) (prefix : RecordPrefixData)
+    (shown next : VersionData) : Type 0 where
   pub head_is : head ≡ history
   pub prefix_is : prefix.history ≡ history
-  pub published_begins : IsPrefix publisher.published prefix.events
-  pub next_begins : IsPrefix publisher.next prefix.events
+  pub is_version : IsVersion history shown
+  pub goes_on : FollowsVersion history shown next
+  pub begins : IsPrefix next.prefix.events prefix.events

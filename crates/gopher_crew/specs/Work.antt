@@ -50,12 +50,6 @@ abbrev pub IsPaid : ShareData → ShareData → ℕ → ℕ → Type 0
 IsPaid old new calls calls' =
     (calls' ≡ 18446744073709551615) ⊎ (new.events + 2 * calls ≤ old.events + 2 * calls')
 
--- a share rose from one count to another: by at least two for each outcome, and by at most two for
--- each call of the fetcher, unless the count of its calls is at its last value
-pub record Earns (before calls after calls' outcomes : ℕ) : Type 0 where
-  pub at_least : before + 2 * outcomes ≤ after
-  pub at_most : (calls' ≡ 18446744073709551615) ⊎ (after + 2 * calls ≤ before + 2 * calls')
-
 -- why a worker stopped: on the record that its share has seen, nothing waits and nothing is out, or
 -- a place waits, whose claim ran out of memory
 abbrev pub IsStop : Stop → ShareData → Type 0

@@ -1,15 +1,15 @@
 //! `Blank`: what a desk is opened with.
 
-ghost use Rattle.std.specs.Prelude.{◌≡◌, [], IsTrue};
+ghost use Rattle.std.specs.Prelude.{◌≡◌, []};
 ghost use mathlib.Core.List.{IsPrefix};
 ghost use Rattle.gopher_crew.specs.Desk.{ComesBack};
 
-use crate::entering::enter_all;
+use crate::entering::enter;
 use crate::history::{Head, new_history};
 use crate::record_prefix::RecordPrefix;
 use gopher_catalogue::Catalogue;
 use std::marker::Model;
-use std::sync::ledger;
+use std::sync::{Wait, ledger};
 
 /// What a desk is opened with: a ledger that counts nothing yet, and a history. The crate
 /// `example_crawl` shows how a caller makes one and opens a desk.
@@ -48,14 +48,13 @@ impl Blank {
         }
     }
 
-    /// Enters the rest of a catalogue's record into the history. Returns whether the whole record
-    /// is entered then.
-    pub(crate) fn enter(&mut self, catalogue: &Catalogue) -> bool
+    /// Enters the rest of a catalogue's record into the history.
+    pub(crate) fn enter<R: Wait>(&mut self, rt: &R, catalogue: &Catalogue)
         requires { IsPrefix self.old.begun catalogue.now }
         ensures back { ComesBack catalogue.now self.old self.new }
-        ensures all { IsTrue result → self.new.begun ≡ catalogue.now }
+        ensures all { self.new.begun ≡ catalogue.now }
     {
-        enter_all(&mut self.prefix, &self.head, catalogue)
+        enter(rt, &mut self.prefix, &self.head, catalogue);
     }
 
     /// Returns the token of the events that were entered.

@@ -4,8 +4,8 @@ ghost use Rattle.std.specs.Arc.{arc_value};
 ghost use Rattle.std.specs.Prelude.{◌≡◌, ◌+◌, ◌≤◌, [], true, vec_capacity, IfOk, IfErr, IfSome, OnOk, OnErr};
 ghost use mathlib.Core.List.{IsPrefix};
 ghost use Rattle.gopher_catalogue.specs.Turn.{turn_data};
-ghost use Rattle.gopher_crew.specs.Crew.{all_published};
 ghost use Rattle.gopher_crew.specs.Desk.{are_counts, shares_at, AllHaveSeen, ComesBack, IsBlankOf, IsDeskFault, HasAll};
+ghost use Rattle.gopher_crew.specs.Publication.{ShowsRecord};
 ghost use Rattle.gopher_crew.specs.Kept.{RisesAt, Later, Claims, Finds, Fails, RefusesFind, RefusesFailure, LetsClaim, IsNotIdle, IsOpeningOf, IsStatusAfter, IsStatusOn};
 
 use crate::blank::Blank;
@@ -14,10 +14,9 @@ use crate::fault::DeskFault;
 use crate::kept::Kept;
 use crate::memory::PageMemory;
 use crate::note::Note;
-use crate::opening::{cut, publisher_with_passes};
+use crate::opening::{cut, writer_with_passes};
 use crate::pass::Pass;
-use crate::publisher::Publisher;
-use crate::record_follower::RecordFollower;
+use crate::publication::{Publication, VersionWriter};
 use crate::record_prefix::RecordPrefix;
 use crate::refusals::DeskRefused;
 use crate::share::Share;
@@ -75,17 +74,18 @@ fn refused(fault: DeskFault, catalogue: Catalogue, blank: Blank) -> DeskRefused
 // the list.
 fn start<C: Crew, R: Wait + Drop>(
     alloc: Global,
+    rt: R,
     catalogue: Catalogue,
     opening: Arc<Opening>,
     blank: Blank,
-    publisher: Publisher<C, R>,
+    writer: VersionWriter<C>,
     shares: u32,
     list: &mut Vec<Share<C>>,
 ) -> Desk<C, R>
     requires blank { IsBlankOf C.name C.parts C.history blank }
     requires begun { blank.begun ≡ catalogue }
     requires opening { IsOpeningOf catalogue (arc_value opening) }
-    requires shown { publisher ≡ all_published catalogue }
+    requires shown { ShowsRecord C.history catalogue writer }
     requires counts { (1 ≤ shares) × (shares ≤ 16) }
     requires empty { list.old.items ≡ [] }
     requires room { shares ≤ vec_capacity list.old }
@@ -103,11 +103,11 @@ fn start<C: Crew, R: Wait + Drop>(
     book.add(&mut whole, events);
     cut(whole, events, shares, &prefix, list);
     let opened = prefix.copy();
-    let follower = RecordFollower::new(alloc, head, prefix, publisher);
+    let publication = Publication::new(alloc, rt, head, prefix, writer);
     Desk {
         opened,
         opening,
-        kept: Mutex::new(Kept::new(catalogue, book, follower)),
+        kept: Mutex::new(Kept::new(catalogue, book, publication)),
         outcomes: Condvar::new(),
         memory: PageMemory::unlimited(),
     }
@@ -168,19 +168,17 @@ impl<C: Crew, R: Wait + Drop> Desk<C, R> {
             return Err(refused(DeskFault::BadCount, catalogue, blank));
         }
         let mut blank = blank;
-        if !blank.enter(&catalogue) {
-            return Err(refused(DeskFault::NoEntry, catalogue, blank));
-        }
+        blank.enter(&rt, &catalogue);
         let Ok(mut list) = Vec::with_capacity(alloc, shares as usize) else {
             return Err(refused(DeskFault::NoMemory, catalogue, blank));
         };
         let Ok(opening) = catalogue.opening().clone() else {
             return Err(refused(DeskFault::NoMemory, catalogue, blank));
         };
-        match publisher_with_passes(alloc, rt, catalogue.index(), blank.prefix(), passes) {
-            Ok((publisher, passes)) => {
+        match writer_with_passes(alloc, &rt, catalogue.index(), blank.prefix(), passes) {
+            Ok((writer, passes)) => {
                 let desk = start(
-                    alloc, catalogue, opening, blank, publisher, shares, &mut list,
+                    alloc, rt, catalogue, opening, blank, writer, shares, &mut list,
                 );
                 Ok((desk, passes, list))
             }
@@ -279,24 +277,23 @@ impl<C: Crew, R: Wait + Drop> Desk<C, R> {
         &self.opening
     }
 
-    // Merges one run of pages while it holds no lock, if one is due, and puts the segment in their
-    // place. Returns with the lock. One run for each claim is enough, because fewer runs of pages
-    // are merged than places are claimed.
+    // Merges one run of pages while it holds no lock, if one is due, puts the segment in their
+    // place, and publishes it. Returns with the lock. One run for each claim is enough, because
+    // fewer runs of pages are merged than places are claimed.
     fn merge_due<W: Wait>(&self, rt: &W, alloc: Global) -> MutexGuard<'_, Kept<C, R>> {
         let mut kept = self.kept.lock(rt);
-        let Some(mut job) = kept.merge_job() else {
-            return kept;
-        };
-        let lock = MutexGuard::unlock(kept);
-        job.run(alloc);
-        kept = lock.lock(rt);
-        kept.install(job);
+        if let Some(mut job) = kept.merge_job() {
+            let lock = MutexGuard::unlock(kept);
+            job.run(alloc);
+            kept = lock.lock(rt);
+            kept.install(job);
+        }
+        kept.renew();
         kept
     }
 
     /// Merges one run of pages if one is due, then claims the first waiting place. While none waits
-    /// but some are out, it waits for their outcomes. When the crawl is finished, it publishes what
-    /// was merged since the last page.
+    /// but some are out, it waits for their outcomes.
     ///
     /// # Errors
     /// `NoMemory` (90), only if a place waits.
@@ -323,10 +320,7 @@ impl<C: Crew, R: Wait + Drop> Desk<C, R> {
                 Turn::Idle => {
                     let _kept = self.outcomes.wait(rt, kept);
                 }
-                Turn::Finished => {
-                    kept.renew();
-                    return Ok(Turn::Finished);
-                }
+                Turn::Finished => return Ok(Turn::Finished),
             }
         }
         unreachable!()

@@ -13,7 +13,7 @@ use crate::crew::Crew;
 use crate::merge_job::MergeJob;
 use crate::merging::Merging;
 use crate::note::Note;
-use crate::record_follower::RecordFollower;
+use crate::publication::Publication;
 use crate::record_prefix::RecordPrefix;
 use crate::share::Share;
 use gopher_catalogue::{Added, Catalogue, FailRefused, FoundRefused, Status, Turn, Why};
@@ -23,13 +23,13 @@ use std::marker::Model;
 use std::sync::Wait;
 use std::sync::ledger::Book;
 
-/// The catalogue of a crawl, the count of its events after the first, and the follower that
-/// publishes it. Contracts see its record and the published one, which is a prefix of it.
+/// The catalogue of a crawl, the count of its events after the first, and its publication.
+/// Contracts see its record and the published one, which is a prefix of it.
 #[derive(Drop)]
 pub struct Kept<C: Crew, R: Wait + Drop> {
     catalogue: Catalogue,
     book: Book<C>,
-    follower: RecordFollower<C, R>,
+    publication: Publication<C, R>,
     merging: Merging,
 }
 
@@ -37,13 +37,13 @@ impl<C: Crew, R: Wait + Drop> Model for Kept<C, R> {
     ghost use Rattle.std.specs.Prelude.{◌≡◌, ◌+◌, length};
     ghost use mathlib.Core.List.{IsPrefix};
     ghost use Rattle.gopher_catalogue.specs.Legal.{IsLegal};
-    ghost use Rattle.gopher_crew.specs.Crew.{KeptData, KeepsRecord};
+    ghost use Rattle.gopher_crew.specs.Crew.{PublicationData, KeepsRecord};
 
-    ghost Value = { KeptData };
+    ghost Value = { PublicationData };
 
-    ghost view = { λ k. record { events = k.catalogue; published = k.follower.published } };
+    ghost view = { λ k. record { events = k.catalogue; published = k.publication.published } };
 
-    ghost invariant = { λ k. KeepsRecord k.catalogue k.follower k.book.total };
+    ghost invariant = { λ k. KeepsRecord k.catalogue k.publication k.book.total };
 }
 
 // Counts the event of a turn, for the share and in the book. Only a turn that took a place has one.
@@ -65,10 +65,10 @@ impl<C: Crew, R: Wait + Drop> Kept<C, R> {
     pub(crate) fn new(
         catalogue: Catalogue,
         book: Book<C>,
-        follower: RecordFollower<C, R>,
+        publication: Publication<C, R>,
     ) -> Kept<C, R>
-        requires entered { follower.entered ≡ catalogue }
-        requires published { follower.published ≡ catalogue }
+        requires entered { publication.events ≡ catalogue }
+        requires published { publication.published ≡ catalogue }
         requires legal { IsLegal catalogue }
         requires counted { length catalogue ≡ book.total + 1 }
         ensures events { result.events ≡ catalogue }
@@ -77,7 +77,7 @@ impl<C: Crew, R: Wait + Drop> Kept<C, R> {
         Kept {
             catalogue,
             book,
-            follower,
+            publication,
             merging: Merging::new(),
         }
     }
@@ -101,10 +101,10 @@ impl<C: Crew, R: Wait + Drop> Kept<C, R> {
         ensures grows { IsPrefix self.old.published self.new.published }
         ensures legal { IsLegal self.new.events }
     {
-        self.follower.show(&self.catalogue, share);
+        self.publication.show(share);
         let turn = self.catalogue.claim()?;
         count(&turn, share, &mut self.book);
-        let note = self.follower.follow_for(&self.catalogue, share);
+        let note = self.publication.follow(&self.catalogue, share);
         Ok((turn, note))
     }
 
@@ -136,10 +136,10 @@ impl<C: Crew, R: Wait + Drop> Kept<C, R> {
         ensures grows { IsPrefix self.old.published self.new.published }
         ensures legal { IsLegal self.new.events }
     {
-        self.follower.show(&self.catalogue, share);
+        self.publication.show(share);
         let added = self.catalogue.found(number, page)?;
         share.add(&mut self.book);
-        let note = self.follower.follow_for(&self.catalogue, share);
+        let note = self.publication.follow(&self.catalogue, share);
         Ok((added, note))
     }
 
@@ -167,10 +167,10 @@ impl<C: Crew, R: Wait + Drop> Kept<C, R> {
         ensures grows { IsPrefix self.old.published self.new.published }
         ensures legal { IsLegal self.new.events }
     {
-        self.follower.show(&self.catalogue, share);
+        self.publication.show(share);
         self.catalogue.fail(number, why)?;
         share.add(&mut self.book);
-        Ok(self.follower.follow_for(&self.catalogue, share))
+        Ok(self.publication.follow(&self.catalogue, share))
     }
 
     /// Returns a run of pages that is due to be merged. Returns `None` while places are out but
@@ -183,36 +183,32 @@ impl<C: Crew, R: Wait + Drop> Kept<C, R> {
         if !self.merging.may_merge(status.waiting, status.out, found) {
             return None;
         }
-        let prefix = self.follower.entered(&self.catalogue)?;
         let Ok(Some(due)) = self.catalogue.due() else {
             return None;
         };
-        Some(MergeJob::new(due, prefix))
+        Some(MergeJob::new(due, self.publication.prefix().copy()))
     }
 
     /// Puts the segment of a merge job in the place of its pages. If memory ran out, the pages are
-    /// due again when 64 more are found. The next page publishes the segment, or `renew` does.
+    /// due again when 64 more are found.
     pub(crate) fn install(&mut self, job: MergeJob<C>)
         ensures { self.new ≡ self.old }
     {
         let found = self.catalogue.index().len();
         self.merging.end_merge(job.was_merged(), found);
-        let Some(prefix) = self.follower.entered(&self.catalogue) else {
-            return;
-        };
-        if let Some(due) = job.due_in(&prefix) {
+        if let Some(due) = job.due_in(self.publication.prefix()) {
             self.catalogue.install(due);
         }
     }
 
-    /// Publishes the segments that the index has now, if some aren't published. Searches after the
-    /// crawl then go through few segments.
+    /// Publishes the segments that the index has now, if some aren't published, so that searches go
+    /// through few segments.
     pub(crate) fn renew(&mut self)
         ensures events { self.new.events ≡ self.old.events }
         ensures grows { IsPrefix self.old.published self.new.published }
     {
         if self.merging.is_merged {
-            let was_published = self.follower.renew(&self.catalogue);
+            let was_published = self.publication.publish(self.catalogue.index(), true);
             self.merging.end_renewal(was_published);
         }
     }
@@ -237,7 +233,7 @@ impl<C: Crew, R: Wait + Drop> Kept<C, R> {
             return 0;
         };
         join(&mut self.book, &mut all, shares);
-        self.follower.show(&self.catalogue, &mut all);
+        self.publication.show(&mut all);
         let sum = all.events();
         shares.push_reserved(all);
         sum
@@ -249,7 +245,7 @@ impl<C: Crew, R: Wait + Drop> Kept<C, R> {
         ensures begins { IsPrefix opened.now.events self.now.events }
         ensures legal { IsLegal self.now.events }
     {
-        self.follower.until_begins(opened);
+        self.publication.until_begins(opened);
     }
 
     /// Returns the number of places in each state.
@@ -268,7 +264,7 @@ impl<C: Crew, R: Wait + Drop> Kept<C, R> {
         ensures events { share.new.events ≡ share.old.events }
         ensures parts { share.new.parts ≡ share.old.parts }
     {
-        self.follower.show(&self.catalogue, share);
+        self.publication.show(share);
         self.status()
     }
 
@@ -290,7 +286,7 @@ impl<C: Crew, R: Wait + Drop> Kept<C, R> {
         let Kept {
             catalogue,
             book: _book,
-            follower: _follower,
+            publication: _publication,
             merging: _merging,
         } = self;
         catalogue
@@ -302,7 +298,7 @@ impl<C: Crew, R: Wait + Drop> Kept<C, R> {
         ensures events { self.new.events ≡ self.old.events }
         ensures note { IsNoted result self.new }
     {
-        self.follower.follow(&self.catalogue)
+        self.publication.note(self.catalogue.index())
     }
 
     /// Returns the catalogue, with a note of its record. There is no note if publishing it runs out

@@ -16,12 +16,11 @@
 //!
 //! The picture `docs/found.svg` shows it. A worker claims a place under the desk's lock. It fetches
 //! the place and makes its page while it holds no lock. Behind the lock again, `Kept` adds the
-//! event to the catalogue and counts it for the worker's share. The follower enters the event into
-//! the history and gives the publisher the index and the token of the record. The publisher
-//! compares that index with the published one to make an `Update`. It (`left_right`) keeps two
-//! copies: readers use one while the writer changes the other, and each update is applied to both.
-//! An update changes no pages, adds one page, or replaces all pages by those of an index if
-//! segments were merged since.
+//! event to the catalogue and counts it for the worker's share. The publication enters the event
+//! into the history, and compares the index with the published one to make an `Update`. Its writer
+//! (`left_right`) keeps two copies: readers use one while the writer changes the other, and each
+//! update is applied to both. An update changes no pages, adds one page, or replaces all pages by
+//! those of an index if segments were merged since.
 //!
 //! If a publication runs out of memory, its update waits, and the next publication publishes it
 //! first. So at most one update waits, however often memory runs out.
@@ -32,8 +31,9 @@
 //! # Merging
 //!
 //! Before a worker claims, it takes one run of pages that is due to be merged (`MergeJob`), merges
-//! it without the lock, and puts the segment in their place. The pages are still in the index,
-//! because the record has only grown since. The job has the token of its record to prove it.
+//! it without the lock, puts the segment in their place, and publishes it. The pages are still in
+//! the index, because the record has only grown since. The job has the token of its record to prove
+//! it.
 //!
 //! # Tokens
 //!
@@ -60,7 +60,7 @@
 //! | workers | `working`, `crawling`, `fetch`, `settling`, `memory` |
 //! | merging | `merge_job`, `Kept::merge_job` and `install`, `Desk::merge_due` |
 //! | the history and its tokens | `history`, `record_prefix`, `entering` |
-//! | publishing | `record_follower`, `publisher`, `update`, `version` |
+//! | publishing | `publication`, `update`, `version` |
 //! | searching | `pass` |
 //! | names and faults | `crew`, `fault`, `refusals` |
 //!
@@ -96,8 +96,7 @@ mod merging;
 mod note;
 mod opening;
 mod pass;
-mod publisher;
-mod record_follower;
+mod publication;
 mod record_prefix;
 mod refusals;
 mod settling;

@@ -1,20 +1,22 @@
-//! The parts of a desk that opens: its publisher, its passes and its shares.
+//! The parts of a desk that opens: its writer, its passes and its shares.
 
 ghost use Rattle.std.specs.Prelude.{◌≡◌, ◌+◌, ◌<◌, ◌≤◌, ◌^◌, ◌-◌, [], ◌∷◌, length, replicate, vec_capacity, ◌≢◌, IfOk, IfErr, IfSome};
 ghost use Rattle.gopher_crew.specs.declared.fault.DeskFault.TheVariants.{BadCount};
 ghost use Rattle.gopher_catalogue.specs.Legal.{IsLegal};
 ghost use Rattle.gopher_catalogue.specs.Pages.{pages_found};
-ghost use Rattle.gopher_crew.specs.Crew.{all_published};
 ghost use Rattle.gopher_crew.specs.Desk.{has_seen, opening_shares, AllHaveSeen};
+ghost use Rattle.gopher_crew.specs.Publication.{ShowsRecord};
 
 use crate::crew::Crew;
 use crate::fault::DeskFault;
 use crate::pass::Pass;
-use crate::publisher::Publisher;
+use crate::publication::VersionWriter;
 use crate::record_prefix::RecordPrefix;
 use crate::share::Share;
 use crate::version::Version;
 use gopher_index::Index;
+use gopher_item::NoMemory;
+use left_right::writer::Writer;
 use std::alloc::Global;
 use std::sync::Wait;
 use std::sync::ledger::Share as Part;
@@ -22,49 +24,42 @@ use std::sync::ledger::Share as Part;
 /// The number of parts of a desk's ledger.
 pub const PARTS: u64 = 16;
 
-// Makes a publisher for `passes` readers. Its first version has these pages and this record.
-fn publisher_of<C: Crew, R: Wait + Drop>(
+// Makes the writer of a version with these pages and this record, for `passes` readers.
+fn writer_of<C: Crew>(
     alloc: Global,
-    rt: R,
     index: &Index,
     prefix: &RecordPrefix,
     passes: u32,
-) -> Result<Publisher<C, R>, DeskFault>
+) -> Result<VersionWriter<C>, NoMemory>
     requires history { prefix.now.history ≡ C.history }
     requires pages { index.now ≡ pages_found prefix.now.events }
     requires legal { IsLegal prefix.now.events }
     requires some { 0 < passes }
-    ensures shown { IfOk result (λ publisher. publisher ≡ all_published prefix.now.events) }
-    ensures other { IfErr result (λ fault. fault ≢ BadCount) }
+    ensures { IfOk result (ShowsRecord C.history prefix.now.events) }
 {
-    let Ok(first) = Version::of(alloc, index, prefix) else {
-        return Err(DeskFault::NoMemory);
-    };
-    let Ok(second) = first.share() else {
-        return Err(DeskFault::NoMemory);
-    };
-    let Ok(publisher) = Publisher::new(alloc, rt, first, second, passes as usize) else {
-        return Err(DeskFault::NoMemory);
-    };
-    Ok(publisher)
+    let first = Version::of(alloc, index, prefix)?;
+    let second = first.share()?;
+    let writer = Writer::new(alloc, first, second, passes as usize)?;
+    Ok(writer)
 }
 
 // Makes a pass that has seen the published record. Returns `None` if it can't enter the version.
-fn pass_of<C: Crew, R: Wait + Drop>(
+fn pass_of<C: Crew>(
     alloc: Global,
-    publisher: &Publisher<C, R>,
+    writer: &VersionWriter<C>,
     prefix: &RecordPrefix,
 ) -> Option<Pass<C>>
     requires { prefix.now.history ≡ C.history }
     ensures { IfSome result (λ pass. pass ≡ has_seen prefix.now.events) }
 {
-    Pass::open(alloc, publisher.reader()?, prefix)
+    let reader = writer.factory().reader().ok()?;
+    Pass::open(alloc, reader, prefix)
 }
 
 // Makes `passes` passes that have seen the published record.
-fn passes_of<C: Crew, R: Wait + Drop>(
+fn passes_of<C: Crew>(
     alloc: Global,
-    publisher: &Publisher<C, R>,
+    writer: &VersionWriter<C>,
     prefix: &RecordPrefix,
     passes: u32,
 ) -> Result<Vec<Pass<C>>, DeskFault>
@@ -74,7 +69,7 @@ fn passes_of<C: Crew, R: Wait + Drop>(
 {
     let mut list = Vec::new(alloc);
     for _index in 0..passes {
-        let Some(pass) = pass_of(alloc, publisher, prefix) else {
+        let Some(pass) = pass_of(alloc, writer, prefix) else {
             return Err(DeskFault::NoEntry);
         };
         let Ok(()) = list.push(pass) else {
@@ -84,26 +79,33 @@ fn passes_of<C: Crew, R: Wait + Drop>(
     Ok(list)
 }
 
-/// Makes a publisher whose first version has these pages and this record, and `passes` passes that
-/// have seen it.
-pub fn publisher_with_passes<C: Crew, R: Wait + Drop>(
+/// Makes the writer of a version with these pages and this record, and `passes` passes that have
+/// seen it.
+pub fn writer_with_passes<C: Crew, R: Wait>(
     alloc: Global,
-    rt: R,
+    rt: &R,
     index: &Index,
     prefix: &RecordPrefix,
     passes: u32,
-) -> Result<(Publisher<C, R>, Vec<Pass<C>>), DeskFault>
+) -> Result<(VersionWriter<C>, Vec<Pass<C>>), DeskFault>
     requires history { prefix.now.history ≡ C.history }
     requires pages { index.now ≡ pages_found prefix.now.events }
     requires legal { IsLegal prefix.now.events }
     requires some { 0 < passes }
-    ensures shown { IfOk result (λ shown. shown.0 ≡ all_published prefix.now.events) }
+    ensures shown { IfOk result (λ shown. ShowsRecord C.history prefix.now.events shown.0) }
     ensures passes { IfOk result (λ shown. AllHaveSeen prefix.now.events passes shown.1.items) }
     ensures other { IfErr result (λ fault. fault ≢ BadCount) }
 {
-    let publisher = publisher_of(alloc, rt, index, prefix, passes)?;
-    let list = passes_of(alloc, &publisher, prefix, passes)?;
-    Ok((publisher, list))
+    let Ok(writer) = writer_of(alloc, index, prefix, passes) else {
+        return Err(DeskFault::NoMemory);
+    };
+    match passes_of(alloc, &writer, prefix, passes) {
+        Ok(list) => Ok((writer, list)),
+        Err(fault) => {
+            writer.take(rt);
+            Err(fault)
+        }
+    }
 }
 
 /// Cuts a ledger of 16 parts into `shares` shares, and appends them to a list that has room. The

@@ -8,12 +8,12 @@ ghost use Rattle.gopher_catalogue.specs.Pages.{pages_found};
 ghost use Rattle.gopher_index.specs.Begun.{begun_hits};
 ghost use Rattle.gopher_crew.specs.Desk.{has_seen};
 ghost use Rattle.gopher_crew.specs.Crew.{CountsEntry, hits_of};
-ghost use Rattle.gopher_crew.specs.Version.{IsSeen, IsSeenVersion};
+ghost use Rattle.gopher_crew.specs.Version.{IsSeenVersion};
 
 use crate::crew::Crew;
 use crate::fault::SearchFault;
 use crate::note::Note;
-use crate::publisher::VersionReader;
+use crate::publication::VersionReader;
 use crate::record_prefix::RecordPrefix;
 use crate::share::Share;
 use crate::version::{Sees, Version};
@@ -78,19 +78,6 @@ fn take_version<C: Crew>(
     }
 }
 
-// Enters the published version, copies the token of its record, and leaves.
-fn take_prefix<C: Crew>(reader: VersionReader<C>) -> (VersionReader<C>, Option<RecordPrefix>)
-    ensures { IfSome result.1 (IsSeen C.history (view result.0.place)) }
-{
-    match reader.enter_as::<Sees<C>>() {
-        Ok(reading) => {
-            let prefix = reading.get().prefix().copy();
-            (reading.leave(), Some(prefix))
-        }
-        Err(reader) => (reader, None),
-    }
-}
-
 impl<C: Crew> Pass<C> {
     /// Makes a pass that has seen the published record. Returns `None` if it can't enter the
     /// version, or if another record is published.
@@ -102,15 +89,17 @@ impl<C: Crew> Pass<C> {
         requires { published.now.history ≡ C.history }
         ensures { IfSome result (λ pass. pass ≡ has_seen published.now.events) }
     {
-        let (reader, prefix) = take_prefix(reader);
-        let told = prefix?;
-        if !told.is_same(published) {
+        let (reader, version) = take_version(reader, ());
+        let Ok(version) = version else {
+            return None;
+        };
+        if !version.prefix().is_same(published) {
             return None;
         }
         Some(Pass {
             alloc,
             reader,
-            told,
+            told: published.copy(),
             failed_entries: 0,
         })
     }
@@ -202,7 +191,7 @@ impl<C: Crew> Pass<C> {
         ensures entries { CountsEntry self.old.failed_entries self.new.failed_entries result }
     {
         let version = self.take()?;
-        let Ok(begun) = version.begin(self.alloc, query) else {
+        let Ok(begun) = version.index().begin(self.alloc, query) else {
             return Err(SearchFault::NoMemory);
         };
         Ok(begun)
@@ -223,7 +212,7 @@ impl<C: Crew> Pass<C> {
         ensures entries { CountsEntry self.old.failed_entries self.new.failed_entries result }
     {
         let version = self.take()?;
-        let Ok(hits) = version.search(self.alloc, query) else {
+        let Ok(hits) = version.index().search(self.alloc, query) else {
             return Err(SearchFault::NoMemory);
         };
         Ok(Answer {

@@ -2,7 +2,7 @@
 
 ghost use Rattle.std.specs.Prelude.{◌≡◌, IfOk};
 ghost use mathlib.Core.List.{IsPrefix};
-ghost use Rattle.gopher_crew.specs.Version.{pages_after, ReplacesAll, Applies, AddsPage};
+ghost use Rattle.gopher_crew.specs.Version.{pages_after, Applies, AddsPage};
 
 use crate::record_prefix::RecordPrefix;
 use gopher_index::Index;
@@ -51,25 +51,26 @@ fn add(alloc: Global, index: &mut Arc<Index>, page: Arc<Page>) -> Result<(), NoM
 }
 
 impl Change {
-    /// The change of any pages to those of an index.
-    pub fn all(alloc: Global, index: &Index) -> Result<Change, NoMemory>
-        ensures { IfOk result (λ change. ReplacesAll change index.now) }
-    {
-        Ok(Change::All(Arc::new(alloc, index.share(alloc)?)?))
-    }
-
-    /// The change of an index's pages to those of another, which begin with them.
-    pub fn between(alloc: Global, before: &Index, index: &Index) -> Result<Change, NoMemory>
+    /// The change of an index's pages to those of another, which begin with them. If `renews`, it
+    /// replaces all of them, which may be in smaller segments.
+    pub fn between(
+        alloc: Global,
+        before: &Index,
+        index: &Index,
+        renews: bool,
+    ) -> Result<Change, NoMemory>
         requires { IsPrefix before.now index.now }
         ensures { IfOk result (λ change. pages_after change before.now ≡ index.now) }
     {
-        if index.len() == before.len() {
-            return Ok(Change::Nothing);
+        if !renews {
+            if index.len() == before.len() {
+                return Ok(Change::Nothing);
+            }
+            if let Some(page) = index.page_after(before) {
+                return Ok(Change::Page(page.clone()?));
+            }
         }
-        match index.page_after(before) {
-            Some(page) => Ok(Change::Page(page.clone()?)),
-            None => Change::all(alloc, index),
-        }
+        Ok(Change::All(Arc::new(alloc, index.share(alloc)?)?))
     }
 
     /// Changes the pages of an index. If a search shares the index, another index takes its place.

@@ -1,8 +1,6 @@
 //! `Version`: a published snapshot of the catalogue, and the rule of what is published.
 
 ghost use Rattle.std.specs.Prelude.{◌≡◌, IfOk};
-ghost use Rattle.gopher_index.specs.Answer.{answer_of};
-ghost use Rattle.gopher_index.specs.Begun.{begun_hits};
 ghost use Rattle.gopher_crew.specs.Version.{version_data};
 
 use crate::crew::Crew;
@@ -10,9 +8,8 @@ use crate::record_prefix::RecordPrefix;
 use crate::update::Update;
 use crossbeam_utils::rule::{Outcome, Protocol};
 use gopher_catalogue::EventData;
-use gopher_index::{Begun, Hit, Index};
+use gopher_index::Index;
 use gopher_item::NoMemory;
-use gopher_page::Query;
 use left_right::Absorb;
 use std::alloc::{AllocError, Global};
 use std::marker::{Model, PhantomData};
@@ -69,20 +66,6 @@ impl Version {
         ensures { result.now ≡ self.now.prefix }
     {
         &self.prefix
-    }
-
-    /// Begins a search of the pages, which it shares.
-    pub fn begin(&self, alloc: Global, query: &Query) -> Result<Begun, NoMemory>
-        ensures { IfOk result (λ begun. begun_hits begun ≡ answer_of self.now.pages query.now) }
-    {
-        self.index.begin(alloc, query)
-    }
-
-    /// Searches the pages to the end and returns the hits.
-    pub fn search(&self, alloc: Global, query: &Query) -> Result<Vec<Hit>, NoMemory>
-        ensures { IfOk result (λ hits. hits.items ≡ answer_of self.now.pages query.now) }
-    {
-        self.index.search(alloc, query)
     }
 }
 

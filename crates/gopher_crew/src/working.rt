@@ -47,25 +47,6 @@ enum Outcome {
     Refused,
 }
 
-// Fails a place.
-fn hand_in_failure<C: Crew, R: Wait + Drop, W: Wait>(
-    rt: &W,
-    desk: &Desk<C, R>,
-    share: &mut Share<C>,
-    number: u32,
-    why: Why,
-) -> Outcome
-    ensures events { share.new.events ≡ share.old.events + outcome_rise result }
-    ensures parts { share.new.parts ≡ share.old.parts }
-    ensures seen { IsPrefix share.old.seen share.new.seen }
-    ensures out { EndsClaim result number share.new }
-{
-    match desk.fail(rt, share, number, why) {
-        Ok(_note) => Outcome::Failed,
-        Err(_refused) => Outcome::Refused,
-    }
-}
-
 // Hands in a page, if there is memory for it. Returns whether it was added.
 fn hand_in_page<C: Crew, R: Wait + Drop, W: Wait>(
     rt: &W,
@@ -115,7 +96,10 @@ fn hand_in<C: Crew, R: Wait + Drop, W: Wait>(
         }
         Err(why) => why,
     };
-    hand_in_failure(rt, desk, share, number, why)
+    match desk.fail(rt, share, number, why) {
+        Ok(_note) => Outcome::Failed,
+        Err(_refused) => Outcome::Refused,
+    }
 }
 
 // Fetches a place that was claimed, makes its page, and hands it in or fails the place.

@@ -2,7 +2,7 @@ use Rattle.std.proofs.Common.{List, arith, subst, sym}
 use Rattle.std.proofs.lemmas.Grind.{common_steps}
 use mathlib.Core.List.{IsPrefix}
 use Rattle.gopher_catalogue.specs.declared.event.EventData.{EventData}
-use Rattle.gopher_crew.specs.Crew.{KeptData, ShareData}
+use Rattle.gopher_crew.specs.Crew.{PublicationData, ShareData}
 use Rattle.gopher_crew.specs.Desk.{HasAllSeen}
 use Rattle.gopher_crew.proofs.Joining.{joined_have_seen, last_has_seen}
 use Rattle.gopher_crew.proofs.Keeping.{few_events}
@@ -20,7 +20,7 @@ returns-clause-joined g c = record {
       let last : IsPrefix c.show.new.share.seen record_ =
       last_has_seen record_ c.join.new.shares.items c.show.new.share (subst (λ (shares : List ShareData). HasAllSeen record_ shares) c.push_reserved.ensures.items seen) in
       let begins : IsPrefix c.join.new.all.seen record_ =
-      prefix_trans c.join.new.all.seen c.self.inside.catalogue record_ c.show.ensures.begins
+      prefix_trans c.join.new.all.seen c.self.inside.publication.events record_ c.show.ensures.begins
       (subst (λ (events : List EventData). IsPrefix events record_) c.show.ensures.seen last) in
       subst (λ (shares : List ShareData). HasAllSeen record_ shares) (sym c.in-Some.ensures.items)
       (joined_have_seen record_ c.pop.new.self.items c.in-Some.all c.join.new.all c.join.ensures.joined begins);
@@ -28,7 +28,8 @@ returns-clause-joined g c = record {
 
 pub returns-clause-seen : goal.returns-clause-seen
 returns-clause-seen g c =
-    let seen : HasAllSeen c.self.inside.catalogue c.args.shares.now.items =
-    subst (λ (shares : List ShareData). HasAllSeen c.self.inside.catalogue shares) (sym c.in-Some.ensures.items)
-    (joined_have_seen c.self.inside.catalogue c.pop.new.self.items c.in-Some.all c.join.new.all c.join.ensures.joined c.show.ensures.begins) in
-    subst (λ (kept : KeptData). HasAllSeen kept.events c.args.shares.now.items) c.self.view_is seen
+    let seen : HasAllSeen c.self.inside.publication.events c.args.shares.now.items =
+    subst (λ (shares : List ShareData). HasAllSeen c.self.inside.publication.events shares) (sym c.in-Some.ensures.items)
+    (joined_have_seen c.self.inside.publication.events c.pop.new.self.items c.in-Some.all c.join.new.all c.join.ensures.joined c.show.ensures.begins) in
+    subst (λ (kept : PublicationData). HasAllSeen kept.events c.args.shares.now.items) c.self.view_is
+    (subst (λ (events : List EventData). HasAllSeen events c.args.shares.now.items) c.self.invariant.entered seen)

@@ -1,16 +1,13 @@
 -- The published version of a writer, and the updates that wait.
-use Rattle.std.specs.Prelude.{◌≡◌, Bool, List, drop}
+use Rattle.std.specs.Prelude.{◌≡◌, Bool, List, [], drop}
 use Rattle.left_right.specs.declared.Absorb.{Ghosts}
 use Rattle.left_right.specs.declared.writer.Writer.{Writer}
 use Rattle.logbook.specs.Pages.{Book}
+use Rattle.gopher_catalogue.specs.declared.event.EventData.{EventData}
 use Rattle.gopher_page.specs.Page.{PageData}
 use Rattle.gopher_crew.specs.declared.update.Update.{Update}
 use Rattle.gopher_crew.specs.History.{RecordPrefixData}
-use Rattle.gopher_crew.specs.Version.{VersionData, FollowsVersion, CatchesUp, Follows, version_data, after_update, last_of}
-
--- the update makes the version of these pages and this record
-abbrev pub MakesVersion : VersionData → List PageData → RecordPrefixData → Update → Type 0
-MakesVersion before pages prefix update = after_update before update ≡ version_data pages prefix
+use Rattle.gopher_crew.specs.Version.{VersionData, IsSeenVersion, FollowsVersion, CatchesUp, Follows, version_data, last_of}
 
 -- the version of these pages and this record is one of this history, and its record begins with
 -- that of the version before
@@ -21,6 +18,11 @@ module _ {V P A S : Type 0} {g : Ghosts VersionData Update S} where
   -- the updates that wait: they are in the log, but not in the published version
   abbrev pub waiting_updates : Writer VersionData Update V P A S g → List Update
   waiting_updates writer = drop writer.behind writer.log.items
+
+  -- the published version is of this history and this record, and no update waits
+  abbrev pub ShowsRecord : Book → List EventData → Writer VersionData Update V P A S g → Type 0
+  ShowsRecord history record_ writer =
+      IsSeenVersion history record_ writer.desk.shown.value × (waiting_updates writer ≡ [])
 
   -- the version that the waiting updates make
   abbrev pub next_version : Writer VersionData Update V P A S g → VersionData

@@ -1,6 +1,6 @@
 use Rattle.std.proofs.Common.{◌≡◌}
 use mathlib.Core.List.{IsPrefix}
-use Rattle.gopher_crew.proofs.entering.enter_whole.Given as goal
+use Rattle.gopher_crew.proofs.entering.enter.Given as goal
 
 abbrev pub invariant-loop-round : goal.invariant-loop-round
 invariant-loop-round g l = record {

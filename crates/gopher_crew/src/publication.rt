@@ -1,0 +1,254 @@
+//! `Publication`: enters a catalogue's record into the crew's history, and publishes it.
+
+ghost use Rattle.std.specs.Prelude.{◌≡◌, ◌≢◌, [], IsTrue, MatchBool};
+ghost use mathlib.Core.List.{IsPrefix};
+ghost use Rattle.gopher_catalogue.specs.Legal.{IsLegal};
+ghost use Rattle.gopher_catalogue.specs.Pages.{pages_found};
+ghost use Rattle.gopher_crew.specs.Kept.{IsNoted};
+ghost use Rattle.gopher_crew.specs.Publication.{PagesFollow, ShowsRecord, waiting_updates, NextFollows, WriterCatchesUp, WriterFollows};
+ghost use Rattle.gopher_crew.specs.Version.{version_data, IsVersion};
+
+use crate::crew::Crew;
+use crate::entering::enter;
+use crate::history::Head;
+use crate::note::Note;
+use crate::record_prefix::RecordPrefix;
+use crate::share::Share;
+use crate::update::{Change, Update};
+use crate::version::{Sees, Shows, Version};
+use core::mem::replace_with;
+use gopher_catalogue::{Catalogue, EventData};
+use gopher_index::Index;
+use left_right::reader::Reader;
+use left_right::writer::Writer;
+use std::alloc::Global;
+use std::marker::Model;
+use std::sync::Wait;
+
+/// The writer that publishes versions.
+pub type VersionWriter<C> = Writer<Version, Update, [EventData; 0], Shows<C>>;
+
+/// A reader of the published versions.
+pub type VersionReader<C> = Reader<Version, [EventData; 0], Shows<C>>;
+
+/// The token of the record that was entered into the history, and the writer that publishes it,
+/// with the runtime by which it waits for readers. Contracts see the events that were entered, and
+/// the published record, a prefix of them.
+///
+/// While an update waits because memory ran out, the writer's next version isn't the published one.
+/// At most one update waits.
+pub struct Publication<C: Crew, R: Wait + Drop> {
+    alloc: Global,
+    rt: R,
+    head: Head,
+    prefix: RecordPrefix,
+    writer: VersionWriter<C>,
+}
+
+impl<C: Crew, R: Wait + Drop> Model for Publication<C, R> {
+    ghost use Rattle.std.specs.Prelude.{◌≡◌, drop};
+    ghost use Rattle.gopher_crew.specs.Crew.{PublicationData};
+    ghost use Rattle.gopher_crew.specs.Version.{IsPublication, last_of};
+
+    ghost Value = { PublicationData };
+
+    ghost view = { λ p. record {
+      events = p.prefix.events;
+      published = p.writer.desk.shown.value.prefix.events;
+    } };
+
+    ghost invariant = { λ p. IsPublication C.history p.head p.prefix p.writer.desk.shown.value
+        (last_of p.writer.desk.shown.value (drop p.writer.behind p.writer.log.items)) };
+}
+
+impl<C: Crew, R: Wait + Drop> Drop for Publication<C, R> {
+    fn drop(self) {
+        let Self {
+            alloc: _alloc,
+            rt,
+            head: _head,
+            prefix: _prefix,
+            writer,
+        } = self;
+        writer.take(&rt);
+    }
+}
+
+// Applies the updates that wait, and publishes the version that they make. Returns whether it did.
+fn publish_last<C: Crew, R: Wait>(writer: VersionWriter<C>, rt: &R) -> (VersionWriter<C>, bool)
+    requires { NextFollows C.history writer }
+    ensures { WriterCatchesUp result.1 writer result.0 }
+{
+    let (writer, published) = writer.publish_as::<Sees<C>, R>(rt);
+    (writer, published.is_ok())
+}
+
+// Publishes the update that waits, if there is one. Returns whether none waits then.
+fn catch_up<C: Crew, R: Wait>(writer: &mut VersionWriter<C>, rt: &R) -> bool
+    requires { NextFollows C.history writer.old }
+    ensures { WriterCatchesUp result writer.old writer.new }
+{
+    if !writer.has_pending_operations() {
+        return true;
+    }
+    replace_with(writer, rt, publish_last)
+}
+
+// Publishes the version of a record, which has these pages. No update waits before. If `renews`,
+// the update replaces all pages. Returns whether it did.
+fn publish_next<C: Crew, R: Wait>(
+    writer: &mut VersionWriter<C>,
+    rt: &R,
+    alloc: Global,
+    index: &Index,
+    prefix: &RecordPrefix,
+    renews: bool,
+) -> bool
+    requires none { waiting_updates writer.old ≡ [] }
+    requires version { IsVersion C.history writer.old.desk.shown.value }
+    requires goes_on { PagesFollow C.history writer.old.desk.shown.value index.now prefix.now }
+    ensures { WriterFollows result (version_data index.now prefix.now) writer.old writer.new }
+{
+    let shown = writer.published().index();
+    let Ok(change) = Change::between(alloc, shown, index, renews) else {
+        return false;
+    };
+    let update = Update {
+        alloc,
+        change,
+        prefix: prefix.copy(),
+    };
+    if writer.append(update).is_err() {
+        return false;
+    }
+    replace_with(writer, rt, publish_last)
+}
+
+impl<C: Crew, R: Wait + Drop> Publication<C, R> {
+    /// The publication of a record that was entered and is published.
+    pub fn new(
+        alloc: Global,
+        rt: R,
+        head: Head,
+        prefix: RecordPrefix,
+        writer: VersionWriter<C>,
+    ) -> Publication<C, R>
+        requires head { head ≡ C.history }
+        requires history { prefix.history ≡ C.history }
+        requires shown { ShowsRecord C.history prefix.events writer }
+        ensures events { result.events ≡ prefix.events }
+        ensures published { result.published ≡ prefix.events }
+    {
+        Publication {
+            alloc,
+            rt,
+            head,
+            prefix,
+            writer,
+        }
+    }
+
+    /// Returns the token of the record that was entered.
+    pub fn prefix(&self) -> &RecordPrefix
+        ensures history { result.now.history ≡ C.history }
+        ensures events { result.now.events ≡ self.now.events }
+    {
+        &self.prefix
+    }
+
+    /// Shows the record that was entered to a share.
+    pub fn show(&self, share: &mut Share<C>)
+        ensures seen { share.new.seen ≡ self.now.events }
+        ensures begins { IsPrefix share.old.seen self.now.events }
+        ensures events { share.new.events ≡ share.old.events }
+        ensures parts { share.new.parts ≡ share.old.parts }
+    {
+        share.see(&self.rt, &self.prefix);
+    }
+
+    /// Returns if the events that were entered begin with those of this token, and otherwise never.
+    pub fn until_begins(&self, opened: &RecordPrefix)
+        requires { opened.now.history ≡ C.history }
+        ensures { IsPrefix opened.now.events self.now.events }
+    {
+        opened.until_begins(&self.rt, &self.prefix);
+    }
+
+    // Returns whether the record that was entered is published.
+    fn is_shown(&self) -> bool
+        ensures { MatchBool result (self.now.published ≡ self.now.events)
+            (self.now.published ≢ self.now.events) }
+    {
+        if self.writer.published().prefix().len() < self.prefix.len() {
+            return false;
+        }
+        true
+    }
+
+    /// Publishes the record that was entered, which has these pages. If an update waits, it is
+    /// published first. If `renews`, the index replaces the published one, whose pages may be in
+    /// smaller segments. Returns whether it published: it didn't if memory ran out.
+    pub fn publish(&mut self, index: &Index, renews: bool) -> bool
+        requires pages { index.now ≡ pages_found self.old.events }
+        requires legal { IsLegal self.old.events }
+        ensures events { self.new.events ≡ self.old.events }
+        ensures published { IsTrue result → self.new.published ≡ self.old.events }
+        ensures grows { IsPrefix self.old.published self.new.published }
+    {
+        if !catch_up(&mut self.writer, &self.rt) {
+            return false;
+        }
+        publish_next(
+            &mut self.writer,
+            &self.rt,
+            self.alloc,
+            index,
+            &self.prefix,
+            renews,
+        )
+    }
+
+    /// Publishes the record that was entered, which has these pages, unless it is published.
+    /// Returns a note exactly if it is published then.
+    pub fn note(&mut self, index: &Index) -> Option<Note<C>>
+        requires pages { index.now ≡ pages_found self.old.events }
+        requires legal { IsLegal self.old.events }
+        ensures events { self.new.events ≡ self.old.events }
+        ensures note { IsNoted result self.new }
+        ensures grows { IsPrefix self.old.published self.new.published }
+    {
+        if self.is_shown() {
+            return Some(Note::of(&self.prefix));
+        }
+        self.publish(index, false);
+        if !self.is_shown() {
+            return None;
+        }
+        Some(Note::of(&self.prefix))
+    }
+
+    // Enters the new events of the catalogue.
+    fn enter(&mut self, catalogue: &Catalogue)
+        requires begun { IsPrefix self.old.events catalogue.now }
+        ensures events { self.new.events ≡ catalogue.now }
+        ensures published { self.new.published ≡ self.old.published }
+    {
+        enter(&self.rt, &mut self.prefix, &self.head, catalogue);
+    }
+
+    /// Enters the new events of the catalogue, shows its record to a share, and publishes it.
+    /// Returns a note exactly if the published record is then that of the catalogue.
+    pub fn follow(&mut self, catalogue: &Catalogue, share: &mut Share<C>) -> Option<Note<C>>
+        requires begun { IsPrefix self.old.events catalogue.now }
+        ensures entered { self.new.events ≡ catalogue.now }
+        ensures note { IsNoted result self.new }
+        ensures grows { IsPrefix self.old.published self.new.published }
+        ensures seen { share.new.seen ≡ catalogue.now }
+        ensures events { share.new.events ≡ share.old.events }
+        ensures parts { share.new.parts ≡ share.old.parts }
+    {
+        self.enter(catalogue);
+        self.show(share);
+        self.note(catalogue.index())
+    }
+}
