@@ -54,7 +54,7 @@ class Manual(unittest.TestCase):
     def test_causes_and_remedies_are_those_that_a_check_prints(self):
         told = " ".join(text for _, text in HOLE)
         code = re.sub(r"(?s)fn range_remedy.*?\n}", "", sources("gopher_check"))
-        printed = {words for words in re.findall(r'=>\s*\{?\s*"([^"]+)"', code) if " " in words}
+        printed = {words for words in re.findall(r'(?:=>\s*[{(]?|,)\s*"([^"]+)"', code) if " " in words}
         self.assertGreater(len(printed), 30)
         self.assertEqual({words for words in printed if words not in told}, set())
 

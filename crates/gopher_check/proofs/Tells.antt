@@ -1,5 +1,5 @@
 -- The report on a folder, and the report on a text of settings.
-use Rattle.std.proofs.Common.{◌≡◌, ℕ, List, [], Option, None, Some, Ok, Err, refl}
+use Rattle.std.proofs.Common.{◌≡◌, ℕ, List, [], Option, None, Some, Result, Ok, Err, IfOk, refl, sym, ap, subst, ◌∙◌}
 use Rattle.toml.specs.Data.{Members}
 use Rattle.toml.specs.Parse.{parse_document}
 use Rattle.toml.specs.declared.de.error.Error.{Error}
@@ -16,25 +16,41 @@ use Rattle.gopher_check.specs.declared.obstacle.Obstacle.{Obstacle}
 use Rattle.gopher_check.specs.Fault.{IsReason}
 use Rattle.gopher_check.specs.Report.{fault_report, folder_report, site_report}
 use Rattle.gopher_check.specs.Table.{table_report}
-use Rattle.gopher_check.specs.Text.{toml_fault_line, IsTomlFault}
-use Rattle.gopher_check.specs.Tells.{IsOfTable, TellsSite, TellsText, TellsTwice}
+use Rattle.gopher_check.specs.Text.{toml_fault_line, IsKeyOf, IsTomlFault}
+use Rattle.gopher_check.specs.Tells.{IsOfTable, IsReportOnFolder, IsReportOnSite, IsReportOnText, TellsSite, TellsText}
+use Rattle.gopher_check.specs.declared.fault_report.Report.{Report}
 use Rattle.gopher_check.specs.declared.fault.SiteFault.{SiteFault}
 use Rattle.gopher_check.specs.declared.fault.SiteFault.TheVariants as fault
 
-pub tells_text : (path text words : List ℕ) (settings : SettingsData) (found : Option SiteFault)
+tells_found : (path text words : List ℕ) (settings : SettingsData) (found : Option SiteFault)
     → settings_of (parse_document text) ≡ Ok settings → TellsSite path settings words found → TellsText path text words found
-tells_text path text words settings None is tells = (settings, is, tells)
-tells_text path text words settings (Some (fault.Settings why)) is tells = absurd tells
-tells_text path text words settings (Some (fault.Tree why how)) is tells = (settings, is, tells)
-tells_text path text words settings (Some (fault.SeedOutOfScope seed)) is tells = (settings, is, tells)
-tells_text path text words settings (Some fault.SettingsUnreadable) is tells = absurd tells
-tells_text path text words settings (Some fault.KeyTwice) is tells = absurd tells
+tells_found path text words settings None is tells = (settings, is, tells)
+tells_found path text words settings (Some (fault.Settings why)) is tells = absurd tells
+tells_found path text words settings (Some (fault.Tree why how)) is tells = (settings, is, tells)
+tells_found path text words settings (Some (fault.SeedOutOfScope seed)) is tells = (settings, is, tells)
+tells_found path text words settings (Some fault.SettingsUnreadable) is tells = absurd tells
+tells_found path text words settings (Some fault.KeyTwice) is tells = absurd tells
+
+-- the report on settings without a fault
+pub tells_text : {E : Type 0} (path at text : List ℕ) (settings : SettingsData) (result : Result Report E)
+    → settings_of (parse_document text) ≡ Ok settings → at ≡ path → IfOk result (IsReportOnSite at settings) → IfOk result (IsReportOnText path text)
+tells_text path at text settings (Ok report) is same tells =
+    tells_found path text report.words.items settings report.fault is (subst (λ p. TellsSite p settings report.words.items report.fault) same tells)
+tells_text path at text settings (Err why) is same tells = tt
 
 -- the report on a folder that doesn't make a tree
-pub tells_folder : (path : List ℕ) (settings : SettingsData) (words : List ℕ) (trail : Trail) (why : TreeFault) (how : Obstacle)
-    → LoadsTo trail (Err why) → IsReason why trail how → words ≡ folder_report why how settings.root trail.path.items
-    → TellsSite path settings words (Some (fault.Tree why how))
-tells_folder path settings words trail why how loads reason is = (trail, loads, reason, is)
+pub tells_folder : {E : Type 0} (path : List ℕ) (settings : SettingsData) (root : List ℕ) (trail : Trail) (why : TreeFault) (result : Result Report E)
+    → LoadsTo trail (Err why) → root ≡ settings.root → IfOk result (IsReportOnFolder why root trail) → IfOk result (IsReportOnSite path settings)
+tells_folder path settings root trail why (Ok report) loads same (how, reason, found, is) =
+    subst (TellsSite path settings report.words.items) (sym found) (trail, loads, reason, is ∙ ap (λ r. folder_report why how r trail.path.items) same)
+tells_folder path settings root trail why (Err refused) loads same tells = tt
+
+-- the report on a seed that the scope doesn't allow
+pub tells_seed : {E : Type 0} (path : List ℕ) (settings : SettingsData) (seed : ℕ) (result : Result Report E)
+    → first_outside settings.scope settings.seeds ≡ Some seed → IfOk result (λ report. report.fault ≡ Some (fault.SeedOutOfScope seed))
+    → IfOk result (λ report. report.words.items ≡ fault_report (fault.SeedOutOfScope seed) path None None []) → IfOk result (IsReportOnSite path settings)
+tells_seed path settings seed (Ok report) outside found is = subst (TellsSite path settings report.words.items) (sym found) (outside, is)
+tells_seed path settings seed (Err refused) outside found is = tt
 
 -- the report on a folder that does
 pub tells_tree : (path : List ℕ) (settings : SettingsData) (words : List ℕ) (files : List File) (trail : Trail)
@@ -43,15 +59,26 @@ pub tells_tree : (path : List ℕ) (settings : SettingsData) (words : List ℕ) 
 tells_tree path settings words files trail none inside is = (files, trail, none, inside, is)
 
 -- the report of settings for which memory runs out
-pub tells_memory : (path text words : List ℕ) → words ≡ fault_report (fault.Settings settings_fault.NoMemory) path None None []
-    → TellsText path text words (Some (fault.Settings settings_fault.NoMemory))
-tells_memory path text words is = ((λ memory. absurd (memory refl)), is)
+pub tells_memory : (path text : List ℕ) (report : Report) → report.fault ≡ Some (fault.Settings settings_fault.NoMemory)
+    → report.words.items ≡ fault_report (fault.Settings settings_fault.NoMemory) path None None [] → IsReportOnText path text report
+tells_memory path text report found is = subst (TellsText path text report.words.items) (sym found) ((λ memory. absurd (memory refl)), is)
 
 -- the report on settings that aren't TOML
-pub tells_broken : (path text words : List ℕ) (broken : Error) → settings_of (parse_document text) ≡ Err settings_fault.NotToml → IsTomlFault text broken
-    → words ≡ fault_report (fault.Settings settings_fault.NotToml) path (Some (toml_fault_line text broken)) None []
-    → TellsText path text words (Some (fault.Settings settings_fault.NotToml))
-tells_broken path text words broken refused is_fault is = ((λ memory. refused), (toml_fault_line text broken, (broken, is_fault, refl), is))
+pub tells_broken : (path text : List ℕ) (broken : Error) (report : Report) → settings_of (parse_document text) ≡ Err settings_fault.NotToml → IsTomlFault text broken
+    → report.fault ≡ Some (fault.Settings settings_fault.NotToml)
+    → report.words.items ≡ fault_report (fault.Settings settings_fault.NotToml) path (Some (toml_fault_line text broken)) None []
+    → IsReportOnText path text report
+tells_broken path text broken report refused is_fault found is =
+    subst (TellsText path text report.words.items) (sym found) ((λ memory. refused), (broken, is_fault, is))
+
+-- the report on settings that give a key twice
+pub tells_twice : {E : Type 0} (path text key : List ℕ) (broken : Error) (line : Option ℕ) (result : Result Report E)
+    → settings_of (parse_document text) ≡ Err settings_fault.NotToml → IsTomlFault text broken → IsKeyOf text broken key → line ≡ Some (toml_fault_line text broken)
+    → IfOk result (λ report. report.fault ≡ Some fault.KeyTwice) → IfOk result (λ report. report.words.items ≡ fault_report fault.KeyTwice path line None key)
+    → IfOk result (IsReportOnText path text)
+tells_twice path text key broken line (Ok report) refused is_fault is_key at found is =
+    subst (TellsText path text report.words.items) (sym found) (refused, (broken, key, is_fault, is_key, is ∙ ap (λ l. fault_report fault.KeyTwice path l None key) at))
+tells_twice path text key broken line (Err why) refused is_fault is_key at found is = tt
 
 -- the report on a table with a fault
 pub tells_refused : (path text words : List ℕ) (why : SettingsFault) (table : Members) → IsFaultOf text why → IsOfTable why
@@ -62,8 +89,3 @@ tells_refused path text words (settings_fault.Missing key) table refused of_tabl
 tells_refused path text words (settings_fault.WrongKind key) table refused of_table parsed is = (refused, (table, parsed, is))
 tells_refused path text words (settings_fault.OutOfRange key) table refused of_table parsed is = (refused, (table, parsed, is))
 tells_refused path text words settings_fault.UnknownKey table refused of_table parsed is = (refused, (table, parsed, is))
-
--- the report on settings that give a key twice
-pub tells_twice : (path text words : List ℕ) → settings_of (parse_document text) ≡ Err settings_fault.NotToml → TellsTwice path text words
-    → TellsText path text words (Some fault.KeyTwice)
-tells_twice path text words refused tells = (refused, tells)

@@ -1,5 +1,5 @@
 -- The lines of a report: one value for each, whatever bytes names contain.
-use Rattle.std.specs.Prelude.{ℕ, ◌==◌, List, [], ◌∷◌, ◌++◌, if◌then◌else◌}
+use Rattle.std.specs.Prelude.{ℕ, ◌==◌, List, [], ◌∷◌, ◌++◌, codes, if◌then◌else◌}
 use Rattle.std.specs.List.{flat_map}
 use Rattle.std.specs.Fmt.{decimal}
 use Rattle.gopher_item.specs.Special.{is_control}
@@ -31,8 +31,8 @@ number_line front number = count_words front number ++ 10 ∷ []
 
 -- a host and a port
 abbrev pub server_words : List ℕ → ℕ → List ℕ
-server_words host port = shown host ++ 32 ∷ decimal port
+server_words host port = shown host ++ count_words (codes " ") port
 
 -- the rest of a line: a host, a port, and a selector or a prefix of selectors
 abbrev pub place_rest : List ℕ → ℕ → List ℕ → List ℕ
-place_rest host port selector = server_words host port ++ 32 ∷ shown selector ++ 10 ∷ []
+place_rest host port selector = server_words host port ++ words_line (codes " ") selector

@@ -9,7 +9,6 @@ use Rattle.gopher_tree.specs.Files.{File, menu_files}
 use Rattle.gopher_tree.specs.MenuFile.{WrittenLineData, written_line}
 use Rattle.gopher_tree.specs.Reply.{menu_file, named}
 use Rattle.gopher_check.specs.Lines.{count_words, shown, words_line}
-use Rattle.gopher_check.specs.declared.links.Site.{Site}
 
 -- a client asks a Gopher server for items of this type; not for texts (`i`), errors (`3`), and
 -- sessions of other protocols (`2`, `8`, `T`: RFC 1436, section 3.8)
@@ -17,27 +16,22 @@ abbrev pub is_asked : ℕ → Bool
 is_asked kind =
     not ((kind == 105) || (kind == 51) || (kind == 50) || (kind == 56) || (kind == 84))
 
--- a client opens the address after these bytes itself
-abbrev pub is_address : List ℕ → Bool
-is_address selector = starts_with nat_eq selector (codes "URL:")
-
 abbrev pub leads_to_search : List ℕ → Bool
 leads_to_search selector = pointwise nat_eq selector (codes "/search")
 
--- the same host, with letters in any case
-abbrev pub is_same_host : List ℕ → List ℕ → Bool
-is_same_host host other =
-    pointwise nat_eq (map to_ascii_lowercase host) (map to_ascii_lowercase other)
-
--- the line is of the server with this address
+-- the line is of the server with this address, whose host may be written with letters in any case
 abbrev pub is_own : HomeData → Option HomeData → Bool
 is_own home None = true
-is_own home (Some server) = (server.port == home.port) && is_same_host server.host home.host
+is_own home (Some server) =
+    (server.port == home.port)
+    && pointwise nat_eq (map to_ascii_lowercase server.host) (map to_ascii_lowercase home.host)
 
--- the server answers the line's selector with `Not found`
+-- the server answers the line's selector with `Not found`; a client opens the address after `URL:`
+-- itself
 abbrev pub is_dead : HomeData → List File → WrittenLineData → Bool
 is_dead home files line =
-    is_asked line.kind && is_own home line.server && not (is_address line.selector)
+    is_asked line.kind && is_own home line.server
+    && not (starts_with nat_eq line.selector (codes "URL:"))
     && not (leads_to_search line.selector) && not (is_some (named files line.selector))
 
 abbrev pub place_words : List ℕ → List ℕ → List ℕ
@@ -84,14 +78,3 @@ abbrev pub offers_search : HomeData → List File → Bool
 offers_search home files =
     not (is_some (menu_file files []))
     || list_any (λ menu. menu_offers home menu.1) (menu_files files)
-
--- the warnings of a line, of a menu file, and of all menu files of a site
-abbrev pub site_line_warning : Site → List ℕ → ℕ → Option WrittenLineData → List ℕ
-site_line_warning site path number line =
-    line_warning site.home.now site.root.now site.tree.now path number line
-
-abbrev pub site_menu_warnings : Site → File → List ℕ
-site_menu_warnings site menu = menu_warnings site.home.now site.root.now site.tree.now menu
-
-abbrev pub site_warnings : Site → List ℕ
-site_warnings site = dead_lines site.home.now site.root.now site.tree.now

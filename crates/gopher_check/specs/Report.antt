@@ -15,8 +15,7 @@ use Rattle.gopher_tree.specs.declared.fault.TreeFault.{TreeFault}
 use Rattle.gopher_tree.specs.declared.fault.TreeFault.TheVariants as tree_fault
 use Rattle.gopher_check.specs.Fault.{site_fault_code, cause, remedy}
 use Rattle.gopher_check.specs.Lines.{words_line, count_words, number_line, server_words, place_rest}
-use Rattle.gopher_check.specs.Links.{dead_lines, offers_search, site_warnings}
-use Rattle.gopher_check.specs.declared.links.Site.{Site}
+use Rattle.gopher_check.specs.Links.{dead_lines, offers_search}
 use Rattle.gopher_check.specs.declared.obstacle.Obstacle.{Obstacle}
 use Rattle.gopher_check.specs.declared.obstacle.Obstacle.TheVariants as obstacle
 use Rattle.gopher_check.specs.declared.fault.SiteFault.{SiteFault}
@@ -33,31 +32,22 @@ unknown_detail None name = named_line (codes "key: ") name
 unknown_detail (Some array) name =
     words_line (codes "key: ") (key_name array) ++ named_line (codes "unknown: ") name
 
-abbrev pub settings_words : SettingsFault → Option Key → List ℕ → List ℕ
-settings_words (settings_fault.Missing key) array unknown =
-    words_line (codes "key: ") (key_name key)
-settings_words (settings_fault.WrongKind key) array unknown =
-    words_line (codes "key: ") (key_name key)
-settings_words (settings_fault.OutOfRange key) array unknown =
-    words_line (codes "key: ") (key_name key)
-settings_words settings_fault.UnknownKey array unknown = unknown_detail array unknown
-settings_words why array unknown = []
-
--- the line of the number that is over a limit
-abbrev pub size_detail : Obstacle → List ℕ
-size_detail (obstacle.LargeFile size) = number_line (codes "size: ") size
-size_detail (obstacle.LargeSite size) = number_line (codes "size: ") size
-size_detail (obstacle.ManyNodes size) = number_line (codes "size: ") size
-size_detail how = []
-
--- the line of the key, the seed or the number that a fault names; `unknown` is a key that isn't
--- known, or is given twice
+-- the line of the key, of the seed, or of the number over a limit that a fault names; `unknown` is
+-- a key that isn't known, or is given twice
 abbrev pub detail : SiteFault → Option Key → List ℕ → List ℕ
-detail (fault.Settings why) array unknown = settings_words why array unknown
-detail (fault.SeedOutOfScope seed) array unknown = number_line (codes "seed: ") seed
+detail (fault.Settings (settings_fault.Missing key)) array unknown =
+    words_line (codes "key: ") (key_name key)
+detail (fault.Settings (settings_fault.WrongKind key)) array unknown =
+    words_line (codes "key: ") (key_name key)
+detail (fault.Settings (settings_fault.OutOfRange key)) array unknown =
+    words_line (codes "key: ") (key_name key)
+detail (fault.Settings settings_fault.UnknownKey) array unknown = unknown_detail array unknown
 detail fault.KeyTwice array unknown = unknown_detail array unknown
-detail (fault.Tree why how) array unknown = size_detail how
-detail fault.SettingsUnreadable array unknown = []
+detail (fault.SeedOutOfScope seed) array unknown = number_line (codes "seed: ") seed
+detail (fault.Tree why (obstacle.LargeFile size)) array unknown = number_line (codes "size: ") size
+detail (fault.Tree why (obstacle.LargeSite size)) array unknown = number_line (codes "size: ") size
+detail (fault.Tree why (obstacle.ManyNodes size)) array unknown = number_line (codes "size: ") size
+detail why array unknown = []
 
 abbrev pub line_detail : Option ℕ → List ℕ
 line_detail None = []
@@ -71,18 +61,10 @@ fault_report why path line array unknown =
     ++ line_detail line ++ detail why array unknown
     ++ words_line (codes "cause: ") (cause why) ++ words_line (codes "remedy: ") (remedy why)
 
--- the report of a settings file that can't be read
-abbrev pub unreadable_report : List ℕ → List ℕ
-unreadable_report path = fault_report fault.SettingsUnreadable path None None []
-
 -- the line of a menu file that a fault names
 abbrev pub line_of_fault : TreeFault → Option ℕ
 line_of_fault (tree_fault.BadMenuLine file line) = Some line
 line_of_fault why = None
-
--- the path of a file or folder of the tree, after the root's own path
-abbrev pub path_below : List ℕ → List ℕ → List ℕ
-path_below root path = root ++ 47 ∷ path
 
 -- the line that says why a root that begins with `~` isn't there
 abbrev pub hint_line : List ℕ → Obstacle → List ℕ
@@ -90,10 +72,10 @@ hint_line (byte ∷ more) obstacle.Missing =
     if byte == 126 then codes "hint: ~ isn't expanded in root; write the whole path\n" else []
 hint_line root how = []
 
--- the report of a fault of a folder
+-- the report of a fault of the folder `root`, at the path `below` it
 abbrev pub folder_report : TreeFault → Obstacle → List ℕ → List ℕ → List ℕ
 folder_report why how root below =
-    fault_report (fault.Tree why how) (path_below root below) (line_of_fault why) None []
+    fault_report (fault.Tree why how) (root ++ 47 ∷ below) (line_of_fault why) None []
     ++ hint_line root how
 
 abbrev pub leaves_nothing_out : ℕ → ℕ → ℕ → Bool
@@ -123,7 +105,7 @@ seeds_warning seeds offered = []
 
 abbrev pub address_lines : HomeData → List ℕ → List ℕ
 address_lines home root =
-    codes "address: " ++ server_words home.host home.port ++ 10 ∷ words_line (codes "root: ") root
+    codes "address: " ++ server_words home.host home.port ++ words_line (codes "\nroot: ") root
 
 -- the numbers of files, menu files and bytes
 abbrev pub size_lines : List File → List ℕ
@@ -135,17 +117,15 @@ size_lines files =
 abbrev pub seed_line : PlaceData → List ℕ
 seed_line seed = codes "seed: " ++ seed.kind ∷ 32 ∷ place_rest seed.host seed.port seed.selector
 
-abbrev pub rule_line : List ℕ → RuleData → List ℕ
-rule_line front rule = front ++ place_rest rule.host rule.port rule.prefix
-
 abbrev pub rule_lines : List ℕ → List RuleData → List ℕ
-rule_lines front rules = flat_map (rule_line front) rules
+rule_lines front rules =
+    flat_map (λ rule. front ++ place_rest rule.host rule.port rule.prefix) rules
 
 -- the lines of menus that lead nowhere, what isn't served, and a search without seeds
-abbrev pub warnings : Site → List PlaceData → Trail → List ℕ
-warnings site seeds trail =
-    site_warnings site ++ left_out site.tree.now trail
-    ++ seeds_warning seeds (offers_search site.home.now site.tree.now)
+abbrev pub warnings : HomeData → List ℕ → List File → List PlaceData → Trail → List ℕ
+warnings home root files seeds trail =
+    dead_lines home root files ++ left_out files trail
+    ++ seeds_warning seeds (offers_search home files)
 
 -- the report of a site without a fault: the settings file, its address, its sizes, the seeds and
 -- rules of its crawl, and warnings
@@ -156,6 +136,4 @@ site_report path settings files trail =
     ++ flat_map seed_line settings.seeds
     ++ rule_lines (codes "may visit: ") settings.scope.allow
     ++ rule_lines (codes "may not visit: ") settings.scope.deny
-    ++ dead_lines settings.home settings.root files
-    ++ left_out files trail
-    ++ seeds_warning settings.seeds (offers_search settings.home files) ++ codes "sound\n"
+    ++ warnings settings.home settings.root files settings.seeds trail ++ codes "sound\n"

@@ -9,12 +9,14 @@ use Rattle.gopher_scope.specs.declared.fault.SettingsFault.{SettingsFault}
 use Rattle.gopher_scope.specs.declared.fault.SettingsFault.TheVariants as settings_fault
 use Rattle.gopher_tree.specs.Files.{File}
 use Rattle.gopher_tree.specs.Load.{LoadsTo}
+use Rattle.gopher_tree.specs.declared.fault.TreeFault.{TreeFault}
 use Rattle.gopher_tree.specs.declared.load.trail.Trail.{Trail}
 use Rattle.gopher_check.specs.Fault.{IsReason}
 use Rattle.gopher_check.specs.Report.{fault_report, folder_report, site_report}
 use Rattle.gopher_check.specs.Table.{table_report}
-use Rattle.gopher_check.specs.Text.{toml_fault_line, IsTomlFault, IsLineOf, IsKeyOf}
-use Rattle.gopher_check.specs.declared.checking.Report.{Report}
+use Rattle.gopher_check.specs.Text.{toml_fault_line, IsTomlFault, IsKeyOf}
+use Rattle.gopher_check.specs.declared.fault_report.Report.{Report}
+use Rattle.gopher_check.specs.declared.obstacle.Obstacle.{Obstacle}
 use Rattle.gopher_check.specs.declared.fault.SiteFault.{SiteFault}
 use Rattle.gopher_check.specs.declared.fault.SiteFault.TheVariants as fault
 
@@ -36,6 +38,12 @@ TellsSite path settings words (Some other) = ⊥
 abbrev pub IsReportOnSite : List ℕ → SettingsData → Report → Type 0
 IsReportOnSite path settings report = TellsSite path settings report.words.items report.fault
 
+-- the report, with its fault, is the one on a fault of a folder at the end of a trail
+abbrev pub IsReportOnFolder : TreeFault → List ℕ → Trail → Report → Type 0
+IsReportOnFolder why root trail report =
+    (how : Obstacle) × IsReason why trail how × (report.fault ≡ Some (fault.Tree why how))
+    × (report.words.items ≡ folder_report why how root trail.path.items)
+
 -- the fault is one of a table
 abbrev pub IsOfTable : SettingsFault → Type 0
 IsOfTable settings_fault.NotToml = ⊥
@@ -46,8 +54,9 @@ IsOfTable why = Unit {0}
 -- fault; of memory; on a table, with all its faults
 abbrev pub TellsRefused : List ℕ → List ℕ → List ℕ → SettingsFault → Type 0
 TellsRefused path text words settings_fault.NotToml =
-    (line : ℕ) × IsLineOf text line
-    × (words ≡ fault_report (fault.Settings settings_fault.NotToml) path (Some line) None [])
+    (broken : Error) × IsTomlFault text broken
+    × (words ≡ fault_report (fault.Settings settings_fault.NotToml) path
+    (Some (toml_fault_line text broken)) None [])
 TellsRefused path text words settings_fault.NoMemory =
     words ≡ fault_report (fault.Settings settings_fault.NoMemory) path None None []
 TellsRefused path text words why =
@@ -58,11 +67,6 @@ abbrev pub TellsTwice : List ℕ → List ℕ → List ℕ → Type 0
 TellsTwice path text words =
     (broken : Error) × (key : List ℕ) × IsTomlFault text broken × IsKeyOf text broken key
     × (words ≡ fault_report fault.KeyTwice path (Some (toml_fault_line text broken)) None key)
-
--- the report, with its fault, is the one on settings that give a key twice
-abbrev pub IsReportOnTwice : List ℕ → List ℕ → Report → Type 0
-IsReportOnTwice path text report =
-    (report.fault ≡ Some fault.KeyTwice) × TellsTwice path text report.words.items
 
 -- the report on a text of settings: their fault, or the report on the site that they describe
 abbrev pub TellsText : List ℕ → List ℕ → List ℕ → Option SiteFault → Type 0

@@ -25,16 +25,8 @@ IsTomlFault text fault =
 abbrev pub toml_fault_line : List ℕ → Error → ℕ
 toml_fault_line text fault = line_at text (span_start fault)
 
--- the key of the piece of the text that is the parser's fault
-abbrev pub toml_fault_key : List ℕ → Error → List ℕ
-toml_fault_key text fault =
-    key_of (take (span_end fault - span_start fault) (drop (span_start fault) text))
-
--- the line at which a fault of the parser in the text begins
-abbrev pub IsLineOf : List ℕ → ℕ → Type 0
-IsLineOf text line =
-    (fault : Error) × IsTomlFault text fault × (line ≡ toml_fault_line text fault)
-
--- the key at a fault of the parser in the text; it isn't empty
+-- the key of the piece of the text that is the parser's fault; it isn't empty
 abbrev pub IsKeyOf : List ℕ → Error → List ℕ → Type 0
-IsKeyOf text fault key = (key ≢ []) × (key ≡ toml_fault_key text fault)
+IsKeyOf text fault key =
+    (key ≢ [])
+    × (key ≡ key_of (take (span_end fault - span_start fault) (drop (span_start fault) text)))

@@ -1,19 +1,18 @@
 //! Checking a site (`check`): its settings, its folder and its seeds; and which line or key a
 //! report names.
 
-ghost use Rattle.std.specs.Prelude.{◌≡◌, ◌≤◌, ◌++◌, length, None, Some, Err, IfOk, IfSome, OnOk};
+ghost use Rattle.std.specs.Prelude.{◌≡◌, ◌++◌, [], None, Some, Err, IfOk, IfSome, OnOk};
 ghost use Rattle.toml.specs.Parse.{parse_document};
 ghost use Rattle.gopher_item.specs.Scope.{first_outside};
 ghost use Rattle.gopher_scope.specs.Settings.{settings_data, settings_of, IsFaultOf};
 ghost use Rattle.gopher_scope.specs.declared.fault.SettingsFault.TheVariants as settings_fault;
-ghost use Rattle.gopher_tree.specs.Fault.{files_fault};
 ghost use Rattle.gopher_check.specs.declared.fault.SiteFault.TheVariants.{SettingsUnreadable};
-ghost use Rattle.gopher_check.specs.Report.{folder_report, hint_line, unreadable_report, line_of_fault, path_below};
-ghost use Rattle.gopher_check.specs.Tells.{IsOfTable, IsReportOnSite, IsReportOnText, IsReportOnTwice};
-ghost use Rattle.gopher_check.specs.Text.{line_at, key_of, toml_fault_line, IsKeyOf, IsTomlFault};
+ghost use Rattle.gopher_check.specs.Report.{fault_report, hint_line, line_of_fault};
+ghost use Rattle.gopher_check.specs.Tells.{IsOfTable, IsReportOnFolder, IsReportOnSite, IsReportOnText};
+ghost use Rattle.gopher_check.specs.Text.{key_of, toml_fault_line, IsKeyOf, IsTomlFault};
 
 use crate::fault::SiteFault;
-use crate::fault_report::fault_report;
+use crate::fault_report::{Report, report_fault};
 use crate::obstacle::{Obstacle, reason};
 use crate::site_report::site_report;
 use crate::table_report::table_report;
@@ -27,26 +26,14 @@ use toml::de::Error as TomlFault;
 // The message of the TOML parser for a key that is given twice.
 const DUPLICATE: &str = "duplicate key";
 
-/// The report of a check.
-#[derive(Debug, Drop)]
-pub struct Report {
-    /// The lines of the report.
-    pub words: Vec<u8>,
-    /// The first fault of the site; `None` if it has none.
-    pub fault: Option<SiteFault>,
-}
-
 /// Reports that the settings file at `path` can't be read.
 pub fn unreadable(alloc: Global, path: &str) -> Result<Report, NoMemory>
     ensures fault { IfOk result (λ report. report.fault ≡ Some SettingsUnreadable) }
-    ensures words { IfOk result (λ report. report.words.items ≡ unreadable_report path.now) }
+    ensures words { IfOk result (λ report.
+        report.words.items ≡ fault_report SettingsUnreadable path.now None None []) }
 {
     let fault = SiteFault::SettingsUnreadable;
-    let words = fault_report(alloc, fault, path.as_bytes(), None, b"")?;
-    Ok(Report {
-        words,
-        fault: Some(fault),
-    })
+    report_fault(alloc, fault, path.as_bytes(), None, b"")
 }
 
 // The index of the first seed that the scope doesn't allow.
@@ -66,22 +53,59 @@ fn line_of_fault(fault: TreeFault) -> Option<usize>
     }
 }
 
-// The path of a file or folder of the tree, after the root's own path.
-fn path_below(alloc: Global, root: &str, path: &[u8]) -> Result<Vec<u8>, NoMemory>
-    ensures { IfOk result (λ below. below.items ≡ path_below root.now path.now) }
+// Appends the line that says why a root that begins with `~` isn't there.
+fn push_hint(root: &str, how: Obstacle, out: &mut Vec<u8>) -> Result<(), AllocError>
+    ensures { OnOk result (out.new.items ≡ out.old.items ++ hint_line root.now how) }
 {
-    let mut below = Vec::from_slice(alloc, root.as_bytes())?;
-    below.extend_from_slice(b"/")?;
-    below.extend_from_slice(path)?;
-    Ok(below)
+    match (root.as_bytes(), how) {
+        ([b'~', ..], Obstacle::Missing) => {
+            out.extend_from_slice(b"hint: ~ isn't expanded in root; write the whole path\n")
+        }
+        _ => Ok(()),
+    }
 }
 
-// The number of the line, from 1, that has the byte at an offset.
-fn line_at(text: &[u8], offset: usize) -> usize
-    requires { offset ≤ length text.now }
-    ensures { result ≡ line_at text.now offset }
+// The report of a fault of the folder `root`, at the end of the trail that its walk left.
+fn folder_report<R: Files>(
+    rt: &R,
+    alloc: Global,
+    root: &str,
+    fault: TreeFault,
+    trail: &Trail,
+) -> Result<Report, NoMemory>
+    ensures { IfOk result (IsReportOnFolder fault root.now trail.now) }
 {
-    text[..offset].iter().filter(|byte| **byte == b'\n').count() + 1
+    let mut place = Vec::from_slice(alloc, root.as_bytes())?;
+    place.extend_from_slice(b"/")?;
+    place.extend_from_slice(&trail.path)?;
+    let how = reason(rt, alloc, fault, trail, &place);
+    let line = line_of_fault(fault);
+    let mut report = report_fault(alloc, SiteFault::Tree(fault, how), &place, line, b"")?;
+    push_hint(root, how, &mut report.words)?;
+    Ok(report)
+}
+
+// The report on settings and their folder.
+fn settings_report<R: Files>(
+    rt: &R,
+    alloc: Global,
+    path: &[u8],
+    settings: Settings,
+) -> Result<Report, NoMemory>
+    ensures { IfOk result (IsReportOnSite path.now (settings_data settings)) }
+{
+    let mut trail = Trail::new(alloc);
+    let tree = match Tree::load_along(rt, alloc, settings.root.as_str(), &mut trail) {
+        Ok(tree) => tree,
+        Err(fault) => return folder_report(rt, alloc, settings.root.as_str(), fault, &trail),
+    };
+    if let Some(seed) = first_outside(&settings.scope, &settings.seeds) {
+        return report_fault(alloc, SiteFault::SeedOutOfScope(seed), path, None, b"");
+    }
+    Ok(Report {
+        words: site_report(alloc, path, settings, &tree, &trail)?,
+        fault: None,
+    })
 }
 
 // The fault with which the TOML parser refuses a text.
@@ -100,89 +124,8 @@ fn broken_line(text: &str, fault: &TomlFault) -> Option<usize>
     ensures { result ≡ Some (toml_fault_line text.now fault.now) }
 {
     let start = fault.span()?.start;
-    Some(line_at(text.as_bytes(), start))
-}
-
-// The report on settings and the tree of their folder.
-fn tree_report(
-    alloc: Global,
-    path: &str,
-    settings: Settings,
-    tree: &Tree,
-    trail: &Trail,
-) -> Result<Report, NoMemory>
-    requires { files_fault tree.now ≡ None }
-    ensures { IfOk result (IsReportOnSite path.now (settings_data settings)) }
-{
-    if let Some(seed) = first_outside(&settings.scope, &settings.seeds) {
-        let fault = SiteFault::SeedOutOfScope(seed);
-        let words = fault_report(alloc, fault, path.as_bytes(), None, b"")?;
-        return Ok(Report {
-            words,
-            fault: Some(fault),
-        });
-    }
-    let words = site_report(alloc, path.as_bytes(), settings, tree, trail)?;
-    Ok(Report { words, fault: None })
-}
-
-// Appends the line that says why a root that begins with `~` isn't there.
-fn push_hint(root: &str, how: Obstacle, out: &mut Vec<u8>) -> Result<(), AllocError>
-    ensures { OnOk result (out.new.items ≡ out.old.items ++ hint_line root.now how) }
-{
-    match (root.as_bytes(), how) {
-        ([byte, ..], Obstacle::Missing) => {
-            if *byte == b'~' {
-                out.extend_from_slice(b"hint: ~ isn't expanded in root; write the whole path\n")
-            } else {
-                Ok(())
-            }
-        }
-        _ => Ok(()),
-    }
-}
-
-// The report of a fault of the folder `root`, at the path `below` it, with the system's reason.
-fn folder_report(
-    alloc: Global,
-    root: &str,
-    below: &[u8],
-    why: TreeFault,
-    how: Obstacle,
-    place: &[u8],
-) -> Result<Vec<u8>, NoMemory>
-    requires { place.now ≡ path_below root.now below.now }
-    ensures { IfOk result (λ words. words.items ≡ folder_report why how root.now below.now) }
-{
-    let fault = SiteFault::Tree(why, how);
-    let mut words = fault_report(alloc, fault, place, line_of_fault(why), b"")?;
-    push_hint(root, how, &mut words)?;
-    Ok(words)
-}
-
-// The report on settings and their folder.
-fn settings_report<R: Files>(
-    rt: &R,
-    alloc: Global,
-    path: &str,
-    settings: Settings,
-) -> Result<Report, NoMemory>
-    ensures { IfOk result (IsReportOnSite path.now (settings_data settings)) }
-{
-    let mut trail = Trail::new(alloc);
-    match Tree::load_along(rt, alloc, settings.root.as_str(), &mut trail) {
-        Ok(tree) => tree_report(alloc, path, settings, &tree, &trail),
-        Err(fault) => {
-            let place = path_below(alloc, settings.root.as_str(), &trail.path)?;
-            let how = reason(rt, alloc, fault, &trail, &place);
-            let root = settings.root.as_str();
-            let words = folder_report(alloc, root, &trail.path, fault, how, &place)?;
-            Ok(Report {
-                words,
-                fault: Some(SiteFault::Tree(fault, how)),
-            })
-        }
-    }
+    let before = text.as_bytes()[..start].iter();
+    Some(before.filter(|byte| **byte == b'\n').count() + 1)
 }
 
 // The key of a piece of TOML: a key with its value, or the line that begins a table.
@@ -210,45 +153,29 @@ fn key_twice<'a>(text: &'a str, fault: &TomlFault) -> Option<&'a [u8]>
     }
 }
 
-// The report of settings that give a key twice.
-fn twice_report(
-    alloc: Global,
-    path: &str,
-    text: &str,
-    broken: &TomlFault,
-    key: &[u8],
-) -> Result<Report, NoMemory>
-    requires broken { IsTomlFault text.now broken.now }
-    requires key { IsKeyOf text.now broken.now key.now }
-    ensures { IfOk result (IsReportOnTwice path.now text.now) }
-{
-    let fault = SiteFault::KeyTwice;
-    let line = broken_line(text, broken);
-    let words = fault_report(alloc, fault, path.as_bytes(), line, key)?;
-    Ok(Report {
-        words,
-        fault: Some(fault),
-    })
-}
-
-// The report of settings for which memory runs out.
-#[tactic(auto, using(crate::proofs::Tells::tells_memory))]
-fn memory_report(alloc: Global, path: &str, text: &str) -> Result<Report, NoMemory>
+// The report of settings that aren't TOML, or give a key twice, with the line of the parser's
+// fault.
+#[tactic(auto, using(crate::proofs::Tells::tells_broken))]
+fn not_toml_report(alloc: Global, path: &[u8], text: &str) -> Result<Report, NoMemory>
+    requires { settings_of (parse_document text.now) ≡ Err settings_fault.NotToml }
     ensures { IfOk result (IsReportOnText path.now text.now) }
 {
-    let fault = SiteFault::Settings(SettingsFault::NoMemory);
-    let words = fault_report(alloc, fault, path.as_bytes(), None, b"")?;
-    Ok(Report {
-        words,
-        fault: Some(fault),
-    })
+    let broken = toml_fault(alloc, text)?;
+    let line = broken_line(text, &broken);
+    match key_twice(text, &broken) {
+        Some(key) => report_fault(alloc, SiteFault::KeyTwice, path, line, key),
+        None => {
+            let fault = SiteFault::Settings(SettingsFault::NotToml);
+            report_fault(alloc, fault, path, line, b"")
+        }
+    }
 }
 
 // The report of a table of settings with a fault.
 #[tactic(auto, using(crate::proofs::Tells::tells_refused))]
 fn refused_report(
     alloc: Global,
-    path: &str,
+    path: &[u8],
     text: &str,
     refused: SettingsFault,
 ) -> Result<Report, NoMemory>
@@ -259,44 +186,10 @@ fn refused_report(
     let Ok(table) = toml::table_from_str(alloc, text) else {
         return Err(NoMemory);
     };
-    let words = table_report(alloc, path.as_bytes(), &table)?;
     Ok(Report {
-        words,
+        words: table_report(alloc, path, &table)?,
         fault: Some(SiteFault::Settings(refused)),
     })
-}
-
-// The report of settings that aren't TOML, with the line of the parser's fault.
-fn broken_report(
-    alloc: Global,
-    path: &str,
-    text: &str,
-    broken: &TomlFault,
-) -> Result<Report, NoMemory>
-    requires text { settings_of (parse_document text.now) ≡ Err settings_fault.NotToml }
-    requires broken { IsTomlFault text.now broken.now }
-    ensures { IfOk result (IsReportOnText path.now text.now) }
-{
-    let fault = SiteFault::Settings(SettingsFault::NotToml);
-    let number = broken_line(text, broken);
-    let words = fault_report(alloc, fault, path.as_bytes(), number, b"")?;
-    Ok(Report {
-        words,
-        fault: Some(fault),
-    })
-}
-
-// The report of settings that aren't TOML, or give a key twice.
-#[tactic(auto, using(crate::proofs::Tells::tells_twice))]
-fn not_toml_report(alloc: Global, path: &str, text: &str) -> Result<Report, NoMemory>
-    requires { settings_of (parse_document text.now) ≡ Err settings_fault.NotToml }
-    ensures { IfOk result (IsReportOnText path.now text.now) }
-{
-    let broken = toml_fault(alloc, text)?;
-    match key_twice(text, &broken) {
-        Some(key) => twice_report(alloc, path, text, &broken, key),
-        None => broken_report(alloc, path, text, &broken),
-    }
 }
 
 /// Checks the settings in `text`, the folder that they name, and their seeds. `path` is the path of
@@ -307,17 +200,18 @@ fn not_toml_report(alloc: Global, path: &str, text: &str) -> Result<Report, NoMe
 /// and the key there if it is given twice. After the first of 31 to 34 it names the others. For 23
 /// it names the limit, and the number that is over it. For 26 it reads the file or folder once more
 /// and names the system's reason.
-#[tactic(auto, using(crate::proofs::Tells::tells_text))]
+#[tactic(auto, using(crate::proofs::Tells::tells_memory))]
 pub fn check<R: Files>(rt: &R, alloc: Global, path: &str, text: &str) -> Result<Report, NoMemory>
     ensures { IfOk result (IsReportOnText path.now text.now) }
 {
+    let path = path.as_bytes();
     match Settings::read(alloc, text) {
-        Ok(settings) => {
-            let report = settings_report(rt, alloc, path, settings)?;
-            Ok(report)
-        }
+        Ok(settings) => settings_report(rt, alloc, path, settings),
         Err(SettingsFault::NotToml) => not_toml_report(alloc, path, text),
-        Err(SettingsFault::NoMemory) => memory_report(alloc, path, text),
+        Err(SettingsFault::NoMemory) => {
+            let fault = SiteFault::Settings(SettingsFault::NoMemory);
+            report_fault(alloc, fault, path, None, b"")
+        }
         Err(refused) => refused_report(alloc, path, text, refused),
     }
 }

@@ -23,56 +23,33 @@ pub enum SiteFault {
     KeyTwice,
 }
 
-fn tree_cause(fault: TreeFault, obstacle: Obstacle) -> &'static str
-    ensures { result.now ≡ tree_cause fault obstacle }
+fn explain_tree(fault: TreeFault, obstacle: Obstacle) -> (&'static str, &'static str)
+    ensures cause { result.0.now ≡ tree_cause fault obstacle }
+    ensures remedy { result.1.now ≡ tree_remedy fault obstacle }
 {
     match fault {
-        TreeFault::BadName { .. } => {
-            "a name in this path contains a TAB, CR or LF, or a folder is named .menu"
-        }
-        TreeFault::Reserved { .. } =>
+        TreeFault::BadName { .. } => (
+            "a name in this path contains a TAB, CR or LF, or a folder is named .menu",
+            "rename the file or folder",
+        ),
+        TreeFault::Reserved { .. } => (
             "the name search is reserved in the root, because /search is the server's search",
-        TreeFault::LongSelector { .. } => "the path from the root has over 254 bytes",
-        TreeFault::TooBig { .. } => obstacle.cause(),
-        TreeFault::BadMenuLine { .. } => "this isn't a valid line of a menu file",
-        TreeFault::Twice { .. } => "another file has the same path",
-        TreeFault::Unreadable { .. } => obstacle.cause(),
-        TreeFault::NoMemory => "out of memory",
-    }
-}
-
-fn tree_remedy(fault: TreeFault, obstacle: Obstacle) -> &'static str
-    ensures { result.now ≡ tree_remedy fault obstacle }
-{
-    match fault {
-        TreeFault::BadName { .. } => "rename the file or folder",
-        TreeFault::Reserved { .. } => "rename the file or folder",
-        TreeFault::LongSelector { .. } => {
-            "use shorter names, or remove a symbolic link that points to a folder above it"
-        }
-        TreeFault::TooBig { .. } => obstacle.remedy(),
-        TreeFault::BadMenuLine { .. } => {
-            "write text without TABs, or type and name, TAB, selector, and for another server TAB, host, TAB, port"
-        }
-        TreeFault::Twice { .. } => "remove one of the two",
-        TreeFault::Unreadable { .. } => obstacle.remedy(),
-        TreeFault::NoMemory => "give the program more memory, or serve fewer or smaller files",
-    }
-}
-
-fn settings_cause(fault: SettingsFault) -> &'static str
-    ensures { result.now ≡ settings_cause fault }
-{
-    match fault {
-        SettingsFault::NotToml => "the settings aren't valid TOML",
-        SettingsFault::Missing(_) =>
-            "this key is missing, or one of its tables lacks a required key",
-        SettingsFault::WrongKind(_) =>
-            "this key's value has the wrong type, or a value in one of its tables has",
-        SettingsFault::OutOfRange(_) =>
-            "this key's value is out of range, or a value in one of its tables is",
-        SettingsFault::UnknownKey => "this key is unknown, or a key in one of its tables is",
-        SettingsFault::NoMemory => "out of memory",
+            "rename the file or folder",
+        ),
+        TreeFault::LongSelector { .. } => (
+            "the path from the root has over 254 bytes",
+            "use shorter names, or remove a symbolic link that points to a folder above it",
+        ),
+        TreeFault::TooBig { .. } | TreeFault::Unreadable { .. } => obstacle.explain(),
+        TreeFault::BadMenuLine { .. } => (
+            "this isn't a valid line of a menu file",
+            "write text without TABs, or type and name, TAB, selector, and for another server TAB, host, TAB, port",
+        ),
+        TreeFault::Twice { .. } => ("another file has the same path", "remove one of the two"),
+        TreeFault::NoMemory => (
+            "out of memory",
+            "give the program more memory, or serve fewer or smaller files",
+        ),
     }
 }
 
@@ -96,20 +73,32 @@ fn range_remedy(key: Key) -> &'static str
     }
 }
 
-fn settings_remedy(fault: SettingsFault) -> &'static str
-    ensures { result.now ≡ settings_remedy fault }
+fn explain_settings(fault: SettingsFault) -> (&'static str, &'static str)
+    ensures cause { result.0.now ≡ settings_cause fault }
+    ensures remedy { result.1.now ≡ settings_remedy fault }
 {
     match fault {
-        SettingsFault::NotToml => "correct this line; strings need quotation marks",
-        SettingsFault::Missing(_) => "add it; hole.toml(5) describes the keys",
-        SettingsFault::WrongKind(_) => {
-            "put strings in quotation marks, write integers without, and begin tables with [[seeds]], [[allow]] or [[deny]]"
-        }
-        SettingsFault::OutOfRange(key) => range_remedy(key),
-        SettingsFault::UnknownKey => {
-            "correct its spelling; the server's own keys come before the first [["
-        }
-        SettingsFault::NoMemory => "give the program more memory",
+        SettingsFault::NotToml => (
+            "the settings aren't valid TOML",
+            "correct this line; strings need quotation marks",
+        ),
+        SettingsFault::Missing(_) => (
+            "this key is missing, or one of its tables lacks a required key",
+            "add it; hole.toml(5) describes the keys",
+        ),
+        SettingsFault::WrongKind(_) => (
+            "this key's value has the wrong type, or a value in one of its tables has",
+            "put strings in quotation marks, write integers without, and begin tables with [[seeds]], [[allow]] or [[deny]]",
+        ),
+        SettingsFault::OutOfRange(key) => (
+            "this key's value is out of range, or a value in one of its tables is",
+            range_remedy(key),
+        ),
+        SettingsFault::UnknownKey => (
+            "this key is unknown, or a key in one of its tables is",
+            "correct its spelling; the server's own keys come before the first [[",
+        ),
+        SettingsFault::NoMemory => ("out of memory", "give the program more memory"),
     }
 }
 
@@ -127,35 +116,26 @@ impl SiteFault {
         }
     }
 
-    /// Returns the cause of the fault: one line, without its LF.
-    pub fn cause(self) -> &'static str
-        ensures { result.now ≡ cause self }
+    /// Returns the cause of the fault and its remedy: one line each, without its LF.
+    pub fn explain(self) -> (&'static str, &'static str)
+        ensures cause { result.0.now ≡ cause self }
+        ensures remedy { result.1.now ≡ remedy self }
     {
         match self {
-            SiteFault::Settings(fault) => settings_cause(fault),
-            SiteFault::Tree(fault, obstacle) => tree_cause(fault, obstacle),
-            SiteFault::SeedOutOfScope(_) => {
-                "no allow rule covers this seed, or a deny rule does"
-            }
-            SiteFault::SettingsUnreadable => {
-                "the settings can't be read, have over 1048576 bytes, or aren't UTF-8"
-            }
-            SiteFault::KeyTwice => "this line repeats an earlier key or table",
-        }
-    }
-
-    /// Returns the remedy for the fault: one line, without its LF.
-    pub fn remedy(self) -> &'static str
-        ensures { result.now ≡ remedy self }
-    {
-        match self {
-            SiteFault::Settings(fault) => settings_remedy(fault),
-            SiteFault::Tree(fault, obstacle) => tree_remedy(fault, obstacle),
-            SiteFault::SeedOutOfScope(_) => {
-                "add an allow rule with its host, its port and a prefix of its selector, change the deny rule, or remove the seed"
-            }
-            SiteFault::SettingsUnreadable => "correct the path, the permissions or the text",
-            SiteFault::KeyTwice => "remove one of the two lines",
+            SiteFault::Settings(fault) => explain_settings(fault),
+            SiteFault::Tree(fault, obstacle) => explain_tree(fault, obstacle),
+            SiteFault::SeedOutOfScope(_) => (
+                "no allow rule covers this seed, or a deny rule does",
+                "add an allow rule with its host, its port and a prefix of its selector, change the deny rule, or remove the seed",
+            ),
+            SiteFault::SettingsUnreadable => (
+                "the settings can't be read, have over 1048576 bytes, or aren't UTF-8",
+                "correct the path, the permissions or the text",
+            ),
+            SiteFault::KeyTwice => (
+                "this line repeats an earlier key or table",
+                "remove one of the two lines",
+            ),
         }
     }
 }

@@ -1,7 +1,7 @@
 //! The report of a fault: number, path, line, key, seed or size, cause and remedy.
 
-ghost use Rattle.std.specs.Prelude.{◌≡◌, ◌++◌, [], None, IfOk, OnOk};
-ghost use Rattle.gopher_check.specs.Report.{named_line, unknown_detail, settings_words, size_detail, detail, line_detail, fault_report};
+ghost use Rattle.std.specs.Prelude.{◌≡◌, ◌++◌, [], None, Some, IfOk, OnOk};
+ghost use Rattle.gopher_check.specs.Report.{named_line, unknown_detail, detail, line_detail, fault_report};
 
 use crate::fault::SiteFault;
 use crate::lines::{push_number, push_words};
@@ -9,6 +9,15 @@ use crate::obstacle::Obstacle;
 use gopher_item::NoMemory;
 use gopher_scope::{Key, SettingsFault};
 use std::alloc::{AllocError, Global};
+
+/// The report of a check.
+#[derive(Debug, Drop)]
+pub struct Report {
+    /// The lines of the report.
+    pub words: Vec<u8>,
+    /// The first fault of the site; `None` if it has none.
+    pub fault: Option<SiteFault>,
+}
 
 // Appends the line of a name, unless it is empty.
 fn push_name(front: &[u8], name: &[u8], out: &mut Vec<u8>) -> Result<(), AllocError>
@@ -33,36 +42,6 @@ fn push_unknown(array: Option<Key>, key: &[u8], out: &mut Vec<u8>) -> Result<(),
     }
 }
 
-// Appends the key that a fault of the settings names, or the unknown key.
-fn push_settings_detail(
-    fault: SettingsFault,
-    array: Option<Key>,
-    key: &[u8],
-    out: &mut Vec<u8>,
-) -> Result<(), AllocError>
-    ensures { OnOk result (out.new.items ≡ out.old.items ++ settings_words fault array key.now) }
-{
-    match fault {
-        SettingsFault::Missing(key)
-        | SettingsFault::WrongKind(key)
-        | SettingsFault::OutOfRange(key) => push_words(b"key: ", key.name().as_bytes(), out),
-        SettingsFault::UnknownKey => push_unknown(array, key, out),
-        SettingsFault::NotToml | SettingsFault::NoMemory => Ok(()),
-    }
-}
-
-// Appends the number that is over a limit.
-fn push_size(how: Obstacle, out: &mut Vec<u8>) -> Result<(), AllocError>
-    ensures { OnOk result (out.new.items ≡ out.old.items ++ size_detail how) }
-{
-    match how {
-        Obstacle::LargeFile(size) | Obstacle::LargeSite(size) | Obstacle::ManyNodes(size) => {
-            push_number(b"size: ", size, out)
-        }
-        _ => Ok(()),
-    }
-}
-
 // Appends the key, the seed or the number that a fault names.
 fn push_detail(
     fault: SiteFault,
@@ -73,11 +52,20 @@ fn push_detail(
     ensures { OnOk result (out.new.items ≡ out.old.items ++ detail fault array key.now) }
 {
     match fault {
-        SiteFault::Settings(fault) => push_settings_detail(fault, array, key, out),
+        SiteFault::Settings(
+            SettingsFault::Missing(key)
+            | SettingsFault::WrongKind(key)
+            | SettingsFault::OutOfRange(key),
+        ) => push_words(b"key: ", key.name().as_bytes(), out),
+        SiteFault::Settings(SettingsFault::UnknownKey) | SiteFault::KeyTwice => {
+            push_unknown(array, key, out)
+        }
         SiteFault::SeedOutOfScope(seed) => push_number(b"seed: ", seed, out),
-        SiteFault::KeyTwice => push_unknown(array, key, out),
-        SiteFault::Tree(_, how) => push_size(how, out),
-        SiteFault::SettingsUnreadable => Ok(()),
+        SiteFault::Tree(
+            _,
+            Obstacle::LargeFile(size) | Obstacle::LargeSite(size) | Obstacle::ManyNodes(size),
+        ) => push_number(b"size: ", size, out),
+        _ => Ok(()),
     }
 }
 
@@ -106,25 +94,31 @@ pub(crate) fn push_fault(
     ensures { OnOk result (out.new.items
         ≡ out.old.items ++ fault_report fault path.now line array key.now) }
 {
+    let (cause, remedy) = fault.explain();
     push_number(b"fault: ", usize::from(fault.code()), out)?;
     push_words(b"path: ", path, out)?;
     push_line(line, out)?;
     push_detail(fault, array, key, out)?;
-    push_words(b"cause: ", fault.cause().as_bytes(), out)?;
-    push_words(b"remedy: ", fault.remedy().as_bytes(), out)
+    push_words(b"cause: ", cause.as_bytes(), out)?;
+    push_words(b"remedy: ", remedy.as_bytes(), out)
 }
 
-/// Makes the report of a fault that names no key in an array.
-pub(crate) fn fault_report(
+/// Reports a fault that names no key in an array.
+pub(crate) fn report_fault(
     alloc: Global,
     fault: SiteFault,
     path: &[u8],
     line: Option<usize>,
     key: &[u8],
-) -> Result<Vec<u8>, NoMemory>
-    ensures { IfOk result (λ words. words.items ≡ fault_report fault path.now line None key.now) }
+) -> Result<Report, NoMemory>
+    ensures fault { IfOk result (λ report. report.fault ≡ Some fault) }
+    ensures words { IfOk result (λ report.
+        report.words.items ≡ fault_report fault path.now line None key.now) }
 {
-    let mut report = Vec::new(alloc);
-    push_fault(fault, path, line, None, key, &mut report)?;
-    Ok(report)
+    let mut words = Vec::new(alloc);
+    push_fault(fault, path, line, None, key, &mut words)?;
+    Ok(Report {
+        words,
+        fault: Some(fault),
+    })
 }

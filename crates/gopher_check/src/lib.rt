@@ -16,6 +16,7 @@ mod obstacle;
 mod site_report;
 mod table_report;
 
-pub use checking::{Report, check, unreadable};
+pub use checking::{check, unreadable};
 pub use fault::SiteFault;
+pub use fault_report::Report;
 pub use obstacle::Obstacle;

@@ -68,10 +68,8 @@ pub(crate) fn push_number(front: &[u8], number: usize, out: &mut Vec<u8>) -> Res
 pub(crate) fn push_server(host: &[u8], port: u16, out: &mut Vec<u8>) -> Result<(), AllocError>
     ensures { OnOk result (out.new.items ≡ out.old.items ++ server_words host.now port) }
 {
-    let mut digits = Buffer::new();
     push_shown(host, out)?;
-    out.extend_from_slice(b" ")?;
-    out.extend_from_slice(digits.format(port).as_bytes())
+    push_count(b" ", usize::from(port), out)
 }
 
 /// Appends the rest of a line: a host, a port, and a selector or a prefix of selectors.
@@ -84,7 +82,5 @@ pub(crate) fn push_address(
     ensures { OnOk result (out.new.items ≡ out.old.items ++ place_rest host.now port selector.now) }
 {
     push_server(host, port, out)?;
-    out.extend_from_slice(b" ")?;
-    push_shown(selector, out)?;
-    out.extend_from_slice(b"\n")
+    push_words(b" ", selector, out)
 }

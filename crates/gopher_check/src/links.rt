@@ -1,12 +1,11 @@
 //! Lines of menu files that lead to their own server: to nothing, or to its search.
 
 ghost use Rattle.std.specs.Prelude.{◌≡◌, ◌++◌, map, IfOk, OnOk};
-ghost use Rattle.std.specs.List.{list_any};
 ghost use Rattle.gopher_tree.specs.Files.{menu_files};
 ghost use Rattle.gopher_tree.specs.Found.{lent_file};
 ghost use Rattle.gopher_tree.specs.MenuFile.{written_line};
 ghost use Rattle.gopher_tree.specs.WrittenLine.{line_data, server_data};
-ghost use Rattle.gopher_check.specs.Links.{is_asked, is_address, leads_to_search, is_same_host, is_own, is_dead, place_words, dead_line, offers, menu_offers, offers_search, site_line_warning, site_menu_warnings, site_warnings};
+ghost use Rattle.gopher_check.specs.Links.{is_own, is_dead, place_words, dead_line, offers, menu_offers, offers_search, line_warning, menu_warnings, dead_lines};
 
 use crate::lines::{push_count, push_shown, push_words};
 use gopher_item::{Home, NoMemory, first_line};
@@ -24,39 +23,13 @@ pub(crate) struct Site<'a> {
     pub(crate) tree: &'a Tree,
 }
 
-// Whether a client asks a Gopher server for items of this type.
-fn is_asked(kind: u8) -> bool
-    ensures { result ≡ is_asked kind }
-{
-    !matches!(kind, b'i' | b'3' | b'2' | b'8' | b'T')
-}
-
-// Whether a client opens the selector as an address itself.
-fn is_address(selector: &[u8]) -> bool
-    ensures { result ≡ is_address selector.now }
-{
-    selector.starts_with(b"URL:")
-}
-
-fn leads_to_search(selector: &[u8]) -> bool
-    ensures { result ≡ leads_to_search selector.now }
-{
-    selector == SEARCH
-}
-
-fn is_same_host(host: &[u8], other: &[u8]) -> bool
-    ensures { result ≡ is_same_host host.now other.now }
-{
-    host.eq_ignore_ascii_case(other)
-}
-
 // Whether a line is of the server with this address.
 fn is_own(home: &Home, server: Option<(&[u8], u16)>) -> bool
     ensures { result ≡ is_own home.now (server_data server.entry) }
 {
     match server {
         None => true,
-        Some((host, port)) => port == home.port() && is_same_host(host, home.host()),
+        Some((host, port)) => port == home.port() && host.eq_ignore_ascii_case(home.host()),
     }
 }
 
@@ -64,10 +37,10 @@ fn is_own(home: &Home, server: Option<(&[u8], u16)>) -> bool
 fn is_dead(site: &Site<'_>, line: WrittenLine<'_>) -> bool
     ensures { result ≡ is_dead site.now.home.now site.now.tree.now (line_data line.entry) }
 {
-    is_asked(line.kind)
+    !matches!(line.kind, b'i' | b'3' | b'2' | b'8' | b'T')
         && is_own(site.home, line.server)
-        && !is_address(line.selector)
-        && !leads_to_search(line.selector)
+        && !line.selector.starts_with(b"URL:")
+        && line.selector != SEARCH
         && site.tree.find(line.selector).is_none()
 }
 
@@ -105,8 +78,9 @@ fn push_line(
     line: &[u8],
     out: &mut Vec<u8>,
 ) -> Result<(), AllocError>
-    ensures { OnOk result (out.new.items
-        ≡ out.old.items ++ site_line_warning site.now path.now number (written_line line.now)) }
+    ensures { OnOk result (out.new.items ≡ out.old.items
+        ++ line_warning site.now.home.now site.now.root.now site.now.tree.now
+        path.now number (written_line line.now)) }
 {
     match written_line(line) {
         Some(line) if is_dead(site, line) => {
@@ -118,8 +92,9 @@ fn push_line(
 
 // Appends the warnings of the menu file at a path.
 fn push_menu(site: &Site<'_>, path: &[u8], menu: &[u8], out: &mut Vec<u8>) -> Result<(), AllocError>
-    ensures { OnOk result (out.new.items
-        ≡ out.old.items ++ site_menu_warnings site.now (path.now, menu.now)) }
+    ensures { OnOk result (out.new.items ≡ out.old.items
+        ++ menu_warnings site.now.home.now site.now.root.now site.now.tree.now
+        (path.now, menu.now)) }
 {
     let mut number = 0;
     let mut rest = menu;
@@ -138,7 +113,8 @@ pub(crate) fn push_dead_lines(
     out: &mut Vec<u8>,
 ) -> Result<(), AllocError>
     requires { map lent_file menus.now ≡ menu_files site.now.tree.now }
-    ensures { OnOk result (out.new.items ≡ out.old.items ++ site_warnings site.now) }
+    ensures { OnOk result (out.new.items ≡ out.old.items
+        ++ dead_lines site.now.home.now site.now.root.now site.now.tree.now) }
 {
     for menu in menus {
         push_menu(site, menu.0, menu.1, out)?;
@@ -152,9 +128,7 @@ fn offers(home: &Home, line: &[u8]) -> bool
 {
     match written_line(line) {
         None => false,
-        Some(line) => {
-            line.kind == b'7' && is_own(home, line.server) && leads_to_search(line.selector)
-        }
+        Some(line) => line.kind == b'7' && is_own(home, line.server) && line.selector == SEARCH,
     }
 }
 
@@ -172,18 +146,6 @@ fn menu_offers(home: &Home, menu: &[u8]) -> bool
     false
 }
 
-// Whether a line of these menu files leads to the search.
-fn menus_offer(home: &Home, menus: &[(&[u8], &[u8])]) -> bool
-    ensures { result ≡ list_any (λ menu. menu_offers home.now menu.1) (map lent_file menus.now) }
-{
-    for menu in menus {
-        if menu_offers(home, menu.1) {
-            return true;
-        }
-    }
-    false
-}
-
 /// Returns whether a menu of the site offers a search; `menus` are its menu files.
 pub(crate) fn offers_search(
     alloc: Global,
@@ -196,5 +158,10 @@ pub(crate) fn offers_search(
     if site.tree.menu_file(alloc, b"")?.is_none() {
         return Ok(true);
     }
-    Ok(menus_offer(site.home, menus))
+    for menu in menus {
+        if menu_offers(site.home, menu.1) {
+            return Ok(true);
+        }
+    }
+    Ok(false)
 }

@@ -35,40 +35,42 @@ pub enum Obstacle {
 }
 
 impl Obstacle {
-    /// Returns the cause in words.
-    pub fn cause(self) -> &'static str
-        ensures { result.now ≡ obstacle_cause self }
+    /// Returns the cause and the remedy in words.
+    pub fn explain(self) -> (&'static str, &'static str)
+        ensures cause { result.0.now ≡ obstacle_cause self }
+        ensures remedy { result.1.now ≡ obstacle_remedy self }
     {
         match self {
-            Obstacle::NotUtf8 => "a name in this folder isn't UTF-8",
-            Obstacle::Denied => "permission to read this is missing",
-            Obstacle::Missing => "no file or folder exists at this path",
-            Obstacle::NotFolder => "this isn't a folder",
-            Obstacle::Loop => "symbolic links form a loop",
-            Obstacle::Other => "the system couldn't read this",
-            Obstacle::LargeFile(_) => "this file has over 16777216 bytes",
-            Obstacle::LargeSite(_) => "the files up to this one have over 67108864 bytes together",
-            Obstacle::ManyNodes(_) =>
-                "there are over 4096 files and folders up to this one, with the root",
-        }
-    }
-
-    /// Returns the remedy in words.
-    pub fn remedy(self) -> &'static str
-        ensures { result.now ≡ obstacle_remedy self }
-    {
-        match self {
-            Obstacle::NotUtf8 => "rename it; ls -b shows its bytes",
-            Obstacle::Denied =>
+            Obstacle::NotUtf8 => (
+                "a name in this folder isn't UTF-8",
+                "rename it; ls -b shows its bytes",
+            ),
+            Obstacle::Denied => (
+                "permission to read this is missing",
                 "give the server's user permission to read it, and to enter the folders above it",
-            Obstacle::Missing => "create the folder, or correct root in the settings",
-            Obstacle::NotFolder => "correct root in the settings",
-            Obstacle::Loop => "remove the link",
-            Obstacle::Other => "read it as the server's user to see the reason",
-            Obstacle::LargeFile(_) => "make it smaller, or remove it",
-            Obstacle::LargeSite(_) => "serve fewer or smaller files",
-            Obstacle::ManyNodes(_) =>
+            ),
+            Obstacle::Missing => (
+                "no file or folder exists at this path",
+                "create the folder, or correct root in the settings",
+            ),
+            Obstacle::NotFolder => ("this isn't a folder", "correct root in the settings"),
+            Obstacle::Loop => ("symbolic links form a loop", "remove the link"),
+            Obstacle::Other => (
+                "the system couldn't read this",
+                "read it as the server's user to see the reason",
+            ),
+            Obstacle::LargeFile(_) => (
+                "this file has over 16777216 bytes",
+                "make it smaller, or remove it",
+            ),
+            Obstacle::LargeSite(_) => (
+                "the files up to this one have over 67108864 bytes together",
+                "serve fewer or smaller files",
+            ),
+            Obstacle::ManyNodes(_) => (
+                "there are over 4096 files and folders up to this one, with the root",
                 "serve fewer files, or remove a symbolic link that points to a folder above it",
+            ),
         }
     }
 }

@@ -3,7 +3,7 @@
 ghost use Rattle.std.specs.Prelude.{◌≡◌, ◌++◌, IfOk, OnOk};
 ghost use Rattle.std.specs.List.{flat_map};
 ghost use Rattle.gopher_scope.specs.Settings.{settings_data};
-ghost use Rattle.gopher_check.specs.Report.{address_lines, size_lines, seed_line, rule_line, rule_lines, seeds_warning, leaves_nothing_out, counts_line, left_line, left_out, warnings, site_report};
+ghost use Rattle.gopher_check.specs.Report.{address_lines, size_lines, seed_line, rule_lines, seeds_warning, leaves_nothing_out, counts_line, left_out, warnings, site_report};
 
 use crate::lines::{push_address, push_count, push_number, push_server, push_words};
 use crate::links::{Site, offers_search, push_dead_lines};
@@ -18,8 +18,7 @@ fn push_home(home: &Home, root: &str, out: &mut Vec<u8>) -> Result<(), AllocErro
 {
     out.extend_from_slice(b"address: ")?;
     push_server(home.host(), home.port(), out)?;
-    out.extend_from_slice(b"\n")?;
-    push_words(b"root: ", root.as_bytes(), out)
+    push_words(b"\nroot: ", root.as_bytes(), out)
 }
 
 // Appends the numbers of files, menu files and bytes.
@@ -31,36 +30,24 @@ fn push_sizes(tree: &Tree, out: &mut Vec<u8>) -> Result<(), AllocError>
     push_number(b"bytes: ", tree.number_of_bytes(), out)
 }
 
-fn push_seed(seed: &Place, out: &mut Vec<u8>) -> Result<(), AllocError>
-    ensures { OnOk result (out.new.items ≡ out.old.items ++ seed_line seed.now) }
-{
-    out.extend_from_slice(b"seed: ")?;
-    out.push(seed.kind())?;
-    out.push(b' ')?;
-    push_address(seed.host(), seed.port(), seed.selector(), out)
-}
-
 fn push_seeds(seeds: &[Place], out: &mut Vec<u8>) -> Result<(), AllocError>
     ensures { OnOk result (out.new.items ≡ out.old.items ++ flat_map seed_line seeds.now) }
 {
     for seed in seeds {
-        push_seed(seed, out)?;
+        out.extend_from_slice(b"seed: ")?;
+        out.push(seed.kind())?;
+        out.push(b' ')?;
+        push_address(seed.host(), seed.port(), seed.selector(), out)?;
     }
     Ok(())
-}
-
-fn push_rule(front: &[u8], rule: &Rule, out: &mut Vec<u8>) -> Result<(), AllocError>
-    ensures { OnOk result (out.new.items ≡ out.old.items ++ rule_line front.now rule.now) }
-{
-    out.extend_from_slice(front)?;
-    push_address(rule.host(), rule.port(), rule.prefix(), out)
 }
 
 fn push_rules(front: &[u8], rules: &[Rule], out: &mut Vec<u8>) -> Result<(), AllocError>
     ensures { OnOk result (out.new.items ≡ out.old.items ++ rule_lines front.now rules.now) }
 {
     for rule in rules {
-        push_rule(front, rule, out)?;
+        out.extend_from_slice(front)?;
+        push_address(rule.host(), rule.port(), rule.prefix(), out)?;
     }
     Ok(())
 }
@@ -99,27 +86,15 @@ fn push_counts(
     push_number(b", hidden names ", hidden, out)
 }
 
-// Appends the line with these numbers, unless all are 0.
-fn push_left(
-    empty: usize,
-    nowhere: usize,
-    hidden: usize,
-    out: &mut Vec<u8>,
-) -> Result<(), AllocError>
-    ensures { OnOk result (out.new.items ≡ out.old.items ++ left_line empty nowhere hidden) }
-{
-    if leaves_nothing_out(empty, nowhere, hidden) {
-        return Ok(());
-    }
-    push_counts(empty, nowhere, hidden, out)
-}
-
 // Appends the line that counts what isn't served, if there is something.
 fn push_left_out(tree: &Tree, trail: &Trail, out: &mut Vec<u8>) -> Result<(), AllocError>
     ensures { OnOk result (out.new.items ≡ out.old.items ++ left_out tree.now trail.now) }
 {
     let empty = tree.number_of_missing(&trail.folders);
-    push_left(empty, trail.nowhere, trail.hidden, out)
+    if leaves_nothing_out(empty, trail.nowhere, trail.hidden) {
+        return Ok(());
+    }
+    push_counts(empty, trail.nowhere, trail.hidden, out)
 }
 
 // Appends the warnings of a site.
@@ -130,7 +105,8 @@ fn push_warnings(
     trail: &Trail,
     out: &mut Vec<u8>,
 ) -> Result<(), NoMemory>
-    ensures { OnOk result (out.new.items ≡ out.old.items ++ warnings site.now seeds.now trail.now) }
+    ensures { OnOk result (out.new.items ≡ out.old.items
+        ++ warnings site.now.home.now site.now.root.now site.now.tree.now seeds.now trail.now) }
 {
     let menus = site.tree.menu_files(alloc)?;
     let offered = offers_search(alloc, site, &menus)?;

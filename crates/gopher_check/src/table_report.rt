@@ -38,23 +38,15 @@ fn push_all_unknown(
     Ok(())
 }
 
-// Appends the report of a key's fault, if it has one.
-fn push_key(path: &[u8], fault: Option<SettingsFault>, out: &mut Vec<u8>) -> Result<(), AllocError>
-    ensures { OnOk result (out.new.items ≡ out.old.items ++ key_report path.now fault) }
-{
-    match fault {
-        Some(fault) => push_fault(SiteFault::Settings(fault), path, None, None, b"", out),
-        None => Ok(()),
-    }
-}
-
 // Appends the report of the fault of each of these keys that has one.
 fn push_keys(path: &[u8], table: &Table, keys: &[Key], out: &mut Vec<u8>) -> Result<(), AllocError>
     ensures { OnOk result (out.new.items ≡ out.old.items
         ++ flat_map (λ key. key_report path.now (key_fault (table_view table.now) key)) keys.now) }
 {
     for key in keys {
-        push_key(path, key_fault(table, *key), out)?;
+        if let Some(fault) = key_fault(table, *key) {
+            push_fault(SiteFault::Settings(fault), path, None, None, b"", out)?;
+        }
     }
     Ok(())
 }
