@@ -49,6 +49,7 @@ ALONE = 2.0
 # The KiB of an address space that the program and four stacks of so many KiB fill.
 SPACE, STACK = 36 << 10, 8 << 10
 STARTS, ASKED = 6, 20
+KEPT = (b"/text0.txt\r\n", b"/docs\r\n", b"/docs/b.gif\r\n", b"nothing\r\n")
 WHOLE = f"known {REFUSED_TEXTS + 1} waiting 0 out 0 done {REFUSED_TEXTS + 1} dropped 0\n"
 
 # Large texts.
@@ -188,13 +189,16 @@ def check_refused(test):
 
 
 def check_full(test):
-    """Without memory, replies to the first text and to a selector that names nothing come all the same."""
+    """Without memory, replies of a text, a menu and another file, and to a selector that names nothing, come all the same."""
     root, more = refused_site(test, 1), seeded(more=f"places = {MOST_PLACES}\ntries = 1\nworkers = 4\nthreads = 2")
+    (root / "docs").mkdir()
+    (root / "docs/.menu").write_bytes(b"Welcome\n")
+    (root / "docs/b.gif").write_bytes(b"GIF\0.\n")
     before = ("sh", "-c", f'ulimit -s {STACK}; ulimit -v {SPACE}; exec "$@"', "sh")
     for start in range(STARTS):
         with test.serving(root, "--progress", more=more, before=before) as server:
             time.sleep(ALONE)
-            gone = sum(ask(server.port, line) == b"" for _ in range(ASKED) for line in (b"/text0.txt\r\n", b"nothing\r\n"))
+            gone = sum(ask(server.port, line) == b"" for _ in range(ASKED) for line in KEPT)
             test.expect(f"start {start}, memory is gone: replies that don't come", gone, 0)
 
 

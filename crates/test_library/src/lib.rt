@@ -1,37 +1,25 @@
 //! Tests of the crates up to gopher_serve, of what no script and no request can show: streams that
-//! fail, several workers, which runs of pages are merged, searches in steps, and calls of the
-//! library that the program doesn't make. Calls that change or consume what they are given are made
-//! again after a refused allocation (`refusals`), for `tests/refusals.py`. The rows of
+//! fail, which runs of pages are merged, searches in steps, workers that wait for each other, and
+//! calls of the library that the program doesn't make. Calls that change or consume what they are
+//! given are made again after a refused allocation (`desks`), for `tests/refusals.py`. The rows of
 //! `proofs/WorkedRows.antt` show definitions.
 #![tactic(auto)]
 
 #[cfg(test)]
-mod conversations;
+mod calls;
 #[cfg(test)]
 mod crawls;
 #[cfg(test)]
-mod fetcher;
+mod desks;
 #[cfg(test)]
-mod fetches;
+mod fetcher;
 #[cfg(test)]
 mod indexes;
 #[cfg(test)]
-mod menus;
-#[cfg(test)]
 mod opening;
 #[cfg(test)]
-mod pages;
-#[cfg(test)]
-mod refusals;
-#[cfg(test)]
-mod refused_crawls;
-#[cfg(test)]
-mod refused_desks;
-#[cfg(test)]
-mod refused_opening;
-#[cfg(test)]
-mod refused_requests;
+mod requests;
 #[cfg(test)]
 mod stream;
 #[cfg(test)]
-mod trees;
+mod streams;

@@ -1,69 +1,83 @@
-//! Crawls of one host at port 70, and calls that are made twice if the first is refused memory.
+//! Crawls of the host `h`, and calls that are made again if they are refused.
 
-ghost use Rattle.std.specs.Prelude.{◌≤◌, length};
+ghost use Rattle.std.specs.Prelude.{◌≡◌, ◌≤◌, [], length};
+ghost use Rattle.gopher_crew.specs.Desk.{IsBlankOf};
 
-use gopher_catalogue::{Catalogue, Status};
-use gopher_crew::{Desk, Pass, Share};
+use gopher_catalogue::{Book, Catalogue, Event, Why};
+use gopher_crew::{Blank, Crew, Desk, Pass, Share};
 use gopher_item::{Place, Rule, Scope};
 use gopher_page::Query;
 use std::alloc::Global;
+use std::process::Abort;
+use std::sync::Wait;
 
-/// What a check gives, or what was not as wanted.
-pub type Checked<T> = Result<T, &'static str>;
-
-/// A desk, with its passes and its shares.
-pub type Opened<'a, C, R> = (Desk<C, &'a R>, Vec<Pass<C>>, Vec<Share<C>>);
-
-/// What is told of a call that gives nothing in both tries.
-pub const TWICE: &str = "a call is refused twice";
-
-/// What a call gives in one of two tries.
-pub fn at_last<T: Drop, F: Fn() -> Option<T>>(call: F) -> Option<T>
-    requires { F.IsAlwaysCallable call }
-{
-    match call() {
-        Some(given) => Some(given),
-        None => call(),
-    }
+/// Makes a call, and makes it again if it returns `None`. The test fails if both do.
+macro_rules! again {
+    ($rt:expr, $call:expr) => {
+        match $call {
+            Some(given) => given,
+            None => $call.expect($rt, "a call is refused twice"),
+        }
+    };
 }
 
-/// The scope of a host.
-pub fn scope(alloc: Global, host: &[u8]) -> Option<Scope> {
-    let rule = Rule::new(alloc, host, 70, b"").ok()?;
+pub(crate) use again;
+
+/// The scope of the host.
+pub fn scope(alloc: Global) -> Option<Scope> {
     let mut allow = Vec::new(alloc);
-    allow.push(rule).ok()?;
+    allow.push(Rule::new(alloc, b"h", 70, b"").ok()?).ok()?;
     Some(Scope::new(allow, Vec::new(alloc)))
 }
 
-// The root of a host.
-fn seeds(alloc: Global, host: &[u8]) -> Option<Vec<Place>> {
-    let root = Place::new(alloc, b'1', b"", host, 70).ok()?;
+// A crawl that begins in the root of the host.
+fn crawl(alloc: Global) -> Option<Catalogue> {
     let mut seeds = Vec::new(alloc);
-    seeds.push(root).ok()?;
-    Some(seeds)
+    seeds
+        .push(Place::new(alloc, b'1', b"", b"h", 70).ok()?)
+        .ok()?;
+    Catalogue::open(alloc, scope(alloc)?, seeds, 20_000, 1).ok()
 }
 
-/// A crawl that begins in the root of a host.
-pub fn crawl(alloc: Global, host: &[u8], places: u32) -> Option<Catalogue> {
-    let seeds = seeds(alloc, host)?;
-    let scope = scope(alloc, host)?;
-    Catalogue::open(alloc, scope, seeds, places, 1).ok()
-}
-
-/// The status of a finished crawl with `known` places.
-pub fn all_done(known: u32) -> Status {
-    Status {
-        known,
-        waiting: 0,
-        out: 0,
-        done: known,
-        dropped: 0,
+/// Opens a desk over a crawl, with two passes. After an error it is opened with what came back.
+pub fn opened<'a, C: Crew, R: Wait + Abort + AllocGlobal>(
+    rt: &'a R,
+    blank: Blank,
+    workers: u32,
+) -> (Desk<C, &'a R>, Vec<Pass<C>>, Vec<Share<C>>)
+    requires blank { IsBlankOf C.name C.parts C.history blank }
+    requires begun { blank.begun ≡ [] }
+{
+    let begun = again!(rt, crawl(rt.alloc()));
+    match Desk::<C, &R>::open(rt, rt.alloc(), begun, 2, workers, blank) {
+        Ok(opened) => opened,
+        Err(refused) => {
+            let (begun, blank) = (refused.catalogue, refused.blank);
+            let opened = Desk::<C, &R>::open(rt, rt.alloc(), begun, 2, workers, blank);
+            opened.ok().expect(rt, "a desk is refused twice")
+        }
     }
 }
 
 /// A query.
-pub fn query(alloc: Global, text: &[u8]) -> Option<Query>
+pub fn query<R: Abort + AllocGlobal>(rt: &R, text: &[u8]) -> Query
     requires { length text.now ≤ 1024 }
 {
-    Query::read(alloc, text).ok()
+    again!(rt, Query::read(rt.alloc(), text).ok())
+}
+
+/// A copy of a book that took in a record. Places fail only because memory ran out.
+pub fn book_of<R: Abort + AllocGlobal>(rt: &R, record: &[Event]) -> Book {
+    let mut book = Book::empty(rt.alloc());
+    for event in record {
+        assert!(rt; !matches!(event, Event::Failed(_, why) if *why != Why::NoMemory));
+        again!(rt, book.take_in(event).ok());
+    }
+    assert!(rt; book.len() == record.len());
+    again!(rt, book.clone().ok())
+}
+
+/// Appends an item.
+pub fn push<T: Drop, R: Abort>(rt: &R, list: &mut Vec<T>, item: T) {
+    list.push(item).ok().expect(rt, "no room");
 }

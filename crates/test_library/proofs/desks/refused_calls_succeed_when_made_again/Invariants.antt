@@ -1,4 +1,4 @@
-use Rattle.test_library.proofs.refusals.check.Given as goal
+use Rattle.test_library.proofs.desks.refused_calls_succeed_when_made_again.Given as goal
 
 -- the names of the blank that was made
 abbrev pub ghosts-check-C-Ledger : goal.ghosts-check-C-Ledger

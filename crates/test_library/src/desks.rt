@@ -1,0 +1,163 @@
+//! A desk with two passes and a share, and whatever changes or consumes what it is given. If one
+//! growth is refused, the refused call succeeds when it is made again, and the test ends as it does
+//! otherwise: `tests/refusals.py` refuses each in turn. What a refused call leaves is proved.
+
+ghost use Rattle.std.specs.Prelude.{◌≡◌, []};
+ghost use Rattle.gopher_crew.specs.Desk.{IsBlankOf};
+
+use crate::fetcher::Fetcher;
+use crate::opening::{again, book_of, opened, push, query, scope};
+use crate::requests::{CLOSED, EARLY, LATE, replies, served};
+use gopher_catalogue::{Turn, Why};
+use gopher_crew::{Blank, Crew, Desk, Note, Pass, Share, Stop, work};
+use gopher_item::Place;
+use gopher_page::{Page, Query};
+use gopher_replies::Replies;
+use std::alloc::Global;
+use std::marker::Brand;
+use std::process::Abort;
+use std::sync::Wait;
+
+// A menu of a directory and a text.
+const DOCS: &[u8] = b"1Docs\t/docs\th\t70\r\n0A\t/a\th\t70\r\n.\r\n";
+
+// The page of the root.
+fn page(alloc: Global) -> Option<Page> {
+    let root = Place::new(alloc, b'1', b"", b"h", 70).ok()?;
+    Page::of(alloc, &scope(alloc)?, &root, DOCS).ok()
+}
+
+// What works at a desk.
+#[derive(Drop)]
+struct Room<'a, C: Crew, R: Wait> {
+    rt: &'a R,
+    desk: Desk<C, &'a R>,
+    share: Share<C>,
+    // Room for the share at the end.
+    shares: Vec<Share<C>>,
+    first: Pass<C>,
+    second: Pass<C>,
+    query: Query,
+}
+
+// How many events a pass sees, and whether it finds the page of the root, or else none.
+fn sees<C: Crew, R: Abort>(rt: &R, pass: &mut Pass<C>, query: &Query) -> (u32, bool) {
+    let answer = again!(rt, pass.search(query).ok());
+    let [hit] = answer.hits.as_slice() else {
+        assert!(rt; answer.hits.is_empty());
+        return (answer.at, false);
+    };
+    assert!(rt; hit.place.selector().is_empty() && hit.score == 1);
+    assert!(rt; hit.title.as_slice() == b"Docs".as_slice());
+    (answer.at, true)
+}
+
+impl<C: Crew, R: Wait + Abort + AllocGlobal> Room<'_, C, R> {
+    // Claims the place of this number.
+    fn claims(&mut self, number: u32) -> Option<Note<C>> {
+        let (turn, note) = again!(self.rt, self.desk.claim(self.rt, &mut self.share).ok());
+        assert!(self.rt; matches!(&turn, Turn::Take(claim) if claim.number == number));
+        note
+    }
+
+    // Hands in the page of the root.
+    fn finds_root(&mut self) -> Option<Note<C>> {
+        let page = again!(self.rt, page(self.rt.alloc()));
+        let (added, note) = match self.desk.found(self.rt, &mut self.share, 0, page) {
+            Ok(reply) => reply,
+            Err(refused) => {
+                let found = self.desk.found(self.rt, &mut self.share, 0, refused.page);
+                found.ok().expect(self.rt, "a page is refused twice")
+            }
+        };
+        assert!(self.rt; added.fresh == 2);
+        note
+    }
+
+    // The note of the next claim. Before it, the page isn't seen.
+    fn late_note(&mut self) -> Note<C> {
+        let (at, is_found) = sees(self.rt, &mut self.first, &self.query);
+        assert!(self.rt; !is_found && (at == 1 || at == 2));
+        self.claims(1).expect(self.rt, "no note with ample memory")
+    }
+
+    // The first pass hears of the page, and both see it.
+    fn see_root(&mut self) {
+        assert!(self.rt; sees(self.rt, &mut self.second, &self.query) == (1, false));
+        let _note = self.claims(0);
+        let (note, at) = match self.finds_root() {
+            Some(note) => (note, 3),
+            None => (self.late_note(), 4),
+        };
+        assert!(self.rt; note.at() == at);
+        self.first.hear(note);
+        assert!(self.rt; sees(self.rt, &mut self.first, &self.query) == (at, true));
+        assert!(self.rt; sees(self.rt, &mut self.second, &self.query) == (at, true));
+        if at == 4 {
+            let failed = self.desk.fail(self.rt, &mut self.share, 1, Why::NoMemory);
+            assert!(self.rt; failed.is_ok());
+        }
+    }
+
+    // A share that is shown the status of its desk has seen what a pass has.
+    fn sees_status(&mut self) {
+        let status = self.desk.status_for(self.rt, &mut self.share);
+        assert!(self.rt; status.known == 3 && self.share.events() >= 2);
+        assert!(self.rt; self.first.begins_share(&self.share) && self.share.begins(&self.share));
+    }
+
+    // A worker crawls the rest, and the desk is closed, whose first pass is left. A growth that is
+    // refused fails one place, or stops the worker.
+    fn end(self) -> Pass<C> {
+        let Room {
+            rt,
+            desk,
+            share,
+            mut shares,
+            mut first,
+            query,
+            ..
+        } = self;
+        let end = work(rt, rt.alloc(), &desk, Fetcher::new(b"", 0), share);
+        if end.stop == Stop::Finished {
+            assert!(rt; desk.status(rt).done == 3);
+            assert!(rt; sees(rt, &mut first, &query).0 == 7);
+        }
+        push(rt, &mut shares, end.share);
+        let closed = desk.close(shares).ok().expect(rt, "a desk isn't closed");
+        let _book = book_of(rt, closed.record());
+        first
+    }
+}
+
+// Works at a desk by hand and by a worker. The second pass serves requests, and the first once the
+// desk is closed.
+fn check<C: Crew, R: Wait + Abort + AllocGlobal>(rt: &R, blank: Blank, replies: &Replies)
+    requires blank { IsBlankOf C.name C.parts C.history blank }
+    requires begun { blank.begun ≡ [] }
+{
+    let (desk, mut passes, mut shares) = opened::<C, R>(rt, blank, 1);
+    let mut room = Room {
+        rt,
+        desk,
+        share: shares.pop().expect(rt, "no share"),
+        shares,
+        first: passes.pop().expect(rt, "no pass"),
+        second: passes.pop().expect(rt, "no second pass"),
+        query: query(rt, b"docs"),
+    };
+    for row in &EARLY {
+        again!(rt, served(rt.alloc(), replies, &mut room.second, row));
+    }
+    room.see_root();
+    again!(rt, served(rt.alloc(), replies, &mut room.second, &LATE));
+    room.sees_status();
+    let mut first = room.end();
+    again!(rt, served(rt.alloc(), replies, &mut first, &CLOSED));
+}
+
+#[test]
+fn refused_calls_succeed_when_made_again(rt: HostRuntime) {
+    let replies = again!(&rt, replies(rt.alloc()));
+    check::<Brand, _>(&rt, Blank::new(), &replies);
+}
