@@ -4,7 +4,7 @@
 
 ghost use Rattle.std.specs.Prelude.{◌≤◌, length, IfSome};
 
-use gopher_catalogue::{Catalogue, Turn, Why};
+use gopher_catalogue::{Catalogue, Hit, Turn, Why};
 use gopher_item::{Place, Rule, Scope};
 use gopher_page::{Page, Query};
 use std::alloc::Global;
@@ -59,23 +59,28 @@ fn crawl(alloc: Global, catalogue: &mut Catalogue) -> Option<()> {
     Some(())
 }
 
-// Crawls, and prints the scores and titles of what a search finds.
+// Prints the scores and titles of hits.
+fn print_hits<R: Print>(rt: &R, hits: &[Hit]) -> Option<()> {
+    for hit in hits {
+        let title = str::from_utf8(hit.title.as_slice()).ok()?;
+        println!(rt; "{} {title}", hit.score).ok()?;
+    }
+    Some(())
+}
+
+// Prints what a search for the moon finds, and how far the crawl came.
+fn print_search<R: Print + AllocGlobal>(rt: &R, catalogue: &Catalogue) -> Option<()> {
+    let query = Query::read(rt.alloc(), b"moon").ok()?;
+    print_hits(rt, &catalogue.search(&query).ok()?)?;
+    let status = catalogue.status();
+    println!(rt; "{} places known, {} done", status.known, status.done).ok()
+}
+
+// Crawls and searches.
 fn searched<R: Print + AllocGlobal>(rt: &R) -> Option<()> {
     let mut catalogue = opened(rt.alloc())?;
     crawl(rt.alloc(), &mut catalogue)?;
-    for hit in &catalogue
-        .search(&Query::read(rt.alloc(), b"moon").ok()?)
-        .ok()?
-    {
-        println!(rt;
-            "{} {}",
-            hit.score,
-            str::from_utf8(hit.title.as_slice()).ok()?
-        )
-        .ok()?;
-    }
-    let status = catalogue.status();
-    println!(rt; "{} places known, {} done", status.known, status.done).ok()
+    print_search(rt, &catalogue)
 }
 
 fn main(rt: HostRuntime) {
