@@ -10,7 +10,7 @@ use Rattle.std.proofs.lemmas.Bool.{cases_Bool, cases_lt, lt-leb, le-leb}
 use Rattle.std.proofs.Math.Seq.{drop-cons}
 use Rattle.gopher_item.specs.Place.{PlaceData, is_among}
 use Rattle.gopher_item.specs.Scope.{ScopeData, allows}
-use Rattle.gopher_catalogue.specs.Tables.{KnownData, Extends, unclaimed, after_mention, after_mentions, drops, is_dropped, after_link, is_dropped_link}
+use Rattle.gopher_catalogue.specs.Tables.{KnownData, Extends, unclaimed, after_mention, after_mentions, drops, is_dropped}
 use Rattle.indexmap.specs.IndexMap.{IndexMap, get, insert_entry, set_value_at}
 use Rattle.indexmap.proofs.CallerLemmas.{insert_entry-new}
 
@@ -79,7 +79,7 @@ pub length-after_mentions : (limit : ℕ) (places mentions : List PlaceData) →
 length-after_mentions limit places [] h = h
 length-after_mentions limit places (mention ∷ mentions) h = length-after_mentions limit (after_mention limit places mention) mentions (length-after_mention limit places mention h)
 
--- ---- the links of a page, one by one
+-- ---- mention by mention
 
 from_bool_is : (b : Bool) → from_bool b ≡ cond b 1 0
 from_bool_is true = refl
@@ -89,54 +89,25 @@ pub from_bool-le : (b : Bool) (n : ℕ) → n ≡ from_bool b → n ≤ 1
 from_bool-le true n e = omega (arith, e)
 from_bool-le false n e = omega (arith, e)
 
-module _ (scope : ScopeData) (limit : ℕ) where
-  after_link-cons : (places : List PlaceData) (link : PlaceData) (links : List PlaceData) → after_mentions limit places (filter (allows scope) (link ∷ links)) ≡ after_mentions limit (after_link scope limit places link) (filter (allows scope) links)
-  after_link-cons places link links =
-      elim (allows scope link) as (λ b. after_mentions limit places (cond b (link ∷ filter (allows scope) links) (filter (allows scope) links)) ≡ after_mentions limit (cond b (after_mention limit places link) places) (filter (allows scope) links)) [
-        | true ↦ refl
-        | false ↦ refl
-      ]
+pub drop-next : (places : List PlaceData) (i : ℕ) (place : PlaceData) → i < length places → place ≡ get_or places i place → drop i places ≡ place ∷ drop (i + 1) places
+drop-next places i place within is = rw (add-one, drop-cons places i place within, ← is) refl
 
-  drops-link_cons : (places : List PlaceData) (link : PlaceData) (links : List PlaceData)
-      → drops limit places (filter (allows scope) (link ∷ links)) ≡ cond (is_dropped_link scope limit places link) 1 0 + drops limit (after_link scope limit places link) (filter (allows scope) links)
-  drops-link_cons places link links =
-      elim (allows scope link) as (λ b. drops limit places (cond b (link ∷ filter (allows scope) links) (filter (allows scope) links)) ≡ cond (b && is_dropped limit places link) 1 0 + drops limit (cond b (after_mention limit places link) places) (filter (allows scope) links)) [
-        | true ↦ refl
-        | false ↦ omega arith
-      ]
+-- the links after one that the scope allows, and after one that it doesn't
+pub allowed-next : (scope : ScopeData) (rest later : List PlaceData) (link : PlaceData) → rest ≡ link ∷ later → allows scope link ≡ true → filter (allows scope) rest ≡ link ∷ filter (allows scope) later
+allowed-next scope rest later link is yes' = ap (filter (allows scope)) is ∙ rw yes' refl
 
-  module _ (links : List PlaceData) (i : ℕ) (link : PlaceData) (within : i < length links) (is : link ≡ get_or links i link) where
-    links-drop : drop i links ≡ link ∷ drop (i + 1) links
-    links-drop = rw (add-one, drop-cons links i link within, ← is) refl
+pub allowed-skip : (scope : ScopeData) (rest later : List PlaceData) (link : PlaceData) → rest ≡ link ∷ later → allows scope link ≡ false → filter (allows scope) rest ≡ filter (allows scope) later
+allowed-skip scope rest later link is no' = ap (filter (allows scope)) is ∙ rw no' refl
 
-    pub after_mentions-link : (places next all : List PlaceData) → next ≡ after_link scope limit places link → after_mentions limit places (filter (allows scope) (drop i links)) ≡ all
-        → after_mentions limit next (filter (allows scope) (drop (i + 1) links)) ≡ all
-    after_mentions-link places next all e h =
-        ap (λ p. after_mentions limit p (filter (allows scope) (drop (i + 1) links))) e ∙ sym (after_link-cons places link (drop (i + 1) links)) ∙ ap (λ l. after_mentions limit places (filter (allows scope) l)) (sym links-drop) ∙ h
+module _ (limit : ℕ) (rest later : List PlaceData) (place : PlaceData) (is : rest ≡ place ∷ later) (places next : List PlaceData) (e : next ≡ after_mention limit places place) where
+  pub after_mentions-next : (all : List PlaceData) → after_mentions limit places rest ≡ all → after_mentions limit next later ≡ all
+  after_mentions-next all h = ap (λ p. after_mentions limit p later) e ∙ ap (after_mentions limit places) (sym is) ∙ h
 
-    pub drops-link : (places next : List PlaceData) (before taken all : ℕ) (dropped : Bool) → next ≡ after_link scope limit places link → taken ≡ from_bool dropped → dropped ≡ is_dropped_link scope limit places link
-        → before + drops limit places (filter (allows scope) (drop i links)) ≡ all → before + taken + drops limit next (filter (allows scope) (drop (i + 1) links)) ≡ all
-    drops-link places next before taken all dropped e t d h =
-        let here = ap (λ p. drops limit p (filter (allows scope) (drop (i + 1) links))) e in
-        let one = ap (λ l. drops limit places (filter (allows scope) l)) links-drop ∙ drops-link_cons places link (drop (i + 1) links) in
-        let counted : taken ≡ cond (is_dropped_link scope limit places link) 1 0 = t ∙ from_bool_is dropped ∙ ap (λ b. cond b 1 0) d in
-        omega (arith, here, one, counted)
-
--- ---- the seeds, one by one
-
-module _ (limit : ℕ) (seeds : List PlaceData) (i : ℕ) (seed : PlaceData) (within : i < length seeds) (is : seed ≡ get_or seeds i seed) where
-  seeds-drop : drop i seeds ≡ seed ∷ drop (i + 1) seeds
-  seeds-drop = rw (add-one, drop-cons seeds i seed within, ← is) refl
-
-  pub after_mentions-seed : (places next all : List PlaceData) → next ≡ after_mention limit places seed → after_mentions limit places (drop i seeds) ≡ all → after_mentions limit next (drop (i + 1) seeds) ≡ all
-  after_mentions-seed places next all e h = ap (λ p. after_mentions limit p (drop (i + 1) seeds)) e ∙ ap (after_mentions limit places) (sym seeds-drop) ∙ h
-
-  pub drops-seed : (places next : List PlaceData) (before taken all : ℕ) (dropped : Bool) → next ≡ after_mention limit places seed → taken ≡ from_bool dropped → dropped ≡ is_dropped limit places seed
-      → before + drops limit places (drop i seeds) ≡ all → before + taken + drops limit next (drop (i + 1) seeds) ≡ all
-  drops-seed places next before taken all dropped e t d h =
-      let here = ap (λ p. drops limit p (drop (i + 1) seeds)) e in
-      let one = ap (drops limit places) seeds-drop in
-      let counted : taken ≡ cond (is_dropped limit places seed) 1 0 = t ∙ from_bool_is dropped ∙ ap (λ b. cond b 1 0) d in
+  pub drops-next : (before taken all : ℕ) (dropped : Bool) → taken ≡ from_bool dropped → dropped ≡ is_dropped limit places place → before + drops limit places rest ≡ all → before + taken + drops limit next later ≡ all
+  drops-next before taken all dropped t d h =
+      let here = ap (λ p. drops limit p later) e in
+      let one = ap (drops limit places) is in
+      let counted : taken ≡ cond (is_dropped limit places place) 1 0 = t ∙ from_bool_is dropped ∙ ap (λ b. cond b 1 0) d in
       omega (arith, here, one, counted)
 
 -- ---- ranges

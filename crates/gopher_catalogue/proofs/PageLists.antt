@@ -29,6 +29,13 @@ use Rattle.gopher_catalogue.proofs.SortedLists.{contains_here, contains_none, co
 abbrev pub IsOnePerPlace : (PageData → Type 0) → Type 0
 IsOnePerPlace IsPage = (a b : PageData) → IsPage a → IsPage b → a.place ≡ b.place → a ≡ b
 
+-- the list that a query or a word has of a set of pages: that of found pages, that of an equivalent
+-- set, and the only one
+pub record Listing {L : Type 0} (Is : (PageData → Type 0) → L → Type 0) (of : List PageData → L) : Type 1 where
+  pub are : (pages : List PageData) → IsOnePerPlace (Contains pages) → Is (Contains pages) (of pages)
+  pub same : (P Q : PageData → Type 0) (list : L) → ((page : PageData) → P page ↔ Q page) → Is P list → Is Q list
+  pub one : (P : PageData → Type 0) (list other : L) → Is P list → Is P other → list ≡ other
+
 module _ {Y : Type 0} {order : Y → Y → Ordering} (total : IsTotalOrder order) (test : PageData → Bool) (show : PageData → Y) where
   -- what is shown of a page, if it passes
   abbrev shown_by : PageData → List Y
@@ -103,28 +110,25 @@ second_tied Less s e = absurd (false≢true (ap is_eq e))
 second_tied Equal s e = e
 second_tied Greater s e = absurd (false≢true (ap is_eq e))
 
--- the answer over pages of distinct places
-pub answer_among : (pages : List PageData) (query : List TermData) → IsOnePerPlace (Contains pages) → IsAnswerAmong (Contains pages) query (answer_of pages query)
+pub hits_listed : (query : List TermData) → Listing (λ IsPage hits. IsAnswerAmong IsPage query hits) (λ pages. answer_of pages query)
 unfolding answer_of ranked hits_among
-answer_among pages query one =
+hits_listed query =
+    let test : PageData → Bool = λ page. matches query page.counts in
     record {
-      all = ranked (hits_among query pages);
-      lists = lists_inserted rank_total (λ page. matches query page.counts) (hit_at query) pages
-          (λ a b is is' e. one a b is is' (place_tied a.place b.place (second_tied (nat_cmp (hit_at query b).score (hit_at query a).score) (place_cmp a.place b.place) e)));
-      first = refl;
+      are = λ pages one. record {
+        all = ranked (hits_among query pages);
+        lists = lists_inserted rank_total test (hit_at query) pages
+            (λ a b is is' e. one a b is is' (place_tied a.place b.place (second_tied (nat_cmp (hit_at query b).score (hit_at query a).score) (place_cmp a.place b.place) e)));
+        first = refl;
+      };
+      same = λ P Q hits same answer. record {
+        all = answer.all;
+        lists = lists_same rank_total test (hit_at query) P Q answer.all same answer.lists;
+        first = answer.first;
+      };
+      one = λ P hits other answer answer'.
+          answer.first ∙ ap (take 50) (lists_one rank_total test (hit_at query) P answer.all answer'.all answer.lists answer'.lists) ∙ sym answer'.first;
     }
-
-pub answer_same : (P Q : PageData → Type 0) (query : List TermData) (hits : List Hit) → ((page : PageData) → P page ↔ Q page) → IsAnswerAmong P query hits → IsAnswerAmong Q query hits
-answer_same P Q query hits same answer =
-    record {
-      all = answer.all;
-      lists = lists_same rank_total (λ page. matches query page.counts) (hit_at query) P Q answer.all same answer.lists;
-      first = answer.first;
-    }
-
-pub answer_one : (P : PageData → Type 0) (query : List TermData) (hits other : List Hit) → IsAnswerAmong P query hits → IsAnswerAmong P query other → hits ≡ other
-answer_one P query hits other answer answer' =
-    answer.first ∙ ap (take 50) (lists_one rank_total (λ page. matches query page.counts) (hit_at query) P answer.all answer'.all answer.lists answer'.lists) ∙ sym answer'.first
 
 -- ---- occurrences
 
@@ -137,19 +141,16 @@ by_place = on (λ (occurrence : Occurrence). occurrence.0) place_cmp
 by_place_total : IsTotalOrder by_place
 by_place_total = on_total (λ (occurrence : Occurrence). occurrence.0) place_cmp_total
 
-module _ (word : List ℕ) where
-  abbrev has_word : PageData → Bool
-  has_word page = ltb 0 (count_meant false word page.counts)
+abbrev has_word : List ℕ → PageData → Bool
+has_word word page = ltb 0 (count_meant false word page.counts)
 
-  pub occurrences_inserted : (pages : List PageData) → IsOnePerPlace (Contains pages) → AreOccurrencesAmong (Contains pages) word (occurrences_of pages word)
-  unfolding occurrences_of occurrences_among
-  occurrences_inserted pages one = lists_inserted by_place_total has_word (occurrence_at word) pages (λ a b is is' e. one a b is is' (place_tied a.place b.place e))
-
-  pub occurrences_same : (P Q : PageData → Type 0) (list : List Occurrence) → ((page : PageData) → P page ↔ Q page) → AreOccurrencesAmong P word list → AreOccurrencesAmong Q word list
-  occurrences_same P Q list same are = lists_same by_place_total has_word (occurrence_at word) P Q list same are
-
-  pub occurrences_one : (P : PageData → Type 0) (list other : List Occurrence) → AreOccurrencesAmong P word list → AreOccurrencesAmong P word other → list ≡ other
-  occurrences_one P list other are are' = lists_one by_place_total has_word (occurrence_at word) P list other are are'
+pub occurrences_listed : (word : List ℕ) → Listing (λ IsPage list. AreOccurrencesAmong IsPage word list) (λ pages. occurrences_of pages word)
+unfolding occurrences_of occurrences_among
+occurrences_listed word = record {
+  are = λ pages one. lists_inserted by_place_total (has_word word) (occurrence_at word) pages (λ a b is is' e. one a b is is' (place_tied a.place b.place e));
+  same = λ P Q list same are. lists_same by_place_total (has_word word) (occurrence_at word) P Q list same are;
+  one = λ P list other are are'. lists_one by_place_total (has_word word) (occurrence_at word) P list other are are';
+}
 
 -- ---- occurrences that were sorted
 

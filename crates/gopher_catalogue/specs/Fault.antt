@@ -19,12 +19,9 @@ found_fault_code WrongPlace = 53
 found_fault_code NoMemoryFound = 90
 
 -- a call fails with the fault of its arguments, or, if they have none, because it is out of memory
-abbrev pub IsOpenFault : Option OpenFault → OpenFault → Type 0
-IsOpenFault (Some fault) answered = answered ≡ fault
-IsOpenFault None answered = answered ≡ NoMemory
-
 abbrev pub HasOpenFault : Option OpenFault → OpenRefused → Type 0
-HasOpenFault due refused = IsOpenFault due refused.fault
+HasOpenFault (Some fault) refused = refused.fault ≡ fault
+HasOpenFault None refused = refused.fault ≡ NoMemory
 
 abbrev pub IsFoundFault : Option FoundFault → FoundFault → Type 0
 IsFoundFault (Some fault) answered = answered ≡ fault

@@ -2,8 +2,6 @@
 use Rattle.std.specs.Prelude.{◌≡◌, ℕ, ◌+◌, ◌-◌, ◌≤◌, Bool, true, false, ◌&&◌, ◌||◌, not, List, [], ◌∷◌, ◌++◌, Some, length, filter, replicate, drop, slice_get, slice_set, nat_lt, nat_le, if◌then◌else◌}
 use Rattle.std.specs.List.{range_with_len}
 use Rattle.std.specs.Option.{option_map_or}
-use Rattle.std.specs.Arc.{arc_value}
-use Rattle.std.specs.declared.sync.Arc.{Arc}
 use Rattle.std.specs.Vec.{vec_capacity, vec_len}
 use Rattle.std.specs.declared.vec.Vec.{Vec}
 use Rattle.gopher_item.specs.Place.{PlaceData, same_place, is_among}
@@ -60,14 +58,6 @@ drops limit places (mention ∷ mentions) =
     (if is_dropped limit places mention then 1 else 0)
     + drops limit (after_mention limit places mention) mentions
 
--- a link is a mention if the scope allows it
-abbrev pub after_link : ScopeData → ℕ → List PlaceData → PlaceData → List PlaceData
-after_link scope limit places link =
-    if allows scope link then after_mention limit places link else places
-
-abbrev pub is_dropped_link : ScopeData → ℕ → List PlaceData → PlaceData → Bool
-is_dropped_link scope limit places link = allows scope link && is_dropped limit places link
-
 -- the links that the scope allows
 abbrev pub allowed : ScopeData → List PlaceData → List PlaceData
 allowed scope links = filter (allows scope) links
@@ -78,15 +68,6 @@ Mentions limit old new place = new.places ≡ after_mention limit old.places pla
 
 abbrev pub IsDropped : ℕ → KnownData → PlaceData → Bool → Type 0
 IsDropped limit old place dropped = dropped ≡ is_dropped limit old.places place
-
--- the tables after a link, and whether its mention was dropped
-abbrev pub Links : {Z : Type 0} → ScopeData → ℕ → KnownData → KnownData → Arc PlaceData Z → Type 0
-Links scope limit old new link = new.places ≡ after_link scope limit old.places (arc_value link)
-
-abbrev pub IsDroppedLink : {Z : Type 0} → ScopeData → ℕ → KnownData → Arc PlaceData Z → Bool
-    → Type 0
-IsDroppedLink scope limit old link dropped =
-    dropped ≡ is_dropped_link scope limit old.places (arc_value link)
 
 -- the tables after several mentions
 abbrev pub MentionsAll : ℕ → KnownData → KnownData → List PlaceData → Type 0
@@ -242,12 +223,9 @@ after_outcome frontier number standing =
 -- a number with this state was found; the known places after the first `before` are new
 abbrev pub after_find : FrontierData → ℕ → Standing → ℕ → ℕ → FrontierData
 after_find frontier number standing before dropped =
-    record frontier {
-      standings =
-          slice_set frontier.standings number (record { claims = standing.claims; is_out = false });
+    record (after_outcome frontier number standing) {
       waiting = frontier.waiting ++ range_with_len before (length frontier.places - before);
       room = frontier.room - (length frontier.places - before);
-      out = frontier.out - 1;
       done = frontier.done + 1;
       dropped = frontier.dropped + dropped;
     }
@@ -255,13 +233,10 @@ after_find frontier number standing before dropped =
 -- a number with this state failed; it waits again if it has tries left
 abbrev pub after_failure : FrontierData → ℕ → Standing → ℕ → FrontierData
 after_failure frontier number standing tries =
-    record frontier {
-      standings =
-          slice_set frontier.standings number (record { claims = standing.claims; is_out = false });
+    record (after_outcome frontier number standing) {
       waiting =
           if nat_lt standing.claims tries then frontier.waiting ++ number ∷ []
           else frontier.waiting;
       room = if nat_lt standing.claims tries then frontier.room - 1 else frontier.room;
-      out = frontier.out - 1;
       done = if nat_lt standing.claims tries then frontier.done else frontier.done + 1;
     }

@@ -70,7 +70,7 @@ impl Event {
 ///
 /// Contracts, also those between threads, see a record as a list of these. No code makes a value of
 /// this type.
-#[derive(Debug, Drop)]
+#[derive(Drop)]
 pub enum EventData {
     /// The crawl began.
     Opened(Opening),

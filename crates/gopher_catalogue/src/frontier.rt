@@ -21,7 +21,7 @@ use std::sync::Arc;
 ///
 /// Contracts see a frontier as its tables (`FrontierData`) and don't relate the tables to each
 /// other: the caller keeps them consistent.
-#[derive(Debug, Drop)]
+#[derive(Drop)]
 pub(crate) struct Frontier {
     known: KnownPlaces,
     queue: Queue,

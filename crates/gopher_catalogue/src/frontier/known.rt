@@ -4,7 +4,7 @@
 ghost use Rattle.std.specs.Prelude.{◌≡◌, ◌<◌, [], ◌≤◌, false, length, map, take, slice_get, slice_set, IfOk, OnOk, OnErr};
 ghost use Rattle.std.specs.Arc.{arc_value};
 ghost use Rattle.gopher_item.specs.Place.{is_among};
-ghost use Rattle.gopher_catalogue.specs.Tables.{KnownData, Extends, IsWithPlace, IsWithUnclaimed, Mentions, IsDropped, Links, IsDroppedLink, LinksAll, MentionsAll, AreDropped, allowed};
+ghost use Rattle.gopher_catalogue.specs.Tables.{KnownData, Extends, IsWithPlace, IsWithUnclaimed, Mentions, IsDropped, LinksAll, MentionsAll, AreDropped, allowed};
 
 use gopher_item::{NoMemory, Place, Places, Scope};
 use gopher_text::MAX_REPLY;
@@ -14,7 +14,7 @@ use std::marker::Model;
 use std::sync::Arc;
 
 /// The state of a known place.
-#[derive(Clone, Copy, Debug, PartialEq, Eq)]
+#[derive(Clone, Copy)]
 pub(crate) struct Standing {
     /// How often the place was claimed.
     pub claims: u32,
@@ -31,7 +31,7 @@ impl Standing {
 }
 
 /// The known places in the order of first mention. The index of a place is its number.
-#[derive(Debug, Drop)]
+#[derive(Drop)]
 pub(crate) struct KnownPlaces {
     standings: IndexMap<Arc<Place>, Standing>,
     // The keys of `standings` again, because callers get them as one slice.
@@ -145,25 +145,6 @@ impl KnownPlaces {
         Ok(false)
     }
 
-    /// Mentions a link if the scope allows it. Returns whether the mention was dropped.
-    fn mention_link(
-        &mut self,
-        scope: &Scope,
-        limit: usize,
-        link: &Arc<Place>,
-    ) -> Result<bool, NoMemory>
-        ensures places { OnOk result (Links scope.now limit self.old self.new link.now) }
-        ensures dropped { IfOk result (IsDroppedLink scope.now limit self.old link.now) }
-        ensures grows { OnOk result (Extends self.old self.new) }
-        ensures err { OnErr result (self.new ≡ self.old) }
-    {
-        if scope.allows(link) {
-            self.mention(limit, link)
-        } else {
-            Ok(false)
-        }
-    }
-
     /// Mentions the links that the scope allows. Returns the number of dropped mentions. When out
     /// of memory it can leave new places known.
     pub fn mention_links(
@@ -181,8 +162,11 @@ impl KnownPlaces {
     {
         let mut dropped = 0;
         for index in 0..links.len() {
-            let link = Arc::new(alloc, links.get(index).to_place(alloc)?)?;
-            dropped += u32::from(self.mention_link(scope, limit, &link)?);
+            let link = links.get(index).to_place(alloc)?;
+            if scope.allows(&link) {
+                let link = Arc::new(alloc, link)?;
+                dropped += u32::from(self.mention(limit, &link)?);
+            }
         }
         Ok(dropped)
     }

@@ -1,7 +1,8 @@
 use Rattle.std.proofs.Common.{subst}
 use Rattle.std.specs.Prelude.{IfOk}
 use Rattle.gopher_index.specs.Answer.{AreOccurrences}
-use Rattle.gopher_catalogue.proofs.FinalAnswers.{occurrences_sorted, occurrences_final}
+use Rattle.gopher_catalogue.proofs.FinalAnswers.{final_returned, occurrences_sorted}
+use Rattle.gopher_catalogue.proofs.PageLists.{occurrences_listed}
 use Rattle.gopher_catalogue.proofs.catalogue.Catalogue.occurrences.Goals as goal
 
 pub returns-clause-occurrences : goal.returns-clause-occurrences
@@ -10,4 +11,4 @@ returns-clause-occurrences c =
     (subst (λ pages. IfOk c.occurrences.result (λ list. AreOccurrences pages c.args.word.now list.items)) c.index.ensures.pages c.occurrences.ensures)
 
 pub returns-clause-once_complete : goal.returns-clause-once_complete
-returns-clause-once_complete c = occurrences_final (λ list. list.items) c.args.self.now c.args.word.now c.occurrences.result c.index.ensures.legal (returns-clause-occurrences c)
+returns-clause-once_complete c = final_returned (occurrences_listed c.args.word.now) (λ list. list.items) c.args.self.now c.occurrences.result c.index.ensures.legal (returns-clause-occurrences c)
