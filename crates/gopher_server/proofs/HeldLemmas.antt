@@ -7,7 +7,7 @@ use Rattle.std.specs.Option.{is_some, option_map, option_map_or}
 use Rattle.lru.specs.LruCache.{promoted}
 use Rattle.lru.proofs.CallerLemmas.{Contains-lookup_entry}
 use Rattle.lru.proofs.Pairs.{lookup-lookup_entry}
-use Rattle.gopher_server.specs.WorkQueue.{occurs, has_key, with_key, without_key}
+use Rattle.gopher_server.specs.Queue.{occurs, has_key, with_key, without_key}
 use Rattle.gopher_server.specs.Held.{AreHeldOnce}
 
 occurs_without : (k key : ℕ) (keys : List ℕ) → occurs k (without_key key keys) ≤ occurs k keys

@@ -1,4 +1,2 @@
-mod Appends
-mod Escapes
 mod Handing
 mod HeldLemmas

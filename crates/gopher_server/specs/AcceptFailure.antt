@@ -1,7 +1,7 @@
 -- What an error of accept(2) means, by its number on Linux.
 use Rattle.std.specs.Prelude.{ℕ, ◌==◌, Bool, ◌||◌, if◌then◌else◌}
-use Rattle.gopher_server.specs.declared.accept_failure.AcceptFailure.{AcceptFailure}
-use Rattle.gopher_server.specs.declared.accept_failure.AcceptFailure.TheVariants.{IsLost, IsShort, IsBroken}
+use Rattle.gopher_server.specs.declared.decisions.accept_failure.AcceptFailure.{AcceptFailure}
+use Rattle.gopher_server.specs.declared.decisions.accept_failure.AcceptFailure.TheVariants.{IsLost, IsShort, StaysShort, IsBroken}
 
 -- ENOMEM, ENFILE, EMFILE, ENOBUFS
 abbrev pub is_short : ℕ → Bool
@@ -15,5 +15,8 @@ is_lost error =
     || (error == 95)) || (error == 100)) || (error == 101)) || (error == 103)) || (error == 112))
     || (error == 113)
 
-abbrev pub failure_of : ℕ → AcceptFailure
-failure_of error = if is_short error then IsShort else (if is_lost error then IsLost else IsBroken)
+-- what an error means after an accept that failed because descriptors or memory were short, or not
+abbrev pub failure_of : ℕ → Bool → AcceptFailure
+failure_of error was_short =
+    if is_short error then (if was_short then StaysShort else IsShort)
+    else (if is_lost error then IsLost else IsBroken)

@@ -6,7 +6,7 @@ use Rattle.gopher_server.specs.declared.decisions.accepting.AcceptEvent.{AcceptE
 use Rattle.gopher_server.specs.declared.decisions.accepting.AcceptEvent.TheVariants.{IsShort, Ends, Round}
 use Rattle.gopher_server.specs.declared.decisions.accepting.AcceptDuty.{AcceptDuty}
 use Rattle.gopher_server.specs.declared.decisions.accepting.AcceptDuty.TheVariants.{Nothing, Watch, HandOver, End}
-use Rattle.gopher_server.specs.declared.decisions.accept_range.AcceptRange.{AcceptRange}
+use Rattle.std.specs.declared.ops.Range.{Range}
 
 -- the token of a thread's waker
 abbrev pub waker : ℕ
@@ -18,28 +18,20 @@ first_listener = 2 ^ 64 - 1_025
 
 -- where an event has a thread accept: at all of its listeners if another thread woke it, otherwise
 -- at the one that it names
-abbrev pub accept_range : ℕ → ℕ → Option AcceptRange
-accept_range token listeners =
-    if token == waker then Some (record { first = 0; end = listeners; is_woken = true })
+abbrev pub listeners_at : ℕ → ℕ → Option (Range ℕ)
+listeners_at token listeners =
+    if token == waker then Some (record { start = 0; end = listeners })
     else (if nat_le first_listener token
-    then Some (record {
-      first = token - first_listener;
-      end = token - first_listener + 1;
-      is_woken = false;
-    })
+    then Some (record { start = token - first_listener; end = token - first_listener + 1 })
     else None)
 
--- a pause that begins now ends after 100 ms
-abbrev pub pause : ℕ → Accepting
-pause now = Pauses (min (now + 100) (2 ^ 64 - 1))
-
--- after the end of its accepting, a thread accepts nothing more; it pauses if descriptors or memory
--- are short; at the end of a round it leaves new connections to other threads while it holds many
--- more than its share, except that a pause isn't cut short
+-- after the end of its accepting, a thread accepts nothing more; it pauses for 100 ms if descriptors
+-- or memory are short; at the end of a round it leaves new connections to other threads while it
+-- holds many more than its share, except that a pause isn't cut short
 abbrev pub after_event : Accepting → AcceptEvent → ℕ → Accepting
 after_event Ended event now = Ended
 after_event state Ends now = Ended
-after_event state IsShort now = pause now
+after_event state IsShort now = Pauses (min (now + 100) (2 ^ 64 - 1))
 after_event (Pauses until) (Round leaves) now =
     if nat_le until now then Watches else Pauses until
 after_event state (Round leaves) now = if leaves then Leaves else Watches

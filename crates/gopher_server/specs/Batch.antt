@@ -1,6 +1,9 @@
--- Lines of requests that are gathered before they are written.
-use Rattle.std.specs.Prelude.{ℕ, ◌+◌, ◌&&◌, ◌==◌, Bool, List, [], ◌++◌, codes, length, min, nat_le, if◌then◌else◌}
+-- Lines of requests that are gathered before they are written, and what a write leaves of them.
+use Rattle.std.specs.Prelude.{◌≡◌, ℕ, ◌+◌, ◌&&◌, ◌==◌, Bool, true, false, List, [], ◌++◌, codes, length, take, drop, min, nat_le, Option, Result, Ok, Err, if◌then◌else◌}
 use Rattle.std.specs.Fmt.{decimal}
+use Rattle.std.specs.Io.KnownBytes.{Appends, Keeps}
+use Rattle.std.specs.declared.io.ErrorKind.{ErrorKind}
+use Rattle.std.specs.declared.io.ErrorKind.TheVariants as kind
 use Rattle.gopher_server.specs.RequestLine.{RequestData, logged_bytes}
 
 -- the lines, as bytes, and the number of requests that were dropped since the last of them
@@ -40,3 +43,22 @@ all_told batch =
 
 abbrev pub with_told : BatchData → BatchData
 with_told batch = record { written = all_told batch; dropped = 0 }
+
+-- one write of the lines, by the contents of a writer, the writer before and after, and the batch
+-- before and after: what was written is gone from the lines
+abbrev pub WritesFirst : {W E : Type 0} → (W → Option (List ℕ)) → W → W → BatchData → BatchData
+    → Result ℕ E → Type 0
+WritesFirst contents old new before after (Ok count) =
+    Appends (contents old) (contents new) (take count before.written)
+    × (after ≡ record { written = drop count before.written; dropped = before.dropped })
+WritesFirst contents old new before after (Err why) =
+    Keeps (contents old) (contents new) × (after ≡ before)
+
+-- a batch that isn't empty is kept, and `more` says that there is something to write
+abbrev pub KeepsPending : BatchData → BatchData → Bool → Type 0
+KeepsPending before after more = is_empty before ≡ false → (more ≡ true) × (after ≡ before)
+
+-- whether a write that failed is tried again at once
+abbrev pub is_tried_again : ErrorKind → Bool
+is_tried_again kind.Interrupted = true
+is_tried_again _ = false

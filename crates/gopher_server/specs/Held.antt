@@ -2,21 +2,21 @@
 use Rattle.std.specs.Prelude.{◌≡◌, ℕ, ◌+◌, ◌-◌, ◌^◌, ◌≤◌, ◌==◌, length, min, nat_eq, Bool, if◌then◌else◌, List, [], ◌∷◌, ◌++◌, Option}
 use Rattle.std.specs.Borrow.{Fml, LendsIf, MutBor, RattleType}
 use Rattle.std.specs.Option.{is_some}
-use Rattle.std.specs.Map.{lookup}
-use Rattle.gopher_server.specs.UseOrder.{PutsConnection, connection_at, with_connection}
-use Rattle.gopher_server.specs.WorkQueue.{has_key, occurs, with_key, without_key}
+use Rattle.std.specs.Map.{lookup, set_value}
+use Rattle.lru.specs.LruCache.{lru_cache, put_entries}
+use Rattle.gopher_server.specs.Queue.{has_key, occurs, with_key, without_key}
 use Rattle.gopher_server.specs.declared.decisions.held.Held.{Held}
 use Rattle.gopher_server.specs.contracts.decisions.held.Held.{the_row}
-use Rattle.gopher_server.specs.declared.decisions.held.EventMeaning.{EventMeaning}
-use Rattle.gopher_server.specs.declared.decisions.held.EventMeaning.TheVariants.{Nothing, GoesOn, Closes}
+use Rattle.gopher_server.specs.declared.decisions.held.NextStep.{NextStep}
+use Rattle.gopher_server.specs.declared.decisions.held.NextStep.TheVariants.{Waits, Ready, Ends}
 
 -- the keys of the connections whose replies searches make, in the order of their turns
 abbrev pub queue : {T : Type 0} → Held T → List ℕ
-queue held = held.searching.keys.items
+queue held = held.searching.items
 
 -- the keys of the connections that have a larger queue
 abbrev pub large_of : {T : Type 0} → Held T → List ℕ
-large_of held = held.large.keys.items
+large_of held = held.large.items
 
 -- the deadlines of those that linger: pairs of a key and a time, the earliest first
 abbrev pub deadlines : {T : Type 0} → Held T → List (ℕ × ℕ)
@@ -24,7 +24,7 @@ deadlines held = held.deadlines.items
 
 -- all connections in their order, the most recently used first
 abbrev pub held_entries : {T : Type 0} → Held T → List (ℕ × T)
-held_entries held = held.connections.held.entries
+held_entries held = held.connections.entries
 
 -- whether no connection is held
 abbrev pub has_none : {T : Type 0} → Held T → Bool
@@ -32,7 +32,7 @@ has_none held = length (held_entries held) == 0
 
 -- the connection at a key, if there is one
 abbrev pub connection : {T : Type 0} → Held T → ℕ → Option T
-connection held key = connection_at held.connections key
+connection held key = lookup (nat_eq key) (held_entries held)
 
 -- each of these keys is among them once, and has a connection
 abbrev pub AreHeldOnce : {T : Type 0} → List ℕ → List (ℕ × T) → Type 0
@@ -48,20 +48,24 @@ IsSound held =
 abbrev pub added : {T : Type 0} → Held T → ℕ → List ℕ → List ℕ
 added held key keys = if is_some (connection held key) then with_key key keys else keys
 
--- a connection was taken in at a new key, and is the most recently used
+-- the key after this one; the last is 2^64 - 1
+abbrev pub key_after : ℕ → ℕ
+key_after key = min (key + 1) (2 ^ 64 - 1)
+
+-- a connection was taken in at the next key, and is the most recently used
 abbrev pub PutsHeld : {T : Type 0} → Held T → Held T → T → Type 0
-PutsHeld old new taken = PutsConnection old.connections new.connections taken
+PutsHeld old new taken =
+    held_entries new ≡ put_entries nat_eq old.connections old.next_key taken
 
--- a connection that is held goes on; while a search makes its reply it has nothing to do but to be
--- closed if its client is gone
-abbrev pub event_meaning : Bool → Bool → Bool → EventMeaning
-event_meaning is_held searches is_gone =
-    if is_held then (if searches then (if is_gone then Closes else Nothing) else GoesOn)
-    else Nothing
+-- after an event a connection that is held is ready; while a search makes its reply it waits for its
+-- turn, or ends if its client is gone
+abbrev pub step_after_event : Bool → Bool → Bool → NextStep
+step_after_event is_held searches is_gone =
+    if is_held then (if searches then (if is_gone then Ends else Waits) else Ready) else Waits
 
-abbrev pub meaning_at : {T : Type 0} → Held T → ℕ → Bool → EventMeaning
-meaning_at held key is_gone =
-    event_meaning (is_some (connection held key)) (has_key key (queue held)) is_gone
+abbrev pub step_at : {T : Type 0} → Held T → ℕ → Bool → NextStep
+step_at held key is_gone =
+    step_after_event (is_some (connection held key)) (has_key key (queue held)) is_gone
 
 -- a search that goes on keeps its turn; another leaves the queue
 abbrev pub queue_after : Bool → ℕ → List ℕ → List ℕ
@@ -78,7 +82,8 @@ Lingers old new key now = deadlines new ≡ deadlines old ++ (key, lingers_until
 -- all connections in their states, with this one in place of the one at a key
 abbrev pub with_written : {T : Type 0} → Held T → ℕ → T → Held T
 with_written all key written =
-    record all { connections = with_connection all.connections key written }
+    let entries = set_value (nat_eq key) (held_entries all) written
+    in record all { connections = lru_cache entries all.connections.cap }
 
 -- when the borrow of the connection at a key ends, that key has what was written last, and all else
 -- is unchanged; if the key has no connection, nothing changes

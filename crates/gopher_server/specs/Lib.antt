@@ -6,11 +6,9 @@ pub mod Escaped
 pub mod RequestLine
 pub mod Batch
 pub mod ThreadLog
-pub mod Pending
 pub mod Places
 pub mod Rests
 pub mod Timing
-pub mod UseOrder
-pub mod WorkQueue
+pub mod Queue
 pub mod Held
 pub mod Waits

@@ -1,5 +1,5 @@
 -- How many connections a server may hold, and how many it still accepts.
-use Rattle.std.specs.Prelude.{ℕ, ◌+◌, ◌*◌, ◌-◌, ◌/◌, Bool, true, nat_lt, min, max, Option, None, Some}
+use Rattle.std.specs.Prelude.{ℕ, ◌+◌, ◌*◌, ◌-◌, ◌/◌, Bool, true, nat_lt, min, max, if◌then◌else◌, Option, None, Some}
 
 -- how many files a server opens beside its connections: its listeners, for each thread a poll, a
 -- waker and one connection above the limit, for each worker a connection and the lookup of a host's
@@ -7,14 +7,13 @@ use Rattle.std.specs.Prelude.{ℕ, ◌+◌, ◌*◌, ◌-◌, ◌/◌, Bool, tru
 abbrev pub other_files : ℕ → ℕ → ℕ → ℕ
 other_files listeners threads workers = max (16 + listeners + 3 * threads + 2 * workers) 64
 
--- the most connections of a server whose process may open `files` files, `others` of them not
--- connections
-abbrev pub max_places : ℕ → ℕ → ℕ
-max_places files others = min (files - others) 16384
-
--- whether these places suffice for a crawl of this very server, and one client beside it
-abbrev pub serves_crawl : ℕ → ℕ → Bool
-serves_crawl places workers = nat_lt workers places
+-- the most connections of a server whose process may open `files` files, with these numbers of
+-- listeners, threads and workers; none if they don't suffice for a crawl of this very server, and
+-- one client beside it
+abbrev pub max_places : ℕ → ℕ → ℕ → ℕ → Option ℕ
+max_places files listeners threads workers =
+    let places = min (files - other_files listeners threads workers) 16_384 in
+    if nat_lt workers places then Some places else None
 
 -- the fair share of one of `threads` threads in `all` connections, at least 1
 abbrev pub fair_share : ℕ → ℕ → ℕ

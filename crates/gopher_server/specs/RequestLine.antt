@@ -2,20 +2,20 @@
 use Rattle.std.specs.Prelude.{ℕ, List, ◌++◌, codes, drop}
 use Rattle.std.specs.Fmt.{decimal}
 use Rattle.gopher_item.specs.Menu.{fields_of, first_field}
-use Rattle.gopher_server.specs.declared.logging.moment.Moment.{Moment}
+use Rattle.jiff_core.specs.declared.civil.datetime.DateTime.{DateTime}
 use Rattle.gopher_server.specs.Moment.{moment_bytes}
 use Rattle.gopher_server.specs.Escaped.{escaped}
 
 -- a request: when it ended, the client's address, the line that was asked, the number of bytes that
 -- were sent, and the microseconds that it took
 pub record RequestData : Type 0 where
-  pub ended : Moment
+  pub ended : DateTime
   pub peer : List ℕ
   pub asked : List ℕ
   pub sent : ℕ
   pub micros : ℕ
 
-abbrev pub request_with : Moment → List ℕ → List ℕ → ℕ → ℕ → RequestData
+abbrev pub request_with : DateTime → List ℕ → List ℕ → ℕ → ℕ → RequestData
 request_with ended peer asked sent micros =
     record { ended = ended; peer = peer; asked = asked; sent = sent; micros = micros }
 

@@ -1,9 +1,25 @@
 -- The lines of a server thread, until it hands them on.
-use Rattle.std.specs.Prelude.{◌≡◌, ◌⊎◌, ℕ, List, Option, None, Some, if◌then◌else◌}
+use Rattle.std.specs.Prelude.{◌≡◌, ◌⊎◌, ℕ, ◌+◌, nat_le, Bool, false, IfSome, List, Option, None, Some, if◌then◌else◌}
+use Rattle.std.specs.Time.{instant_nanos}
+use Rattle.std.specs.declared.time.Instant.{Instant}
 use Rattle.std.specs.Net.Text.{ip_text}
 use Rattle.std.specs.declared.net.ip_addr.IpAddr.{IpAddr}
 use Rattle.gopher_server.specs.RequestLine.{RequestData}
 use Rattle.gopher_server.specs.Batch.{BatchData, is_empty, no_lines, with_request, with_dropped}
+
+-- lines are kept since the time at which the first of them was added
+abbrev pub since_with : Option Instant → Instant → Option Instant
+since_with None now = Some now
+since_with (Some since) now = Some since
+
+-- a time since which lines are kept stays
+abbrev pub KeepsSince : Option Instant → Option Instant → Type 0
+KeepsSince before after = IfSome before (λ since. after ≡ Some since)
+
+-- lines that are kept since a time are handed on 250 ms later
+abbrev pub is_due : Option Instant → Instant → Bool
+is_due None now = false
+is_due (Some since) now = nat_le (instant_nanos since + 250_000_000) (instant_nanos now)
 
 -- lines wait for 250 ms at most; without lines there is nothing to wait for
 abbrev pub poll_timeout : BatchData → Option ℕ

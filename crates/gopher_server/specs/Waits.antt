@@ -9,7 +9,7 @@ use Rattle.gopher_server.specs.Batch.{BatchData}
 use Rattle.gopher_server.specs.Deadlines.{first_deadline}
 use Rattle.gopher_server.specs.Held.{deadlines, queue}
 use Rattle.gopher_server.specs.ThreadLog as log
-use Rattle.gopher_server.specs.WorkQueue.{first_key}
+use Rattle.gopher_server.specs.Queue.{first_key}
 use Rattle.gopher_server.specs.declared.decisions.accepting.Accepting.{Accepting}
 use Rattle.gopher_server.specs.declared.decisions.held.Held.{Held}
 

@@ -2,8 +2,9 @@
 
 ghost use Rattle.std.specs.Prelude.{◌≡◌, ◌&&◌, length, nat_lt, true};
 ghost use Rattle.gopher_server.specs.RequestLine.{search_of};
-ghost use Rattle.gopher_server.specs.declared.connection.NextStep.TheVariants.{Ends, Lingers};
+ghost use Rattle.gopher_server.specs.declared.decisions.held.NextStep.TheVariants.{Ends, Lingers};
 
+use crate::decisions::NextStep;
 use crate::logging::{Accepted, ThreadLog, search_of};
 use crate::send_buffer::ReplyWriter;
 use gopher_conversation::{Answers, Conversation, Progress, ServeFault, advance, converse};
@@ -32,19 +33,14 @@ const MAX_LISTENS: u32 = 2_048;
 // The most reads of a lingering connection before other events are handled.
 const MAX_READS: u32 = 16;
 
-/// The next step of a connection.
-#[derive(Clone, Copy, PartialEq, Eq)]
-pub(crate) enum NextStep {
-    /// It goes on when the client is ready.
-    Waits,
-    /// A search makes its reply. It can go on at once, but others are served first.
-    Works,
-    /// It can go on at once.
-    Ready,
-    /// Its reply is sent. What the client still sends is read and dropped.
-    Lingers,
-    /// It ends.
-    Ends,
+/// What a thread answers its clients with.
+#[derive(Drop)]
+pub(crate) struct Answering<A: Drop> {
+    pub(crate) alloc: Global,
+    pub(crate) answers: A,
+    pub(crate) buffer: [u8; BUFFER_BYTES],
+    /// Whether a client got no whole reply because memory ran out.
+    pub(crate) is_short: bool,
 }
 
 /// A connection with a client, which never waits.
@@ -59,8 +55,6 @@ pub(crate) struct Connection<'a> {
     reported: Option<Interest>,
     /// Whether the system queues more for its client than for others.
     pub(crate) is_large: bool,
-    /// Whether it failed because memory ran out.
-    pub(crate) lacked_memory: bool,
 }
 
 // Adds the line of a conversation to the log, if a line was asked.
@@ -105,7 +99,6 @@ impl<'a> Connection<'a> {
             lingers: false,
             reported: None,
             is_large: false,
-            lacked_memory: false,
         }
     }
 
@@ -119,9 +112,13 @@ impl<'a> Connection<'a> {
         }
     }
 
-    /// Returns whether the poll doesn't report yet what it waits for.
-    pub(crate) fn lacks_reports(&self) -> bool {
-        self.reported != Some(self.interest())
+    /// Returns whether the poll has to be told what it waits for, at its next step.
+    pub(crate) fn lacks_reports(&self, step: NextStep) -> bool {
+        match step {
+            NextStep::Ready | NextStep::Lingers => true,
+            NextStep::Waits => self.reported != Some(self.interest()),
+            NextStep::Works | NextStep::Ends => self.reported.is_none(),
+        }
     }
 
     /// Has the poll report by `key` when its client is ready, even if it is ready already. Returns
@@ -139,57 +136,40 @@ impl<'a> Connection<'a> {
     /// Goes on while the client is ready. If a search makes the reply, takes one step of it. If it
     /// may enlarge its queue, the system then queues more of a long reply. If `is_held_back`, it
     /// doesn't begin a long search.
-    pub(crate) fn go_on<A: Answers<'a>>(
+    pub(crate) fn go_on<A: Answers<'a> + Drop>(
         &mut self,
-        alloc: Global,
-        answers: &mut A,
-        buffer: &mut [u8; BUFFER_BYTES],
+        answering: &mut Answering<A>,
         may_enlarge: bool,
         is_held_back: bool,
     ) -> NextStep {
         if self.lingers {
-            return self.read_on(buffer);
+            return self.read_on(&mut answering.buffer);
         }
         if is_held_back && self.conversation.asked_line().is_none() {
-            if let Some(progress) = self.listen(alloc, answers, buffer) {
-                return self.step_after(progress);
-            }
-            if self.asks_long_search() {
-                return NextStep::Works;
+            if let Some(step) = self.listen(answering) {
+                return step;
             }
         }
-        self.talk(alloc, answers, buffer, may_enlarge)
+        self.talk(answering, may_enlarge)
     }
 
-    // Whether its line has a long search string.
-    fn asks_long_search(&self) -> bool {
-        match self.conversation.asked_line() {
-            Some(asked) => has_long_search(asked),
-            None => false,
-        }
-    }
-
-    // Takes the steps up to the end of its line. Returns its progress if it stops before.
-    fn listen<A: Answers<'a>>(
-        &mut self,
-        alloc: Global,
-        answers: &mut A,
-        buffer: &mut [u8; BUFFER_BYTES],
-    ) -> Option<Progress> {
+    // Takes the steps up to the end of its line. Returns its next step if it stops before, or if
+    // the line has a long search string.
+    fn listen<A: Answers<'a> + Drop>(&mut self, answering: &mut Answering<A>) -> Option<NextStep> {
         for _step in 0..MAX_LISTENS {
-            if self.conversation.asked_line().is_some() {
-                return None;
+            if let Some(asked) = self.conversation.asked_line() {
+                return has_long_search(asked).then_some(NextStep::Works);
             }
             let progress = advance(
-                alloc,
+                answering.alloc,
                 &mut self.conversation,
-                answers,
+                &mut answering.answers,
                 &mut Watched::new(&self.stream),
                 &mut Watched::new(ReplyWriter::new(&self.stream, false)),
-                buffer,
+                &mut answering.buffer,
             );
             if progress != Progress::Paused {
-                return Some(progress);
+                return Some(self.step_after(progress, &mut answering.is_short));
             }
         }
         None
@@ -213,36 +193,35 @@ impl<'a> Connection<'a> {
     }
 
     // Converses while the client is ready and no search makes the reply.
-    fn talk<A: Answers<'a>>(
+    fn talk<A: Answers<'a> + Drop>(
         &mut self,
-        alloc: Global,
-        answers: &mut A,
-        buffer: &mut [u8; BUFFER_BYTES],
+        answering: &mut Answering<A>,
         may_enlarge: bool,
     ) -> NextStep {
         let may_enlarge = may_enlarge && !self.is_large;
         let mut writer = Watched::new(ReplyWriter::new(&self.stream, may_enlarge));
         let progress = converse(
-            alloc,
+            answering.alloc,
             &mut self.conversation,
-            answers,
+            &mut answering.answers,
             &mut Watched::new(&self.stream),
             &mut writer,
-            buffer,
+            &mut answering.buffer,
         );
         self.is_large = self.is_large || writer.into_inner().is_large;
-        self.step_after(progress)
+        self.step_after(progress, &mut answering.is_short)
     }
 
-    // The next step after a progress of its conversation.
-    fn step_after(&mut self, progress: Progress) -> NextStep {
+    // The next step after a progress of its conversation. Records in `is_short` that memory ran
+    // out.
+    fn step_after(&mut self, progress: Progress, is_short: &mut bool) -> NextStep {
         match progress {
             Progress::Works => NextStep::Works,
             Progress::Waits => NextStep::Waits,
             Progress::Done => self.end_reply(),
             Progress::Paused => NextStep::Ends,
             Progress::Failed(fault) => {
-                self.lacked_memory = fault == ServeFault::NoMemory;
+                *is_short |= fault == ServeFault::NoMemory;
                 NextStep::Ends
             }
         }

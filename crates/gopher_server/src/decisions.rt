@@ -12,18 +12,16 @@
 //! Error 90 (`AllocError`) means out of memory, and leaves everything unchanged. Calls that can't
 //! fail with it allocate nothing.
 
-mod accept_range;
+mod accept_failure;
 mod accepting;
 mod held;
 mod places;
 mod quota;
-mod use_order;
 mod waits;
-mod work_queue;
 
-pub use accept_range::{AcceptRange, FIRST_LISTENER, WAKER};
-pub use accepting::{AcceptDuty, AcceptEvent, AcceptRun, Accepting};
-pub use held::{EventMeaning, Held};
-pub use places::{Places, max_places, other_files, serves_crawl};
+pub use accept_failure::{AcceptFailure, failure_of};
+pub use accepting::{AcceptDuty, AcceptEvent, Accepting, FIRST_LISTENER, WAKER, listeners_at};
+pub use held::{Held, NextStep};
+pub use places::{Places, max_places};
 pub use quota::AcceptQuota;
 pub use waits::longest_wait;

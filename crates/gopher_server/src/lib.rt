@@ -12,7 +12,6 @@
 //! Contracts of `logging` say what a line of the log is, and which bytes of it are written.
 #![tactic(auto)]
 
-mod accept_failure;
 mod acceptor;
 mod connection;
 mod decisions;

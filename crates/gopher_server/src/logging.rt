@@ -19,17 +19,14 @@
 mod batch;
 mod escaping;
 mod moment;
-mod pending;
 mod queue;
 mod request_line;
 mod rests;
 mod standard_error;
 mod thread_log;
-mod timing;
 mod writer;
 
 pub use queue::LogQueue;
 pub use request_line::search_of;
 pub use thread_log::{Accepted, ThreadLog};
-pub(crate) use timing::micros_of;
 pub use writer::{Log, OpenLog, start_log};

@@ -7,10 +7,11 @@ ghost use Rattle.gopher_server.specs.Waits.{IsLongestWait};
 ghost use Rattle.gopher_server.specs.declared.decisions.accepting.Accepting.TheVariants.{Ended};
 ghost use Rattle.gopher_server.specs.declared.thread_end.ThreadEnd.TheVariants.{Failed};
 
-use crate::accept_failure::{AcceptFailure, failure_of};
 use crate::acceptor::Acceptor;
-use crate::connection::{BUFFER_BYTES, Connection, NextStep};
-use crate::decisions::{AcceptEvent, AcceptRange, AcceptRun, Held, longest_wait};
+use crate::connection::{Answering, BUFFER_BYTES, Connection};
+use crate::decisions::{
+    AcceptEvent, AcceptFailure, Held, NextStep, WAKER, failure_of, listeners_at, longest_wait,
+};
 use crate::logging::ThreadLog;
 use crate::setup::ThreadSetup;
 use crate::thread_clock::ThreadClock;
@@ -22,7 +23,7 @@ use std::alloc::Global;
 use std::io::{self, Eprint, ErrorKind};
 use std::net::SocketAddr;
 use std::sync::Wait;
-use std::time::{Clock, Duration};
+use std::time::{Clock, Duration, Instant};
 
 // The most connections that are accepted at a listener before other events are handled. Those left
 // wait in the system's queue, which reports them again in the next round.
@@ -31,17 +32,13 @@ const MAX_ACCEPTS: u32 = 64;
 /// A server thread.
 #[derive(Drop)]
 pub(crate) struct Server<'a, A: Answers<'a> + Drop> {
-    pub(crate) alloc: Global,
     pub(crate) poll: Poll,
-    pub(crate) buffer: [u8; BUFFER_BYTES],
     pub(crate) acceptor: Acceptor,
     pub(crate) connections: Held<Connection<'a>>,
-    pub(crate) answers: A,
+    pub(crate) answering: Answering<A>,
     pub(crate) log: ThreadLog,
     pub(crate) clock: ThreadClock,
     pub(crate) end: ThreadEnd,
-    /// Whether a client got no whole reply because memory ran out.
-    pub(crate) is_short: bool,
     /// Whether it prints on the error stream why it fails.
     pub(crate) tells: bool,
     // Whether it prints that a client got no whole reply.
@@ -66,7 +63,7 @@ impl<'a, A: Answers<'a> + Drop> Server<'a, A> {
         if is_woken || self.connections.next_search().is_some() {
             self.acceptor.expect_more();
         }
-        let mut run = AcceptRun::new();
+        let mut was_short = false;
         for _accepted in 0..MAX_ACCEPTS {
             match self.acceptor.next_client(index) {
                 Some(Ok((stream, address))) => {
@@ -79,51 +76,55 @@ impl<'a, A: Answers<'a> + Drop> Server<'a, A> {
                     if error.kind() == ErrorKind::WouldBlock {
                         return self.acceptor.found_none();
                     }
-                    self.meet_failure(rt, error, &mut run);
+                    was_short = self.meet_failure(rt, error, was_short);
                 }
                 None => return,
             }
         }
     }
 
-    // Handles the error of a failed accept.
+    // Handles the error of a failed accept. If descriptors or memory are short, makes room, or else
+    // accepts nothing for a time and leaves the connection to the other threads. Returns whether
+    // they are; `was_short` says whether they were at the accept before.
     fn meet_failure<R: Wait + Clock + Eprint>(
         &mut self,
         rt: &R,
         error: io::Error,
-        run: &mut AcceptRun,
-    ) {
-        match failure_of(error.raw_os_error().unwrap_or(0).unsigned_abs()) {
-            AcceptFailure::IsLost => run.lose(),
-            AcceptFailure::IsShort => self.make_do(rt, run),
+        was_short: bool,
+    ) -> bool {
+        let number = error.raw_os_error().unwrap_or(0).unsigned_abs();
+        match failure_of(number, was_short) {
+            AcceptFailure::IsLost => false,
+            AcceptFailure::IsShort => {
+                match self.connections.idle_longest() {
+                    Some(key) => self.close(rt, key),
+                    None => self.pause(rt),
+                }
+                true
+            }
+            AcceptFailure::StaysShort => {
+                self.pause(rt);
+                true
+            }
             AcceptFailure::IsBroken => {
-                tell(
-                    rt,
-                    "hole: connections can't be accepted: ",
-                    error,
-                    self.tells,
-                );
+                let what = "hole: connections can't be accepted: ";
+                tell(rt, what, error, self.tells);
                 self.fail();
+                false
             }
         }
     }
 
-    // Makes room if descriptors or memory are short, or else accepts nothing for a time and leaves
-    // the connection to the other threads.
-    fn make_do<R: Wait + Clock>(&mut self, rt: &R, run: &mut AcceptRun) {
-        match run.make_room(self.connections.idle_longest()) {
-            Some(key) => self.close(rt, key),
-            None => {
-                let now = self.clock.now(rt);
-                self.acceptor.meet(&self.poll, AcceptEvent::IsShort, now);
-            }
-        }
+    // Accepts nothing for a time.
+    fn pause(&mut self, clock: &impl Clock) {
+        let now = self.clock.now(clock);
+        self.acceptor.meet(&self.poll, AcceptEvent::IsShort, now);
     }
 
     // Takes in a client that was accepted.
     fn welcome<R: Wait + Clock>(&mut self, rt: &R, stream: TcpStream, address: SocketAddr) {
         let accepted = self.log.accept(rt, address.ip());
-        self.begin(rt, Connection::new(self.alloc, stream, accepted));
+        self.begin(rt, Connection::new(self.answering.alloc, stream, accepted));
         self.acceptor.take_quota(&self.poll);
     }
 
@@ -132,16 +133,9 @@ impl<'a, A: Answers<'a> + Drop> Server<'a, A> {
         let mut connection = connection;
         let may_enlarge = self.connections.may_enlarge();
         let is_held_back = self.connections.next_search().is_some();
-        let step = connection.go_on(
-            self.alloc,
-            &mut self.answers,
-            &mut self.buffer,
-            may_enlarge,
-            is_held_back,
-        );
-        self.is_short |= connection.lacked_memory;
+        let step = connection.go_on(&mut self.answering, may_enlarge, is_held_back);
         if step == NextStep::Ends {
-            connection.log_request(rt, self.alloc, &mut self.log);
+            connection.log_request(rt, self.answering.alloc, &mut self.log);
         } else {
             self.keep(rt, connection, step);
         }
@@ -149,7 +143,7 @@ impl<'a, A: Answers<'a> + Drop> Server<'a, A> {
 
     // Prints once on the error stream that a client got no whole reply, if it tells.
     fn tell_shortage(&mut self, rt: &impl Eprint) {
-        if self.is_short && self.tells_shortage {
+        if self.answering.is_short && self.tells_shortage {
             self.tells_shortage = false;
             let _ = rt.eprintln("hole: a client got no whole reply: out of memory");
         }
@@ -159,11 +153,11 @@ impl<'a, A: Answers<'a> + Drop> Server<'a, A> {
 
     // Goes on with what an event names. `is_gone` says that a client takes nothing more.
     fn handle_event<R: Wait + Clock + Eprint>(&mut self, rt: &R, token: usize, is_gone: bool) {
-        let Some(range) = AcceptRange::at(token, self.acceptor.number_of_listeners()) else {
+        let Some(listeners) = listeners_at(token, self.acceptor.number_of_listeners()) else {
             return self.meet_event(rt, token, is_gone);
         };
-        for index in range.first..range.end {
-            self.accept(rt, index, range.is_woken);
+        for index in listeners {
+            self.accept(rt, index, token == WAKER);
         }
     }
 
@@ -174,8 +168,8 @@ impl<'a, A: Answers<'a> + Drop> Server<'a, A> {
         self.acceptor.state.has_ended() && self.connections.is_empty()
     }
 
-    // The time, or 0 if it isn't needed: a round in which nothing has a time reads no clock.
-    fn time_if(&self, clock: &impl Clock, is_needed: bool) -> u64 {
+    /// Returns the time, or 0 if it isn't needed: if nothing has a time, a round reads no clock.
+    pub(crate) fn time_if(&self, clock: &impl Clock, is_needed: bool) -> u64 {
         if is_needed { self.clock.now(clock) } else { 0 }
     }
 
@@ -214,7 +208,9 @@ impl<'a, A: Answers<'a> + Drop> Server<'a, A> {
         self.close_excess(rt);
         self.keep_share(rt);
         if self.log.poll_timeout().is_some() {
-            self.log.hand_on_due(rt, self.alloc);
+            if let Ok(now) = Instant::now(rt) {
+                self.log.hand_on_due(rt, self.answering.alloc, now);
+            }
         }
         Ok(())
     }
@@ -238,7 +234,7 @@ impl<'a, A: Answers<'a> + Drop> Server<'a, A> {
     fn work_to_end<R: Wait + Clock + Eprint>(&mut self, rt: &R, events: &mut Events) -> ThreadEnd {
         self.acceptor.take_quota(&self.poll);
         self.work_on(rt, events);
-        self.log.end(rt, self.alloc);
+        self.log.end(rt, self.answering.alloc);
         self.end
     }
 
@@ -292,16 +288,18 @@ pub fn serve<'a, A: Answers<'a> + Drop, R: Wait + Clock + Eprint>(
         return ThreadEnd::LacksMemory;
     };
     let mut server = Server {
-        alloc,
         poll,
-        buffer: [0u8; BUFFER_BYTES],
         acceptor: Acceptor::new(listeners, shared),
         connections,
-        answers,
+        answering: Answering {
+            alloc,
+            answers,
+            buffer: [0u8; BUFFER_BYTES],
+            is_short: false,
+        },
         log,
         clock,
         end: ThreadEnd::Served,
-        is_short: false,
         tells,
         tells_shortage: tells,
     };

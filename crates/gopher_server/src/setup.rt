@@ -1,6 +1,6 @@
 //! What server threads need of the system, made before they start (`set_up`).
 
-use crate::decisions::{AcceptQuota, Places, WAKER, max_places, other_files, serves_crawl};
+use crate::decisions::{AcceptQuota, Places, WAKER, max_places};
 use crate::listeners::watch;
 use crate::logging::{LogQueue, ThreadLog};
 use crate::shared::ServerShared;
@@ -15,11 +15,12 @@ use std::sync::Arc;
 // The most events of one round.
 const MAX_EVENTS: usize = 256;
 
-// The least and the most bytes of the blocks of memory that the C library keeps for the thread that
-// gave them back, and how many of each size are set aside. A small request needs no larger ones.
+// The least bytes of the blocks of memory that the C library keeps for the thread that gave them
+// back, the number of their sizes, each 16 bytes larger, and how many of each size are set aside. A
+// small request needs none above 1,032 bytes.
 const MIN_BLOCK: usize = 24;
 
-const MAX_BLOCK: usize = 1_032;
+const SIZES: usize = 64;
 
 const BLOCKS: usize = 3;
 
@@ -58,14 +59,12 @@ fn count_of(number: usize) -> u32 {
 /// 16,384. `None` if they don't suffice for a crawl of this very server by `workers` workers, and
 /// one client beside it. Without a crawl, `workers` is 0.
 pub fn max_connections(listeners: usize, threads: usize, workers: usize) -> Option<u64> {
-    let workers = count_of(workers);
-    let others = other_files(count_of(listeners), count_of(threads), workers);
-    let places = max_places(max_files(), others);
-    if serves_crawl(places, workers) {
-        Some(places)
-    } else {
-        None
-    }
+    max_places(
+        max_files(),
+        count_of(listeners),
+        count_of(threads),
+        count_of(workers),
+    )
 }
 
 // A poll for a thread, and its waker.
@@ -92,20 +91,13 @@ fn polls_and_wakers<R: Net>(
     Ok((polls, wakers))
 }
 
-// Adds blocks of memory of a size.
-fn push_blocks(alloc: Global, size: usize, blocks: &mut Vec<Vec<u8>>) -> Result<(), NoMemory> {
-    for _block in 0..BLOCKS {
-        blocks.push(Vec::with_capacity(alloc, size)?)?;
-    }
-    Ok(())
-}
-
 // Blocks of memory of each size that a small request may need. A thread gives them back when it
 // starts. The C library then keeps them for that thread, so that a crawl can't take them.
 fn small_blocks(alloc: Global) -> Result<Vec<Vec<u8>>, NoMemory> {
     let mut blocks = Vec::new(alloc);
-    for size in (MIN_BLOCK..=MAX_BLOCK).step_by(16) {
-        push_blocks(alloc, size, &mut blocks)?;
+    for block in 0..SIZES * BLOCKS {
+        let size = MIN_BLOCK + 16 * (block % SIZES);
+        blocks.push(Vec::with_capacity(alloc, size)?)?;
     }
     Ok(blocks)
 }

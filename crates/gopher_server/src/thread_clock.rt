@@ -1,9 +1,8 @@
 //! The clock of a server thread.
 
-ghost use Rattle.std.specs.Prelude.{◌≡◌, ◌/◌, ◌-◌, ◌^◌, min};
-ghost use Rattle.std.specs.Duration.{as_nanos};
+ghost use Rattle.std.specs.Prelude.{◌≡◌};
+ghost use Rattle.gopher_server.specs.Timing.{micros_of};
 
-use crate::logging::micros_of;
 use std::io;
 use std::time::{Clock, Duration, Instant};
 
@@ -13,14 +12,11 @@ pub(crate) struct ThreadClock {
     began: Instant,
 }
 
-// The whole milliseconds of a time, at most 2^64 - 1.
-fn millis_of(time: Duration) -> u64
-    ensures { result ≡ min (as_nanos time / 1_000_000) (2 ^ 64 - 1) }
+/// Returns the whole microseconds of a time, at most 2^64 - 1.
+pub(crate) fn micros_of(time: Duration) -> u64
+    ensures { result ≡ micros_of time }
 {
-    match u64::try_from(time.as_millis()) {
-        Ok(millis) => millis,
-        Err(_) => u64::MAX,
-    }
+    u64::try_from(time.as_micros()).unwrap_or(u64::MAX)
 }
 
 impl ThreadClock {
@@ -34,21 +30,16 @@ impl ThreadClock {
         Ok(ThreadClock { began })
     }
 
-    // The time since it began; zero if the system's clock can't be read.
-    fn elapsed(&self, clock: &impl Clock) -> Duration {
+    /// Returns the microseconds since it began; 0 if the system's clock can't be read.
+    pub(crate) fn micros(&self, clock: &impl Clock) -> u64 {
         match Instant::now(clock) {
-            Ok(now) => now.duration_since(self.began),
-            Err(_) => Duration::from_millis(0),
+            Ok(now) => micros_of(now.duration_since(self.began)),
+            Err(_) => 0,
         }
     }
 
     /// Returns the milliseconds since it began; 0 if the system's clock can't be read.
     pub(crate) fn now(&self, clock: &impl Clock) -> u64 {
-        millis_of(self.elapsed(clock))
-    }
-
-    /// Returns the microseconds since it began; 0 if the system's clock can't be read.
-    pub(crate) fn micros(&self, clock: &impl Clock) -> u64 {
-        micros_of(self.elapsed(clock))
+        self.micros(clock) / 1_000
     }
 }

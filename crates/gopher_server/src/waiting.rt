@@ -1,8 +1,8 @@
 //! The connections of a server thread that wait: for their clients, or for the search that makes
 //! their reply.
 
-use crate::connection::{Connection, NextStep};
-use crate::decisions::EventMeaning;
+use crate::connection::Connection;
+use crate::decisions::NextStep;
 use crate::server::Server;
 use gopher_conversation::Answers;
 use std::sync::Wait;
@@ -27,16 +27,12 @@ impl<'a, A: Answers<'a> + Drop> Server<'a, A> {
         match self.connections.take_in(connection) {
             Ok(key) => {
                 self.acceptor.shared.places.take();
-                if self.mark_if_large(key, is_large) && self.watch_client(key) {
-                    self.meet_step(rt, key, step);
-                } else {
-                    self.close(rt, key);
-                }
+                self.meet_step(rt, key, step, is_large);
                 self.make_room(rt);
             }
             Err(refused) => {
                 let mut connection = refused;
-                connection.log_request(rt, self.alloc, &mut self.log);
+                connection.log_request(rt, self.answering.alloc, &mut self.log);
             }
         }
     }
@@ -79,7 +75,7 @@ impl<'a, A: Answers<'a> + Drop> Server<'a, A> {
     // Has the request of the connection at a key logged.
     fn log_at<R: Wait + Clock>(&mut self, rt: &R, key: usize) {
         if let Some(connection) = self.connections.get_mut(key) {
-            connection.log_request(rt, self.alloc, &mut self.log);
+            connection.log_request(rt, self.answering.alloc, &mut self.log);
         }
     }
 
@@ -89,12 +85,6 @@ impl<'a, A: Answers<'a> + Drop> Server<'a, A> {
         self.connections.end(key).is_some()
     }
 
-    // Records that the connection at a key has a larger queue, if `is_large`. False if out of
-    // memory.
-    fn mark_if_large(&mut self, key: usize, is_large: bool) -> bool {
-        !is_large || self.connections.mark_large(key).is_ok()
-    }
-
     /// Closes the connection at a key, and gives its place back.
     pub(crate) fn close<R: Wait + Clock>(&mut self, rt: &R, key: usize) {
         if self.take_out(rt, key) {
@@ -102,22 +92,13 @@ impl<'a, A: Answers<'a> + Drop> Server<'a, A> {
         }
     }
 
-    // Has the connection at a key reported when its client is ready, even if it is ready already.
-    // False if the system refuses.
-    fn watch_client(&mut self, key: usize) -> bool {
-        match self.connections.get_mut(key) {
-            Some(connection) => connection.watch(self.poll.registry(), key),
-            None => false,
-        }
-    }
-
     /// Does what an event asks for the connection at a key. `is_gone` says that its client takes
     /// nothing more.
     pub(crate) fn meet_event<R: Wait + Clock>(&mut self, rt: &R, key: usize, is_gone: bool) {
-        match self.connections.event_meaning(key, is_gone) {
-            EventMeaning::Nothing => {}
-            EventMeaning::GoesOn => self.go_on(rt, key),
-            EventMeaning::Closes => self.close(rt, key),
+        match self.connections.step_after_event(key, is_gone) {
+            NextStep::Ready => self.go_on(rt, key),
+            NextStep::Ends => self.close(rt, key),
+            NextStep::Waits | NextStep::Works | NextStep::Lingers => {}
         }
     }
 
@@ -128,50 +109,37 @@ impl<'a, A: Answers<'a> + Drop> Server<'a, A> {
         let Some(connection) = self.connections.get_mut(key) else {
             return;
         };
-        let step = connection.go_on(
-            self.alloc,
-            &mut self.answers,
-            &mut self.buffer,
-            may_enlarge,
-            is_held_back,
-        );
+        let step = connection.go_on(&mut self.answering, may_enlarge, is_held_back);
         let is_large = connection.is_large;
-        self.is_short |= connection.lacked_memory;
         self.connections.touch(key);
-        if self.mark_if_large(key, is_large) {
-            self.meet_later_step(rt, key, step);
-        } else {
-            self.close(rt, key);
-        }
+        self.meet_step(rt, key, step, is_large);
     }
 
-    // Whether the connection at a key waits for what isn't reported.
-    fn lacks_reports(&mut self, key: usize, step: NextStep) -> bool {
-        match step {
-            NextStep::Ready | NextStep::Lingers => true,
-            NextStep::Waits => match self.connections.get_mut(key) {
-                Some(connection) => connection.lacks_reports(),
-                None => false,
-            },
-            NextStep::Works | NextStep::Ends => false,
+    // Does what the next step of the connection at a key asks. `is_large` says that it has a larger
+    // queue.
+    fn meet_step<R: Wait + Clock>(&mut self, rt: &R, key: usize, step: NextStep, is_large: bool) {
+        if is_large && self.connections.mark_large(key).is_err() {
+            return self.close(rt, key);
         }
-    }
-
-    // Does what the next step of the connection at a key asks, after the first one.
-    fn meet_later_step<R: Wait + Clock>(&mut self, rt: &R, key: usize, step: NextStep) {
-        self.meet_step(rt, key, step);
-        if self.lacks_reports(key, step) && !self.watch_client(key) {
-            self.close(rt, key);
-        }
-    }
-
-    // Does what the next step of the connection at a key asks.
-    fn meet_step<R: Wait + Clock>(&mut self, rt: &R, key: usize, step: NextStep) {
         match step {
             NextStep::Waits | NextStep::Ready => {}
             NextStep::Works => self.queue_search(rt, key),
             NextStep::Lingers => self.linger(rt, key),
             NextStep::Ends => self.close(rt, key),
+        }
+        if !self.watch(key, step) {
+            self.close(rt, key);
+        }
+    }
+
+    // Has the connection at a key reported when its client is ready, even if it is ready already,
+    // if the poll lacks that. False if the system refuses.
+    fn watch(&mut self, key: usize, step: NextStep) -> bool {
+        match self.connections.get_mut(key) {
+            Some(connection) => {
+                !connection.lacks_reports(step) || connection.watch(self.poll.registry(), key)
+            }
+            None => true,
         }
     }
 
@@ -186,10 +154,7 @@ impl<'a, A: Answers<'a> + Drop> Server<'a, A> {
 
     /// Closes the connections that lingered for their time.
     pub(crate) fn end_lingering<R: Wait + Clock>(&mut self, rt: &R) {
-        if self.connections.first_deadline().is_none() {
-            return;
-        }
-        let now = self.clock.now(rt);
+        let now = self.time_if(rt, self.connections.first_deadline().is_some());
         for _closed in 0..u64::MAX {
             let Some(key) = self.connections.take_due(now) else {
                 return;
@@ -219,15 +184,8 @@ impl<'a, A: Answers<'a> + Drop> Server<'a, A> {
             let Some(connection) = self.connections.get_mut(key) else {
                 return NextStep::Ends;
             };
-            let step = connection.go_on(
-                self.alloc,
-                &mut self.answers,
-                &mut self.buffer,
-                false,
-                false,
-            );
+            let step = connection.go_on(&mut self.answering, false, false);
             if step != NextStep::Works || self.clock.micros(clock) >= until {
-                self.is_short |= connection.lacked_memory;
                 return step;
             }
         }
@@ -243,7 +201,7 @@ impl<'a, A: Answers<'a> + Drop> Server<'a, A> {
         let goes_on = step == NextStep::Works;
         self.connections.end_turn(key, goes_on);
         if !goes_on {
-            self.meet_later_step(rt, key, step);
+            self.meet_step(rt, key, step, false);
         }
     }
 }

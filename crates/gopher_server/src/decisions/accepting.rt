@@ -1,7 +1,17 @@
-//! Whether a server thread accepts connections, and what it has to do when that changes.
+//! Whether a server thread accepts connections, what it has to do when that changes, and at which
+//! listeners an event has it accept.
 
-ghost use Rattle.std.specs.Prelude.{◌≡◌, true, false, None, if◌then◌else◌};
-ghost use Rattle.gopher_server.specs.Accepting.{after_event as after, duty_at, has_ended, is_watching, pause, pause_end};
+ghost use Rattle.std.specs.Prelude.{◌≡◌};
+ghost use Rattle.gopher_server.specs.Accepting.{after_event as after, duty_at, has_ended, is_watching, listeners_at as listeners_at_token, pause_end};
+
+use std::ops::Range;
+
+/// The token of the first listener's events; each further listener has the next number. Keys of
+/// connections are lower.
+pub const FIRST_LISTENER: usize = usize::MAX - 1_024;
+
+/// The token of the events of a thread's waker.
+pub const WAKER: usize = usize::MAX - 1_025;
 
 // For how many milliseconds a thread accepts nothing if descriptors or memory are short.
 const PAUSE: u64 = 100;
@@ -44,11 +54,16 @@ pub enum AcceptDuty {
     End,
 }
 
-// A pause that begins now.
-fn pause(now: u64) -> Accepting
-    ensures { result ≡ pause now }
+/// Returns the numbers of the listeners at which an event with this token has a thread accept: all
+/// of its `listeners` listeners if another thread woke it. `None` if the event is of a connection.
+pub fn listeners_at(token: usize, listeners: usize) -> Option<Range<usize>>
+    ensures { result ≡ listeners_at_token token listeners }
 {
-    Accepting::Pauses(now.saturating_add(PAUSE))
+    if token == WAKER {
+        return Some(0..listeners);
+    }
+    let first = token.checked_sub(FIRST_LISTENER)?;
+    Some(first..first + 1)
 }
 
 // The state after an event.
@@ -57,7 +72,7 @@ fn after_event(state: Accepting, event: AcceptEvent, now: u64) -> Accepting
 {
     match (state, event) {
         (Accepting::Ended, _) | (_, AcceptEvent::Ends) => Accepting::Ended,
-        (_, AcceptEvent::IsShort) => pause(now),
+        (_, AcceptEvent::IsShort) => Accepting::Pauses(now.saturating_add(PAUSE)),
         (Accepting::Pauses(until), AcceptEvent::Round(_)) => {
             if until <= now {
                 Accepting::Watches
@@ -75,20 +90,14 @@ impl Accepting {
     pub fn is_watching(self) -> bool
         ensures { result ≡ is_watching self }
     {
-        match self {
-            Accepting::Watches => true,
-            Accepting::Leaves | Accepting::Pauses(_) | Accepting::Ended => false,
-        }
+        matches!(self, Accepting::Watches)
     }
 
     /// Returns whether the thread accepts nothing more.
     pub fn has_ended(self) -> bool
         ensures { result ≡ has_ended self }
     {
-        match self {
-            Accepting::Ended => true,
-            Accepting::Watches | Accepting::Leaves | Accepting::Pauses(_) => false,
-        }
+        matches!(self, Accepting::Ended)
     }
 
     /// Returns the end of the pause, in milliseconds, if the thread pauses.
@@ -126,39 +135,5 @@ impl Accepting {
         let new = after_event(old, event, now);
         *self = new;
         old.duty_at(new)
-    }
-}
-
-/// The accepts in a row at one listener: whether the last one lacked descriptors or memory.
-#[derive(Drop)]
-pub struct AcceptRun {
-    was_short: bool,
-}
-
-impl AcceptRun {
-    /// Makes a run before its first accept.
-    pub fn new() -> AcceptRun
-        ensures { result.was_short ≡ false }
-    {
-        AcceptRun { was_short: false }
-    }
-
-    /// Records that an accept failed because the connection was lost.
-    pub fn lose(&mut self)
-        ensures { self.new.was_short ≡ false }
-    {
-        self.was_short = false;
-    }
-
-    /// Records that an accept failed because descriptors or memory are short. Returns the key of
-    /// the connection that makes room: the one idle longest, if there is one. Returns `None` if
-    /// they were short before, so that one more makes no room.
-    pub fn make_room(&mut self, idle: Option<usize>) -> Option<usize>
-        ensures room { result ≡ (if self.old.was_short then None else idle) }
-        ensures short { self.new.was_short ≡ true }
-    {
-        let was_short = self.was_short;
-        self.was_short = true;
-        if was_short { None } else { idle }
     }
 }

@@ -6,11 +6,10 @@ ghost use Rattle.std.specs.Borrow.{sem};
 ghost use Rattle.std.specs.Map.{remove_entry};
 ghost use Rattle.lru.specs.LruCache.{last_entry, promoted};
 ghost use Rattle.gopher_server.specs.Deadlines.{TakesIfDue, first_deadline};
-ghost use Rattle.gopher_server.specs.WorkQueue.{first_key, is_behind, without_key};
-ghost use Rattle.gopher_server.specs.Held.{added, connection, deadlines, held_entries, IsSound, large_of, Lingers, LendsHeld, meaning_at, queue, queue_after, PutsHeld};
+ghost use Rattle.gopher_server.specs.Queue.{first_key, is_behind, with_key, without_key};
+ghost use Rattle.gopher_server.specs.Held.{added, connection, deadlines, held_entries, IsSound, key_after, large_of, Lingers, LendsHeld, queue, queue_after, PutsHeld, step_at};
 
-use crate::decisions::use_order::UseOrder;
-use crate::decisions::work_queue::WorkQueue;
+use lru::LruCache;
 use std::alloc::{AllocError, Global};
 use std::collections::VecDeque;
 
@@ -21,31 +20,54 @@ const LINGER: u64 = 16_000;
 // The most connections of a thread that have a larger queue.
 const MAX_LARGE: usize = 16;
 
-/// What an event means for the connection that it names.
-#[derive(Clone, Copy)]
-pub enum EventMeaning {
-    /// There is nothing to do.
-    Nothing,
-    /// The connection goes on.
-    GoesOn,
-    /// The connection is closed: a search makes its reply, and its client is gone.
-    Closes,
+/// The next step of a connection.
+#[derive(Clone, Copy, PartialEq, Eq)]
+pub enum NextStep {
+    /// It goes on when the client is ready.
+    Waits,
+    /// A search makes its reply. It can go on at once, but others are served first.
+    Works,
+    /// It can go on at once.
+    Ready,
+    /// Its reply is sent. What the client still sends is read and dropped.
+    Lingers,
+    /// It ends.
+    Ends,
 }
 
 /// The connections that a server thread holds. Each is in one of three states: its key is in the
 /// queue of searches, or its reply is sent and it lingers until its deadline, or it waits for its
-/// client.
+/// client. Keys are numbers from 0, and no key is used twice.
 ///
 /// Contracts see the pairs of keys and connections as `held_entries`, the most recently used first,
 /// the keys of those that search as `queue`, the next one first, and the keys of those that have a
 /// larger queue in the system as `large_of`.
 #[derive(Drop)]
 pub struct Held<T: Drop> {
-    connections: UseOrder<T>,
-    searching: WorkQueue,
-    large: WorkQueue,
+    connections: LruCache<usize, T>,
+    next_key: usize,
+    searching: VecDeque<usize>,
+    large: VecDeque<usize>,
     // The deadlines of those that linger. Each gets the same time, so the first is the earliest.
     deadlines: VecDeque<(usize, u64)>,
+}
+
+// Appends a key, unless it is there.
+fn add_key(keys: &mut VecDeque<usize>, key: usize) -> Result<(), AllocError>
+    ensures added { OnOk result (keys.new.items ≡ with_key key keys.old.items) }
+    ensures refused { OnErr result (keys.new.items ≡ keys.old.items) }
+{
+    if !keys.contains(&key) {
+        keys.push_back(key)?;
+    }
+    Ok(())
+}
+
+// Removes a key. The others keep their order.
+fn remove_key(keys: &mut VecDeque<usize>, key: usize)
+    ensures { keys.new.items ≡ without_key key keys.old.items }
+{
+    keys.retain(|other| *other != key);
 }
 
 impl<T: Drop> Held<T> {
@@ -58,9 +80,10 @@ impl<T: Drop> Held<T> {
         ensures sound { IfOk result IsSound }
     {
         Ok(Held {
-            connections: UseOrder::new(alloc)?,
-            searching: WorkQueue::new(alloc),
-            large: WorkQueue::new(alloc),
+            connections: LruCache::unbounded(alloc)?,
+            next_key: 0,
+            searching: VecDeque::new(alloc),
+            large: VecDeque::new(alloc),
             deadlines: VecDeque::new(alloc),
         })
     }
@@ -86,14 +109,23 @@ impl<T: Drop> Held<T> {
     ///
     /// The connection that was passed in, if out of memory; nothing changes.
     pub fn take_in(&mut self, taken: T) -> Result<usize, T>
+        ensures key { IfOk result (λ key. key ≡ self.old.next_key) }
         ensures named { IfOk result (λ key. connection self.new key ≡ Some taken) }
         ensures others { OnOk result (PutsHeld self.old self.new taken) }
+        ensures next { OnOk result (self.new.next_key ≡ key_after self.old.next_key) }
         ensures returned { IfErr result (λ refused. refused ≡ taken) }
         ensures kept { OnErr result (self.new ≡ self.old) }
         ensures queue { queue self.new ≡ queue self.old }
         ensures large { large_of self.new ≡ large_of self.old }
     {
-        self.connections.put(taken)
+        let key = self.next_key;
+        match self.connections.put(key, taken) {
+            Ok(_replaced) => {
+                self.next_key = key.saturating_add(1);
+                Ok(key)
+            }
+            Err(refused) => Err(refused.value.1),
+        }
     }
 
     /// Returns the connection at a key, or `None` if there is none. What is written to it stays at
@@ -102,24 +134,28 @@ impl<T: Drop> Held<T> {
         ensures* written { sem 𝓛 (LendsHeld T.row self.entry key result) }
         ensures found { option_copied_mut result ≡ connection self.old key }
     {
-        self.connections.get_mut(key)
+        self.connections.peek_mut(&key)
     }
 
     /// Returns the key of the connection that was used least recently. Takes constant time.
     pub fn idle_longest(&self) -> Option<usize>
         ensures { result ≡ option_map (λ pair. pair.0) (last_entry (held_entries self.now)) }
     {
-        self.connections.idle_longest()
+        match self.connections.peek_lru() {
+            Some((key, _connection)) => Some(*key),
+            None => None,
+        }
     }
 
     /// Makes the connection at a key the most recently used.
     pub fn touch(&mut self, key: usize)
         ensures first { held_entries self.new ≡ promoted (nat_eq key) (held_entries self.old) }
+        ensures next { self.new.next_key ≡ self.old.next_key }
         ensures queue { queue self.new ≡ queue self.old }
         ensures large { large_of self.new ≡ large_of self.old }
         ensures sound { IsSound self.old → IsSound self.new }
     {
-        self.connections.touch(key);
+        let _found = self.connections.promote(&key);
     }
 
     /// Ends the connection at a key: removes it from all that it was in. Returns it, or `None` if
@@ -127,28 +163,29 @@ impl<T: Drop> Held<T> {
     pub fn end(&mut self, key: usize) -> Option<T>
         ensures taken { result ≡ connection self.old key }
         ensures others { held_entries self.new ≡ remove_entry (nat_eq key) (held_entries self.old) }
+        ensures next { self.new.next_key ≡ self.old.next_key }
         ensures queue { queue self.new ≡ without_key key (queue self.old) }
         ensures large { large_of self.new ≡ without_key key (large_of self.old) }
         ensures sound { IsSound self.old → IsSound self.new }
     {
-        self.searching.remove(key);
-        self.large.remove(key);
-        self.connections.remove(key)
+        remove_key(&mut self.searching, key);
+        remove_key(&mut self.large, key);
+        self.connections.pop(&key)
     }
 
-    /// Returns what an event means for the connection at a key, whose client takes nothing more if
-    /// `is_gone`. A connection in the queue of searches goes on in its turn.
-    pub fn event_meaning(&self, key: usize, is_gone: bool) -> EventMeaning
-        ensures { result ≡ meaning_at self.now key is_gone }
+    /// Returns the step of the connection at a key after an event: it is ready; or, in the queue of
+    /// searches, it ends if its client takes nothing more (`is_gone`), and else waits for its turn.
+    pub fn step_after_event(&self, key: usize, is_gone: bool) -> NextStep
+        ensures { result ≡ step_at self.now key is_gone }
     {
-        if !self.connections.contains(key) {
-            EventMeaning::Nothing
-        } else if !self.searching.contains(key) {
-            EventMeaning::GoesOn
+        if !self.connections.contains(&key) {
+            NextStep::Waits
+        } else if !self.searching.contains(&key) {
+            NextStep::Ready
         } else if is_gone {
-            EventMeaning::Closes
+            NextStep::Ends
         } else {
-            EventMeaning::Nothing
+            NextStep::Waits
         }
     }
 
@@ -163,10 +200,10 @@ impl<T: Drop> Held<T> {
         ensures large { large_of self.new ≡ large_of self.old }
         ensures sound { IsSound self.old → IsSound self.new }
     {
-        if !self.connections.contains(key) {
+        if !self.connections.contains(&key) {
             return Ok(());
         }
-        self.searching.add(key)
+        add_key(&mut self.searching, key)
     }
 
     /// Returns whether the connection at a key waits for its turn to search: others are before it
@@ -174,14 +211,17 @@ impl<T: Drop> Held<T> {
     pub fn waits_for_turn(&self, key: usize) -> bool
         ensures { result ≡ is_behind key (queue self.now) }
     {
-        self.searching.is_behind(key)
+        match self.searching.front() {
+            Some(first) => *first != key,
+            None => false,
+        }
     }
 
     /// Returns the key of the connection whose search is next, or `None` if none searches.
     pub fn next_search(&self) -> Option<usize>
         ensures { result ≡ first_key (queue self.now) }
     {
-        self.searching.first()
+        self.searching.front().copied()
     }
 
     /// Ends a turn of the search of the connection at a key, which is then the most recently used.
@@ -194,7 +234,7 @@ impl<T: Drop> Held<T> {
     {
         self.touch(key);
         if !goes_on {
-            self.searching.remove(key);
+            remove_key(&mut self.searching, key);
         }
     }
 
@@ -255,9 +295,9 @@ impl<T: Drop> Held<T> {
         ensures queue { queue self.new ≡ queue self.old }
         ensures sound { IsSound self.old → IsSound self.new }
     {
-        if !self.connections.contains(key) {
+        if !self.connections.contains(&key) {
             return Ok(());
         }
-        self.large.add(key)
+        add_key(&mut self.large, key)
     }
 }

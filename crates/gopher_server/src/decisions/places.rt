@@ -1,7 +1,7 @@
 //! How many connections all server threads may hold together, and the fair share of one thread.
 
 ghost use Rattle.std.specs.Prelude.{◌≡◌, ◌-◌, ◌<◌, ◌≤◌, max, nat_lt, true, false, None, Some, if◌then◌else◌};
-ghost use Rattle.gopher_server.specs.Places.{max_places as most, other_files, serves_crawl, fair_share};
+ghost use Rattle.gopher_server.specs.Places.{max_places as most, other_files, fair_share};
 
 use std::sync::atomic::{AtomicU64, Ordering};
 
@@ -19,9 +19,9 @@ const MAX_CONNECTIONS: u64 = 16_384;
 // share.
 const MAX_ABOVE_SHARE: u64 = 16;
 
-/// Returns how many files a server opens that aren't its connections, with these numbers of
-/// listeners, threads and workers: at least 64.
-pub fn other_files(listeners: u32, threads: u32, workers: u32) -> u64
+// How many files a server opens that aren't its connections, with these numbers of listeners,
+// threads and workers: at least 64.
+fn other_files(listeners: u32, threads: u32, workers: u32) -> u64
     ensures { result ≡ other_files listeners threads workers }
 {
     let of_threads = 3 * u64::from(threads);
@@ -30,20 +30,19 @@ pub fn other_files(listeners: u32, threads: u32, workers: u32) -> u64
     all.max(OTHER_FILES)
 }
 
-/// Returns the most connections that a server holds if its process may open `files` files, `others`
-/// of them for what isn't a connection: at most 16,384.
-pub fn max_places(files: u64, others: u64) -> u64
-    ensures { result ≡ most files others }
+/// Returns the most connections that a server holds if its process may open `files` files: at most
+/// 16,384. `None` if they don't suffice for its own crawl by `workers` workers, and one client
+/// beside it.
+pub fn max_places(files: u64, listeners: u32, threads: u32, workers: u32) -> Option<u64>
+    ensures { result ≡ most files listeners threads workers }
 {
-    files.saturating_sub(others).min(MAX_CONNECTIONS)
-}
-
-/// Returns whether a server with `places` places can serve its own crawl by `workers` workers, and
-/// one client beside it.
-pub fn serves_crawl(places: u64, workers: u32) -> bool
-    ensures { result ≡ serves_crawl places workers }
-{
-    u64::from(workers) < places
+    let others = other_files(listeners, threads, workers);
+    let places = files.saturating_sub(others).min(MAX_CONNECTIONS);
+    if u64::from(workers) < places {
+        Some(places)
+    } else {
+        None
+    }
 }
 
 // The fair share of one of `threads` threads in `all` connections, at least 1.

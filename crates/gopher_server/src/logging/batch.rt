@@ -1,12 +1,13 @@
-//! Lines of the log, gathered before they are written (`Batch`).
+//! Lines of the log, gathered before they are written, and what a write leaves of them (`Batch`).
 
 ghost use Rattle.std.specs.Prelude.{◌≡◌, OnOk, OnErr};
-ghost use Rattle.gopher_server.specs.Batch.{is_full, is_empty, with_line, with_dropped, with_request, with_told, no_lines};
+ghost use Rattle.gopher_server.specs.Batch.{is_full, is_empty, with_line, with_dropped, with_request, with_told, no_lines, WritesFirst};
 
 use crate::logging::request_line::{RequestLine, push_request};
 use gopher_item::NoMemory;
 use itoa::Buffer;
 use std::alloc::Global;
+use std::io::{self, Write};
 use std::marker::Model;
 use std::mem::replace;
 
@@ -118,11 +119,20 @@ impl Batch {
         Ok(())
     }
 
-    /// Returns its lines.
-    pub fn lines(&self) -> &[u8]
-        ensures { result.now ≡ self.now.written }
+    /// Writes its lines in one call of `writer`, and drops the bytes that this took. Returns their
+    /// number.
+    ///
+    /// # Errors
+    ///
+    /// That of `writer`: nothing was written.
+    pub fn write_to<W: Write>(&mut self, writer: &mut W) -> io::Result<usize>
+        ensures { WritesFirst W.contents writer.old writer.new self.old self.new result }
     {
-        &self.written
+        let count = writer.write(&self.written)?;
+        let left = self.written.len() - count;
+        self.written.rotate_left(count);
+        self.written.truncate(left);
+        Ok(count)
     }
 
     /// Returns its lines and its number of dropped requests as a batch, and leaves it empty.

@@ -1,7 +1,6 @@
 //! Escaping the bytes that a client sent.
 
 ghost use Rattle.std.specs.Prelude.{◌≡◌, ◌++◌, ◌<◌, OnOk};
-ghost use Rattle.std.specs.List.{list_all};
 ghost use Rattle.gopher_server.specs.Escaped.{is_plain, hex_digit, escaped_byte, escaped};
 
 use std::alloc::AllocError;
@@ -11,13 +10,6 @@ fn is_plain(byte: u8) -> bool
     ensures { result ≡ is_plain byte }
 {
     byte >= 32 && byte <= 126 && byte != b'\\'
-}
-
-// Whether each of the bytes is written as it is.
-fn are_plain(bytes: &[u8]) -> bool
-    ensures { result ≡ list_all is_plain bytes.now }
-{
-    bytes.iter().all(|byte| is_plain(*byte))
 }
 
 // The digit of a number below 16.
@@ -43,29 +35,17 @@ fn push_byte(out: &mut Vec<u8>, byte: u8) -> Result<(), AllocError>
     out.extend_from_slice(&[b'\\', b'x', hex_digit(byte / 16), hex_digit(byte % 16)])
 }
 
-// Appends bytes one by one, each escaped if it isn't plain.
-fn push_each(out: &mut Vec<u8>, bytes: &[u8]) -> Result<(), AllocError>
-    ensures { OnOk result (out.new.items ≡ out.old.items ++ escaped bytes.now) }
-{
-    for byte in bytes {
-        push_byte(out, *byte)?;
-    }
-    Ok(())
-}
-
 /// Appends bytes, escaped: those from 32 to 126 except the backslash as they are, any other as a
 /// backslash, `x` and its two hexadecimal digits.
 ///
 /// # Errors
 ///
 /// Out of memory: a prefix was appended.
-#[tactic(auto, using(crate::proofs::Escapes::escaped_plain))]
 pub fn push_escaped(out: &mut Vec<u8>, bytes: &[u8]) -> Result<(), AllocError>
     ensures { OnOk result (out.new.items ≡ out.old.items ++ escaped bytes.now) }
 {
-    if are_plain(bytes) {
-        out.extend_from_slice(bytes)
-    } else {
-        push_each(out, bytes)
+    for byte in bytes {
+        push_byte(out, *byte)?;
     }
+    Ok(())
 }

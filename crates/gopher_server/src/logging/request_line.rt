@@ -5,9 +5,10 @@ ghost use Rattle.std.specs.Fmt.{decimal};
 ghost use Rattle.gopher_server.specs.RequestLine.{selector_of, search_of, asked_bytes, numbers_bytes, logged_bytes};
 
 use crate::logging::escaping::push_escaped;
-use crate::logging::moment::{Moment, push_moment};
+use crate::logging::moment::push_moment;
 use gopher_item::split_once;
 use itoa::Buffer;
+use jiff_core::civil::DateTime;
 use std::alloc::AllocError;
 use std::marker::Model;
 
@@ -15,7 +16,7 @@ use std::marker::Model;
 #[derive(Drop)]
 pub struct RequestLine<'a> {
     /// When it ended.
-    pub ended: Moment,
+    pub ended: DateTime,
     /// The IP address of the client.
     pub peer: &'a [u8],
     /// The line that the client sent, without its end.

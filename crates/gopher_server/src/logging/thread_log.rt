@@ -1,20 +1,23 @@
 //! A server thread's part of the log: adding lines, and handing on batches.
 
-ghost use Rattle.std.specs.Prelude.{◌≡◌, true, false, None, IfSome};
+ghost use Rattle.std.specs.Prelude.{◌≡◌, false, None, Some, IfSome, if◌then◌else◌};
 ghost use Rattle.gopher_server.specs.Batch.{is_empty, is_full, no_lines};
-ghost use Rattle.gopher_server.specs.ThreadLog.{AddsLine, AddsRequestTo, IsHandedOn, poll_timeout};
-ghost use Rattle.gopher_server.specs.Timing.{IsDueAfter, KeepsDue, is_due};
+ghost use Rattle.gopher_server.specs.ThreadLog.{AddsLine, AddsRequestTo, IsHandedOn, KeepsSince, is_due, poll_timeout, since_with};
 
 use crate::logging::batch::Batch;
-use crate::logging::moment::Moment;
+use crate::logging::moment::moment_at;
 use crate::logging::queue::LogQueue;
 use crate::logging::request_line::RequestLine;
-use crate::logging::timing::{MAX_KEPT, due_with, is_due, kept_until, micros_of, moment_at};
+use crate::thread_clock::micros_of;
+use jiff_core::civil::DateTime;
 use std::alloc::Global;
 use std::net::IpAddr;
 use std::sync::{Arc, Wait};
 use std::thread;
 use std::time::{Clock, Duration, Instant, SystemTime, UNIX_EPOCH};
+
+// For how many milliseconds a server thread keeps a line to itself at most.
+const MAX_KEPT: u64 = 250;
 
 // How often a server thread that ends tries to hand on its lines, and the milliseconds between two
 // tries.
@@ -31,20 +34,30 @@ pub struct Accepted {
 
 // Returns the present moment, or `None` if the clock can't be read, or is set before 1970 or after
 // 9999.
-fn moment_now(clock: &impl Clock) -> Option<Moment> {
+fn moment_now(clock: &impl Clock) -> Option<DateTime> {
     let now = SystemTime::now(clock).ok()?;
     moment_at(now.duration_since(UNIX_EPOCH).ok()?)
+}
+
+// Whether lines that are kept since a time are handed on now.
+fn is_due(since: Option<Instant>, now: Instant) -> bool
+    ensures { result ≡ is_due since now }
+{
+    match since {
+        Some(since) => now.duration_since(since) >= Duration::from_millis(MAX_KEPT),
+        None => false,
+    }
 }
 
 /// A server thread's part of the log. It never waits for the thread that writes: if the queue is
 /// full, it keeps its lines, and counts the requests for which it has no room.
 ///
-/// Contracts see its lines as `batch`, and the time from which they are handed on as `due`.
+/// Contracts see its lines as `batch`, and the time from which they are kept as `since`.
 #[derive(Drop)]
 pub struct ThreadLog {
     batch: Batch,
     queue: Option<Arc<LogQueue>>,
-    due: Option<Instant>,
+    since: Option<Instant>,
 }
 
 impl ThreadLog {
@@ -52,12 +65,12 @@ impl ThreadLog {
     /// Takes no memory.
     pub fn new(alloc: Global, queue: Option<Arc<LogQueue>>) -> ThreadLog
         ensures lines { result.batch ≡ no_lines }
-        ensures due { result.due ≡ None }
+        ensures since { result.since ≡ None }
     {
         ThreadLog {
             batch: Batch::new(alloc),
             queue,
-            due: None,
+            since: None,
         }
     }
 
@@ -67,16 +80,14 @@ impl ThreadLog {
         ensures none { self.now.queue ≡ None → result ≡ None }
         ensures peer { IfSome result (λ accepted. accepted.peer ≡ peer) }
     {
-        if self.queue.is_none() {
-            return None;
-        }
+        let _queue = self.queue.as_ref()?;
         let began = Instant::now(clock).ok()?;
         Some(Accepted { peer, began })
     }
 
     /// Adds the line of a request that ends now: how its connection was accepted, the line that was
-    /// asked, and how many bytes were sent. Does nothing if a clock can't be read. A `due` that is
-    /// set isn't put off, unless there is no room for the line.
+    /// asked, and how many bytes were sent. Does nothing if a clock can't be read. The time from
+    /// which lines are kept stays, unless there is no room for the line.
     pub fn add<R: Wait + Clock>(
         &mut self,
         rt: &R,
@@ -86,7 +97,7 @@ impl ThreadLog {
         sent: u64,
     )
         ensures lines { AddsLine accepted.peer asked.now sent self.old.batch self.new.batch }
-        ensures due { is_full self.old.batch ≡ false → KeepsDue self.old.due self.new.due }
+        ensures since { is_full self.old.batch ≡ false → KeepsSince self.old.since self.new.since }
     {
         let (Ok(now), Some(ended)) = (Instant::now(rt), moment_now(rt)) else {
             return;
@@ -95,7 +106,9 @@ impl ThreadLog {
         let Ok(peer) = format!(in alloc; "{address}") else {
             return;
         };
-        self.make_room(rt, alloc);
+        if self.batch.is_full() {
+            self.hand_on(rt, alloc, now);
+        }
         let request = RequestLine {
             ended,
             peer: peer.as_bytes(),
@@ -103,26 +116,16 @@ impl ThreadLog {
             sent,
             micros: micros_of(now.duration_since(accepted.began)),
         };
-        self.add_request(&request);
-        self.due = due_with(self.due, now);
+        self.add_request(&request, now);
     }
 
-    // Hands on its lines if there is no room for another.
-    fn make_room<R: Wait + Clock>(&mut self, rt: &R, alloc: Global)
-        ensures lines { IsHandedOn self.old.batch self.new.batch }
-        ensures room { is_full self.old.batch ≡ false → self.new ≡ self.old }
-    {
-        if self.batch.is_full() {
-            self.hand_on(rt, alloc);
-        }
-    }
-
-    // Adds the line of a request, or counts the request as dropped.
-    fn add_request(&mut self, request: &RequestLine<'_>)
+    // Adds the line of a request of now, or counts the request as dropped.
+    fn add_request(&mut self, request: &RequestLine<'_>, now: Instant)
         ensures lines { AddsRequestTo request.now self.old.batch self.new.batch }
-        ensures due { self.new.due ≡ self.old.due }
+        ensures since { self.new.since ≡ since_with self.old.since now }
     {
         let _refused = self.batch.add(request);
+        self.since = self.since.or(Some(now));
     }
 
     /// Returns for how many milliseconds the thread may wait before it hands on its lines. Returns
@@ -137,44 +140,40 @@ impl ThreadLog {
         }
     }
 
-    /// Hands on its lines, if the first of them was kept for 250 ms. Does nothing if `due` is
-    /// `None`.
-    pub fn hand_on_due<R: Wait + Clock>(&mut self, rt: &R, alloc: Global)
+    /// Hands on its lines, if the first of them is kept for 250 ms (`MAX_KEPT`) at the time `now`.
+    pub fn hand_on_due(&mut self, rt: &impl Wait, alloc: Global, now: Instant)
         ensures lines { IsHandedOn self.old.batch self.new.batch }
-        ensures none { self.old.due ≡ None → self.new ≡ self.old }
+        ensures early { is_due self.old.since now ≡ false → self.new ≡ self.old }
     {
-        if let Ok(now) = Instant::now(rt) {
-            self.hand_on_at(rt, alloc, now);
+        if is_due(self.since, now) {
+            self.hand_on(rt, alloc, now);
         }
     }
 
-    // Hands on its lines, if they are due at the time `now`.
-    fn hand_on_at<R: Wait + Clock>(&mut self, rt: &R, alloc: Global, now: Instant)
+    // Hands on its lines, if the queue has room. Otherwise keeps them for another 250 ms from now.
+    fn hand_on(&mut self, rt: &impl Wait, alloc: Global, now: Instant)
         ensures lines { IsHandedOn self.old.batch self.new.batch }
-        ensures early { is_due self.old.due now ≡ false → self.new ≡ self.old }
+        ensures since { self.new.since ≡ (if is_empty self.new.batch then None else Some now) }
     {
-        if is_due(self.due, now) {
-            self.hand_on(rt, alloc);
-        }
+        self.offer(rt, alloc);
+        self.since = if self.batch.is_empty() {
+            None
+        } else {
+            Some(now)
+        };
     }
 
-    /// Hands on its lines, if the queue has room; then `due` is `None`.
-    pub fn hand_on<R: Wait + Clock>(&mut self, rt: &R, alloc: Global)
-        ensures lines { IsHandedOn self.old.batch self.new.batch }
-        ensures due { is_empty self.new.batch ≡ true → self.new.due ≡ None }
+    // Hands on its lines, if the queue has room.
+    fn offer(&mut self, rt: &impl Wait, alloc: Global)
+        ensures { IsHandedOn self.old.batch self.new.batch }
     {
-        self.due = None;
         let Some(queue) = &self.queue else {
             return;
         };
-        if self.batch.is_empty() {
-            return;
-        }
-        let batch = self.batch.take(alloc);
-        if let Err(batch) = queue.offer(rt, batch) {
-            self.batch = batch;
-            if let Ok(now) = Instant::now(rt) {
-                self.keep_on(now);
+        if !self.batch.is_empty() {
+            let batch = self.batch.take(alloc);
+            if let Err(batch) = queue.offer(rt, batch) {
+                self.batch = batch;
             }
         }
     }
@@ -185,19 +184,11 @@ impl ThreadLog {
         ensures { IsHandedOn self.old.batch self.new.batch }
     {
         for _try in 0..MAX_TRIES {
-            self.hand_on(rt, alloc);
+            self.offer(rt, alloc);
             if self.batch.is_empty() {
                 return;
             }
             thread::sleep(rt, Duration::from_millis(REST));
         }
-    }
-
-    // Keeps its lines for 250 ms from now.
-    fn keep_on(&mut self, now: Instant)
-        ensures lines { self.new.batch ≡ self.old.batch }
-        ensures due { IsDueAfter now self.new.due }
-    {
-        self.due = kept_until(now);
     }
 }

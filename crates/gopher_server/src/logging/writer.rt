@@ -1,10 +1,9 @@
 //! The thread that writes the log.
 
 ghost use Rattle.std.specs.Prelude.{◌≡◌};
-ghost use Rattle.gopher_server.specs.Pending.{KeepsPending};
+ghost use Rattle.gopher_server.specs.Batch.{KeepsPending, is_tried_again};
 
 use crate::logging::batch::Batch;
-use crate::logging::pending::{Pending, Step, step_after};
 use crate::logging::queue::LogQueue;
 use crate::logging::rests::Rests;
 use crate::logging::standard_error::{ErrorStream, STANDARD_ERROR};
@@ -12,7 +11,7 @@ use crossbeam_channel::Receiver;
 use gopher_item::NoMemory;
 use std::alloc::Global;
 use std::fs::{File, OpenOptions};
-use std::io::{self, Eprint};
+use std::io::{self, Eprint, ErrorKind};
 use std::os::fd::AsRawFd;
 use std::sync::{Arc, Wait};
 use std::thread::{self, JoinHandle, Threads};
@@ -30,8 +29,8 @@ pub struct Log {
 struct LogWriter {
     path: String,
     file: Option<File>,
-    alloc: Global,
-    pending: Pending,
+    // What is left of the batch that is being written.
+    pending: Batch,
     is_told: bool,
 }
 
@@ -56,6 +55,13 @@ impl OpenLog for HostRuntime {
         let _refused = os::set_nonblocking(file.as_raw_fd(), true);
         Ok(file)
     }
+}
+
+// Whether a write that failed is tried again at once.
+fn is_tried_again(kind: ErrorKind) -> bool
+    ensures { result ≡ is_tried_again kind }
+{
+    matches!(kind, ErrorKind::Interrupted)
 }
 
 impl LogWriter {
@@ -99,50 +105,39 @@ impl LogWriter {
         let Some(batch) = next else {
             return false;
         };
-        self.pending = Pending::new(batch);
+        self.pending = batch;
         true
     }
 
     // Calls the file once with what is left of the batch. Without a file nothing is written.
-    fn write_once<R: Eprint>(&mut self, rt: &R) -> io::Result<usize>
-        requires { self.old.pending.batch.dropped ≡ 0 }
-    {
+    fn write_once<R: Eprint>(&mut self, rt: &R) -> io::Result<usize> {
         if self.path.as_str() == STANDARD_ERROR {
-            return self.pending.write_to(self.alloc, &mut ErrorStream { rt });
+            return self.pending.write_to(&mut ErrorStream { rt });
         }
         match &mut self.file {
-            Some(file) => self.pending.write_to(self.alloc, file),
+            Some(file) => self.pending.write_to(file),
             None => Ok(0),
         }
     }
 
-    // Writes what is left of the batch, as far as the file takes it.
-    fn write<R: Eprint>(&mut self, rt: &R) -> Step
-        requires { self.old.pending.batch.dropped ≡ 0 }
-    {
-        match self.write_once(rt) {
-            Ok(0) => Step::Refused,
-            Ok(_) => Step::Written,
-            Err(error) => {
-                let step = step_after(error.kind());
-                if step == Step::Refused {
-                    self.tell(rt, error);
-                }
-                step
-            }
-        }
-    }
-
-    // Writes once, if there is something to write.
-    fn step<R: OpenLog + Eprint>(&mut self, rt: &R) -> Step {
+    // Writes what is left of the batch, as far as the file takes it in one call. Returns false if
+    // it takes nothing, unless the call was interrupted.
+    fn write<R: OpenLog + Eprint>(&mut self, rt: &R) -> bool {
         if self.pending.is_empty() {
-            return Step::Written;
+            return true;
         }
         self.open(rt);
         if self.pending.tell_dropped().is_err() {
-            return Step::Refused;
+            return false;
         }
-        self.write(rt)
+        match self.write_once(rt) {
+            Ok(count) => count > 0,
+            Err(error) if is_tried_again(error.kind()) => true,
+            Err(error) => {
+                self.tell(rt, error);
+                false
+            }
+        }
     }
 }
 
@@ -161,7 +156,7 @@ fn write_log<R: OpenLog + Wait + Clock + Eprint>(
         if !writer.take_next(rt, receiver, queue) {
             return;
         }
-        if writer.step(rt) == Step::Written {
+        if writer.write(rt) {
             rests = Rests::new();
             continue;
         }
@@ -184,8 +179,7 @@ fn spawn_writer<R: OpenLog + Threads + Wait + Clock + Eprint + Clone + Send + Dr
     let writer = LogWriter {
         path: String::from_str(alloc, path)?,
         file: None,
-        alloc,
-        pending: Pending::new(Batch::new(alloc)),
+        pending: Batch::new(alloc),
         is_told: false,
     };
     let theirs = Arc::try_clone(&queue)?;

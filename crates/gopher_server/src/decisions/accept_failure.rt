@@ -35,12 +35,14 @@ const EHOSTDOWN: u32 = 112;
 const EHOSTUNREACH: u32 = 113;
 
 /// What the error of a failed accept means.
-#[derive(Clone, Copy, Debug, PartialEq, Eq)]
-pub(crate) enum AcceptFailure {
+#[derive(Clone, Copy)]
+pub enum AcceptFailure {
     /// The connection is lost; the next may be accepted.
     IsLost,
     /// Descriptors or memory are short; the connection waits.
     IsShort,
+    /// They are short again, so closing one more connection makes no room.
+    StaysShort,
     /// The listener is broken.
     IsBroken,
 }
@@ -49,7 +51,7 @@ pub(crate) enum AcceptFailure {
 fn is_short(error: u32) -> bool
     ensures { result ≡ is_short error }
 {
-    error == ENOMEM || error == ENFILE || error == EMFILE || error == ENOBUFS
+    matches!(error, ENOMEM | ENFILE | EMFILE | ENOBUFS)
 }
 
 // Whether the call was interrupted, or one connection is lost: accept(2) has the network errors
@@ -57,24 +59,30 @@ fn is_short(error: u32) -> bool
 fn is_lost(error: u32) -> bool
     ensures { result ≡ is_lost error }
 {
-    error == EPERM
-        || error == EINTR
-        || error == ENONET
-        || error == EPROTO
-        || error == ENOPROTOOPT
-        || error == EOPNOTSUPP
-        || error == ENETDOWN
-        || error == ENETUNREACH
-        || error == ECONNABORTED
-        || error == EHOSTDOWN
-        || error == EHOSTUNREACH
+    matches!(
+        error,
+        EPERM
+            | EINTR
+            | ENONET
+            | EPROTO
+            | ENOPROTOOPT
+            | EOPNOTSUPP
+            | ENETDOWN
+            | ENETUNREACH
+            | ECONNABORTED
+            | EHOSTDOWN
+            | EHOSTUNREACH
+    )
 }
 
-/// Returns what an error of accept(2) means, by its number.
-pub(crate) fn failure_of(error: u32) -> AcceptFailure
-    ensures { result ≡ failure_of error }
+/// Returns what an error of accept(2) means, by its number. `was_short` says whether the accept
+/// before failed because descriptors or memory were short.
+pub fn failure_of(error: u32, was_short: bool) -> AcceptFailure
+    ensures { result ≡ failure_of error was_short }
 {
-    if is_short(error) {
+    if is_short(error) && was_short {
+        AcceptFailure::StaysShort
+    } else if is_short(error) {
         AcceptFailure::IsShort
     } else if is_lost(error) {
         AcceptFailure::IsLost
