@@ -203,11 +203,12 @@ def write(edits, folder, is_alone):
 
 
 def write_proofs(own, copied, left):
-    """Writes the proofs of the copy: the lemmas, and of functions' own files those of the functions that are left."""
+    """Writes the proofs of the copy: the lemmas, and of functions' own files those of the functions that are left, and of cycles,
+    whose functions are."""
     shutil.rmtree(copied, ignore_errors=True)
     if own.is_dir():
         files = {f"{name}.antt" for name in OWN_PROOFS}
-        is_left = lambda folder: left & {*pathlib.Path(folder).relative_to(own).parts}
+        is_left = lambda folder: any(it in left or it[0] == "+" for it in pathlib.Path(folder).relative_to(own).parts)
         shutil.copytree(own, copied, ignore=lambda folder, names: () if is_left(folder) else files & {*names})
 
 

@@ -1,244 +1,173 @@
--- The entry at a path, the number of a file or a folder's names: after one more file, and when
--- looked up.
-use Rattle.std.proofs.Common.{◌≡◌, ℕ, suc, ◌+◌, ◌-◌, ◌<◌, ◌≤◌, Bool, true, false, cond, ◌||◌, eqb, List, [], ◌∷◌, ◌++◌, length, slice_get, fold, Option, None, Some, is_some, refl, sym, ap, subst, ◌∙◌, arith}
-use Rattle.std.specs.List.{list_any, filter_map, cons_option}
-use Rattle.std.specs.Cmp.Lexicographic.{pointwise, bytes_decides}
-use Rattle.std.proofs.lemmas.List.Elements.{filter_map-append}
-use Rattle.std.proofs.lemmas.List.Folds.{list_any-append}
-use Rattle.std.proofs.lemmas.List.Sums.{fold-append}
-use Rattle.gopher_tree.specs.Path.{rest_after, rest_below, is_below}
-use Rattle.gopher_tree.specs.Kind.{kind_of}
-use Rattle.gopher_tree.specs.Files.{File, Child, has_path, is_file, file_at, is_folder, child_of_rest, child_below, add_child, children}
-use Rattle.gopher_tree.specs.Fault.{is_twice}
-use Rattle.gopher_tree.specs.Index.{number_from, entry_by, path_entry, is_file_entry, children_at, with_child, folder_with, folders_after, entry_after}
-use Rattle.gopher_tree.specs.declared.tree.index.Entry.TheVariants as entry
+-- The map of a tree: after a change at one path, after folders were added, and after a file was.
+use Rattle.std.proofs.Common.{◌≡◌, ℕ, zero, suc, ◌+◌, ◌<◌, Bool, true, false, cond, ◌||◌, eqb, List, [], ◌∷◌, ◌++◌, length, get_or, take, slice_get, fold, Option, None, Some, is_some, IfSome, refl, sym, ap, subst, ◌∙◌, arith, eq-eqb}
+use Rattle.std.specs.Ordering.{is_eq, nat_cmp}
+use Rattle.std.specs.Cmp.{eq_by_cmp_equiv}
+use Rattle.std.specs.Cmp.Lexicographic.{pointwise, slice_cmp, bytes_decides, nat_list_cmp_total, nat_list_eq_equiv, texts_ties}
+use Rattle.std.specs.BTreeMap.{BTreeMap, UpdatesBy, btree_map_len}
+use Rattle.std.specs.Map.{KeepsOthers, IsKeyTest, AreApart, lookup}
+use Rattle.std.specs.Borrow.{Bor}
+use Rattle.std.specs.Option.{option_or, option_copied}
+use Rattle.std.specs.declared.vec.Vec.{Vec}
 use Rattle.std.proofs.Math.Bool.{or-true, or-false}
-use Rattle.gopher_tree.proofs.FolderLemmas.{rest_after-short}
-use Rattle.gopher_tree.proofs.AboveLemmas.{AreApart}
-use Rattle.std.proofs.lemmas.Bool.{or_parts}
+use Rattle.std.proofs.Math.Dec.{eqb-suc-zero}
+use Rattle.std.proofs.lemmas.Bool.{or_parts, eqb-true}
+use Rattle.std.proofs.lemmas.List.{length-append}
+use Rattle.std.proofs.lemmas.List.Folds.{find-append}
+use Rattle.std.proofs.lemmas.List.Sums.{fold-append}
+use Rattle.gopher_tree.specs.Path.{folders_of, folders_within}
+use Rattle.gopher_tree.specs.Files.{File, has_path, is_file, is_folder, file_at, leads_through_file, is_path_among, add_path, nodes, total_bytes}
+use Rattle.gopher_tree.specs.Fault.{file_fault}
+use Rattle.gopher_tree.specs.Tree.{entry_at, number_of_entry, number_at, file_numbered, HoldsPaths, IsTree, SetsEntry, AddsFolders}
+use Rattle.gopher_tree.proofs.NodeLemmas.{folders-slash, folders-other, nodes-push, is_among-add, node_is}
+use Rattle.gopher_tree.proofs.FaultLemmas.{IsGood, good_of, total_bytes-push, few_bytes}
+
+-- ---- a change at one path
+
+apart : (bs q ks : List ℕ) → pointwise eqb q bs ≡ false → is_eq (slice_cmp nat_cmp bs ks) ≡ true → is_eq (slice_cmp nat_cmp q ks) ≡ false
+apart bs q ks n y = sym (texts_ties q ks) ∙ sym (nat_list_eq_equiv.symm ks q) ∙ sym (nat_list_eq_equiv.congr bs ks q (texts_ties bs ks ∙ y)) ∙ nat_list_eq_equiv.symm bs q ∙ n
+
+other_entries : {K X : Type 0} (eq : K → K → Bool) (test : K → Bool) (old new : List (K × X)) → KeepsOthers eq test old new → (other : K → Bool) → IsKeyTest eq other → AreApart test other → lookup other new ≡ lookup other old
+unfolding KeepsOthers
+other_entries eq test old new h = h
+
+pub entries_after : {A : Type 0} (bs : List ℕ) (old new : BTreeMap (Vec ℕ A) (Option ℕ)) (entry : Option (Option ℕ))
+    → UpdatesBy (λ x y. slice_cmp nat_cmp x.items y.items) (λ k. slice_cmp nat_cmp bs k.items) old new entry
+    → (q : List ℕ) → entry_at new q ≡ cond (pointwise eqb q bs) entry (entry_at old q)
+entries_after bs old new entry h q = by (pointwise eqb q bs) refl
+  where
+    by : (t : Bool) → pointwise eqb q bs ≡ t → entry_at new q ≡ cond t entry (entry_at old q)
+    by true e = subst (λ l. entry_at new l ≡ entry) (sym ((bytes_decides q bs).0 e)) h.1
+    by false e = other_entries _ _ _ _ h.3 _ (λ x y. (eq_by_cmp_equiv nat_list_cmp_total).congr q x.items y.items) (λ k. apart bs q k.items e)
+
+holds_put : {A : Type 0} (paths : List (List ℕ)) (path : List ℕ) (old new : BTreeMap (Vec ℕ A) (Option ℕ)) (entry : Option ℕ) → 0 < length path
+    → SetsEntry old new path entry → HoldsPaths paths old → HoldsPaths (add_path paths path) new
+holds_put paths [] old new entry some set holds = absurd (omega arith)
+holds_put paths (c ∷ path) old new entry some set holds = record {
+  known = λ q.
+      is_among-add paths (c ∷ path) q ∙ ap (λ t. t || pointwise eqb q (c ∷ path)) (holds.known q)
+      ∙ turn (eqb (length q) 0) (entry_at old q) (pointwise eqb q (c ∷ path)) ∙ ap (λ e. eqb (length q) 0 || is_some e) (sym (set.entries q));
+  root = set.entries [] ∙ holds.root;
+  count = ap (λ t. length (cond t paths (paths ++ (c ∷ path) ∷ []))) among ∙ grow (is_some (entry_at old (c ∷ path))) set.count;
+}
+  where
+    turn : (r : Bool) (held : Option (Option ℕ)) (t : Bool) → ((r || is_some held) || t) ≡ (r || is_some (cond t (Some entry) held))
+    turn r held true = or-true (r || is_some held) ∙ sym (or-true r)
+    turn r held false = or-false (r || is_some held)
+
+    among : is_path_among paths (c ∷ path) ≡ is_some (entry_at old (c ∷ path))
+    among = holds.known (c ∷ path) ∙ ap (λ t. t || is_some (entry_at old (c ∷ path))) (eqb-suc-zero (length path))
+
+    grow : (t : Bool) → btree_map_len new ≡ btree_map_len old + cond t 0 1 → length (cond t paths (paths ++ (c ∷ path) ∷ [])) ≡ btree_map_len new + 1
+    grow true h = omega (arith, h, holds.count)
+    grow false h = omega (arith, h, holds.count, length-append paths ((c ∷ path) ∷ []))
+
+-- ---- folders
 
 none_of : {A : Type 0} (o : Option A) → is_some o ≡ false → o ≡ None
 none_of None h = refl
 none_of (Some x) h = absurd cc
 
--- ---- the number of a file
+adds_more : {A : Type 0} (old middle new : BTreeMap (Vec ℕ A) (Option ℕ)) (some more : List (List ℕ)) → AddsFolders old middle some → AddsFolders middle new more → AddsFolders old new (some ++ more)
+adds_more old middle new some more first second = record {
+  paths = λ paths holds. subst (λ l. HoldsPaths l new) (sym (fold-append add_path paths some more)) (second.paths (fold add_path paths some) (first.paths paths holds));
+  numbers = λ q. second.numbers q ∙ first.numbers q;
+}
 
-pub number_from-some : (n : ℕ) (files : List File) (q : List ℕ) → is_some (number_from n files q) ≡ is_file files q
-number_from-some n [] q = refl
-number_from-some n (f ∷ files) q = by (has_path q f) (number_from-some (n + 1) files q)
+-- the folder before a position
+pub adds_slash : {A : Type 0} (old middle new : BTreeMap (Vec ℕ A) (Option ℕ)) (n : ℕ) (path : List ℕ) → 0 < n → get_or path n 0 ≡ 47
+    → AddsFolders old middle (folders_within n path) → AddsFolders middle new (take n path ∷ []) → AddsFolders old new (folders_within (n + 1) path)
+adds_slash old middle new n path some slash first second =
+    subst (AddsFolders old new) (sym (folders-slash n path some (eq-eqb (get_or path n 0) 47 slash))) (adds_more old middle new (folders_within n path) (take n path ∷ []) first second)
+
+pub adds_other : {A : Type 0} (old new : BTreeMap (Vec ℕ A) (Option ℕ)) (n : ℕ) (path : List ℕ) → 0 < n → (get_or path n 0 ≡ 47 → ⊥) → AddsFolders old new (folders_within n path) → AddsFolders old new (folders_within (n + 1) path)
+adds_other old new n path some other added = subst (AddsFolders old new) (sym (folders-other n path some (by (eqb (get_or path n 0) 47) refl))) added
   where
-    by : (t : Bool) → is_some (number_from (n + 1) files q) ≡ is_file files q → is_some (cond t (Some n) (number_from (n + 1) files q)) ≡ (t || is_file files q)
-    by true h = refl
-    by false h = h
+    by : (t : Bool) → eqb (get_or path n 0) 47 ≡ t → t ≡ false
+    by true e = absurd (other (eqb-true (get_or path n 0) 47 e))
+    by false e = refl
 
-pub number_from-none : (files : List File) (q : List ℕ) → is_file files q ≡ false → number_from 0 files q ≡ None
-number_from-none files q h = none_of _ (number_from-some 0 files q ∙ h)
-
-number_from-other : (n : ℕ) (files : List File) (f : File) (q : List ℕ) → has_path q f ≡ false → number_from n (files ++ f ∷ []) q ≡ number_from n files q
-number_from-other n [] f q h = ap (λ t. cond t (Some n) None) h
-number_from-other n (g ∷ files) f q h = ap (λ rest. cond (has_path q g) (Some n) rest) (number_from-other (n + 1) files f q h)
-
-number_from-new : (n : ℕ) (files : List File) (f : File) (q : List ℕ) → is_file files q ≡ false → has_path q f ≡ true → number_from n (files ++ f ∷ []) q ≡ Some (n + length files)
-number_from-new n [] f q none h = let e : n ≡ n + 0 = omega arith in ap (λ t. cond t (Some n) None) h ∙ ap (λ k. Some k) e
-number_from-new n (g ∷ files) f q none h =
-    let parts = or_parts (has_path q g) (is_file files q) none in
-    let e : n + 1 + length files ≡ n + length (g ∷ files) = omega arith in
-    ap (λ t. cond t (Some n) (number_from (n + 1) (files ++ f ∷ []) q)) parts.0 ∙ number_from-new (n + 1) files f q parts.1 h ∙ ap (λ k. Some k) e
-
-pub entry_of-some : (files : List File) (q : List ℕ) → is_some (path_entry files q) ≡ (is_file files q || is_folder files q)
-entry_of-some files q = by (number_from 0 files q) (number_from-some 0 files q)
+pub adds_new : {A : Type 0} (old new : BTreeMap (Vec ℕ A) (Option ℕ)) (folder : List ℕ) → 0 < length folder → is_some (entry_at old folder) ≡ false → SetsEntry old new folder None → AddsFolders old new (folder ∷ [])
+adds_new old new folder some absent set = record {
+  paths = λ paths holds. holds_put paths folder old new None some set holds;
+  numbers = λ q. ap number_of_entry (set.entries q) ∙ by q (pointwise eqb q folder) refl;
+}
   where
-    folder : (t : Bool) → is_some (cond t (Some (entry.Folder (children files q))) None) ≡ t
-    folder true = refl
-    folder false = refl
+    by : (q : List ℕ) (t : Bool) → pointwise eqb q folder ≡ t → number_of_entry (cond t (Some None) (entry_at old q)) ≡ number_at old q
+    by q true e = sym (ap number_of_entry (none_of (entry_at old q) (ap (λ p. is_some (entry_at old p)) ((bytes_decides q folder).0 e) ∙ absent)))
+    by q false e = refl
 
-    by : (o : Option ℕ) → is_some o ≡ is_file files q → is_some (entry_by files q o) ≡ (is_file files q || is_folder files q)
-    by (Some k) e = ap (λ t. t || is_folder files q) e
-    by None e = folder (is_folder files q) ∙ ap (λ t. t || is_folder files q) e
+-- ---- a tree after one more file
 
--- ---- the names in a folder
+get_front : (files more : List File) (n : ℕ) → n < length files → slice_get (files ++ more) n ≡ slice_get files n
+get_front [] more n low = absurd (omega arith)
+get_front (f ∷ files) more zero low = refl
+get_front (f ∷ files) more (suc n) low = get_front files more n (omega arith)
 
-is_folder-push : (files : List File) (f : File) (q : List ℕ) → is_folder (files ++ f ∷ []) q ≡ (is_folder files q || is_below q f.0)
-is_folder-push files f q = by (eqb (length q) 0)
-  where
-    by : (t : Bool) → (t || list_any (λ g. is_below q g.0) (files ++ f ∷ [])) ≡ ((t || list_any (λ g. is_below q g.0) files) || is_below q f.0)
-    by true = refl
-    by false = list_any-append (λ g. is_below q g.0) files (f ∷ []) ∙ ap (λ t. list_any (λ g. is_below q g.0) files || t) (or-false (is_below q f.0))
+get_last : (files : List File) (file : File) → slice_get (files ++ file ∷ []) (length files) ≡ Some file
+get_last [] file = refl
+get_last (f ∷ files) file = get_last files file
 
-children-push : (files : List File) (f : File) (q : List ℕ) → children (files ++ f ∷ []) q ≡ with_child (children files q) (child_below q f)
-children-push files f q =
-    ap (fold add_child []) (filter_map-append (child_below q) files (f ∷ []))
-    ∙ fold-append add_child [] (filter_map (child_below q) files) (filter_map (child_below q) (f ∷ []))
-    ∙ by (child_below q f)
-  where
-    by : (o : Option Child) → fold add_child (children files q) (cons_option o []) ≡ with_child (children files q) o
-    by None = refl
-    by (Some c) = refl
+pub copied_is_some : {A : Type 0} (found : Option (Bor A)) → is_some found ≡ is_some (option_copied found)
+copied_is_some None = refl
+copied_is_some (Some x) = refl
 
-no_child : (files : List File) (q : List ℕ) → list_any (λ g. is_below q g.0) files ≡ false → filter_map (child_below q) files ≡ []
-no_child [] q h = refl
-no_child (g ∷ files) q h =
-    let parts = or_parts (is_below q g.0) (list_any (λ f. is_below q f.0) files) h in
-    ap (λ o. cons_option (child_of_rest (kind_of g.0 g.1) o) (filter_map (child_below q) files)) (none_of (rest_below q g.0) parts.0) ∙ no_child files q parts.1
-
-children_at-entry : (files : List File) (q : List ℕ) → is_file files q ≡ false → children_at (path_entry files q) ≡ children files q
-children_at-entry files q none = ap (λ o. children_at (entry_by files q o)) (number_from-none files q none) ∙ by (is_folder files q) refl
-  where
-    by : (t : Bool) → is_folder files q ≡ t → children_at (cond t (Some (entry.Folder (children files q))) None) ≡ children files q
-    by true e = refl
-    by false e = sym (ap (fold add_child []) (no_child files q (or_parts (eqb (length q) 0) (list_any (λ g. is_below q g.0) files) e).1))
-
--- ---- after one more file
-
-no_file_below : (files : List File) (q path : List ℕ) → is_some (rest_after q path) ≡ true → list_any (λ f. is_some (rest_after f.0 path)) files ≡ false → is_file files q ≡ false
-no_file_below [] q path below none = refl
-no_file_below (g ∷ files) q path below none = by (has_path q g) refl (no_file_below files q path below)
-  where
-    parts : (is_some (rest_after g.0 path) ≡ false) × (list_any (λ f. is_some (rest_after f.0 path)) files ≡ false)
-    parts = or_parts (is_some (rest_after g.0 path)) (list_any (λ f. is_some (rest_after f.0 path)) files) none
-
-    by : (t : Bool) → has_path q g ≡ t → (list_any (λ f. is_some (rest_after f.0 path)) files ≡ false → is_file files q ≡ false) → (t || is_file files q) ≡ false
-    by true e rest = let same : true ≡ false = sym below ∙ ap (λ p. is_some (rest_after p path)) ((bytes_decides q g.0).0 e) ∙ parts.0 in same
-    by false e rest = rest parts.1
-
-no_folder_file : (files : List File) (q path : List ℕ) → is_below q path ≡ true → is_file files [] ≡ false → list_any (λ f. is_some (rest_after f.0 path)) files ≡ false → is_file files q ≡ false
-no_folder_file files [] path below root none = root
-no_folder_file files (c ∷ q) path below root none = no_file_below files (c ∷ q) path below none
-
-entry_by-same : (files more : List File) (q : List ℕ) (o : Option ℕ) → is_folder files q ≡ is_folder more q → children files q ≡ children more q → entry_by files q o ≡ entry_by more q o
-entry_by-same files more q (Some k) folder names = refl
-entry_by-same files more q None folder names =
-    ap (λ t. cond t (Some (entry.Folder (children files q))) None) folder ∙ ap (λ l. cond (is_folder more q) (Some (entry.Folder l)) None) names
-
-pub entry_of-push : (files : List File) (f : File) → is_twice files f.0 ≡ false → is_file files [] ≡ false
-    → (q : List ℕ) → entry_after (path_entry files q) (length files) (kind_of f.0 f.1) f.0 q ≡ path_entry (files ++ f ∷ []) q
-entry_of-push files f once root q = by (pointwise eqb q f.0) refl
-  where
-    first : ((is_file files f.0 || is_folder files f.0) ≡ false) × (list_any (λ g. is_some (rest_after g.0 f.0)) files ≡ false)
-    first = or_parts (is_file files f.0 || is_folder files f.0) (list_any (λ g. is_some (rest_after g.0 f.0)) files) once
-
-    fresh : is_file files f.0 ≡ false
-    fresh = (or_parts (is_file files f.0) (is_folder files f.0) first.0).0
-
-    below : (b : Bool) → is_below q f.0 ≡ b → cond b (folder_with (path_entry files q) (child_below q f)) (path_entry files q) ≡ entry_by (files ++ f ∷ []) q (number_from 0 files q)
-    below true e =
-        let none : is_file files q ≡ false = no_folder_file files q f.0 e root first.1 in
-        ap (λ names. Some (entry.Folder (with_child names (child_below q f)))) (children_at-entry files q none)
-        ∙ ap (λ names. Some (entry.Folder names)) (sym (children-push files f q))
-        ∙ ap (λ t. cond t (Some (entry.Folder (children (files ++ f ∷ []) q))) None) (sym (is_folder-push files f q ∙ ap (λ t. is_folder files q || t) e ∙ or-true (is_folder files q)))
-        ∙ ap (entry_by (files ++ f ∷ []) q) (sym (number_from-none files q none))
-    below false e =
-        entry_by-same files (files ++ f ∷ []) q (number_from 0 files q)
-        (sym (is_folder-push files f q ∙ ap (λ t. is_folder files q || t) e ∙ or-false (is_folder files q)))
-        (sym (children-push files f q ∙ ap (λ o. with_child (children files q) (child_of_rest (kind_of f.0 f.1) o)) (none_of (rest_below q f.0) e)))
-
-    by : (t : Bool) → pointwise eqb q f.0 ≡ t → cond t (Some (entry.File (length files))) (folders_after (path_entry files q) (kind_of f.0 f.1) f.0 q) ≡ path_entry (files ++ f ∷ []) q
-    by true e =
-        let none : is_file files q ≡ false = subst (λ p. is_file files p ≡ false) (sym ((bytes_decides q f.0).0 e)) fresh in
-        let count : length files ≡ 0 + length files = omega arith in
-        ap (λ k. Some (entry.File k)) count ∙ ap (entry_by (files ++ f ∷ []) q) (sym (number_from-new 0 files f q none e))
-    by false e = below (is_below q f.0) refl ∙ ap (entry_by (files ++ f ∷ []) q) (sym (number_from-other 0 files f q e))
-
--- after one more file, no folder is a file
-pub apart_push : (files : List File) (f : File) → AreApart files → is_twice files f.0 ≡ false → 0 < length f.0 → AreApart (files ++ f ∷ [])
-apart_push files f apart once some q folder = list_any-append (has_path q) files (f ∷ []) ∙ by (is_folder files q) refl (sym (is_folder-push files f q) ∙ folder)
-  where
-    first : ((is_file files f.0 || is_folder files f.0) ≡ false) × (list_any (λ g. is_some (rest_after g.0 f.0)) files ≡ false)
-    first = or_parts (is_file files f.0 || is_folder files f.0) (list_any (λ g. is_some (rest_after g.0 f.0)) files) once
-
-    itself : (p : List ℕ) → 0 < length p → is_below p p ≡ false
-    itself [] none = absurd (omega arith)
-    itself (c ∷ p) more = rest_after-short (c ∷ p) (c ∷ p) (omega arith)
-
-    -- the file's own path isn't a folder of these files, and isn't above itself
-    other : (t : Bool) → has_path q f ≡ t → is_folder (files ++ f ∷ []) f.0 ≡ false → t ≡ false
-    other false e none = refl
-    other true e none = sym folder ∙ ap (is_folder (files ++ f ∷ [])) ((bytes_decides q f.0).0 e) ∙ none
-
-    own : is_folder (files ++ f ∷ []) f.0 ≡ false
-    own = is_folder-push files f f.0 ∙ ap (λ t. t || is_below f.0 f.0) (or_parts (is_file files f.0) (is_folder files f.0) first.0).1 ∙ itself f.0 some
-
-    by : (t : Bool) → is_folder files q ≡ t → (t || is_below q f.0) ≡ true → (is_file files q || (has_path q f || false)) ≡ false
-    by true e h = ap (λ t. t || (has_path q f || false)) (apart q e) ∙ ap (λ t. t || false) (other (has_path q f) refl own)
-    by false e h = ap (λ t. t || (has_path q f || false)) (no_folder_file files q f.0 h (apart [] refl) first.1) ∙ ap (λ t. t || false) (other (has_path q f) refl own)
-
--- ---- looking up an entry
-
-file_at-some : (files : List File) (q : List ℕ) → is_some (file_at files q) ≡ is_file files q
-file_at-some [] q = refl
-file_at-some (f ∷ files) q = by (has_path q f) (file_at-some files q)
+pub found_is_file : (files : List File) (q : List ℕ) → is_some (file_at files q) ≡ is_file files q
+found_is_file [] q = refl
+found_is_file (f ∷ files) q = by (has_path q f) (found_is_file files q)
   where
     by : (t : Bool) → is_some (file_at files q) ≡ is_file files q → is_some (cond t (Some f) (file_at files q)) ≡ (t || is_file files q)
     by true h = refl
     by false h = h
 
-file_at-none : (files : List File) (q : List ℕ) → is_file files q ≡ false → file_at files q ≡ None
-file_at-none files q h = none_of _ (file_at-some files q ∙ h)
-
-pub entry_of-is_file : (files : List File) (q : List ℕ) → is_file_entry (path_entry files q) ≡ is_file files q
-entry_of-is_file files q = by (number_from 0 files q) (number_from-some 0 files q)
+pub IsTree-push : {A : Type 0} (files : List File) (file : File) (old middle new : BTreeMap (Vec ℕ A) (Option ℕ)) (bytes : ℕ) → file_fault files file ≡ None
+    → IsTree files old bytes → AddsFolders old middle (folders_of file.0) → SetsEntry middle new file.0 (Some (length files)) → IsTree (files ++ file ∷ []) new (bytes + length file.1)
+IsTree-push files file old middle new bytes none tree added set = record {
+  paths = subst (λ paths. HoldsPaths paths new) (sym all) (holds_put _ file.0 middle new _ good.some set (added.paths (nodes files) tree.paths));
+  numbers = λ q. ap (λ e. file_numbered (files ++ file ∷ []) (number_of_entry e)) (set.entries q) ∙ number q (has_path q file) refl ∙ sym (find-append (has_path q) files (file ∷ []));
+  within = λ q. subst (λ e. IfSome (number_of_entry e) (λ n. n < length (files ++ file ∷ []))) (sym (set.entries q)) (low q (has_path q file));
+  bytes_is = bytes_is;
+  few_bytes = omega (arith, few_bytes files file good.large, bytes_is);
+}
   where
-    folder : (t : Bool) → is_file_entry (cond t (Some (entry.Folder (children files q))) None) ≡ false
-    folder true = refl
-    folder false = refl
+    good : IsGood files file
+    good = good_of files file none
 
-    by : (o : Option ℕ) → is_some o ≡ is_file files q → is_file_entry (entry_by files q o) ≡ is_file files q
-    by (Some k) e = e
-    by None e = folder (is_folder files q) ∙ e
+    all : nodes (files ++ file ∷ []) ≡ add_path (fold add_path (nodes files) (folders_of file.0)) file.0
+    all =
+        nodes-push files file
+        ∙ ap (λ t. fold add_path (cond t (nodes files) (nodes files ++ [] ∷ [])) (folders_of file.0 ++ file.0 ∷ [])) (tree.paths.known [])
+        ∙ fold-append add_path (nodes files) (folders_of file.0) (file.0 ∷ [])
 
-number_from-is : (n k : ℕ) (files : List File) (q : List ℕ) → number_from n files q ≡ Some k → (n ≤ k) × (k - n < length files) × (slice_get files (k - n) ≡ file_at files q)
-number_from-is n k [] q e = absurd cc
-number_from-is n k (f ∷ files) q e = by (has_path q f) refl e (number_from-is (n + 1) k files q)
-  where
-    later : (j : ℕ) → k - n ≡ suc j → slice_get files j ≡ file_at files q → slice_get (f ∷ files) (k - n) ≡ file_at files q
-    later j h g = ap (slice_get (f ∷ files)) h ∙ g
+    fresh : is_file files file.0 ≡ false
+    fresh = (or_parts (is_file files file.0) (is_folder files file.0) (or_parts (is_file files file.0 || is_folder files file.0) (leads_through_file files file.0) good.once).0).0
 
-    by : (t : Bool) → has_path q f ≡ t → cond t (Some n) (number_from (n + 1) files q) ≡ Some k
-        → (number_from (n + 1) files q ≡ Some k → (n + 1 ≤ k) × (k - (n + 1) < length files) × (slice_get files (k - (n + 1)) ≡ file_at files q))
-        → (n ≤ k) × (k - n < length (f ∷ files)) × (slice_get (f ∷ files) (k - n) ≡ cond t (Some f) (file_at files q))
-    by true h here rest =
-        let same : n ≡ k = cc in
-        let zero_is : k - n ≡ 0 = omega arith in
-        (omega arith, omega arith, ap (slice_get (f ∷ files)) zero_is)
-    by false h there rest =
-        let found = rest there in
-        let low : n + 1 ≤ k = found.0 in
-        let high : k - (n + 1) < length files = found.1 in
-        let next : k - n ≡ suc (k - (n + 1)) = omega arith in
-        (omega arith, omega arith, later (k - (n + 1)) next found.2)
+    kept : (n : Option ℕ) → IfSome n (λ k. k < length files) → file_numbered (files ++ file ∷ []) n ≡ file_numbered files n
+    kept None low = refl
+    kept (Some n) low = get_front files (file ∷ []) n low
 
-entry_by-file : (files : List File) (q : List ℕ) (k : ℕ) (o : Option ℕ) → entry_by files q o ≡ Some (entry.File k) → o ≡ Some k
-entry_by-file files q k (Some j) e = let same : j ≡ k = cc in ap (λ n. Some n) same
-entry_by-file files q k None e = by (is_folder files q) e
-  where
-    by : (t : Bool) → cond t (Some (entry.Folder (children files q))) None ≡ Some (entry.File k) → None ≡ Some k
-    by true h = absurd cc
-    by false h = absurd cc
+    or_none : (found : Option File) → found ≡ option_or found None
+    or_none None = refl
+    or_none (Some f) = refl
 
--- the entry of a file contains its number
-pub entry_of-file : (files : List File) (q : List ℕ) (k : ℕ) → path_entry files q ≡ Some (entry.File k) → (k < length files) × (slice_get files k ≡ file_at files q)
-entry_of-file files q k e =
-    let found = number_from-is 0 k files q (entry_by-file files q k (number_from 0 files q) e) in
-    let same : k - 0 ≡ k = omega arith in
-    let high : k - 0 < length files = found.1 in
-    (omega arith, sym (ap (slice_get files) same) ∙ found.2)
+    number : (q : List ℕ) (t : Bool) → has_path q file ≡ t → file_numbered (files ++ file ∷ []) (number_of_entry (cond t (Some (Some (length files))) (entry_at middle q))) ≡ option_or (file_at files q) (cond t (Some file) None)
+    number q true e =
+        get_last files file
+        ∙ ap (λ found. option_or found (Some file)) (sym (none_of (file_at files q) (found_is_file files q ∙ ap (is_file files) ((bytes_decides q file.0).0 e) ∙ fresh)))
+    number q false e = ap (file_numbered (files ++ file ∷ [])) (added.numbers q) ∙ kept (number_at old q) (tree.within q) ∙ tree.numbers q ∙ or_none (file_at files q)
 
-entry_by-folder : (files : List File) (q : List ℕ) (names : List Child) (o : Option ℕ) → entry_by files q o ≡ Some (entry.Folder names) → (is_some o ≡ false) × (is_folder files q ≡ true) × (names ≡ children files q)
-entry_by-folder files q names (Some j) e = absurd cc
-entry_by-folder files q names None e = let found = by (is_folder files q) refl e in (refl, found.0, found.1)
-  where
-    by : (t : Bool) → is_folder files q ≡ t → cond t (Some (entry.Folder (children files q))) None ≡ Some (entry.Folder names) → (is_folder files q ≡ true) × (names ≡ children files q)
-    by true h e = let same : names ≡ children files q = cc in (h, same)
-    by false h e = absurd cc
+    further : (n : Option ℕ) → IfSome n (λ k. k < length files) → IfSome n (λ k. k < length (files ++ file ∷ []))
+    further None low = tt
+    further (Some n) low = omega (arith, low, length-append files (file ∷ []))
 
--- the entry of a folder contains its names
-pub entry_of-folder : (files : List File) (q : List ℕ) (names : List Child) → path_entry files q ≡ Some (entry.Folder names) → (file_at files q ≡ None) × (is_folder files q ≡ true) × (names ≡ children files q)
-entry_of-folder files q names e =
-    let found = entry_by-folder files q names (number_from 0 files q) e in
-    (file_at-none files q (sym (number_from-some 0 files q) ∙ found.0), found.1, found.2)
+    low : (q : List ℕ) (t : Bool) → IfSome (number_of_entry (cond t (Some (Some (length files))) (entry_at middle q))) (λ n. n < length (files ++ file ∷ []))
+    low q true = omega (arith, length-append files (file ∷ []))
+    low q false = subst (λ n. IfSome n (λ k. k < length (files ++ file ∷ []))) (sym (added.numbers q)) (further (number_at old q) (tree.within q))
 
--- without an entry, the path is neither a file nor a folder
-pub entry_of-none : (files : List File) (q : List ℕ) → path_entry files q ≡ None → (file_at files q ≡ None) × (is_folder files q ≡ false)
-entry_of-none files q e =
-    let neither = or_parts (is_file files q) (is_folder files q) (sym (entry_of-some files q) ∙ ap is_some e) in
-    (file_at-none files q neither.0, neither.1)
+    bytes_is : bytes + length file.1 ≡ total_bytes (files ++ file ∷ [])
+    bytes_is = ap (λ n. n + length file.1) tree.bytes_is ∙ sym (total_bytes-push files file)
+
+-- ---- looking up a path
+
+-- without a file at a path, it is a folder if it is a node
+pub folder_is : (files : List File) (q : List ℕ) → file_at files q ≡ None → is_path_among (nodes files) q ≡ is_folder files q
+folder_is files q none = node_is files q ∙ ap (λ t. t || is_folder files q) (sym (found_is_file files q) ∙ ap is_some none)

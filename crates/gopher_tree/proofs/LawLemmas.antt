@@ -12,9 +12,8 @@ use Rattle.gopher_tree.specs.Path.{names_of, first_name, menu_name, is_menu_name
 use Rattle.gopher_tree.specs.Kind.{kind_of}
 use Rattle.gopher_tree.specs.Files.{File, Child, child_of, child_of_rest, child_below, add_child, children}
 use Rattle.gopher_tree.specs.Laws.{listed_names, begins_with, leads_to_name, ListingsAscend, ListingsAreWhole}
-use Rattle.gopher_tree.proofs.PathLemmas.{names_of-some}
-use Rattle.gopher_tree.proofs.ListingLemmas.{order, at_name, same_name, at_name-insert}
-use Rattle.gopher_tree.proofs.SettledLemmas.{names_of-one, names_ascend, none_ascend}
+use Rattle.gopher_tree.proofs.PathLemmas.{names_of-some, names_of-one}
+use Rattle.gopher_tree.proofs.ListingLemmas.{order, at_name, same_name, at_name-insert, names_ascend, none_ascend}
 
 pub listings_ascend : ListingsAscend
 listings_ascend files folder = names_ascend [] (filter_map (child_below folder) files) none_ascend

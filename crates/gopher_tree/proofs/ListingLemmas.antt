@@ -1,5 +1,5 @@
 -- Inserting names one by one into a sorted list: looking up a name, and the order of the names.
-use Rattle.std.proofs.Common.{◌≡◌, ℕ, Bool, true, false, cond, List, [], ◌∷◌, Option, None, Some, refl, sym, ap, subst, ◌∙◌}
+use Rattle.std.proofs.Common.{◌≡◌, ℕ, Bool, true, false, cond, List, [], ◌∷◌, fold, Option, Some, refl, sym, ap, subst, ◌∙◌}
 use Rattle.std.specs.Ordering.{nat_cmp, is_eq, match_ordering, ordering_reverse}
 use Rattle.std.specs.declared.cmp.Ordering.{Ordering}
 use Rattle.std.specs.declared.cmp.Ordering.TheVariants.{Less, Equal, Greater}
@@ -8,11 +8,8 @@ use Rattle.std.specs.List.{AllByRecursion}
 use Rattle.std.specs.List.Sorted.{IsStrictlySortedBy}
 use Rattle.std.specs.BTreeMap.{insert_entry, is_at}
 use Rattle.std.specs.Map.{lookup, keys_of}
-use Rattle.std.proofs.lemmas.Map.{lookup-none}
-use Rattle.std.proofs.lemmas.Map.Entries.{none_below_head}
-use Rattle.std.proofs.lemmas.Map.Keys.{sorted_tail}
 use Rattle.std.proofs.lemmas.Map.Lookups.{exact_bytes}
-use Rattle.gopher_tree.specs.Files.{Child}
+use Rattle.gopher_tree.specs.Files.{Child, add_child}
 
 abbrev pub order : List ℕ → List ℕ → Ordering
 order = slice_cmp nat_cmp
@@ -36,9 +33,6 @@ same_name a b h = by (order a b) refl h
     by Less e h = absurd cc
     by Equal e h = exact_bytes a b e
     by Greater e h = absurd cc
-
-pub at_name-same : (name : List ℕ) → is_eq (order name name) ≡ true
-at_name-same name = ap is_eq (order_self name)
 
 -- looking up a name after one was inserted or replaced
 pub at_name-insert : (children : List Child) (name : List ℕ) (kind : ℕ) (q : List ℕ)
@@ -102,17 +96,10 @@ sorted-insert (e ∷ es) name kind sorted = by (order name e.0) refl (sorted-ins
     by Equal is rest = sorted
     by Greater is rest = (all-insert (λ y. order e.0 y ≡ Less) es name kind sorted.0 (turned name e.0 is), rest)
 
--- inserting a name again with its type changes nothing
-pub insert-again : (children : List Child) (name : List ℕ) (kind : ℕ) → IsStrictlySortedBy order (keys_of children) → at_name name children ≡ Some kind → insert_entry order children name kind ≡ children
-insert-again [] name kind sorted there = absurd cc
-insert-again (e ∷ es) name kind sorted there = by (order name e.0) refl (insert-again es name kind (sorted_tail order e.0 (keys_of es) sorted))
-  where
-    by : (o : Ordering) → order name e.0 ≡ o → (at_name name es ≡ Some kind → insert_entry order es name kind ≡ es)
-        → match_ordering o ((name, kind) ∷ e ∷ es) ((e.0, kind) ∷ es) (e ∷ insert_entry order es name kind) ≡ e ∷ es
-    by Less is rest =
-        let none : at_name name (e ∷ es) ≡ None = lookup-none (is_at (order name)) (e ∷ es) (none_below_head nat_list_cmp_total name e es sorted is) in
-        absurd (let both : None ≡ Some kind = sym none ∙ there in cc)
-    by Equal is rest =
-        let value : Some e.1 ≡ Some kind = sym (ap (λ o. cond (is_eq o) (Some e.1) (at_name name es)) is) ∙ there in
-        let same : e.1 ≡ kind = cc in ap (λ k. (e.0, k) ∷ es) (sym same)
-    by Greater is rest = ap (λ l. e ∷ l) (rest (sym (ap (λ o. cond (is_eq o) (Some e.1) (at_name name es)) is) ∙ there))
+pub names_ascend : (names children : List Child) → IsStrictlySortedBy order (keys_of names) → IsStrictlySortedBy order (keys_of (fold add_child names children))
+names_ascend names [] sorted = sorted
+names_ascend names (c ∷ children) sorted = names_ascend (add_child names c) children (sorted-insert names c.0 c.1 sorted)
+
+pub none_ascend : IsStrictlySortedBy order (keys_of {X = ℕ} [])
+unfolding IsStrictlySortedBy
+none_ascend = tt

@@ -5,7 +5,7 @@ use Rattle.std.specs.Option.{option_map}
 use Rattle.std.specs.declared.io.traits.Take.{Take}
 use Rattle.std.specs.Io.Take.{take_limit, take_inner, take_remaining}
 use Rattle.gopher_tree.specs.Files.{File, total_bytes}
-use Rattle.gopher_tree.specs.Fault.{path_fault, or_fault, file_fault, fault_after, files_fault, AddsFile}
+use Rattle.gopher_tree.specs.Fault.{or_fault, file_fault, fault_after, files_fault, AddsFile}
 use Rattle.gopher_tree.specs.Load.{StopsAt, StopsAtFolder, Lists, ListsFile, WalksTo, Loads, LoadsTo, IsUnreadable, Refuses}
 use Rattle.gopher_tree.specs.declared.fault.TreeFault.{TreeFault}
 use Rattle.gopher_tree.specs.declared.fault.TreeFault.TheVariants.{NoMemory}
@@ -64,11 +64,6 @@ stops_unreadable files trail number fault same unreadable = inr (inr (subst (λ 
 pub stops_memory : (files : List File) (trail : Trail) (fault : TreeFault) → fault ≡ NoMemory → StopsAt files trail fault
 stops_memory files trail fault is = inr (inr (inr is))
 
--- a file with an invalid path
-pub path_refused : (files : List File) (trail : Trail) (path bytes : List ℕ) (number : ℕ) (fault : TreeFault) → number ≡ length files → path_fault number path ≡ Some fault → Refuses files trail (path, bytes) fault
-path_refused files trail path bytes number fault same is =
-    inl (or_fault-some (path_fault (length files) path) _ fault (ap (λ n. path_fault n path) (sym same) ∙ is))
-
 stops_file : (files : List File) (trail : Trail) (path bytes : List ℕ) (fault : TreeFault) → trail.path.items ≡ path → length bytes ≤ trail.size → trail.bytes ≡ total_bytes files → Refuses files trail (path, bytes) fault → StopsAt files trail fault
 stops_file files trail path bytes fault at size total (inl is) = inl (bytes, size, total, ap (λ p. file_fault files (p, bytes)) at ∙ is)
 stops_file files trail path bytes fault at size total (inr (inl full)) = inr (inl (inr (inl full)))
@@ -96,18 +91,10 @@ file_refused files trail path bytes after fault adds = by (adds_refused (file_fa
 pub faultless : (files : List File) → Lists [] files → files_fault files ≡ None
 faultless files (added, is, none) = ap files_fault is ∙ none
 
--- loading fails before a file is listed
-pub loads_memory : (trail : Trail) → LoadsTo trail (Err NoMemory)
-loads_memory trail = ([], refl, stops_memory [] trail NoMemory refl)
-
--- loading ends where the walk does
-pub loads_walk : (first : List File) (trail : Trail) (result : Result (List File) TreeFault) → first ≡ [] → WalksTo first trail result → LoadsTo trail result
-loads_walk first trail (Ok files) none lists = faultless files (subst (λ l. Lists l files) none lists)
-loads_walk first trail (Err fault) none (files, lists, stops) = (files, faultless files (subst (λ l. Lists l files) none lists), stops)
-
--- loading fails on some trail
-pub loads_some : (trail : Trail) (fault : TreeFault) → LoadsTo trail (Err fault) → Loads (Err fault)
-loads_some trail fault loads = (trail, loads)
+-- what a walk leaves on a trail, on some trail
+pub loads_on : (trail : Trail) (result : Result (List File) TreeFault) → LoadsTo trail result → Loads result
+loads_on trail (Ok files) loads = loads
+loads_on trail (Err fault) loads = (trail, loads)
 
 -- the known bytes that a reader with a limit returns
 pub taken : {R : Type 0} (remaining : R → Option (List ℕ)) (reader : R) (most : ℕ) (limited : Take R) (bytes : List ℕ) → take_limit limited ≡ most → take_inner limited ≡ reader

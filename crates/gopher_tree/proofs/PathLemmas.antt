@@ -27,3 +27,17 @@ has_bad_name-more name after =
 -- a file further below gives a folder the child of the next name
 pub child_of-more : (kind : ℕ) (name after : List ℕ) → child_of kind (name ∷ names_of after) ≡ Some (name, 49)
 child_of-more kind name after = ap (λ names. child_of kind (name ∷ names)) (names_of-some after).2
+
+-- a path of one name is that name
+pub names_of-one : (r name : List ℕ) → names_of r ≡ name ∷ [] → r ≡ name
+names_of-one [] name h = cc
+names_of-one (b ∷ r) name h = by (eqb b 47) refl (names_of-some r) (names_of-one r)
+  where
+    by : (t : Bool) → eqb b 47 ≡ t → (first : List ℕ) × (more : List (List ℕ)) × (names_of r ≡ first ∷ more) → ((n : List ℕ) → names_of r ≡ n ∷ [] → r ≡ n) → b ∷ r ≡ name
+    by true e some rest =
+        let twice : [] ∷ some.0 ∷ some.1 ≡ name ∷ [] = ap (λ l. [] ∷ l) (sym some.2) ∙ sym (slice_split-cons_yes (λ x. eqb x 47) b r e) ∙ h in absurd cc
+    by false e some rest =
+        let one : (b ∷ some.0) ∷ some.1 ≡ name ∷ [] = ap (onto_first b) (sym some.2) ∙ sym (slice_split-cons_no (λ x. eqb x 47) b r e) ∙ h in
+        let last : some.1 ≡ [] = cc in
+        let named : b ∷ some.0 ≡ name = cc in
+        ap (λ l. b ∷ l) (rest some.0 (some.2 ∙ ap (λ l. some.0 ∷ l) last)) ∙ named

@@ -1,11 +1,11 @@
 -- A list of files, each a path and its bytes, as a tree of folders.
-use Rattle.std.specs.Prelude.{◌≡◌, ℕ, Bool, true, false, ◌||◌, ◌&&◌, not, nat_eq, ◌==◌, List, [], ◌∷◌, ◌++◌, length, take, filter, fold, find, Option, None, Some, is_some, sum_by, if◌then◌else◌}
+use Rattle.std.specs.Prelude.{◌≡◌, ℕ, Bool, ◌||◌, not, nat_eq, ◌==◌, List, [], ◌∷◌, ◌++◌, length, filter, fold, find, Option, None, Some, sum_by, if◌then◌else◌}
 use Rattle.std.specs.List.{list_any, filter_map, flat_map}
 use Rattle.std.specs.List.Sorted.{IsStrictlySortedBy}
 use Rattle.std.specs.Ordering.{nat_cmp}
 use Rattle.std.specs.Cmp.Lexicographic.{pointwise, slice_cmp}
 use Rattle.std.specs.BTreeMap.{insert_entry}
-use Rattle.gopher_tree.specs.Path.{names_of, is_menu_name, is_menu_path, is_slash, rest_after, rest_below, is_below, folders_of}
+use Rattle.gopher_tree.specs.Path.{names_of, is_menu_name, is_menu_path, rest_below, folders_of}
 use Rattle.gopher_tree.specs.Kind.{kind_of}
 
 -- a file: its path and its bytes
@@ -26,13 +26,18 @@ file_at files path = find (has_path path) files
 abbrev pub menu_files : List File → List File
 menu_files files = filter (λ file. is_menu_path file.0) files
 
+-- a list of paths contains a path
+abbrev pub is_path_among : List (List ℕ) → List ℕ → Bool
+is_path_among paths path = list_any (pointwise nat_eq path) paths
+
 -- a folder: the root, or a path that some file's path leads through
 abbrev pub is_folder : List File → List ℕ → Bool
-is_folder files path = (length path == 0) || list_any (λ file. is_below path file.0) files
+is_folder files path =
+    (length path == 0) || list_any (λ file. is_path_among (folders_of file.0) path) files
 
 -- the path leads through a file
 abbrev pub leads_through_file : List File → List ℕ → Bool
-leads_through_file files path = list_any (λ file. is_some (rest_after file.0 path)) files
+leads_through_file files path = list_any (is_file files) (folders_of path)
 
 -- a name in a folder, and its type
 abbrev pub Child : Type 0
@@ -56,13 +61,14 @@ child_below folder file = child_of_rest (kind_of file.0 file.1) (rest_below fold
 abbrev pub add_child : List Child → Child → List Child
 add_child children child = insert_entry (slice_cmp nat_cmp) children child.0 child.1
 
+abbrev pub with_child : List Child → Option Child → List Child
+with_child children None = children
+with_child children (Some child) = add_child children child
+
 abbrev pub children : List File → List ℕ → List Child
 children files folder = fold add_child [] (filter_map (child_below folder) files)
 
 -- distinct paths in the order of first mention
-abbrev pub is_path_among : List (List ℕ) → List ℕ → Bool
-is_path_among paths path = list_any (pointwise nat_eq path) paths
-
 abbrev pub add_path : List (List ℕ) → List ℕ → List (List ℕ)
 add_path paths path = if is_path_among paths path then paths else paths ++ path ∷ []
 
@@ -78,16 +84,6 @@ nodes files = fold add_path ([] ∷ []) (flat_map (λ file. paths_of file.0) fil
 abbrev pub is_missing : List File → List ℕ → Bool
 is_missing files path = not (is_path_among (nodes files) path)
 
--- a path has a slash at this position, and a node before it
-abbrev pub is_node_before : List File → List ℕ → ℕ → Bool
-is_node_before files path place =
-    is_slash path place && is_path_among (nodes files) (take place path)
-
--- a path has a slash at this position, and a file or a folder before it
-abbrev pub is_file_or_folder_before : List File → List ℕ → ℕ → Bool
-is_file_or_folder_before files path place =
-    is_slash path place && (is_file files (take place path) || is_folder files (take place path))
-
 -- the distinct nodes in byte order
 pub record AreNodes (files : List File) (paths : List (List ℕ)) : Type 0 where
   pub order : IsStrictlySortedBy (slice_cmp nat_cmp) paths
@@ -95,10 +91,3 @@ pub record AreNodes (files : List File) (paths : List (List ℕ)) : Type 0 where
 
 abbrev pub total_bytes : List File → ℕ
 total_bytes files = sum_by (λ file. length file.1) files
-
--- the folders above a path are among the nodes, and none of them is a file
-pub record AboveAreFolders (files : List File) (path : List ℕ) : Type 0 where
-  pub known :
-      (folder : List ℕ)
-      → is_below folder path ≡ true → is_path_among (nodes files) folder ≡ true
-  pub no_file : leads_through_file files path ≡ false

@@ -3,8 +3,6 @@ pub mod Kind
 pub mod MenuFile
 pub mod WrittenLine
 pub mod Files
-pub mod Child
-pub mod Index
 pub mod Tree
 pub mod Fault
 pub mod Reply

@@ -1,5 +1,5 @@
 -- Paths of files and folders, and their selectors.
-use Rattle.std.specs.Prelude.{ℕ, suc, zero, Bool, true, false, ◌&&◌, ◌||◌, not, nat_eq, ◌==◌, List, [], ◌∷◌, ◌++◌, codes, length, take, slice_index, Option, None, Some, is_some, if◌then◌else◌}
+use Rattle.std.specs.Prelude.{ℕ, suc, zero, Bool, true, false, ◌&&◌, ◌||◌, not, nat_eq, ◌==◌, List, [], ◌∷◌, ◌++◌, codes, length, take, drop, slice_index, Option, None, Some, if◌then◌else◌}
 use Rattle.std.specs.List.{slice_split}
 use Rattle.std.specs.Cmp.Lexicographic.{pointwise}
 use Rattle.gopher_item.specs.Special.{has_special}
@@ -40,23 +40,18 @@ has_bad_name (name ∷ more) = is_bad_name name || has_bad_name more
 abbrev pub is_menu_path : List ℕ → Bool
 is_menu_path path = is_menu_name (last_name (names_of path))
 
--- the path after a folder and a slash, if the path leads through that folder
+-- what the paths in a folder begin with: its path and a slash; nothing for the root
+abbrev pub prefix_of : List ℕ → List ℕ
+prefix_of folder = if length folder == 0 then [] else folder ++ 47 ∷ []
+
 abbrev pub rest_after : List ℕ → List ℕ → Option (List ℕ)
-rest_after folder [] = None
-rest_after [] (byte ∷ path) = if byte == 47 then Some path else None
-rest_after (first ∷ folder) (byte ∷ path) = if first == byte then rest_after folder path else None
+rest_after prefix path =
+    if pointwise nat_eq (take (length prefix) path) prefix then Some (drop (length prefix) path)
+    else None
 
--- the path below a folder; every path leads through the root
+-- the path below a folder, if the path leads through it; every path leads through the root
 abbrev pub rest_below : List ℕ → List ℕ → Option (List ℕ)
-rest_below [] path = Some path
-rest_below (byte ∷ folder) path = rest_after (byte ∷ folder) path
-
-abbrev pub is_below : List ℕ → List ℕ → Bool
-is_below folder path = is_some (rest_below folder path)
-
--- a path has a slash at this position
-abbrev pub is_slash : List ℕ → ℕ → Bool
-is_slash path place = slice_index path place == 47
+rest_below folder path = rest_after (prefix_of folder) path
 
 -- the folders that the first `count` bytes of a path lead through, except the root: its prefixes
 -- before each slash
@@ -78,7 +73,7 @@ path_of (byte ∷ path) = if byte == 47 then Some path else None
 
 -- the path of a name in a folder
 abbrev pub path_in : List ℕ → List ℕ → List ℕ
-path_in folder name = if length folder == 0 then name else folder ++ 47 ∷ name
+path_in folder name = prefix_of folder ++ name
 
 -- the path of a folder's menu file
 abbrev pub menu_path : List ℕ → List ℕ

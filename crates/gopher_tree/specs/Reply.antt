@@ -7,7 +7,7 @@ use Rattle.gopher_bytes.specs.Lines.{lines_of}
 use Rattle.gopher_item.specs.MenuLine.{MenuLineData, menu_line_bytes, menu_bytes}
 use Rattle.gopher_item.specs.Place.{HomeData}
 use Rattle.gopher_text.specs.Text.{text_bytes}
-use Rattle.gopher_tree.specs.Path.{is_menu_path, path_of, menu_path}
+use Rattle.gopher_tree.specs.Path.{is_menu_path, prefix_of, path_of, menu_path}
 use Rattle.gopher_tree.specs.Kind.{kind_of}
 use Rattle.gopher_tree.specs.MenuFile.{written_menu}
 use Rattle.gopher_tree.specs.Files.{File, Child, file_at, is_folder, children}
@@ -42,7 +42,7 @@ named files selector = named_at files (path_of selector)
 
 -- the bytes before a name in its selector
 abbrev pub front_of : List ℕ → List ℕ
-front_of folder = if length folder == 0 then 47 ∷ [] else 47 ∷ folder ++ 47 ∷ []
+front_of folder = 47 ∷ prefix_of folder
 
 abbrev pub child_line : HomeData → List ℕ → Child → MenuLineData
 child_line home front child =

@@ -22,5 +22,4 @@ pub use fault::TreeFault;
 pub use load::trail::Trail;
 pub use menu_file::{WrittenLine, written_line};
 pub use reply::{error_reply, not_found};
-pub use tree::file_faults::MAX_FILE;
-pub use tree::{MAX_BYTES, MAX_NODES, Node, Tree};
+pub use tree::{MAX_BYTES, MAX_FILE, MAX_NODES, Node, Tree};

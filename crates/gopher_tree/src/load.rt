@@ -142,15 +142,12 @@ impl Tree {
     /// - `BadName` to `Twice` (20 to 25): a file has the fault, as in `Tree::of_files`
     /// - `LongSelector` (22), `TooBig` (23): a folder has the fault, with or without files
     /// - `NoMemory` (90)
-    #[tactic(auto, using(crate::proofs::LoadLemmas::loads_some))]
+    #[tactic(auto, using(crate::proofs::LoadLemmas::loads_on))]
     pub fn load<R: Files>(rt: &R, alloc: Global, root: &str) -> Result<Tree, TreeFault>
         ensures { Loads result }
     {
         let mut trail = Trail::new(alloc);
-        match Tree::load_along(rt, alloc, root, &mut trail) {
-            Ok(tree) => Ok(tree),
-            Err(fault) => Err(fault),
-        }
+        Tree::load_along(rt, alloc, root, &mut trail)
     }
 
     /// Makes the tree of a folder as `load` does, and tells what the walk met on a new trail.
@@ -164,7 +161,6 @@ impl Tree {
     /// # Errors
     ///
     /// Those of `load`.
-    #[tactic(auto, using(crate::proofs::LoadLemmas::loads_memory))]
     pub fn load_along<R: Files>(
         rt: &R,
         alloc: Global,
@@ -173,9 +169,6 @@ impl Tree {
     ) -> Result<Tree, TreeFault>
         ensures { LoadsTo trail.new result }
     {
-        let Ok(tree) = Tree::empty(alloc) else {
-            return Err(TreeFault::NoMemory);
-        };
-        tree.through_folder(rt, alloc, Path::new(root), b"", trail)
+        Tree::empty(alloc).through_folder(rt, alloc, Path::new(root), b"", trail)
     }
 }

@@ -1,16 +1,22 @@
 //! Making replies: menus of folders, menus of `.menu` files, texts, raw files and errors.
 
-ghost use Rattle.std.specs.Prelude.{◌≡◌, false, IfOk};
+ghost use Rattle.std.specs.Prelude.{◌≡◌, false, map, IfOk};
 ghost use Rattle.gopher_item.specs.Special.{has_special};
 ghost use Rattle.gopher_item.specs.MenuLine.{menu_bytes};
 ghost use Rattle.gopher_tree.specs.MenuFile.{written_menu};
-ghost use Rattle.gopher_tree.specs.Reply.{PutsLines, front_of, head_lines, listing_bytes, file_reply, error_bytes, not_found_bytes};
+ghost use Rattle.gopher_tree.specs.Reply.{PutsLine, PutsLines, child_line, head_lines, listing_bytes, file_reply, error_bytes, not_found_bytes};
 
 use crate::menu_file::push_written_lines;
-use crate::tree::children::Children;
-use gopher_item::{Home, NoMemory, push_last_line, push_menu_line};
+use crate::tree::path::push_prefix;
+use gopher_item::{
+    ByteString, Home, NoMemory, push_front, push_last_line, push_menu_line, push_server,
+};
 use gopher_text::write_text_of;
 use std::alloc::Global;
+use std::collections::BTreeMap;
+
+// The distinct names in a folder in byte order, with their types.
+pub(crate) type Children = BTreeMap<ByteString, u8>;
 
 /// Makes an error reply: a menu with one line of type `3` (RFC 1436, section 3.8) that displays
 /// `text`.
@@ -45,19 +51,6 @@ pub(crate) fn file_reply(alloc: Global, kind: u8, bytes: &[u8]) -> Result<Vec<u8
     Ok(out)
 }
 
-// The bytes before a name in its selector.
-fn front_of(alloc: Global, folder: &[u8]) -> Result<Vec<u8>, NoMemory>
-    ensures { IfOk result (λ front. front.items ≡ front_of folder.now) }
-{
-    if folder.is_empty() {
-        return Ok(Vec::from_slice(alloc, b"/")?);
-    }
-    let mut front = Vec::from_slice(alloc, b"/")?;
-    front.extend_from_slice(folder)?;
-    front.push(b'/')?;
-    Ok(front)
-}
-
 // Appends the search line if the folder is the root.
 fn push_head(folder: &[u8], home: &Home, out: &mut Vec<u8>) -> Result<(), NoMemory>
     ensures { PutsLines (head_lines home.now folder.now) out.old out.new result }
@@ -69,6 +62,39 @@ fn push_head(folder: &[u8], home: &Home, out: &mut Vec<u8>) -> Result<(), NoMemo
     Ok(())
 }
 
+// Appends the line of a name in a folder; `front` comes before the name in its selector.
+fn push_child_line(
+    kind: u8,
+    name: &[u8],
+    front: &[u8],
+    home: &Home,
+    out: &mut Vec<u8>,
+) -> Result<(), NoMemory>
+    ensures { PutsLine (child_line home.now front.now (name.now, kind)) out.old out.new result }
+{
+    push_front(kind, name, out)?;
+    out.extend_from_slice(front)?;
+    out.extend_from_slice(name)?;
+    push_server(home.host(), home.port(), out)?;
+    Ok(())
+}
+
+// Appends a line for each name.
+fn push_names(
+    children: &Children,
+    front: &[u8],
+    home: &Home,
+    out: &mut Vec<u8>,
+) -> Result<(), NoMemory>
+    ensures { PutsLines (map (child_line home.now front.now) children.now.entries)
+        out.old out.new result }
+{
+    for (name, kind) in children {
+        push_child_line(*kind, name.as_slice(), front, home, out)?;
+    }
+    Ok(())
+}
+
 // The menu of a folder's names.
 pub(crate) fn listing_reply(
     alloc: Global,
@@ -76,12 +102,14 @@ pub(crate) fn listing_reply(
     children: &Children,
     home: &Home,
 ) -> Result<Vec<u8>, NoMemory>
-    ensures { IfOk result (λ bytes. bytes.items ≡ listing_bytes home.now folder.now children.now) }
+    ensures { IfOk result (λ bytes. bytes.items
+        ≡ listing_bytes home.now folder.now children.now.entries) }
 {
-    let front = front_of(alloc, folder)?;
+    let mut front = Vec::from_slice(alloc, b"/")?;
+    push_prefix(folder, &mut front)?;
     let mut out = Vec::new(alloc);
     push_head(folder, home, &mut out)?;
-    children.push_lines(&front, home, &mut out)?;
+    push_names(children, &front, home, &mut out)?;
     push_last_line(&mut out)?;
     Ok(out)
 }

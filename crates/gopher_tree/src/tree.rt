@@ -1,31 +1,31 @@
 //! `Tree`: its limits, its numbers, and how a file is added.
 
-ghost use Rattle.std.specs.Prelude.{◌≡◌, ◌≤◌, ◌<◌, ◌++◌, ◌∷◌, ◌||◌, [], None, length, take, map, count_by, IfOk, IsTrue};
+ghost use Rattle.std.specs.Prelude.{◌≡◌, ◌||◌, ◌&&◌, ◌==◌, ◌≤◌, ◌<◌, ◌++◌, ◌∷◌, [], None, length, take, slice_index, map, count_by, if◌then◌else◌, IfOk};
+ghost use Rattle.std.specs.Option.{option_copied};
 ghost use Rattle.gopher_tree.specs.Path.{is_menu_path};
-ghost use Rattle.gopher_tree.specs.Files.{is_file, is_folder, is_missing, menu_files, leads_through_file, AboveAreFolders, nodes, is_node_before, is_file_or_folder_before, is_path_among, AreNodes, total_bytes};
-ghost use Rattle.gopher_tree.specs.Fault.{is_too_big, is_twice, path_fault, file_fault, AddsFileTo, MakesTree};
-ghost use Rattle.gopher_tree.specs.Tree.{AddsNodes, AddsFolders};
-ghost use Rattle.gopher_tree.specs.Found.{FindsPath, file_data, lent_file};
+ghost use Rattle.gopher_tree.specs.Files.{is_file, is_folder, file_at, is_missing, menu_files, leads_through_file, nodes, is_path_among, AreNodes, total_bytes};
+ghost use Rattle.gopher_tree.specs.Fault.{is_too_big, is_twice, menu_fault, file_fault, AddsFileTo, MakesTree};
+ghost use Rattle.gopher_tree.specs.Tree.{AddsNodes};
+ghost use Rattle.gopher_tree.specs.Found.{file_data, lent_file};
 
-pub(crate) mod child_line;
-pub(crate) mod children;
 pub(crate) mod file;
-pub(crate) mod file_faults;
-pub(crate) mod index;
 pub(crate) mod kind;
+pub(crate) mod nodes;
 pub(crate) mod path;
 pub(crate) mod selector;
 
 use crate::fault::TreeFault;
-use crate::tree::children::Children;
+use crate::menu_file::bad_line;
 use crate::tree::file::File;
-use crate::tree::file_faults::{MAX_FILE, first_fault, menu_fault};
-use crate::tree::index::{Entry, Index, add_file, is_file_entry, paths_in};
-use crate::tree::path::{is_menu_path, path_fault, slashes_at};
+use crate::tree::nodes::{Nodes, add_folders, paths_in, put};
+use crate::tree::path::{is_menu_path, path_fault};
 use gopher_item::NoMemory;
 use std::alloc::Global;
 use std::collections::BTreeMap;
 use std::marker::Model;
+
+/// The most bytes of a file.
+pub const MAX_FILE: usize = 16_777_216;
 
 /// The most bytes of all files of a tree.
 pub const MAX_BYTES: usize = 67_108_864;
@@ -39,9 +39,8 @@ pub const MAX_NODES: usize = 4_096;
 #[derive(Debug, Drop)]
 pub struct Tree {
     files: Vec<File>,
-    index: Index,
+    nodes: Nodes,
     bytes: usize,
-    nodes: usize,
 }
 
 impl Model for Tree {
@@ -52,7 +51,7 @@ impl Model for Tree {
 
     ghost view = { λ t. t.files.items };
 
-    ghost invariant = { λ t. IsTree t.files.items t.index t.bytes t.nodes };
+    ghost invariant = { λ t. IsTree t.files.items t.nodes t.bytes };
 }
 
 /// The node that a selector names.
@@ -64,26 +63,16 @@ pub enum Node<'a> {
     Folder,
 }
 
-// The node at a path.
-#[derive(Clone, Copy)]
-pub(crate) enum Found<'a> {
-    File(&'a File),
-    Folder(&'a Children),
-}
-
 impl Tree {
     // The tree without files: only its root.
-    pub(crate) fn empty(alloc: Global) -> Result<Tree, NoMemory>
-        ensures { IfOk result (λ tree. tree ≡ []) }
+    pub(crate) fn empty(alloc: Global) -> Tree
+        ensures { result ≡ [] }
     {
-        let mut index = BTreeMap::new(alloc);
-        index.insert(Vec::new(alloc), Entry::Folder(Children::new(alloc)))?;
-        Ok(Tree {
+        Tree {
             files: Vec::new(alloc),
-            index,
+            nodes: BTreeMap::new(alloc),
             bytes: 0,
-            nodes: 1,
-        })
+        }
     }
 
     /// Returns the number of files, including menu files.
@@ -135,101 +124,87 @@ impl Tree {
     pub fn paths(&self, alloc: Global) -> Result<Vec<&[u8]>, NoMemory>
         ensures { IfOk result (λ paths. AreNodes self.now (map (λ path. path.now) paths.items)) }
     {
-        paths_in(alloc, &self.index)
+        paths_in(alloc, &self.nodes)
     }
 
-    pub(crate) fn found(&self, path: &[u8]) -> Option<Found<'_>>
-        ensures { FindsPath self.now path.now result }
+    pub(crate) fn file_at(&self, path: &[u8]) -> Option<&File>
+        ensures { option_copied result ≡ file_at self.now path.now }
     {
-        match self.index.get(path)? {
-            Entry::File(number) => Some(Found::File(&self.files[*number])),
-            Entry::Folder(children) => Some(Found::Folder(children)),
+        match self.nodes.get(path) {
+            Some(Some(number)) => self.files.get(*number),
+            _ => None,
         }
     }
 
-    fn is_file(&self, path: &[u8]) -> bool
-        ensures { result ≡ is_file self.now path.now }
-    {
-        is_file_entry(self.index.get(path))
-    }
-
-    // Whether the path is a file or a folder.
-    fn has_node(&self, path: &[u8]) -> bool
+    // Whether the path is the root, a folder or a file.
+    #[tactic(auto, using(crate::proofs::NodeLemmas::node_is))]
+    pub(crate) fn has_node(&self, path: &[u8]) -> bool
         ensures among { result ≡ is_path_among (nodes self.now) path.now }
         ensures either { result ≡ (is_file self.now path.now || is_folder self.now path.now) }
-        ensures above { IsTrue result → AboveAreFolders self.now path.now }
     {
-        self.index.contains_key(path)
+        path.is_empty() || self.nodes.contains_key(path)
     }
 
-    // Whether the path has a slash at this position, with a node before it.
-    fn has_node_before(&self, path: &[u8], place: usize) -> bool
+    // Whether a file is before this position of a path.
+    fn is_file_before(&self, path: &[u8], place: usize) -> bool
         requires { place < length path.now }
-        ensures among { result ≡ is_node_before self.now path.now place }
-        ensures either { result ≡ is_file_or_folder_before self.now path.now place }
-        ensures above { IsTrue result → AboveAreFolders self.now (take place path.now) }
+        ensures { result
+            ≡ (slice_index path.now place == 47 && is_file self.now (take place path.now)) }
     {
-        if path[place] != b'/' {
-            return false;
-        }
-        self.has_node(&path[..place])
+        path[place] == b'/' && self.file_at(&path[..place]).is_some()
     }
 
-    // Whether a node that the path leads through is a file. Only the last such node can be one.
     fn leads_through_file(&self, path: &[u8]) -> bool
+        requires { 0 < length path.now }
         ensures { result ≡ leads_through_file self.now path.now }
     {
-        let mut place = path.len();
-        while place > 0 {
-            place -= 1;
-            if self.has_node_before(path, place) {
-                return self.is_file(&path[..place]);
-            }
+        let mut leads = false;
+        for place in 1..path.len() {
+            leads |= self.is_file_before(path, place);
         }
-        false
+        leads
     }
 
     fn is_twice(&self, path: &[u8]) -> bool
+        requires { 0 < length path.now }
         ensures { result ≡ is_twice self.now path.now }
     {
         self.has_node(path) || self.leads_through_file(path)
     }
 
-    // How many nodes a path adds. The search stops at the first existing folder: all above it exist
-    // too.
+    // How many folders that don't exist are before this position of a path: 1 or 0.
+    fn new_folder_at(&self, path: &[u8], place: usize) -> usize
+        requires { place < length path.now }
+        ensures count { result ≡ (if slice_index path.now place == 47
+            && is_missing self.now (take place path.now) then 1 else 0) }
+        ensures bound { result ≤ 1 }
+    {
+        if path[place] == b'/' && !self.has_node(&path[..place]) {
+            1
+        } else {
+            0
+        }
+    }
+
+    // How many nodes a path adds.
     fn new_nodes(&self, path: &[u8]) -> usize
         requires { 0 < length path.now }
         ensures count { AddsNodes self.now path.now result }
         ensures bound { result ≤ length path.now }
     {
-        if self.has_node(path) {
-            self.new_folders(path)
-        } else {
-            self.new_folders(path) + 1
-        }
-    }
-
-    // How many folders a path adds.
-    fn new_folders(&self, path: &[u8]) -> usize
-        requires { 0 < length path.now }
-        ensures count { AddsFolders self.now path.now result }
-        ensures bound { result < length path.now }
-    {
         let mut count = 0;
-        let mut place = path.len();
-        while place > 1 {
-            place -= 1;
-            if self.has_node_before(path, place) {
-                return count;
-            }
-            count += slashes_at(path, place);
+        for place in 1..path.len() {
+            count += self.new_folder_at(path, place);
         }
-        count
+        if self.has_node(path) {
+            count
+        } else {
+            count + 1
+        }
     }
 
-    fn is_too_big(&self, path: &[u8], bytes: &[u8], new_nodes: usize) -> bool
-        requires added { AddsNodes self.now path.now new_nodes }
-        requires short { new_nodes ≤ 254 }
+    fn is_too_big(&self, path: &[u8], bytes: &[u8]) -> bool
+        requires { 0 < length path.now }
         ensures { result ≡ is_too_big self.now (path.now, bytes.now) }
     {
         if bytes.len() > MAX_FILE {
@@ -238,18 +213,18 @@ impl Tree {
         if self.bytes + bytes.len() > MAX_BYTES {
             return true;
         }
-        self.nodes + new_nodes > MAX_NODES
+        self.nodes.len() + 1 + self.new_nodes(path) > MAX_NODES
     }
 
-    // The first fault of a file after these files, if its path alone has none.
-    fn file_fault(&self, path: &[u8], bytes: &[u8], new_nodes: usize) -> Option<TreeFault>
-        requires good { path_fault (length self.now) path.now ≡ None }
-        requires added { AddsNodes self.now path.now new_nodes }
-        requires short { new_nodes ≤ 254 }
+    // The first fault of a file after these files.
+    fn file_fault(&self, path: &[u8], bytes: &[u8]) -> Option<TreeFault>
         ensures { result ≡ file_fault self.now (path.now, bytes.now) }
     {
         let number = self.files.len();
-        if self.is_too_big(path, bytes, new_nodes) {
+        if let Some(fault) = path_fault(number, path) {
+            return Some(fault);
+        }
+        if self.is_too_big(path, bytes) {
             return Some(TreeFault::TooBig { file: number });
         }
         if let Some(fault) = menu_fault(number, path, bytes) {
@@ -261,29 +236,20 @@ impl Tree {
         None
     }
 
-    // Adds a file without a fault, whose path adds `new_nodes` nodes.
-    fn add(
-        self,
-        alloc: Global,
-        path: Vec<u8>,
-        bytes: Vec<u8>,
-        new_nodes: usize,
-    ) -> Result<Tree, NoMemory>
-        requires good { file_fault self (path.items, bytes.items) ≡ None }
-        requires added { AddsNodes self path.items new_nodes }
+    // Adds a file without a fault.
+    fn add(self, alloc: Global, path: Vec<u8>, bytes: Vec<u8>) -> Result<Tree, NoMemory>
+        requires { file_fault self (path.items, bytes.items) ≡ None }
         ensures { IfOk result (λ tree. tree ≡ self ++ (path.items, bytes.items) ∷ []) }
     {
         let mut tree = self;
-        let file = File::new(path, bytes);
-        let number = tree.files.len();
-        add_file(alloc, &mut tree.index, file.path(), file.kind(), number)?;
-        tree.bytes += file.bytes().len();
-        tree.nodes += new_nodes;
-        tree.files.push(file)?;
+        add_folders(alloc, &path, &mut tree.nodes)?;
+        put(alloc, &path, Some(tree.files.len()), &mut tree.nodes)?;
+        tree.bytes += bytes.len();
+        tree.files.push(File::new(path, bytes))?;
         Ok(tree)
     }
 
-    // Adds a file, or fails with its first fault.
+    // Adds a file, or fails with its first fault, before anything is allocated.
     pub(crate) fn with_file(
         self,
         alloc: Global,
@@ -292,14 +258,10 @@ impl Tree {
     ) -> Result<Tree, TreeFault>
         ensures { AddsFileTo self (path.items, bytes.items) result }
     {
-        if let Some(fault) = path_fault(self.files.len(), &path) {
+        if let Some(fault) = self.file_fault(&path, &bytes) {
             return Err(fault);
         }
-        let new_nodes = self.new_nodes(&path);
-        if let Some(fault) = self.file_fault(&path, &bytes, new_nodes) {
-            return Err(fault);
-        }
-        match self.add(alloc, path, bytes, new_nodes) {
+        match self.add(alloc, path, bytes) {
             Ok(tree) => Ok(tree),
             Err(_) => Err(TreeFault::NoMemory),
         }
@@ -320,15 +282,23 @@ impl Tree {
     pub fn of_files(alloc: Global, files: Vec<(Vec<u8>, Vec<u8>)>) -> Result<Tree, TreeFault>
         ensures { MakesTree (map file_data files.items) result }
     {
-        if let Some(fault) = first_fault(&files) {
-            return Err(fault);
-        }
-        let Ok(mut tree) = Tree::empty(alloc) else {
-            return Err(TreeFault::NoMemory);
-        };
+        let mut tree = Tree::empty(alloc);
         for (path, bytes) in files {
             tree = tree.with_file(alloc, path, bytes)?;
         }
         Ok(tree)
+    }
+}
+
+// The fault of a file as a menu file, if it is one.
+fn menu_fault(number: usize, path: &[u8], bytes: &[u8]) -> Option<TreeFault>
+    ensures { result ≡ menu_fault number (path.now, bytes.now) }
+{
+    if !is_menu_path(path) {
+        return None;
+    }
+    match bad_line(bytes) {
+        Some(line) => Some(TreeFault::BadMenuLine { file: number, line }),
+        None => None,
     }
 }

@@ -11,7 +11,7 @@ ghost use Rattle.std.specs.declared.io.ErrorKind.TheVariants.{OutOfMemory};
 ghost use Rattle.gopher_tree.specs.Load.{is_shown, with_shown, AreShown, CountsHidden, HasSize, IsOfFolder, IsOfFile, IsUnreadable, most_read, ReadsMost};
 
 use crate::fault::TreeFault;
-use crate::tree::file_faults::MAX_FILE;
+use crate::tree::MAX_FILE;
 use crate::tree::path::is_menu_name;
 use std::alloc::{AllocError, AllocGlobal, Global};
 use std::fs::{Files, OpenFile};
@@ -109,25 +109,6 @@ fn is_missing(kind: ErrorKind) -> bool {
     matches!(kind, ErrorKind::NotFound | ErrorKind::NotADirectory)
 }
 
-// The listed names of a folder in no order. A folder that has vanished has none, except the root.
-fn names_there<R: Files>(
-    rt: &R,
-    alloc: Global,
-    folder: Path<'_>,
-    is_root: bool,
-    number: usize,
-    hidden: &mut usize,
-) -> Result<Vec<String>, TreeFault>
-    ensures shown { IfOk result (λ names. AreShown names.items) }
-    ensures refused { IfErr result (IsUnreadable number) }
-{
-    match shown_names(rt, alloc, folder, hidden) {
-        Ok(names) => Ok(names),
-        Err(error) if !is_root && is_missing(error.kind()) => Ok(Vec::new(alloc)),
-        Err(error) => Err(read_fault(error, number)),
-    }
-}
-
 // The listed names of a folder in byte order. A name that isn't UTF-8 can't be read, hidden or not.
 // A folder that has vanished has none, except the root. `number` files were listed before. Counts
 // the other names.
@@ -143,7 +124,11 @@ pub(crate) fn names_in<R: Files>(
     ensures order { IfOk result (λ names. IsSorted string_cmp names.items) }
     ensures refused { IfErr result (IsUnreadable number) }
 {
-    let mut names = names_there(rt, alloc, folder, is_root, number, hidden)?;
+    let mut names = match shown_names(rt, alloc, folder, hidden) {
+        Ok(names) => names,
+        Err(error) if !is_root && is_missing(error.kind()) => Vec::new(alloc),
+        Err(error) => return Err(read_fault(error, number)),
+    };
     let Ok(()) = names.sort() else {
         return Err(TreeFault::NoMemory);
     };

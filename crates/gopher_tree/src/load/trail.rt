@@ -30,13 +30,6 @@ pub struct Trail {
     pub hidden: usize,
 }
 
-// Whether one more file or folder is too many after these below the root.
-fn leaves_no_room(files: usize, folders: usize) -> bool
-    ensures { result ≡ leaves_no_room files folders }
-{
-    files >= MAX_BELOW || folders >= MAX_BELOW - files
-}
-
 impl Trail {
     /// Begins a trail at a root.
     pub fn new(alloc: Global) -> Trail
@@ -68,7 +61,7 @@ impl Trail {
     pub(crate) fn leaves_no_room(&self, number: usize) -> bool
         ensures { result ≡ leaves_no_room number (length self.now.folders.items) }
     {
-        leaves_no_room(number, self.folders.len())
+        number >= MAX_BELOW || self.folders.len() >= MAX_BELOW - number
     }
 
     // Visits the folder at the path, after `number` files, or fails with its first fault.

@@ -1,9 +1,9 @@
 //! Paths: which are bad, the path of a selector, and the path of a folder's `.menu` file.
 
-ghost use Rattle.std.specs.Prelude.{◌≡◌, ◌<◌, ◌≤◌, ◌&&◌, not, length, if◌then◌else◌, IfOk};
+ghost use Rattle.std.specs.Prelude.{◌≡◌, ◌<◌, ◌++◌, length, IfOk, OnOk};
 ghost use Rattle.std.specs.Option.{option_map};
 ghost use Rattle.gopher_tree.specs.Fault.{path_fault};
-ghost use Rattle.gopher_tree.specs.Path.{names_of, is_slash, first_name, last_name, is_menu_name, is_bad_name, has_bad_name, is_menu_path, path_of, path_in, menu_path};
+ghost use Rattle.gopher_tree.specs.Path.{names_of, first_name, last_name, is_menu_name, is_bad_name, has_bad_name, is_menu_path, path_of, prefix_of, path_in, menu_path};
 
 use crate::fault::TreeFault;
 use gopher_item::{NoMemory, has_special, split_once};
@@ -87,17 +87,32 @@ pub(crate) fn is_menu_path(path: &[u8]) -> bool
     is_menu_name(last_name(path))
 }
 
+// Appends what the paths in a folder begin with: its path and a slash; nothing for the root.
+pub(crate) fn push_prefix(folder: &[u8], out: &mut Vec<u8>) -> Result<(), NoMemory>
+    ensures { OnOk result (out.new.items ≡ out.old.items ++ prefix_of folder.now) }
+{
+    if !folder.is_empty() {
+        out.extend_from_slice(folder)?;
+        out.push(b'/')?;
+    }
+    Ok(())
+}
+
+pub(crate) fn prefix_of(alloc: Global, folder: &[u8]) -> Result<Vec<u8>, NoMemory>
+    ensures { IfOk result (λ prefix. prefix.items ≡ prefix_of folder.now) }
+{
+    let mut prefix = Vec::new(alloc);
+    push_prefix(folder, &mut prefix)?;
+    Ok(prefix)
+}
+
 // The path of a name in a folder.
 pub(crate) fn path_in(alloc: Global, folder: &[u8], name: &[u8]) -> Result<Vec<u8>, NoMemory>
     requires { 0 < length name.now }
     ensures path { IfOk result (λ path. path.items ≡ path_in folder.now name.now) }
     ensures longer { IfOk result (λ path. length folder.now < length path.items) }
 {
-    if folder.is_empty() {
-        return Ok(Vec::from_slice(alloc, name)?);
-    }
-    let mut path = Vec::from_slice(alloc, folder)?;
-    path.push(b'/')?;
+    let mut path = prefix_of(alloc, folder)?;
     path.extend_from_slice(name)?;
     Ok(path)
 }
@@ -117,13 +132,4 @@ pub(crate) fn path_of(selector: &[u8]) -> Option<&[u8]>
         [b'/', path @ ..] => Some(path),
         _ => None,
     }
-}
-
-// How many slashes are at one position of a path: 1 or 0.
-pub(crate) fn slashes_at(path: &[u8], place: usize) -> usize
-    requires { place < length path.now }
-    ensures count { result ≡ (if is_slash path.now place then 1 else 0) }
-    ensures bound { result ≤ 1 }
-{
-    if path[place] == b'/' { 1 } else { 0 }
 }

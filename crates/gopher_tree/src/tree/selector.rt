@@ -1,45 +1,88 @@
 //! `Tree::find` and `Tree::reply`: the node and the reply at a selector.
 
-ghost use Rattle.std.specs.Prelude.{◌≡◌, IfOk};
+ghost use Rattle.std.specs.Prelude.{◌≡◌, IfOk, OnOk};
 ghost use Rattle.std.specs.Option.{option_copied};
-ghost use Rattle.gopher_tree.specs.Files.{children};
-ghost use Rattle.gopher_tree.specs.Reply.{named, menu_file, folder_reply, tree_reply};
-ghost use Rattle.gopher_tree.specs.Found.{Shows};
+ghost use Rattle.gopher_tree.specs.Kind.{kind_of};
+ghost use Rattle.gopher_tree.specs.Path.{rest_after};
+ghost use Rattle.gopher_tree.specs.Files.{file_at, child_of_rest, with_child, children};
+ghost use Rattle.gopher_tree.specs.Reply.{named_by, named, menu_file, folder_reply, tree_reply};
+ghost use Rattle.gopher_tree.specs.Found.{Shows, child_data};
 
-use crate::reply::{file_reply, listing_reply, not_found, written_reply};
-use crate::tree::children::Children;
-use crate::tree::path::{is_menu_path, menu_path, path_of};
-use crate::tree::{Found, Node, Tree};
-use gopher_item::{Home, NoMemory};
+use crate::reply::{Children, file_reply, listing_reply, not_found, written_reply};
+use crate::tree::file::File;
+use crate::tree::path::{is_menu_name, is_menu_path, menu_path, path_of, prefix_of};
+use crate::tree::{Node, Tree};
+use gopher_item::{ByteString, Home, NoMemory, split_once};
 use std::alloc::Global;
+use std::collections::BTreeMap;
+
+// The child that leads to a file, and its type; the paths in the folder begin with `prefix`.
+fn child_after<'a>(prefix: &[u8], file: &'a File) -> Option<(&'a [u8], u8)>
+    ensures { child_data result
+        ≡ child_of_rest (kind_of file.now.0 file.now.1) (rest_after prefix.now file.now.0) }
+{
+    let rest = file.path().strip_prefix(prefix)?;
+    match split_once(b'/', rest) {
+        Some((name, _)) => Some((name, b'1')),
+        None if is_menu_name(rest) => None,
+        None => Some((rest, file.kind())),
+    }
+}
+
+// Adds a child, if there is one.
+fn add_child(
+    alloc: Global,
+    child: Option<(&[u8], u8)>,
+    children: &mut Children,
+) -> Result<(), NoMemory>
+    ensures { OnOk result (children.new.entries
+        ≡ with_child children.old.entries (child_data child.entry)) }
+{
+    if let Some((name, kind)) = child {
+        children.insert(ByteString::from_slice(alloc, name)?, kind)?;
+    }
+    Ok(())
+}
 
 impl Tree {
+    // The names in a folder.
+    fn children(&self, alloc: Global, folder: &[u8]) -> Result<Children, NoMemory>
+        ensures { IfOk result (λ names. names.entries ≡ children self.now folder.now) }
+    {
+        let prefix = prefix_of(alloc, folder)?;
+        let mut children = BTreeMap::new(alloc);
+        for file in &self.files {
+            add_child(alloc, child_after(&prefix, file), &mut children)?;
+        }
+        Ok(children)
+    }
+
     /// Returns the bytes of the menu file in the folder with this path, if it has one.
     pub fn menu_file(&self, alloc: Global, folder: &[u8]) -> Result<Option<&[u8]>, NoMemory>
         ensures { IfOk result (λ menu. option_copied menu ≡ menu_file self.now folder.now) }
     {
         let path = menu_path(alloc, folder)?;
-        match self.found(&path) {
-            Some(Found::File(file)) => Ok(Some(file.bytes())),
-            Some(Found::Folder(_)) => Ok(None),
-            None => Ok(None),
-        }
+        Ok(self.file_at(&path).map(File::bytes))
     }
 
-    // The menu of a folder with these names.
-    fn folder_reply(
-        &self,
-        alloc: Global,
-        folder: &[u8],
-        names: &Children,
-        home: &Home,
-    ) -> Result<Vec<u8>, NoMemory>
-        requires { names.now ≡ children self.now folder.now }
+    fn folder_reply(&self, alloc: Global, folder: &[u8], home: &Home) -> Result<Vec<u8>, NoMemory>
         ensures { IfOk result (λ menu. menu.items ≡ folder_reply self.now home.now folder.now) }
     {
         match self.menu_file(alloc, folder)? {
             Some(bytes) => written_reply(alloc, bytes, home),
-            None => listing_reply(alloc, folder, names, home),
+            None => listing_reply(alloc, folder, &self.children(alloc, folder)?, home),
+        }
+    }
+
+    // The node at a path, unless it is a menu file.
+    fn node_at(&self, path: &[u8]) -> Option<Node<'_>>
+        ensures { Shows (named_by self.now path.now (file_at self.now path.now)) result }
+    {
+        match self.file_at(path) {
+            Some(_) if is_menu_path(path) => None,
+            Some(file) => Some(Node::File(file.kind(), file.bytes())),
+            None if self.has_node(path) => Some(Node::Folder),
+            None => None,
         }
     }
 
@@ -48,17 +91,7 @@ impl Tree {
     pub fn find(&self, selector: &[u8]) -> Option<Node<'_>>
         ensures { Shows (named self.now selector.now) result }
     {
-        let path = path_of(selector)?;
-        match self.found(path)? {
-            Found::File(file) => {
-                if is_menu_path(path) {
-                    None
-                } else {
-                    Some(Node::File(file.kind(), file.bytes()))
-                }
-            }
-            Found::Folder(_) => Some(Node::Folder),
-        }
+        self.node_at(path_of(selector)?)
     }
 
     /// Makes the reply to a selector from a server with the address `home` (RFC 1436, section 2,
@@ -73,14 +106,9 @@ impl Tree {
         let Some(path) = path_of(selector) else {
             return not_found(alloc, home);
         };
-        match self.found(path) {
-            Some(Found::File(file)) => {
-                if is_menu_path(path) {
-                    return not_found(alloc, home);
-                }
-                file_reply(alloc, file.kind(), file.bytes())
-            }
-            Some(Found::Folder(children)) => self.folder_reply(alloc, path, children, home),
+        match self.node_at(path) {
+            Some(Node::File(kind, bytes)) => file_reply(alloc, kind, bytes),
+            Some(Node::Folder) => self.folder_reply(alloc, path, home),
             None => not_found(alloc, home),
         }
     }

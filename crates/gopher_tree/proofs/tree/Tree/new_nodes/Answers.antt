@@ -1,14 +1,31 @@
-use Rattle.std.proofs.Common.{true, false, arith, sym, ◌∙◌}
-use Rattle.gopher_tree.specs.Files.{nodes}
-use Rattle.gopher_tree.proofs.NodeLemmas.{all_counted}
+use Rattle.std.proofs.Common.{◌≡◌, true, false, length, fold, sym, ap, ◌∙◌, arith}
+use Rattle.gopher_tree.specs.Path.{folders_within}
+use Rattle.gopher_tree.specs.Files.{nodes, add_path}
+use Rattle.gopher_tree.proofs.NodeLemmas.{count_step, count_all}
 use Rattle.gopher_tree.proofs.tree.Tree.new_nodes.Goals as goal
+
+pub loop-place-preserved : goal.loop-place-preserved
+loop-place-preserved c =
+    let inv = c.loop-place.invariant in
+    let step = count_step (nodes c.args.self.now) c.args.path.now c.loop-place.place (omega (arith, inv.few)) (omega arith) in
+    record {
+      few = omega (arith, inv.few, c.new_folder_at-count.ensures.bound);
+      within = omega arith;
+      counted = omega (arith, inv.counted, step, c.new_folder_at-count.ensures.count);
+    }
 
 pub returns-then-has_node-clause-count : goal.returns-then-has_node-clause-count
 returns-then-has_node-clause-count c =
-    let counted = all_counted (nodes c.args.self.now) c.args.path.now true c.new_folders.result (omega (arith, c.requires)) (sym c.has_node.ensures.among ∙ c.if-has_node.true) c.new_folders.ensures.count in
-    omega (arith, counted)
+    let files = c.args.self.now in
+    let path = c.args.path.now in
+    let end : length path ≡ c.loop-place.place = omega (arith, c.loop-place.invariant.within) in
+    let all = count_all files path true c.loop-place.count (sym c.has_node.ensures.among ∙ c.if-has_node.true) (ap (λ n. length (fold add_path (nodes files) (folders_within n path))) end ∙ c.loop-place.invariant.counted) in
+    omega (arith, all)
 
 pub returns-else-has_node-clause-count : goal.returns-else-has_node-clause-count
 returns-else-has_node-clause-count c =
-    let counted = all_counted (nodes c.args.self.now) c.args.path.now false c.new_folders-else-has_node.result (omega (arith, c.requires)) (sym c.has_node.ensures.among ∙ c.if-has_node.false) c.new_folders-else-has_node.ensures.count in
-    omega (arith, counted)
+    let files = c.args.self.now in
+    let path = c.args.path.now in
+    let end : length path ≡ c.loop-place.place = omega (arith, c.loop-place.invariant.within) in
+    let all = count_all files path false c.loop-place.count (sym c.has_node.ensures.among ∙ c.if-has_node.false) (ap (λ n. length (fold add_path (nodes files) (folders_within n path))) end ∙ c.loop-place.invariant.counted) in
+    omega (arith, all)
