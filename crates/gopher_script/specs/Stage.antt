@@ -55,9 +55,6 @@ TakesSeed old seed new result = IfOk result (λ answer.
 abbrev pub scope_of_draft : DraftData → ScopeData
 scope_of_draft draft = record { allow = draft.allow; deny = draft.deny }
 
-abbrev pub draft_of : ScopeData → List PlaceData → DraftData
-draft_of scope seeds = record { allow = scope.allow; deny = scope.deny; seeds = seeds }
-
 abbrev pub fault_of_start : DraftData → ℕ → ℕ → Option OpenFault
 fault_of_start draft places tries = open_fault (scope_of_draft draft) draft.seeds places tries
 
@@ -208,7 +205,3 @@ IsPerformed answer next (Some done) = (answer ≡ Some done.answer.items) × (do
 abbrev pub Performs : Stage → Command → List ℕ → Option Performed → Type 0
 Performs stage command reply performed =
     IsPerformed (command_answer stage command reply) (after stage command reply) performed
-
--- the crawl hasn't started after a command, and these are the rules and seeds
-abbrev pub HasDraft : DraftData → Performed → Type 0
-HasDraft draft done = done.stage ≡ Gathering draft

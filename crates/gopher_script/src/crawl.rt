@@ -3,7 +3,7 @@
 ghost use Rattle.std.specs.Prelude.{◌≡◌, OnOk};
 ghost use Rattle.gopher_catalogue.specs.Step.{turn_of};
 ghost use Rattle.gopher_script.specs.Answer.{ReturnsBytes};
-ghost use Rattle.gopher_script.specs.Stage.{turn_line, RecordsClaim, page_line, after_page, reply_line, RecordsPage, found_line, RecordsReply, fail_line, after_fail, search_lines, occurs_lines};
+ghost use Rattle.gopher_script.specs.Stage.{turn_line, RecordsClaim, reply_line, RecordsPage, found_line, RecordsReply, fail_line, after_fail, search_lines, occurs_lines};
 
 use crate::command::{PlaceParts, QueryText};
 use crate::lines::{added_line, refusal, refused_line, take_line};
@@ -58,18 +58,6 @@ fn found_at(
         return Err(NoMemory);
     }
     let page = Page::of(alloc, catalogue.opening().scope(), place, reply)?;
-    hand_in(alloc, catalogue, number, page)
-}
-
-fn hand_in(
-    alloc: Global,
-    catalogue: &mut Catalogue,
-    number: u32,
-    page: Page,
-) -> Result<Vec<u8>, NoMemory>
-    ensures answer { ReturnsBytes result (page_line catalogue.old number page) }
-    ensures record { OnOk result (catalogue.new ≡ after_page catalogue.old number page) }
-{
     match catalogue.found(number, page) {
         Ok(added) => {
             catalogue.settle();

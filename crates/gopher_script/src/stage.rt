@@ -1,15 +1,13 @@
 //! What each command does before the crawl and during it (`perform`).
 
-ghost use Rattle.std.specs.Prelude.{◌≡◌, ◌≢◌, [], IfOk, OnOk};
-ghost use Rattle.gopher_catalogue.specs.Fault.{open_fault_code};
-ghost use Rattle.gopher_script.specs.Answer.{refused_line};
-ghost use Rattle.gopher_script.specs.Stage.{draft_of, start_line, fault_of_start, after_start, answer_in, after_in, IsAnswer, Performs, HasDraft};
+ghost use Rattle.std.specs.Prelude.{◌≡◌, [], IfOk, OnOk};
+ghost use Rattle.gopher_script.specs.Stage.{start_line, fault_of_start, after_start, answer_in, after_in, IsAnswer, Performs};
 
 use crate::command::Command;
 use crate::crawl::{claim, fail, found, occurs, search};
 use crate::draft::{Draft, add_rule, add_seed};
 use crate::lines::{refused_line, status_line};
-use gopher_catalogue::{Catalogue, OpenFault, OpenRefused};
+use gopher_catalogue::{Catalogue, OpenFault};
 use gopher_item::{NoMemory, Scope};
 use std::alloc::Global;
 
@@ -43,27 +41,15 @@ fn start(alloc: Global, draft: Draft, places: u32, tries: u32) -> Result<Perform
             stage: Stage::Crawling(catalogue),
             answer: Vec::from_slice(alloc, b"ok\n")?,
         }),
-        Err(refused) => restored(alloc, refused),
+        Err(refused) if refused.fault == OpenFault::NoMemory => Err(NoMemory),
+        Err(refused) => {
+            let answer = refused_line(alloc, refused.fault.code())?;
+            let (allow, deny) = refused.scope.into_rules();
+            let seeds = refused.seeds;
+            let stage = Stage::Gathering(Draft { allow, deny, seeds });
+            Ok(Performed { stage, answer })
+        }
     }
-}
-
-/// Restores the rules and seeds after a failed start.
-fn restored(alloc: Global, refused: OpenRefused) -> Result<Performed, NoMemory>
-    ensures cause { OnOk result (refused.fault ≢ OpenFault.NoMemory) }
-    ensures answer { IfOk result
-        (λ done. done.answer.items ≡ refused_line (open_fault_code refused.fault)) }
-    ensures stage { IfOk result (HasDraft (draft_of refused.scope refused.seeds.items)) }
-{
-    if refused.fault == OpenFault::NoMemory {
-        return Err(NoMemory);
-    }
-    let answer = refused_line(alloc, refused.fault.code())?;
-    let (allow, deny) = refused.scope.into_rules();
-    let seeds = refused.seeds;
-    Ok(Performed {
-        stage: Stage::Gathering(Draft { allow, deny, seeds }),
-        answer,
-    })
 }
 
 /// Performs a command before the crawl. Returns `None` for a command that needs a crawl.
@@ -118,24 +104,6 @@ fn answer_in(
     Ok(Some(answer))
 }
 
-/// Performs a command in the crawl, with the reply of its block. Returns `None` for a command that
-/// has to come before the crawl.
-fn perform_in(
-    alloc: Global,
-    catalogue: Catalogue,
-    command: Command<'_>,
-    reply: &[u8],
-) -> Result<Option<Performed>, NoMemory>
-    ensures { IfOk result (Performs (Stage.Crawling catalogue) command.entry reply.now) }
-{
-    let mut catalogue = catalogue;
-    let Some(answer) = answer_in(alloc, &mut catalogue, command, reply)? else {
-        return Ok(None);
-    };
-    let stage = Stage::Crawling(catalogue);
-    Ok(Some(Performed { stage, answer }))
-}
-
 /// Performs a command, with the reply of its block. Returns `None` for a command that isn't valid
 /// at this stage.
 pub fn perform(
@@ -148,6 +116,12 @@ pub fn perform(
 {
     match stage {
         Stage::Gathering(draft) => perform_before(alloc, draft, command),
-        Stage::Crawling(catalogue) => perform_in(alloc, catalogue, command, reply),
+        Stage::Crawling(mut catalogue) => {
+            let Some(answer) = answer_in(alloc, &mut catalogue, command, reply)? else {
+                return Ok(None);
+            };
+            let stage = Stage::Crawling(catalogue);
+            Ok(Some(Performed { stage, answer }))
+        }
     }
 }
