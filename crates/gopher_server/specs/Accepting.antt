@@ -25,8 +25,8 @@ listeners_at token listeners =
     then Some (record { start = token - first_listener; end = token - first_listener + 1 })
     else None)
 
--- after the end of its accepting, a thread accepts nothing more; it pauses for 100 ms if descriptors
--- or memory are short; at the end of a round it leaves new connections to other threads while it
+-- after the end of its accepting, a thread accepts nothing more; if descriptors or memory are short
+-- it pauses for 100 ms; at the end of a round it leaves new connections to other threads while it
 -- holds many more than its share, except that a pause isn't cut short
 abbrev pub after_event : Accepting → AcceptEvent → ℕ → Accepting
 after_event Ended event now = Ended

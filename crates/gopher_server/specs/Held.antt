@@ -57,8 +57,8 @@ abbrev pub PutsHeld : {T : Type 0} → Held T → Held T → T → Type 0
 PutsHeld old new taken =
     held_entries new ≡ put_entries nat_eq old.connections old.next_key taken
 
--- after an event a connection that is held is ready; while a search makes its reply it waits for its
--- turn, or ends if its client is gone
+-- after an event a connection that is held is ready; while a search makes its reply it waits for
+-- its turn, or ends if its client is gone
 abbrev pub step_after_event : Bool → Bool → Bool → NextStep
 step_after_event is_held searches is_gone =
     if is_held then (if searches then (if is_gone then Ends else Waits) else Ready) else Waits
