@@ -36,9 +36,6 @@ prefix_whole (x ∷ xs) [] p le = absurd (cc (p.1))
 prefix_whole (x ∷ xs) (y ∷ ys) p le =
     let rest = prefix_whole xs ys (p.0, cc (p.1)) (omega arith) in cc (p.1, rest)
 
-pub prefix_length : {A : Type 0} (xs ys : List A) → IsPrefix xs ys → length xs ≤ length ys
-prefix_length xs ys p = omega (arith, sym (ap length p.1) ∙ length-append xs p.0)
-
 -- the first elements of a list are a prefix of it
 pub prefix_take : {A : Type 0} (xs : List A) (n : ℕ) → IsPrefix (take n xs) xs
 prefix_take [] zero = ([], refl)
@@ -49,9 +46,3 @@ prefix_take (x ∷ xs) (suc n) = (let r = prefix_take xs n in r.0, ap (λ ys. x 
 -- one more of the images of a list
 pub take_map_more : {X Y : Type 0} (f : X → Y) (xs : List X) (i : ℕ) (d : X) → i < length xs → take (i + 1) (map f xs) ≡ take i (map f xs) ++ f (get_or xs i d) ∷ []
 take_map_more f xs i d h = take-map f (i + 1) xs ∙ (map_more f xs i d h ∙ ap (λ ys. ys ++ f (get_or xs i d) ∷ []) (sym (take-map f i xs)))
-
--- a prefix of a list isn't a longer list
-pub shorter_is_other : {A : Type 0} (xs ys zs : List A) → IsPrefix xs ys → length ys < length zs → xs ≡ zs → ⊥
-shorter_is_other xs ys zs p less same = omega (arith, prefix_length xs ys p, ap length same)
-
-pub ruleset grows = (prefix_self, prefix_trans, shorter_is_other)
