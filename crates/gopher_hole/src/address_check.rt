@@ -4,25 +4,25 @@ ghost use Rattle.std.specs.Prelude.{OnOk};
 ghost use Rattle.gopher_hole.specs.Ending.{HasWritten};
 
 use crate::announcing::send_text;
-use crate::arguments::Checking;
+use crate::arguments::{Checking, with_port};
 use crate::fault::ProgramFault;
-use gopher_item::Home;
+use gopher_item::{Home, NoMemory};
 use gopher_text::Watched;
 use mio::net::TcpListener;
-use std::alloc::{AllocError, Global};
-use std::io::{self, ErrorKind, Write};
-use std::net::{IpAddr, Net, SocketAddr, ToSocketAddrs};
+use std::alloc::Global;
+use std::io::{ErrorKind, Write};
+use std::net::{Net, SocketAddr, ToSocketAddrs};
 use std::str;
 
-// Appends a line that says whether a server can listen at an address, and if not, why. Returns the
-// reason.
-fn push_bound(
+// Binds an address for a moment, and appends a line that says whether a server can listen there,
+// and if not, why. Returns the reason.
+fn push_bound<R: Net>(
+    rt: &R,
     alloc: Global,
     address: SocketAddr,
-    bound: io::Result<TcpListener>,
     lines: &mut Vec<u8>,
-) -> Result<Option<ErrorKind>, AllocError> {
-    match bound {
+) -> Result<Option<ErrorKind>, NoMemory> {
+    match TcpListener::bind(rt, address) {
         Ok(_listener) => {
             let line = format!(in alloc; "can listen at: {address}\n")?;
             lines.extend_from_slice(line.as_bytes())?;
@@ -44,14 +44,13 @@ fn push_address<R: Net>(
     address: SocketAddr,
     listens: bool,
     lines: &mut Vec<u8>,
-) -> Result<bool, AllocError> {
+) -> Result<bool, NoMemory> {
     let line = format!(in alloc; "resolves to: {address}\n")?;
     lines.extend_from_slice(line.as_bytes())?;
     if !listens {
         return Ok(true);
     }
-    let refused = push_bound(alloc, address, TcpListener::bind(rt, address), lines)?;
-    Ok(refused.is_none())
+    Ok(push_bound(rt, alloc, address, lines)?.is_none())
 }
 
 // Appends the lines of a host's addresses. If `listens`, binds each for a moment. Returns whether a
@@ -62,7 +61,7 @@ fn push_host<R: Net>(
     host: (&str, u16),
     listens: bool,
     lines: &mut Vec<u8>,
-) -> Result<bool, AllocError> {
+) -> Result<bool, NoMemory> {
     let addresses = match host.to_socket_addrs(rt) {
         Ok(addresses) => addresses,
         Err(error) => {
@@ -78,41 +77,28 @@ fn push_host<R: Net>(
     Ok(is_fine)
 }
 
-// The socket address that an argument names: its own port, or the server's.
-fn named_address(argument: &str, port: u16) -> Option<SocketAddr> {
-    if let Ok(address) = argument.parse::<SocketAddr>() {
-        return Some(address);
-    }
-    match argument.parse::<IpAddr>() {
-        Ok(address) => Some(SocketAddr::new(address, port)),
-        Err(_) => None,
-    }
-}
-
 // Whether a server may be able to listen at an address. One that is in use may be the server's own,
 // and the server may have the right to a port that the user of the check lacks.
 fn may_listen(refused: Option<ErrorKind>) -> bool {
-    match refused {
-        None | Some(ErrorKind::AddrInUse | ErrorKind::PermissionDenied) => true,
-        Some(_) => false,
-    }
+    matches!(
+        refused,
+        None | Some(ErrorKind::AddrInUse | ErrorKind::PermissionDenied)
+    )
 }
 
-// Binds each address that arguments name for a moment, and appends a line for each. Returns whether
-// a server may be able to listen at one of them.
+// Binds each of these addresses for a moment, and appends a line for each. Returns whether a server
+// may be able to listen at one of them.
 fn push_named<R: Net>(
     rt: &R,
     alloc: Global,
-    arguments: &[&str],
+    addresses: &[SocketAddr],
     port: u16,
     lines: &mut Vec<u8>,
-) -> Result<bool, AllocError> {
+) -> Result<bool, NoMemory> {
     let mut is_fine = false;
-    for argument in arguments {
-        if let Some(address) = named_address(argument, port) {
-            let refused = push_bound(alloc, address, TcpListener::bind(rt, address), lines)?;
-            is_fine |= may_listen(refused);
-        }
+    for address in addresses {
+        let refused = push_bound(rt, alloc, with_port(*address, port), lines)?;
+        is_fine |= may_listen(refused);
     }
     Ok(is_fine)
 }
@@ -125,7 +111,7 @@ fn push_all<R: Net>(
     home: &Home,
     checking: &Checking<'_>,
     lines: &mut Vec<u8>,
-) -> Result<bool, AllocError> {
+) -> Result<bool, NoMemory> {
     if !checking.addresses.is_empty() {
         return push_named(rt, alloc, &checking.addresses, home.port(), lines);
     }
@@ -157,9 +143,7 @@ pub fn tell_addresses<R: Net, W: Write>(
     ensures { OnOk result (HasWritten W.contents output.old output.new) }
 {
     let mut lines = Vec::new(alloc);
-    let Ok(is_fine) = push_all(rt, alloc, home, checking, &mut lines) else {
-        return Err(ProgramFault::NoMemory);
-    };
+    let is_fine = push_all(rt, alloc, home, checking, &mut lines)?;
     send_text(output, &lines)?;
     if is_fine {
         Ok(())

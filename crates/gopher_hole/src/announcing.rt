@@ -4,15 +4,13 @@
 ghost use Rattle.std.specs.Prelude.{◌≡◌, ◌++◌, codes, IfOk, OnOk};
 ghost use Rattle.std.specs.Fmt.{decimal};
 ghost use Rattle.gopher_script.specs.Answer.{status_line};
-ghost use Rattle.gopher_scope.specs.Rows.{key_name};
 ghost use Rattle.gopher_hole.specs.Ending.{listening_line};
-ghost use Rattle.gopher_hole.specs.Fault.{number_bytes, file_line_bytes, detail_bytes, line_bytes, fault_line};
+ghost use Rattle.gopher_hole.specs.Fault.{detail_bytes, line_bytes, fault_line};
 ghost use Rattle.gopher_hole.specs.Sending.{HasSent, SendEnds};
 
 use crate::fault::{Detail, ProgramFault};
 use gopher_catalogue::Status;
 use gopher_item::{Home, NoMemory};
-use gopher_scope::Key;
 use gopher_script::{ReplayFault, send_all, status_line};
 use gopher_text::{Watched, send};
 use itoa::Buffer;
@@ -80,95 +78,88 @@ pub fn tell_status<W: Write>(
     send_text(output, &line)
 }
 
-// Writes a number.
-fn send_number<E: Write>(error: &mut Watched<E>, number: usize) -> Result<(), ReplayFault>
-    ensures { SendEnds E.contents error.old error.new (decimal number) result }
+// Writes a text and then another.
+fn send_both<E: Write>(
+    error: &mut Watched<E>,
+    first: &[u8],
+    second: &[u8],
+) -> Result<(), ReplayFault>
+    ensures { SendEnds E.contents error.old error.new (first.now ++ second.now) result }
 {
-    let mut digits = Buffer::new();
-    send_all(error, digits.format(number).as_bytes())
+    if let Err(fault) = send_all(error, first) {
+        return Err(fault);
+    }
+    send_all(error, second)
 }
 
-// Writes the name of a key.
-fn send_name<E: Write>(error: &mut Watched<E>, key: Key) -> Result<(), ReplayFault>
-    ensures { SendEnds E.contents error.old error.new (key_name key) result }
-{
-    send_all(error, key.name().as_bytes())
-}
-
-// Writes a word and a number.
+// Writes a text and a number.
 fn write_number<E: Write>(
     error: &mut Watched<E>,
     front: &[u8],
     number: usize,
 ) -> Result<(), ReplayFault>
-    ensures { SendEnds E.contents error.old error.new (number_bytes front.now number) result }
+    ensures { SendEnds E.contents error.old error.new (front.now ++ decimal number) result }
 {
-    if let Err(fault) = send_all(error, front) {
-        return Err(fault);
-    }
-    send_number(error, number)
+    let mut digits = Buffer::new();
+    send_both(error, front, digits.format(number).as_bytes())
 }
 
-// Writes a key of the settings.
-fn write_key<E: Write>(error: &mut Watched<E>, key: Key) -> Result<(), ReplayFault>
-    ensures { SendEnds E.contents error.old error.new (codes " " ++ key_name key) result }
-{
-    if let Err(fault) = send_all(error, b" ") {
-        return Err(fault);
-    }
-    send_name(error, key)
-}
-
-// Writes the number of a file and that of its line.
-fn write_file_line<E: Write>(
-    error: &mut Watched<E>,
-    file: usize,
-    line: usize,
-) -> Result<(), ReplayFault>
-    ensures { SendEnds E.contents error.old error.new (file_line_bytes file line) result }
-{
-    if let Err(fault) = write_number(error, b" file ", file) {
-        return Err(fault);
-    }
-    write_number(error, b" line ", line)
-}
-
-// Writes what the line of a fault says after its number.
+// Writes a detail of a fault.
 fn write_detail<E: Write>(error: &mut Watched<E>, detail: Detail) -> Result<(), ReplayFault>
     ensures { SendEnds E.contents error.old error.new (detail_bytes detail) result }
 {
     match detail {
         Detail::Nothing => send_all(error, b""),
-        Detail::Key(key) => write_key(error, key),
+        Detail::Key(key) => send_both(error, b" ", key.name().as_bytes()),
         Detail::File(file) => write_number(error, b" file ", file),
-        Detail::FileLine(file, line) => write_file_line(error, file, line),
         Detail::Seed(seed) => write_number(error, b" seed ", seed),
         Detail::Line(line) => write_number(error, b" line ", line),
     }
 }
 
-// Writes the rest of a fault's line after its number.
-fn write_rest<E: Write>(error: &mut Watched<E>, detail: Detail) -> Result<(), ReplayFault>
-    ensures { SendEnds E.contents error.old error.new (detail_bytes detail ++ codes "\n") result }
+// Writes two details of a fault.
+fn write_details<E: Write>(
+    error: &mut Watched<E>,
+    first: Detail,
+    second: Detail,
+) -> Result<(), ReplayFault>
+    ensures { SendEnds E.contents error.old error.new
+        (detail_bytes first ++ detail_bytes second) result }
 {
-    if let Err(fault) = write_detail(error, detail) {
+    if let Err(fault) = write_detail(error, first) {
+        return Err(fault);
+    }
+    write_detail(error, second)
+}
+
+// Writes the rest of a fault's line after its number.
+fn write_rest<E: Write>(
+    error: &mut Watched<E>,
+    first: Detail,
+    second: Detail,
+) -> Result<(), ReplayFault>
+    ensures { SendEnds E.contents error.old error.new
+        ((detail_bytes first ++ detail_bytes second) ++ codes "\n") result }
+{
+    if let Err(fault) = write_details(error, first, second) {
         return Err(fault);
     }
     send_all(error, b"\n")
 }
 
-// Writes the line of a fault with this number and detail.
+// Writes the line of a fault with this number and these details.
 fn write_line<E: Write>(
     error: &mut Watched<E>,
     code: usize,
-    detail: Detail,
+    first: Detail,
+    second: Detail,
 ) -> Result<(), ReplayFault>
-    ensures { SendEnds E.contents error.old error.new (line_bytes code detail) result }
+    ensures { SendEnds E.contents error.old error.new (line_bytes code first second) result }
 {
     if let Err(fault) = write_number(error, b"hole: ", code) {
         return Err(fault);
     }
-    write_rest(error, detail)
+    write_rest(error, first, second)
 }
 
 /// Writes the line of a fault: its number, and what it says after the number.
@@ -179,5 +170,6 @@ fn write_line<E: Write>(
 pub fn write_fault<E: Write>(error: &mut Watched<E>, fault: ProgramFault) -> Result<(), ReplayFault>
     ensures { SendEnds E.contents error.old error.new (fault_line fault) result }
 {
-    write_line(error, usize::from(fault.code()), fault.detail())
+    let (first, second) = fault.details();
+    write_line(error, usize::from(fault.code()), first, second)
 }

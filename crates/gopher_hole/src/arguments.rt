@@ -34,7 +34,7 @@ pub struct Checking<'a> {
     pub listens: bool,
     /// Where the server will listen, as in `Serving`. If there are none, it will listen at the
     /// addresses of the settings' host.
-    pub addresses: Vec<&'a str>,
+    pub addresses: Vec<SocketAddr>,
 }
 
 /// A text that is printed and ends the program.
@@ -59,10 +59,9 @@ pub struct Serving<'a> {
     pub progress: bool,
     /// How many bytes the pages of the crawl may take; `None` if there is no limit.
     pub crawl_memory: Option<u64>,
-    /// Where the server listens: IP addresses, each with or without a port, for example
-    /// `192.0.2.1:70` or `::`. If there are none, it listens at the addresses of the settings'
-    /// host.
-    pub addresses: Vec<&'a str>,
+    /// Where the server listens; port 0 stands for the settings' port. If there are none, it
+    /// listens at the addresses of the settings' host.
+    pub addresses: Vec<SocketAddr>,
 }
 
 fn log_argument<'a>(alloc: Global) -> Arg<'a> {
@@ -125,17 +124,12 @@ fn requests_argument<'a>(alloc: Global) -> Arg<'a> {
         .help("Exit after N connections and the end of the crawl; N is at most 1000000")
 }
 
-// `serve` with its first arguments.
-fn serving_command<'a>(alloc: Global) -> Result<Command<'a>, AllocError> {
+fn serve_command<'a>(alloc: Global) -> Result<Command<'a>, AllocError> {
     Command::new(alloc, "serve")
         .about("Serve a folder, crawl the allowed hosts and answer searches")
         .arg(settings_argument(alloc))?
         .arg(address_argument(alloc))?
-        .arg(requests_argument(alloc))
-}
-
-fn serve_command<'a>(alloc: Global) -> Result<Command<'a>, AllocError> {
-    serving_command(alloc)?
+        .arg(requests_argument(alloc))?
         .arg(log_argument(alloc))?
         .arg(progress_argument(alloc))?
         .arg(memory_argument(alloc))
@@ -175,22 +169,31 @@ fn shown(alloc: Global, error: &Error) -> Result<Text, NoMemory> {
     }
 }
 
-// The address that an argument names, without the brackets around one that has no port.
-fn address_of(argument: &str) -> Option<&str> {
+// The address that an argument names, with port 0 if it names no port.
+fn address_of(argument: &str) -> Option<SocketAddr> {
     if let Ok(address) = argument.parse::<SocketAddr>() {
         return if address.port() == 0 {
             None
         } else {
-            Some(argument)
+            Some(address)
         };
     }
-    if argument.parse::<IpAddr>().is_ok() {
-        return Some(argument);
+    if let Ok(address) = argument.parse::<IpAddr>() {
+        return Some(SocketAddr::new(address, 0));
     }
     let inside = argument.strip_prefix('[')?.strip_suffix(']')?;
     match inside.parse::<Ipv6Addr>() {
-        Ok(_) => Some(inside),
+        Ok(address) => Some(SocketAddr::new(IpAddr::V6(address), 0)),
         Err(_) => None,
+    }
+}
+
+/// The address, with this port if it has port 0.
+pub fn with_port(address: SocketAddr, port: u16) -> SocketAddr {
+    if address.port() == 0 {
+        SocketAddr::new(address.ip(), port)
+    } else {
+        address
     }
 }
 
@@ -226,47 +229,33 @@ fn bad_value<'a>(
     Ok(Asked::Told(Text::Refusal(text)))
 }
 
-// The text about an argument that isn't an address.
-fn no_address<'a>(alloc: Global, argument: &str, command: &str) -> Result<Asked<'a>, NoMemory> {
-    let problem = "expected an IP address, with or without a port";
-    bad_value(alloc, argument, "--listen <ADDRESS>", problem, command)
-}
-
-// The text about an address that is one too many.
-fn too_many_addresses<'a>(
-    alloc: Global,
-    argument: &str,
-    command: &str,
-) -> Result<Asked<'a>, NoMemory> {
-    let problem = "there are more than 1024 addresses";
-    bad_value(alloc, argument, "--listen <ADDRESS>", problem, command)
-}
-
 // The text about an argument that isn't a number of bytes.
 fn no_bytes<'a>(alloc: Global, argument: &str) -> Result<Asked<'a>, NoMemory> {
     let problem = "expected a number of bytes, for example 65536, 64K, 64M or 64G";
     bad_value(alloc, argument, "--crawl-memory <BYTES>", problem, "serve")
 }
 
-// The first argument that isn't an address.
-fn first_bad<'a>(arguments: &[&'a str]) -> Option<&'a str> {
-    for argument in arguments {
-        if address_of(argument).is_none() {
-            return Some(argument);
-        }
-    }
-    None
-}
-
-// The addresses that arguments name.
-fn addresses_of<'a>(alloc: Global, arguments: &[&'a str]) -> Result<Vec<&'a str>, NoMemory> {
+// The addresses that `--listen` names, or the text about a bad one.
+fn read_addresses<'a>(
+    alloc: Global,
+    matches: &ArgMatches<'a>,
+    command: &str,
+) -> Result<Result<Vec<SocketAddr>, Asked<'a>>, NoMemory> {
+    let option = "--listen <ADDRESS>";
+    let arguments = matches.get_strs("listen").unwrap_or(&[]);
     let mut addresses = Vec::new(alloc);
     for argument in arguments {
-        if let Some(address) = address_of(argument) {
-            addresses.push(address)?;
-        }
+        let Some(address) = address_of(argument) else {
+            let problem = "expected an IP address, with or without a port";
+            return Ok(Err(bad_value(alloc, argument, option, problem, command)?));
+        };
+        addresses.push(address)?;
     }
-    Ok(addresses)
+    if let Some(argument) = arguments.get(MAX_LISTENERS) {
+        let problem = "there are more than 1024 addresses";
+        return Ok(Err(bad_value(alloc, argument, option, problem, command)?));
+    }
+    Ok(Ok(addresses))
 }
 
 // The arguments of `check`, or the text about a bad one.
@@ -274,18 +263,14 @@ fn read_check<'a>(alloc: Global, check: &ArgMatches<'a>) -> Result<Asked<'a>, No
     let Some(settings) = check.get_str("SETTINGS") else {
         return Err(NoMemory);
     };
-    let arguments = check.get_strs("listen").unwrap_or(&[]);
-    if let Some(argument) = first_bad(arguments) {
-        return no_address(alloc, argument, "check");
+    match read_addresses(alloc, check, "check")? {
+        Ok(addresses) => Ok(Asked::Check(Checking {
+            settings,
+            listens: check.contains_id("listen"),
+            addresses,
+        })),
+        Err(told) => Ok(told),
     }
-    if let Some(argument) = arguments.get(MAX_LISTENERS) {
-        return too_many_addresses(alloc, argument, "check");
-    }
-    Ok(Asked::Check(Checking {
-        settings,
-        listens: check.contains_id("listen"),
-        addresses: addresses_of(alloc, arguments)?,
-    }))
 }
 
 // The arguments of `serve`, or the text about a bad one.
@@ -293,13 +278,10 @@ fn read_serve<'a>(alloc: Global, serve: &ArgMatches<'a>) -> Result<Asked<'a>, No
     let Some(settings) = serve.get_str("SETTINGS") else {
         return Err(NoMemory);
     };
-    let arguments = serve.get_strs("listen").unwrap_or(&[]);
-    if let Some(argument) = first_bad(arguments) {
-        return no_address(alloc, argument, "serve");
-    }
-    if let Some(argument) = arguments.get(MAX_LISTENERS) {
-        return too_many_addresses(alloc, argument, "serve");
-    }
+    let addresses = match read_addresses(alloc, serve, "serve")? {
+        Ok(addresses) => addresses,
+        Err(told) => return Ok(told),
+    };
     let mut crawl_memory = None;
     if let Some(argument) = serve.get_str("crawl-memory") {
         crawl_memory = bytes_of(argument);
@@ -313,7 +295,7 @@ fn read_serve<'a>(alloc: Global, serve: &ArgMatches<'a>) -> Result<Asked<'a>, No
         log: serve.get_str("log"),
         progress: serve.get_flag("progress"),
         crawl_memory,
-        addresses: addresses_of(alloc, arguments)?,
+        addresses,
     }))
 }
 

@@ -12,15 +12,14 @@ use crate::crawl_fetch::CrawlFetch;
 use crate::failures::Failures;
 use crate::fault::ProgramFault;
 use crate::listening::listen;
-use crate::open_files::connections_by_limit;
 use crate::opening::{Opened, open, read_settings};
 use crate::progress::{crawl_and_tell, tell_limit};
 use crate::starting::{AnyEnd, Started, ThreadsEnd, join_all, start_threads};
 use gopher_catalogue::Status;
 use gopher_crew::{Blank, Crew, Desk, Pass, Share, WorkEnd, crawl};
-use gopher_item::Home;
+use gopher_item::{Home, NoMemory};
 use gopher_replies::Replies;
-use gopher_server::{Log, LogQueue, OpenLog, ThreadEnd, set_up, start_log};
+use gopher_server::{Log, LogQueue, OpenLog, ThreadEnd, max_connections, set_up, start_log};
 use gopher_text::Watched;
 use mio::net::TcpListener;
 use std::alloc::Global;
@@ -31,6 +30,35 @@ use std::net::{Net, TcpListener as NetListener, TcpStream};
 use std::sync::{Arc, Wait};
 use std::thread::{Promise, Threads};
 use std::time::Clock;
+
+/// What a server asks of its runtime, beside files and sockets.
+pub trait System: OpenLog
+    + Threads
+    + Wait
+    + Clock
+    + Env
+    + Eprint
+    + AllocGlobal
+    + Clone
+    + Send
+    + Sync
+    + Drop
+    + 'static {}
+
+impl<
+    R: OpenLog
+        + Threads
+        + Wait
+        + Clock
+        + Env
+        + Eprint
+        + AllocGlobal
+        + Clone
+        + Send
+        + Sync
+        + Drop
+        + 'static,
+> System for R {}
 
 // What the workers of a crawl work with.
 #[derive(Drop)]
@@ -45,16 +73,12 @@ fn crawling_of<'a, C: Crew>(
     alloc: Global,
     shares: Vec<Share<C>>,
     failures: Option<&'a Failures>,
-) -> Result<Crawling<'a, C>, ProgramFault>
+) -> Result<Crawling<'a, C>, NoMemory>
     ensures { IfOk result (λ crawling. vec_len crawling.pairs ≡ vec_len shares) }
 {
-    let Ok(mut pairs) = Vec::with_capacity(alloc, shares.len()) else {
-        return Err(ProgramFault::NoMemory);
-    };
+    let mut pairs = Vec::with_capacity(alloc, shares.len())?;
     for share in shares {
-        if pairs.push((CrawlFetch::new(failures), share)).is_err() {
-            return Err(ProgramFault::NoMemory);
-        }
+        pairs.push((CrawlFetch::new(failures), share))?;
     }
     Ok(Crawling { pairs, failures })
 }
@@ -120,17 +144,19 @@ fn start<
 ) -> Result<Started<AnyEnd>, ProgramFault>
     ensures { IfOk result (λ started. StartsAll passes started) }
 {
-    let Service {
+    let (requests, places, tells) = (service.requests, service.places, service.tells);
+    let (listeners, threads) = (service.listeners, passes.len());
+    let setups = set_up(
+        rt,
+        alloc,
         listeners,
-        replies,
         requests,
+        threads,
         places,
-        log,
+        &service.log,
         tells,
-    } = service;
-    let threads = passes.len();
-    let setups = set_up(rt, alloc, listeners, requests, threads, places, &log, tells)?;
-    let Ok(replies) = Arc::new(alloc, replies) else {
+    )?;
+    let Ok(replies) = Arc::new(alloc, service.replies) else {
         return Err(ProgramFault::NoMemory);
     };
     let started = start_threads(rt, alloc, &replies, setups, passes, tells);
@@ -144,16 +170,7 @@ fn start<
 fn serve_and_crawl<
     'a,
     C: Crew + Send + Sync + 'static,
-    R: Net<Listener = NetListener, Stream = TcpStream>
-        + Threads
-        + Wait
-        + Clock
-        + Eprint
-        + Clone
-        + Send
-        + Sync
-        + Drop
-        + 'static,
+    R: System + Net<Listener = NetListener, Stream = TcpStream>,
 >(
     rt: &R,
     alloc: Global,
@@ -179,12 +196,10 @@ fn serve_and_crawl<
 fn shares_of<C: Crew>(
     alloc: Global,
     ends: Vec<WorkEnd<CrawlFetch<'_>, C>>,
-) -> Result<Vec<Share<C>>, ProgramFault> {
+) -> Result<Vec<Share<C>>, NoMemory> {
     let mut shares = Vec::new(alloc);
     for end in ends {
-        if shares.push(end.share).is_err() {
-            return Err(ProgramFault::NoMemory);
-        }
+        shares.push(end.share)?;
     }
     Ok(shares)
 }
@@ -228,7 +243,8 @@ fn end_log<R: Threads + Wait>(rt: &R, alloc: Global, log: Option<Log>) {
 }
 
 // Listens at the addresses of a server with these numbers of threads and of workers that crawl, and
-// says so. Returns the listeners, and how many connections the threads may hold.
+// says so. Returns the listeners, and how many connections the threads may hold by the limit of
+// open files.
 fn open_listeners<R: Net + Env + Eprint + AllocGlobal, W: Write>(
     rt: &R,
     alloc: Global,
@@ -241,42 +257,21 @@ fn open_listeners<R: Net + Env + Eprint + AllocGlobal, W: Write>(
     ensures { OnOk result (HasSent W.contents output.old output.new (listening_line home.now)) }
 {
     let listeners = listen(rt, alloc, home, &serving.addresses, serving.progress)?;
-    let tells = serving.progress;
-    let places = connections_by_limit(rt, listeners.len(), threads, workers, tells)?;
+    let Some(places) = max_connections(listeners.len(), threads, workers) else {
+        if serving.progress {
+            let _ = rt.eprintln("hole: the limit of open files is too low for these settings");
+        }
+        return Err(ProgramFault::ListenFailed);
+    };
     tell_listening(alloc, home, output)?;
     Ok((listeners, places))
-}
-
-// The number of workers that crawl: none if no place waits.
-fn crawling_workers<C: Crew, R: Wait + Drop, W: Wait>(
-    rt: &W,
-    desk: &Desk<C, R>,
-    crawling: &Crawling<'_, C>,
-) -> usize {
-    if desk.status(rt).waiting > 0 {
-        crawling.pairs.len()
-    } else {
-        0
-    }
 }
 
 // Listens, serves, and crawls at the desk. Returns the workers' ends once all have ended.
 fn listen_and_serve<
     'a,
     C: Crew + Send + Sync + 'static,
-    R: OpenLog
-        + Net<Listener = NetListener, Stream = TcpStream>
-        + Threads
-        + Wait
-        + Clock
-        + Env
-        + Eprint
-        + AllocGlobal
-        + Clone
-        + Send
-        + Sync
-        + Drop
-        + 'static,
+    R: System + Net<Listener = NetListener, Stream = TcpStream>,
     W: Write,
 >(
     rt: &R,
@@ -290,7 +285,11 @@ fn listen_and_serve<
     ensures { OnOk result (HasSent W.contents output.old output.new (listening_line replies.home)) }
 {
     let alloc = rt.alloc();
-    let workers = crawling_workers(rt, desk, &crawling);
+    let workers = if desk.status(rt).waiting > 0 {
+        crawling.pairs.len()
+    } else {
+        0
+    };
     let threads = passes.len();
     let home = replies.home();
     let (listeners, places) = open_listeners(rt, alloc, home, serving, threads, workers, output)?;
@@ -324,20 +323,7 @@ fn listen_and_serve<
 /// - `NoMemory` (90)
 pub fn serve<
     C: Crew + Send + Sync + 'static,
-    R: Files<File = File>
-        + OpenLog
-        + Net<Listener = NetListener, Stream = TcpStream>
-        + Threads
-        + Wait
-        + Clock
-        + Env
-        + Eprint
-        + AllocGlobal
-        + Clone
-        + Send
-        + Sync
-        + Drop
-        + 'static,
+    R: System + Files<File = File> + Net<Listener = NetListener, Stream = TcpStream>,
     W: Write,
 >(rt: &R, serving: &Serving<'_>, blank: Blank, output: &mut Watched<W>) -> Result<(), ProgramFault>
     requires blank { IsBlankOf C.name C.parts C.history blank }

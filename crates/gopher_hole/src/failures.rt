@@ -102,8 +102,7 @@ impl Failures {
     pub fn tell_unprinted<R: Eprint>(&self, rt: &R) {
         let unprinted = self.count().saturating_sub(MAX_PRINTED);
         if unprinted > 0 {
-            let _ = rt.eprint("hole: failed places that aren't printed: ");
-            let _ = rt.eprintln(unprinted);
+            let _ = eprintln!(rt; "hole: failed places that aren't printed: {unprinted}");
         }
     }
 }

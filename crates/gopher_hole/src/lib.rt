@@ -22,12 +22,12 @@ mod failures;
 mod fault;
 mod fetching;
 mod listening;
-mod open_files;
 mod opening;
 mod program;
 mod progress;
 mod starting;
 
+pub use crewing::System;
 pub use fault::{Detail, ProgramFault};
 pub use fetching::TcpFetch;
 pub use gopher_catalogue::{Catalogue, OpenFault, OpenRefused, Why};

@@ -1,7 +1,8 @@
 //! The sockets on which a server listens.
 
+use crate::arguments::with_port;
 use crate::fault::ProgramFault;
-use gopher_item::Home;
+use gopher_item::{Home, NoMemory};
 use gopher_server::{MAX_LISTENERS, limit_send_buffers};
 use mio::net::TcpListener;
 use os::FromRawFd;
@@ -19,13 +20,9 @@ const MAX_INHERITED: u8 = 64;
 
 // If `tells`, prints on the error stream why an address can't be bound.
 fn tell<R: Eprint>(rt: &R, host: &str, error: io::Error, tells: bool) {
-    if !tells {
-        return;
+    if tells {
+        let _ = eprintln!(rt; "hole: can't listen at {host}: {error}");
     }
-    let _ = rt.eprint("hole: can't listen at ");
-    let _ = rt.eprint(host);
-    let _ = rt.eprint(": ");
-    let _ = rt.eprintln(error);
 }
 
 // Listens at an address, unless there are as many listeners as a server may have. If the system
@@ -36,16 +33,12 @@ fn listen_at<R: Net + Eprint>(
     address: SocketAddr,
     tells: bool,
     listeners: &mut Vec<TcpListener>,
-) -> Result<(), ProgramFault> {
+) -> Result<(), NoMemory> {
     if listeners.len() >= MAX_LISTENERS {
         return Ok(());
     }
     match TcpListener::bind(rt, address) {
-        Ok(listener) => {
-            if listeners.push(listener).is_err() {
-                return Err(ProgramFault::NoMemory);
-            }
-        }
+        Ok(listener) => listeners.push(listener)?,
         Err(error) => {
             if let Ok(name) = format!(in alloc; "{address}") {
                 tell(rt, name.as_str(), error, tells);
@@ -63,7 +56,7 @@ fn listen_at_host<R: Net + Eprint>(
     port: u16,
     tells: bool,
     listeners: &mut Vec<TcpListener>,
-) -> Result<(), ProgramFault> {
+) -> Result<(), NoMemory> {
     if let Ok(address) = host.parse::<SocketAddr>() {
         return listen_at(rt, alloc, address, tells, listeners);
     }
@@ -101,16 +94,10 @@ fn listener_of(descriptor: u8) -> TcpListener {
 }
 
 // The sockets that systemd's socket activation hands to this process.
-fn inherited<R: Env + AllocGlobal>(
-    rt: &R,
-    alloc: Global,
-) -> Result<Vec<TcpListener>, ProgramFault> {
+fn inherited<R: Env + AllocGlobal>(rt: &R, alloc: Global) -> Result<Vec<TcpListener>, NoMemory> {
     let mut listeners = Vec::new(alloc);
     for index in 0..inherited_count(rt) {
-        let listener = listener_of(FIRST_INHERITED.saturating_add(index));
-        if listeners.push(listener).is_err() {
-            return Err(ProgramFault::NoMemory);
-        }
+        listeners.push(listener_of(FIRST_INHERITED.saturating_add(index)))?;
     }
     Ok(listeners)
 }
@@ -120,7 +107,7 @@ fn listen_at_all<R: Net + Eprint>(
     rt: &R,
     alloc: Global,
     home: &Home,
-    addresses: &[&str],
+    addresses: &[SocketAddr],
     tells: bool,
 ) -> Result<Vec<TcpListener>, ProgramFault> {
     let Ok(host) = str::from_utf8(home.host()) else {
@@ -128,7 +115,8 @@ fn listen_at_all<R: Net + Eprint>(
     };
     let mut listeners = Vec::new(alloc);
     for address in addresses {
-        listen_at_host(rt, alloc, address, home.port(), tells, &mut listeners)?;
+        let address = with_port(*address, home.port());
+        listen_at(rt, alloc, address, tells, &mut listeners)?;
     }
     if addresses.is_empty() {
         listen_at_host(rt, alloc, host, home.port(), tells, &mut listeners)?;
@@ -136,8 +124,7 @@ fn listen_at_all<R: Net + Eprint>(
     Ok(listeners)
 }
 
-/// Listens at each of the addresses: an IP address or a host name, at the port of `home`, or an IP
-/// address with its own port, for example `127.0.0.1:7070` or `[::1]:7070`. Without addresses,
+/// Listens at each of the addresses; port 0 stands for the port of `home`. Without addresses,
 /// listens at each address of the host of `home`. The `accept` of a listener never blocks.
 ///
 /// If systemd's socket activation hands sockets to the process, it uses these instead of addresses.
@@ -152,7 +139,7 @@ pub fn listen<R: Net + Env + Eprint + AllocGlobal>(
     rt: &R,
     alloc: Global,
     home: &Home,
-    addresses: &[&str],
+    addresses: &[SocketAddr],
     tells: bool,
 ) -> Result<Vec<TcpListener>, ProgramFault> {
     let mut listeners = inherited(rt, alloc)?;

@@ -8,15 +8,15 @@ ghost use Rattle.gopher_hole.specs.Ending.{AreSettings, opening_record};
 
 use crate::fault::ProgramFault;
 use gopher_catalogue::Catalogue;
+use gopher_check::{Obstacle, SiteFault};
 use gopher_crew::{Blank, Crew, Desk, Pass, Share};
 use gopher_item::{Home, Place};
 use gopher_replies::Replies;
-use gopher_scope::{Scope, Settings};
+use gopher_scope::{Scope, Settings, SettingsFault};
 use gopher_text::{ReplyFault, Watched, read_reply};
 use gopher_tree::Tree;
 use std::alloc::Global;
 use std::fs::{self, Files};
-use std::str;
 use std::sync::Wait;
 
 // The most bytes of a settings file.
@@ -40,25 +40,25 @@ pub struct Opened<C: Crew, R: Wait + Drop> {
     pub tries: u32,
 }
 
-/// Reads the bytes of a settings file.
+/// Reads the text of a settings file.
 ///
 /// # Errors
 ///
-/// - `SettingsUnreadable` (80): the file can't be read, or has over 1,048,576 bytes
-///   (`MAX_SETTINGS`)
-/// - `NoMemory` (90)
-pub fn settings_bytes<R: Files>(
-    rt: &R,
-    alloc: Global,
-    path: &str,
-) -> Result<Vec<u8>, ProgramFault> {
+/// - `SettingsUnreadable` (80): the file can't be read, has over 1,048,576 bytes
+///   (`MAX_SETTINGS`), or isn't UTF-8
+/// - `Settings` (90): out of memory
+pub fn settings_text<R: Files>(rt: &R, alloc: Global, path: &str) -> Result<String, SiteFault> {
     let Ok(file) = fs::open(rt, path) else {
-        return Err(ProgramFault::SettingsUnreadable);
+        return Err(SiteFault::SettingsUnreadable);
     };
-    match read_reply(alloc, &mut Watched::new(file), MAX_SETTINGS) {
-        Ok(bytes) => Ok(bytes),
-        Err(ReplyFault::NoMemory) => Err(ProgramFault::NoMemory),
-        Err(_) => Err(ProgramFault::SettingsUnreadable),
+    let bytes = match read_reply(alloc, &mut Watched::new(file), MAX_SETTINGS) {
+        Ok(bytes) => bytes,
+        Err(ReplyFault::NoMemory) => return Err(SiteFault::Settings(SettingsFault::NoMemory)),
+        Err(_) => return Err(SiteFault::SettingsUnreadable),
+    };
+    match String::from_utf8(bytes) {
+        Ok(text) => Ok(text),
+        Err(_) => Err(SiteFault::SettingsUnreadable),
     }
 }
 
@@ -66,19 +66,15 @@ pub fn settings_bytes<R: Files>(
 ///
 /// # Errors
 ///
-/// - `SettingsUnreadable` (80): the file can't be read, has over 1,048,576 bytes, or isn't UTF-8
+/// - `SettingsUnreadable` (80): as `settings_text` fails
 /// - `Settings` (30 to 34, 90): as `Settings::read` fails
-/// - `NoMemory` (90)
-pub fn read_settings<R: Files>(rt: &R, alloc: Global, path: &str) -> Result<Settings, ProgramFault>
+pub fn read_settings<R: Files>(rt: &R, alloc: Global, path: &str) -> Result<Settings, SiteFault>
     ensures { IfOk result AreSettings }
 {
-    let bytes = settings_bytes(rt, alloc, path)?;
-    let Ok(text) = str::from_utf8(&bytes) else {
-        return Err(ProgramFault::SettingsUnreadable);
-    };
-    match Settings::read(alloc, text) {
+    let text = settings_text(rt, alloc, path)?;
+    match Settings::read(alloc, text.as_str()) {
         Ok(settings) => Ok(settings),
-        Err(fault) => Err(ProgramFault::Settings(fault)),
+        Err(fault) => Err(SiteFault::Settings(fault)),
     }
 }
 
@@ -93,7 +89,7 @@ fn open_replies<R: Files>(
 {
     let tree = match Tree::load(rt, alloc, root) {
         Ok(tree) => tree,
-        Err(fault) => return Err(ProgramFault::Tree(fault)),
+        Err(fault) => return Err(ProgramFault::Site(SiteFault::Tree(fault, Obstacle::Other))),
     };
     match Replies::new(alloc, tree, home) {
         Ok(replies) => Ok(replies),
@@ -146,7 +142,7 @@ fn open_desk<'r, C: Crew, R: Wait>(
 ///
 /// The first of these, in this order:
 ///
-/// - `Tree` (20 to 26, 90): as `Tree::load` fails
+/// - `Site` (20 to 26, 90): as `Tree::load` fails
 /// - `Open` (50, 51, 54, 90): as `Catalogue::open` fails
 /// - `Desk` (60, 61, 90): as `Desk::open` fails
 /// - `NoMemory` (90)

@@ -11,21 +11,16 @@ ghost use Rattle.gopher_hole.specs.Program.{asks_replay, exit_status, ReplaysAnd
 use crate::announcing::{send_text, write_fault};
 use crate::arguments::{Asked, Checking, Serving, Text, read_arguments};
 use crate::checking::check_site;
-use crate::crewing::serve;
+use crate::crewing::{System, serve};
 use crate::fault::ProgramFault;
 use gopher_crew::Blank;
 use gopher_script::{ReplayFault, replay, send_all};
-use gopher_server::OpenLog;
 use gopher_text::Watched;
 use std::alloc::Global;
-use std::env::Env;
 use std::fs::{File, Files};
-use std::io::{Eprint, Read, Write};
+use std::io::{Read, Write};
 use std::marker::Brand;
 use std::net::{Net, TcpListener, TcpStream};
-use std::sync::Wait;
-use std::thread::Threads;
-use std::time::Clock;
 
 fn asks_replay(words: &[String]) -> bool
     ensures { result ≡ asks_replay (map (λ word. string_bytes word) words.now) }
@@ -115,20 +110,7 @@ fn tell_text<W: Write, E: Write>(text: &Text, output: &mut Watched<W>, error: &m
 
 // Serves, and writes the line of the fault, if there is one. Returns the exit status.
 fn run_serve<
-    H: Files<File = File>
-        + OpenLog
-        + Net<Listener = TcpListener, Stream = TcpStream>
-        + Threads
-        + Wait
-        + Clock
-        + Env
-        + Eprint
-        + AllocGlobal
-        + Clone
-        + Send
-        + Sync
-        + Drop
-        + 'static,
+    H: System + Files<File = File> + Net<Listener = TcpListener, Stream = TcpStream>,
     W: Write,
     E: Write,
 >(rt: &H, serving: &Serving<'_>, output: &mut Watched<W>, error: &mut Watched<E>) -> u8
@@ -178,20 +160,7 @@ fn run_check<H: Files + Net + AllocGlobal, W: Write, E: Write>(
 ///
 /// If `error` can't be written, the exit status is the same.
 pub fn run<
-    H: Files<File = File>
-        + OpenLog
-        + Net<Listener = TcpListener, Stream = TcpStream>
-        + Threads
-        + Wait
-        + Clock
-        + Env
-        + Eprint
-        + AllocGlobal
-        + Clone
-        + Send
-        + Sync
-        + Drop
-        + 'static,
+    H: System + Files<File = File> + Net<Listener = TcpListener, Stream = TcpStream>,
     R: Read,
     W: Write,
     E: Write,

@@ -48,8 +48,7 @@ pub fn tell_limit<C: Crew, R: Wait + Drop>(rt: &impl Eprint, desk: &Desk<C, R>) 
 fn tell_stopped<C: Crew, R: Wait + Drop>(rt: &impl Eprint, desk: &Desk<C, R>, told: u64) -> u64 {
     let stopped = desk.stopped_workers();
     if stopped > told {
-        let _ = rt.eprint("hole: workers that stopped, out of memory: ");
-        let _ = rt.eprintln(stopped);
+        let _ = eprintln!(rt; "hole: workers that stopped, out of memory: {stopped}");
     }
     stopped
 }
@@ -103,24 +102,6 @@ fn tell_until_over<C: Crew, R: Wait + Drop, W: Wait + Clock + Eprint>(
     unreachable!()
 }
 
-// Crawls, and sets `is_over` at the end.
-fn crawl_until_over<
-    'a,
-    C: Crew + Send + Sync,
-    R: Wait + Drop + Send + Sync,
-    W: Net<Listener = TcpListener, Stream = TcpStream> + Threads + Wait + Eprint + Sync,
->(
-    rt: &W,
-    alloc: Global,
-    desk: &Desk<C, R>,
-    pairs: Vec<(CrawlFetch<'a>, Share<C>)>,
-    is_over: &AtomicBool,
-) -> Result<Vec<WorkEnd<CrawlFetch<'a>, C>>, CrawlRefused<CrawlFetch<'a>, C>> {
-    let crawled = crawl(rt, alloc, desk, pairs);
-    is_over.store(true, Ordering::SeqCst);
-    crawled
-}
-
 /// Crawls as `gopher_crew::crawl` does. Prints the sizes of the crawl, with the number of failed
 /// places, on the error stream every ten seconds if they have changed, and at its end. If the
 /// system refuses a thread for that, prints them only at the end.
@@ -141,7 +122,11 @@ pub fn crawl_and_tell<
     let (_told, crawled) = thread::join(
         rt,
         move || tell_until_over(rt, desk, failures, is_over),
-        move || crawl_until_over(rt, alloc, desk, pairs, is_over),
+        move || {
+            let crawled = crawl(rt, alloc, desk, pairs);
+            is_over.store(true, Ordering::SeqCst);
+            crawled
+        },
     );
     if crawled.is_err() {
         let _ = rt.eprintln("hole: the crawl can't start: out of memory");
