@@ -18,10 +18,6 @@ none_in_reverse test xs h = sym (list_any-IsPermutation test xs (reverse xs) (Is
 
 -- ---- trims
 
--- a trim at the back drops a space at the end
-pub back_space : (before : List ℕ) → trim_front (reverse (before ++ 32 ∷ [])) ≡ trim_front (reverse before)
-back_space before = ap trim_front (reverse-append before (32 ∷ []))
-
 -- a trim drops only spaces from the front
 trim_front_rest : (xs : List ℕ) → (spaces : List ℕ) × (xs ≡ spaces ++ trim_front xs)
 trim_front_rest [] = ([], refl)

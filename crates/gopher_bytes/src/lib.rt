@@ -9,8 +9,7 @@
 //! public call that fails with it leaves its arguments unchanged. Calls that can't fail with it
 //! allocate nothing.
 //!
-//! Library API that only tests and benchmarks here call: `lines`, `EachLine` and
-//! `ByteString::into_vec`.
+//! Library API that only tests and benchmarks here call: `lines` and `ByteString::into_vec`.
 #![tactic(auto)]
 
 mod byte_string;
@@ -26,7 +25,7 @@ mod trim;
 pub use byte_string::ByteString;
 pub use byte_strings::ByteStrings;
 pub use fault::NoMemory;
-pub use line::{EachLine, MAX_LINE, first_line, is_last_line, lines};
+pub use line::{MAX_LINE, first_line, is_last_line, lines};
 pub use number::read_number;
 pub use parts::{MAX_PACKED, range_at, span_at};
 pub use search::first_index;

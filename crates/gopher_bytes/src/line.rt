@@ -2,14 +2,12 @@
 
 ghost use Rattle.std.specs.Prelude.{◌≡◌, ◌<◌, false, [], length, map, IfOk, IfSome, MatchOption};
 ghost use Rattle.std.specs.Io.BufRead.{drop_through};
-ghost use Rattle.std.specs.Iterator.{YieldsFirstRef, item_count};
 ghost use Rattle.std.specs.Str.Lines.{strip_carriage_return};
 ghost use Rattle.gopher_bytes.specs.Lines.{IsAround, IsFirstOf, has_feed, is_last_line, lines_of};
 
 use crate::fault::NoMemory;
 use crate::split::split_once;
 use std::alloc::Global;
-use std::marker::Model;
 
 /// The most bytes of a request line without its end.
 pub const MAX_LINE: usize = 1_024;
@@ -52,50 +50,6 @@ pub fn is_last_line(line: &[u8]) -> bool
     ensures { result ≡ is_last_line line.now }
 {
     matches!(line, [b'.'])
-}
-
-/// An iterator over the lines of bytes, cut as `first_line` cuts them.
-#[derive(Debug, Drop)]
-pub struct EachLine<'a> {
-    rest: &'a [u8],
-}
-
-impl<'a> Model for EachLine<'a> {
-    ghost use Rattle.std.specs.Prelude.{ℕ, List};
-
-    ghost Value = { List ℕ };
-
-    ghost view = { λ lines. lines.rest.now };
-}
-
-impl<'a> EachLine<'a> {
-    /// Starts before the first line of `bytes`.
-    pub fn of(bytes: &'a [u8]) -> EachLine<'a>
-        ensures { result ≡ bytes.now }
-    {
-        EachLine { rest: bytes }
-    }
-
-    /// Returns the bytes of the lines that the iterator hasn't returned yet.
-    pub fn rest(&self) -> &'a [u8]
-        ensures { result.now ≡ self.now }
-    {
-        self.rest
-    }
-}
-
-impl<'a> Iterator for EachLine<'a> {
-    type Item = &'a [u8];
-
-    ghost next_gives = { YieldsFirstRef lines_of };
-
-    ghost remaining = { item_count lines_of };
-
-    fn next(&mut self) -> Option<&'a [u8]> {
-        let (line, rest) = first_line(self.rest)?;
-        *self = EachLine { rest };
-        Some(line)
-    }
 }
 
 /// Returns all lines of the bytes, cut as `first_line` cuts them.

@@ -20,7 +20,6 @@ fn trim_front(bytes: &[u8]) -> &[u8]
     rest
 }
 
-#[tactic(auto, using(crate::proofs::Trims::back_space))]
 fn trim_back(bytes: &[u8]) -> &[u8]
     ensures { result.now ≡ reverse (trim_front (reverse bytes.now)) }
 {

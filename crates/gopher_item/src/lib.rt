@@ -38,8 +38,8 @@ pub use each_place::EachPlace;
 pub use fault::{ItemFault, RequestFault};
 pub use fields::{address_fault, is_host, is_selector, lowered_host};
 pub use gopher_bytes::{
-    ByteString, ByteStrings, EachLine, MAX_LINE, NoMemory, first_line, lines, read_number,
-    split_once, trim_spaces,
+    ByteString, ByteStrings, MAX_LINE, NoMemory, first_line, lines, read_number, split_once,
+    trim_spaces,
 };
 pub use home::Home;
 pub use limits::{MAX_HOST, MAX_PLACES, MAX_PORT, MAX_SELECTOR, MAX_TRIES};
