@@ -1,6 +1,5 @@
 pub mod Distinct
 pub mod Few
-mod Added
 mod Runs
 mod Tokens
 mod Joining

@@ -5,7 +5,7 @@ use Rattle.std.proofs.Math.Bool.{or-false}
 use Rattle.std.proofs.lemmas.Bool.{and_parts, or_right}
 use Rattle.std.proofs.lemmas.List.{take_all, drop_more, drop_all}
 use Rattle.std.proofs.lemmas.List.Elements.{filter-append}
-use Rattle.std.proofs.lemmas.List.Sums.{fold_more, length-filter}
+use Rattle.std.proofs.lemmas.List.Sums.{length-filter}
 use Rattle.std.specs.List.{fold, list_any}
 use Rattle.gopher_page.specs.declared.query.Operator.{Operator}
 use Rattle.gopher_page.specs.declared.query.Operator.TheVariants.{And, Or, Not}
@@ -82,13 +82,6 @@ unfolding wanted
 wanted_none = refl
 
 -- ---- loops over the terms
-
-pub matches_more : (counts : List (List ℕ × ℕ)) (terms : List TermData) (i : ℕ) (term : TermData) (truth : Bool) → i < length terms → term ≡ get_or terms i term
-    → truth ≡ fold (λ t term'. joined term'.operator t (nat_lt 0 (count_of_term counts term'))) true (take i terms)
-    → joined term.operator truth (nat_lt 0 (count_of_term counts term)) ≡ fold (λ t term'. joined term'.operator t (nat_lt 0 (count_of_term counts term'))) true (take (i + 1) terms)
-matches_more counts terms i term truth within is so_far =
-    (λ j. joined (is j).operator (so_far j) (nat_lt 0 (count_of_term counts (is j))))
-    ∙ sym (fold_more (λ t term'. joined term'.operator t (nat_lt 0 (count_of_term counts term'))) true terms i term within)
 
 -- the rest of the terms begins with the next one
 rest_at : (terms : List TermData) (i : ℕ) (term : TermData) → i < length terms → term ≡ get_or terms i term → drop i terms ≡ term ∷ drop (i + 1) terms

@@ -1,5 +1,5 @@
 -- A page: what a catalogue keeps of a reply.
-use Rattle.std.specs.Prelude.{◌≡◌, ℕ, Bool, List, [], ◌∷◌, length, take, map, filter, Option, None, ◌==◌, nat_lt, if◌then◌else◌}
+use Rattle.std.specs.Prelude.{ℕ, Bool, List, [], length, take, map, filter, Option, None, ◌==◌, nat_lt, if◌then◌else◌}
 use Rattle.std.specs.List.{filter_map, find, flat_map, sum_by}
 use Rattle.std.specs.Option.{option_map_or}
 use Rattle.std.specs.Arc.{arc_value}
@@ -52,12 +52,8 @@ abbrev pub allowed_places : ScopeData → List Entry → List PlaceData
 allowed_places scope entries = filter (allows scope) (filter_map place_of_entry entries)
 
 -- the links after more entries
-abbrev pub with_entries : ScopeData → List PlaceData → List Entry → List PlaceData
-with_entries scope links entries = insert_all same_place links (allowed_places scope entries)
-
--- the links after one more entry
-abbrev pub with_entry : ScopeData → List PlaceData → Entry → List PlaceData
-with_entry scope links entry = with_entries scope links (entry ∷ [])
+abbrev pub with_links : ScopeData → List PlaceData → List Entry → List PlaceData
+with_links scope links entries = insert_all same_place links (allowed_places scope entries)
 
 -- the links of entries: each allowed place once, in the order of first mention
 abbrev pub links_in : ScopeData → List Entry → List PlaceData
@@ -114,20 +110,6 @@ title_of place lines = option_map_or title_text (find has_word lines) (place_tit
 abbrev pub page_of_lines : PlaceData → List (List ℕ) → List PlaceData → PageData
 page_of_lines place lines links =
     page_with place (title_of place lines) links (counts_of (flat_map words_of lines))
-
--- the page of a place with these lines and the links that it keeps
-abbrev pub IsPageOfLines : {Y Z : Type 0} → Arc PlaceData Y → List (List ℕ)
-    → Option (Arc (List PlaceData) Z) → PageData → Type 0
-IsPageOfLines place lines links page =
-    page ≡ page_of_lines (arc_value place) lines (links_kept links)
-
--- the page of a directory and the page of a file
-abbrev pub page_of_menu : ScopeData → PlaceData → List ℕ → PageData
-page_of_menu scope place bytes =
-    page_of_lines place (menu_page_lines bytes) (menu_links scope bytes)
-
-abbrev pub page_of_text : PlaceData → List ℕ → PageData
-page_of_text place bytes = page_of_lines place (text_lines bytes) []
 
 -- the page of a reply depends only on the scope, the place and the bytes
 unfoldable pub page_of : ScopeData → PlaceData → List ℕ → PageData

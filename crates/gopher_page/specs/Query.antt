@@ -1,5 +1,5 @@
 -- Queries: which pages they match, and the scores of these.
-use Rattle.std.specs.Prelude.{◌≡◌, ◌+◌, ◌≤◌, ℕ, Bool, IsTrue, true, false, ◌&&◌, ◌||◌, not, List, [], ◌∷◌, codes, length, filter, slice_get, nat_lt, Option, None, Some, Result, Ok, Err, if◌then◌else◌}
+use Rattle.std.specs.Prelude.{◌≡◌, ◌≤◌, ℕ, Bool, IsTrue, true, false, ◌&&◌, ◌||◌, not, List, [], ◌∷◌, codes, length, filter, slice_get, nat_lt, Option, None, Some, Result, Ok, Err, if◌then◌else◌}
 use Rattle.std.specs.List.{fold, sum_by, list_any}
 use Rattle.std.specs.Option.{option_map, option_map_or}
 use Rattle.gopher_bytes.specs.declared.line.TheConstants.{MAX_LINE}
@@ -53,10 +53,6 @@ later_terms text = terms_after And (tokens_of text)
 -- the terms of a query with this word as its first token and the text after it
 abbrev pub terms_from : List ℕ → Bool → List ℕ → List TermData
 terms_from word is_prefix after = terms_of (token_of (word, is_prefix) ∷ tokens_of after)
-
--- the text adds at most as many terms as it has bytes
-abbrev pub AddsFewTerms : {A : Type 0} → List ℕ → List A → List A → Type 0
-AddsFewTerms text old new = length new ≤ length old + length text
 
 -- how often the words that a term matches occur in a page with these counts
 unfoldable pub count_of_term : List (List ℕ × ℕ) → TermData → ℕ

@@ -1,5 +1,5 @@
 -- The words of bytes, and the tokens of a query's text.
-use Rattle.std.specs.Prelude.{◌≡◌, ◌+◌, ◌<◌, ◌≤◌, ℕ, Bool, false, ◌&&◌, ◌||◌, not, List, [], ◌∷◌, ◌++◌, length, map, filter, nat_eq, nat_lt, nat_le, ◌==◌}
+use Rattle.std.specs.Prelude.{◌≡◌, ℕ, Bool, false, ◌&&◌, ◌||◌, not, List, [], ◌∷◌, ◌++◌, length, map, filter, nat_eq, nat_lt, nat_le, ◌==◌}
 use Rattle.std.specs.Borrow.{Bor}
 use Rattle.std.specs.List.{flat_map, slice_split, zip}
 use Rattle.std.specs.Cmp.Lexicographic.{pointwise}
@@ -73,10 +73,3 @@ IsCutAtGap bytes cut = runs_of bytes ≡ (cut.0.now, cut.1 == 42) ∷ runs_of cu
 -- the first word of a text and whether a `*` directly follows it, and the text after it
 abbrev pub IsFirstWord : List ℕ → Bor (List ℕ) × Bool × Bor (List ℕ) → Type 0
 IsFirstWord text found = word_runs text ≡ (found.0.now, found.1) ∷ word_runs found.2.now
-
--- both parts together are shorter than the bytes, or no longer than they
-abbrev pub LeavesLess : List ℕ → Bor (List ℕ) × ℕ × Bor (List ℕ) → Type 0
-LeavesLess bytes cut = length cut.0.now + length cut.2.now < length bytes
-
-abbrev pub LeavesNoMore : List ℕ → Bor (List ℕ) × Bool × Bor (List ℕ) → Type 0
-LeavesNoMore bytes found = length found.0.now + length found.2.now ≤ length bytes

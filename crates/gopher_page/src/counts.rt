@@ -1,6 +1,8 @@
-//! `Counts`: the words of a page with their counts, packed, and the count of a word or prefix.
+//! `Counts`: the words of a page with their counts, packed, and the count of a word or prefix;
+//! `EachCount`: an iterator over them.
 
 ghost use Rattle.std.specs.Prelude.{◌≡◌, ◌<◌, ◌≤◌, List, Some, length, slice_get, IfOk};
+ghost use Rattle.std.specs.Iterator.{YieldsFirstBy, item_count};
 ghost use Rattle.std.specs.List.Sorted.{IsSorted};
 ghost use Rattle.std.specs.Ordering.{nat_cmp};
 ghost use Rattle.std.specs.Cmp.Lexicographic.{slice_cmp};
@@ -10,7 +12,6 @@ ghost use Rattle.gopher_page.specs.Packed.{AreCounts};
 ghost use Rattle.gopher_page.specs.Page.{words_bytes};
 ghost use Rattle.gopher_page.specs.Size.{counts_size, ends_size};
 
-use crate::each_count::EachCount;
 use crate::numbered::Numbered;
 use crate::repeats::Repeats;
 use crate::search::range_meant;
@@ -157,7 +158,10 @@ impl Counts {
     pub fn iter(&self) -> EachCount<'_>
         ensures { result ≡ self.now }
     {
-        EachCount::of(self)
+        EachCount {
+            counts: self,
+            next: 0,
+        }
     }
 
     /// Returns the number of occurrences of `sought` or, if `is_prefix`, of all words that begin
@@ -167,5 +171,49 @@ impl Counts {
     {
         let (start, end) = range_meant(&self.words, is_prefix, sought, self.len(), self.len());
         self.counts.sum(start, end)
+    }
+}
+
+/// An iterator over the distinct words of a page in byte order, each with its number of
+/// occurrences. It allocates nothing.
+#[derive(Drop)]
+pub struct EachCount<'a> {
+    counts: &'a Counts,
+    next: usize,
+}
+
+impl<'a> Model for EachCount<'a> {
+    ghost use Rattle.std.specs.Prelude.{ℕ, List, drop};
+
+    ghost Value = { List (List ℕ × ℕ) };
+
+    ghost view = { λ e. drop e.next e.counts.now };
+}
+
+impl<'a> Iterator for EachCount<'a> {
+    type Item = (&'a [u8], u32);
+
+    ghost next_gives = { YieldsFirstBy (λ entry. (entry.0.now, entry.1)) (λ left. left) };
+
+    ghost remaining = { item_count (λ left. left) };
+
+    fn next(&mut self) -> Option<(&'a [u8], u32)> {
+        if self.next >= self.counts.len() {
+            return None;
+        }
+        let (word, count) = self.counts.get(self.next);
+        self.next += 1;
+        Some((word, count))
+    }
+
+    fn size_hint(&self) -> (usize, Option<usize>) {
+        let len = self.len();
+        (len, Some(len))
+    }
+}
+
+impl<'a> ExactSizeIterator for EachCount<'a> {
+    fn len(&self) -> usize {
+        self.counts.len().saturating_sub(self.next)
     }
 }

@@ -11,7 +11,6 @@
 
 mod counting;
 mod counts;
-mod each_count;
 mod fault;
 mod line;
 mod links;
@@ -24,8 +23,7 @@ mod search;
 mod title;
 mod word;
 
-pub use counts::Counts;
-pub use each_count::EachCount;
+pub use counts::{Counts, EachCount};
 pub use fault::QueryFault;
 pub use numbered::Numbered;
 pub use page::Page;

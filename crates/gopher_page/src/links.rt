@@ -1,7 +1,7 @@
 //! The links of a menu: `links_of_entries`.
 
-ghost use Rattle.std.specs.Prelude.{◌≡◌, IfOk, OnOk};
-ghost use Rattle.gopher_page.specs.Page.{place_of_entry, links_in, with_entries, with_entry};
+ghost use Rattle.std.specs.Prelude.{◌≡◌, [], ◌∷◌, IfOk, OnOk};
+ghost use Rattle.gopher_page.specs.Page.{place_of_entry, links_in, with_links};
 
 use gopher_item::{Entry, ItemFault, NoMemory, Place, Places, Scope};
 use indexmap::IndexSet;
@@ -23,14 +23,13 @@ fn place_of_entry(alloc: Global, entry: &Entry) -> Result<Option<Place>, NoMemor
 }
 
 // Adds the place that an entry names, if it is allowed and isn't there yet.
-#[tactic(auto, using(crate::proofs::Added::allowed_entry))]
 fn add_link(
     alloc: Global,
     scope: &Scope,
     entry: &Entry,
     links: &mut IndexSet<Place>,
 ) -> Result<(), NoMemory>
-    ensures { OnOk result (links.new.keys ≡ with_entry scope.now links.old.keys entry.now) }
+    ensures { OnOk result (links.new.keys ≡ with_links scope.now links.old.keys (entry.now ∷ [])) }
 {
     if let Some(place) = place_of_entry(alloc, entry)?
         && scope.allows(&place)
@@ -47,7 +46,7 @@ fn add_links(
     entries: &[Entry],
     links: &mut IndexSet<Place>,
 ) -> Result<(), NoMemory>
-    ensures { OnOk result (links.new.keys ≡ with_entries scope.now links.old.keys entries.now) }
+    ensures { OnOk result (links.new.keys ≡ with_links scope.now links.old.keys entries.now) }
 {
     for entry in entries {
         add_link(alloc, scope, entry, links)?;

@@ -1,12 +1,13 @@
 //! `Page`: what a catalogue keeps of the reply of a place (`Page::of`).
 
-ghost use Rattle.std.specs.Prelude.{◌≡◌, ◌≤◌, false, length, IfOk};
+ghost use Rattle.std.specs.Prelude.{◌≡◌, ◌≤◌, [], false, length, IfOk};
 ghost use Rattle.std.specs.Arc.{arc_value};
 ghost use Rattle.std.specs.List.{sum_by};
 ghost use Rattle.gopher_item.specs.Places.{IsSum, places_lent};
+ghost use Rattle.gopher_text.specs.Text.{text_lines};
 ghost use Rattle.gopher_page.specs.Words.{texts};
 ghost use Rattle.gopher_page.specs.Counts.{count_meant};
-ghost use Rattle.gopher_page.specs.Page.{IsPageOfLines, is_large, links_kept, page_of, page_of_menu, page_of_text};
+ghost use Rattle.gopher_page.specs.Page.{is_large, links_kept, menu_links, menu_page_lines, page_of, page_of_lines};
 ghost use Rattle.gopher_page.specs.Size.{links_size, page_size, words_size};
 
 use crate::counting::count_words;
@@ -92,7 +93,8 @@ fn page_of_lines(
 ) -> Result<Page, NoMemory>
     requires short { sum_by length (texts lines.now) ≤ MAX_REPLY }
     requires few { length (links_kept links) ≤ MAX_REPLY }
-    ensures { IfOk result (IsPageOfLines place.now (texts lines.now) links) }
+    ensures { IfOk result (λ page.
+        page ≡ page_of_lines (arc_value place.now) (texts lines.now) (links_kept links)) }
 {
     let counts = count_words(alloc, lines)?;
     let parts = Parts {
@@ -113,7 +115,9 @@ fn page_of_menu(
     bytes: &[u8],
 ) -> Result<Page, NoMemory>
     requires small { length bytes.now ≤ MAX_REPLY }
-    ensures { IfOk result (λ page. page ≡ page_of_menu scope.now (arc_value place.now) bytes.now) }
+    ensures { IfOk result (λ page.
+        page ≡ page_of_lines (arc_value place.now) (menu_page_lines bytes.now)
+        (menu_links scope.now bytes.now)) }
 {
     let menu = read_menu(alloc, bytes)?;
     let links = links_of_entries(alloc, scope, &menu.entries)?;
@@ -123,7 +127,8 @@ fn page_of_menu(
 
 fn page_of_text(alloc: Global, place: &Arc<Place>, bytes: &[u8]) -> Result<Page, NoMemory>
     requires small { length bytes.now ≤ MAX_REPLY }
-    ensures { IfOk result (λ page. page ≡ page_of_text (arc_value place.now) bytes.now) }
+    ensures { IfOk result (λ page.
+        page ≡ page_of_lines (arc_value place.now) (text_lines bytes.now) []) }
 {
     let lines = text_lines(alloc, bytes)?;
     page_of_lines(alloc, place, &lines, None)

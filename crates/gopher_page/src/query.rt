@@ -1,7 +1,7 @@
 //! `Query`, `Term`, `Operator`: reading a query, which pages it matches, and their scores.
 
 ghost use Rattle.std.specs.Prelude.{◌≡◌, ◌+◌, ◌<◌, ◌≤◌, ◌++◌, IsTrue, not, Some, length, slice_get, IfOk, OnOk};
-ghost use Rattle.gopher_page.specs.Query.{operator_of, later_terms, terms_from, AddsFewTerms, query_of, count_of_term, joined, matches, is_not, wanted, wanted_word, wanted_prefix, score, ReadsQuery, IsQuery, HasWanted};
+ghost use Rattle.gopher_page.specs.Query.{operator_of, later_terms, terms_from, query_of, count_of_term, joined, matches, is_not, wanted, wanted_word, wanted_prefix, score, ReadsQuery, IsQuery, HasWanted};
 
 use crate::fault::QueryFault;
 use crate::page::Page;
@@ -118,7 +118,7 @@ fn operator_of(word: &[u8], is_prefix: bool) -> Option<Operator>
 // Appends the terms of a text that follows a term.
 fn add_terms(alloc: Global, text: &[u8], terms: &mut Vec<Term>) -> Result<(), NoMemory>
     ensures terms { OnOk result (terms.new.items ≡ terms.old.items ++ later_terms text.now) }
-    ensures few { OnOk result (AddsFewTerms text.now terms.old.items terms.new.items) }
+    ensures few { OnOk result (length terms.new.items ≤ length terms.old.items + length text.now) }
 {
     let mut operator = Operator::And;
     let mut rest = text;
@@ -217,7 +217,6 @@ impl Query {
 
     /// Returns whether a page matches. A term matches if the page contains a word that it matches;
     /// the terms are joined from left to right.
-    #[tactic(auto, using(crate::proofs::Terms::matches_more))]
     pub fn matches(&self, page: &Page) -> bool
         ensures value { result ≡ matches self.now page.now.counts }
         ensures wanted { IsTrue result → HasWanted self.now page.now.counts }

@@ -1,7 +1,7 @@
 //! Words, the runs of letters, digits and bytes of 128 or more: `words`, `next_token`.
 
-ghost use Rattle.std.specs.Prelude.{◌≡◌, ◌<◌, [], length, position, IfOk, IfSome, MatchOption};
-ghost use Rattle.gopher_page.specs.Words.{is_gap, is_word_byte, is_word, words_of, word_runs, IsOneRun, IsCutAtGap, IsFirstWord, LeavesLess, LeavesNoMore};
+ghost use Rattle.std.specs.Prelude.{◌≡◌, ◌+◌, ◌<◌, ◌≤◌, [], length, position, IfOk, IfSome, MatchOption};
+ghost use Rattle.gopher_page.specs.Words.{is_gap, is_word_byte, is_word, words_of, word_runs, IsOneRun, IsCutAtGap, IsFirstWord};
 
 use gopher_item::{ByteString, NoMemory};
 use std::alloc::Global;
@@ -42,7 +42,7 @@ fn first_gap(bytes: &[u8]) -> Option<usize>
 // The bytes before the first gap, the gap and the bytes after it, or `None` if there is no gap.
 fn split_at_gap(bytes: &[u8]) -> Option<(&[u8], u8, &[u8])>
     ensures runs { MatchOption result (IsOneRun bytes.now) (IsCutAtGap bytes.now) }
-    ensures shorter { IfSome result (LeavesLess bytes.now) }
+    ensures less { IfSome result (λ cut. length cut.0.now + length cut.2.now < length bytes.now) }
 {
     let end = first_gap(bytes)?;
     Some((&bytes[..end], bytes[end], &bytes[end + 1..]))
@@ -53,7 +53,7 @@ fn split_at_gap(bytes: &[u8]) -> Option<(&[u8], u8, &[u8])>
 pub fn next_token(text: &[u8]) -> Option<(&[u8], bool, &[u8])>
     ensures word { MatchOption result (word_runs text.now ≡ []) (IsFirstWord text.now) }
     ensures some { IfSome result (λ found. 0 < length found.0.now) }
-    ensures shorter { IfSome result (LeavesNoMore text.now) }
+    ensures less { IfSome result (λ cut. length cut.0.now + length cut.2.now ≤ length text.now) }
 {
     let mut rest = text;
     while let Some((run, gap, after)) = split_at_gap(rest) {

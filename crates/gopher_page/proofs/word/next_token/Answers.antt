@@ -9,7 +9,7 @@ returns-then-is_word-clause-word c =
 pub loop-run-preserved : goal.loop-run-preserved
 loop-run-preserved c = record {
   same = sym (word_runs-cut c.loop-run.rest.now c.in-Some.run'.now c.in-Some.after.now _ _ c.in-Some.ensures.runs (sym c.is_word.ensures ∙ c.if-is_word.false)) ∙ c.loop-run.invariant.same;
-  shorter = omega (arith, c.in-Some.ensures.shorter);
+  shorter = omega (arith, c.in-Some.ensures.less);
 }
 
 pub returns-then-is_word-2-clause-word : goal.returns-then-is_word-2-clause-word
