@@ -55,13 +55,9 @@ allowed_places scope entries = filter (allows scope) (filter_map place_of_entry 
 abbrev pub with_links : ScopeData → List PlaceData → List Entry → List PlaceData
 with_links scope links entries = insert_all same_place links (allowed_places scope entries)
 
--- the links of entries: each allowed place once, in the order of first mention
-abbrev pub links_in : ScopeData → List Entry → List PlaceData
-links_in scope entries = distinct (allowed_places scope entries)
-
--- the links of a menu
+-- the links of a menu: each allowed place once, in the order of first mention
 abbrev pub menu_links : ScopeData → List ℕ → List PlaceData
-menu_links scope bytes = links_in scope (entries_of (lines_of bytes))
+menu_links scope bytes = distinct (allowed_places scope (entries_of (lines_of bytes)))
 
 -- a directory (type `1`, 49) has the links of its menu, a file has none
 abbrev pub links_of : ScopeData → PlaceData → List ℕ → List PlaceData

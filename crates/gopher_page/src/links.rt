@@ -1,7 +1,8 @@
 //! The links of a menu: `links_of_entries`.
 
 ghost use Rattle.std.specs.Prelude.{◌≡◌, [], ◌∷◌, IfOk, OnOk};
-ghost use Rattle.gopher_page.specs.Page.{place_of_entry, links_in, with_links};
+ghost use Rattle.gopher_item.specs.Place.{distinct};
+ghost use Rattle.gopher_page.specs.Page.{allowed_places, place_of_entry, with_links};
 
 use gopher_item::{Entry, ItemFault, NoMemory, Place, Places, Scope};
 use indexmap::IndexSet;
@@ -69,7 +70,7 @@ fn packed(alloc: Global, places: &mut IntoIter<Place>) -> Result<Places, NoMemor
 /// Returns the allowed places that the entries of a menu name, each once, in the order of first
 /// mention.
 pub fn links_of_entries(alloc: Global, scope: &Scope, entries: &[Entry]) -> Result<Places, NoMemory>
-    ensures { IfOk result (λ links. links ≡ links_in scope.now entries.now) }
+    ensures { IfOk result (λ links. links ≡ distinct (allowed_places scope.now entries.now)) }
 {
     let mut places = IndexSet::new(alloc);
     add_links(alloc, scope, entries, &mut places)?;
