@@ -4,5 +4,4 @@ pub mod Packed
 pub mod Numbered
 pub mod Query
 pub mod Page
-pub mod Size
 pub mod Ranking

@@ -9,8 +9,7 @@ ghost use Rattle.std.specs.Cmp.Lexicographic.{slice_cmp};
 ghost use Rattle.gopher_item.specs.Places.{IsSum};
 ghost use Rattle.gopher_page.specs.Counts.{count_meant, counts_of, IsWordRun, run_lengths, run_values};
 ghost use Rattle.gopher_page.specs.Packed.{AreCounts};
-ghost use Rattle.gopher_page.specs.Page.{words_bytes};
-ghost use Rattle.gopher_page.specs.Size.{counts_size, ends_size};
+ghost use Rattle.gopher_page.specs.Page.{counts_size, ends_size, words_bytes};
 
 use crate::numbered::Numbered;
 use crate::repeats::Repeats;

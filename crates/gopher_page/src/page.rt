@@ -7,8 +7,7 @@ ghost use Rattle.gopher_item.specs.Places.{IsSum, places_lent};
 ghost use Rattle.gopher_text.specs.Text.{text_lines};
 ghost use Rattle.gopher_page.specs.Words.{texts};
 ghost use Rattle.gopher_page.specs.Counts.{count_meant};
-ghost use Rattle.gopher_page.specs.Page.{is_large, links_kept, menu_links, menu_page_lines, page_of, page_of_lines};
-ghost use Rattle.gopher_page.specs.Size.{links_size, page_size, words_size};
+ghost use Rattle.gopher_page.specs.Page.{is_large, links_kept, links_size, menu_links, menu_page_lines, page_of, page_of_lines, page_size, words_size};
 
 use crate::counting::count_words;
 use crate::counts::Counts;
