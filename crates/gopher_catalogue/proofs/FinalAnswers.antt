@@ -8,17 +8,16 @@ use Rattle.std.proofs.lemmas.Map.Keys.{IsDistinct-from_apart}
 use Rattle.std.proofs.lemmas.Option.{slice_get-get_or, same_Some}
 use Rattle.gopher_item.specs.Place.{PlaceData}
 use Rattle.gopher_item.proofs.PlaceLemmas.{same_place-true}
-use Rattle.gopher_page.specs.Page.{PageData}
+use Rattle.gopher_page.specs.Page.{PageData, page_of}
 use Rattle.gopher_catalogue.specs.Event.{OpeningData, EventData, Opened}
 use Rattle.gopher_catalogue.specs.Legal.{IsLegal}
 use Rattle.gopher_catalogue.specs.Pages.{pages_found}
-use Rattle.gopher_catalogue.specs.Closure.{OutcomeTable, IsReachedPage, IsComplete, OnceComplete, SamePlaces, HoldsReachOnceComplete}
-use Rattle.gopher_index.specs.Answer.{answer_of, occurrences_of, AreOccurrences}
-use Rattle.gopher_catalogue.specs.FinalAnswer.{AnswersAreOfPagesFound, FinishedCrawlGivesFinalAnswers, FinishedCrawlGivesFinalOccurrences, FinishedCrawlsAnswerAlike}
+use Rattle.gopher_catalogue.specs.Closure.{OutcomeTable, Fetched, IsReachedPage, AreReachedPages, IsComplete, HoldsReach, OnceComplete, AnswersAreOfPagesFound, FinishedCrawlGivesFinalAnswers, FinishedCrawlGivesFinalOccurrences, FinishedCrawlsAnswerAlike}
+use Rattle.gopher_index.specs.Answer.{hits_among, ranked, answer_of, occurrences_of, AreOccurrences}
 use Rattle.gopher_catalogue.proofs.Legal.{legal_record}
 use Rattle.gopher_catalogue.proofs.Reach.{holds_reach}
-use Rattle.gopher_catalogue.proofs.FinishedCrawls.{page_once, same_reached_pages}
-use Rattle.gopher_catalogue.proofs.PageLists.{IsOnePerPlace, Listing, hits_listed, occurrences_listed, of_same_place, occurrences_are}
+use Rattle.gopher_catalogue.proofs.FinishedCrawls.{page_once, crawls_agree}
+use Rattle.gopher_catalogue.proofs.PageLists.{IsOnePerPlace, hits_ordered, answers_same, occurrences_ordered, occurrences_same, of_same_place, occurrences_are}
 
 -- ---- the pages of a whole record
 
@@ -46,54 +45,61 @@ pages_distinct opening events legal =
     (same_place-true (get_or (pages_found events) i d).place (get_or (pages_found events) j d).place same) in
     omega arith))
 
+-- two pages of one reachable place are equal
+reached_once : (scope : ScopeData) (seeds : List PlaceData) (table : OutcomeTable) → IsOnePerPlace (IsReachedPage scope seeds table)
+unfolding page_of
+reached_once scope seeds table a b one other same =
+    let place : one.place ≡ other.place = sym (ap (λ (p : PageData). p.place) one.is_page) ∙ same ∙ ap (λ (p : PageData). p.place) other.is_page in
+    let fetched : Some (Fetched one.bytes) ≡ Some (Fetched other.bytes) = sym one.is_fetched ∙ ap table place ∙ other.is_fetched in
+    let bytes : one.bytes ≡ other.bytes = cc in
+    one.is_page ∙ (λ i. page_of scope (place i) (bytes i)) ∙ sym other.is_page
+
 -- ---- lists of hits and of occurrences
 
-module _ {L : Type 0} {Is : (PageData → Type 0) → L → Type 0} {of : List PageData → L} (listing : Listing Is of) where
-  -- at each moment
-  holds : (opening : OpeningData) (events : List EventData) → IsLegal (Opened opening ∷ events) → Is (Contains (pages_found events)) (of (pages_found events))
-  holds opening events legal = listing.are (pages_found events) (one_per_place opening events legal)
-
-  -- once the record is complete
-  final : (record_ : List EventData) → IsLegal record_ → OnceComplete record_ (λ opening events table. Is (IsReachedPage opening.scope opening.seeds table) (of (pages_found record_)))
-  final record_ legal opening events table is complete agrees =
-      let legal' : IsLegal (Opened opening ∷ events) = subst IsLegal is legal in
-      let reached = holds_reach opening events table legal' (subst IsComplete is complete) agrees in
-      subst (λ pages. Is (IsReachedPage opening.scope opening.seeds table) (of pages)) (sym (ap pages_found is ∙ pages_found-opened opening events))
-      (listing.same (Contains (pages_found events)) (IsReachedPage opening.scope opening.seeds table) (of (pages_found events)) reached.pages_reached (holds opening events legal'))
-
-  -- a list that a call returned
-  pub final_returned : {V E : Type 0} (items : V → L) (record_ : List EventData) (r : Result V E) → IsLegal record_ → IfOk r (λ v. items v ≡ of (pages_found record_))
-      → IfOk r (λ v. OnceComplete record_ (λ opening events table. Is (IsReachedPage opening.scope opening.seeds table) (items v)))
-  final_returned items record_ (Ok v) legal is =
-      subst (λ list. OnceComplete record_ (λ opening events table. Is (IsReachedPage opening.scope opening.seeds table) list)) (sym is) (final record_ legal)
-  final_returned items record_ (Err e) legal is = tt
-
-  -- of two crawls with the same table
-  alike : (scope : ScopeData) (seeds seeds' : List PlaceData) (table : OutcomeTable) (list other : L) → SamePlaces seeds seeds' → Is (IsReachedPage scope seeds table) list → Is (IsReachedPage scope seeds' table) other → list ≡ other
-  alike scope seeds seeds' table list other same here there =
-      listing.one (IsReachedPage scope seeds table) list other here
-      (listing.same (IsReachedPage scope seeds' table) (IsReachedPage scope seeds table) other (same_reached_pages scope seeds' seeds table (λ place. sym (same place))) there)
+-- two lists of the pages of the reachable places have the same results
+module _ {L : Type 0} {of : List PageData → L} (same : (pages : List PageData) → IsOnePerPlace (Contains pages) → (others : List PageData) → ((page : PageData) → Contains pages page ↔ Contains others page) → of pages ≡ of others) where
+  pub final_one : (scope : ScopeData) (seeds : List PlaceData) (table : OutcomeTable) (list other : L)
+      → (pages : List PageData) × AreReachedPages scope seeds table pages × (list ≡ of pages)
+      → (pages : List PageData) × AreReachedPages scope seeds table pages × (other ≡ of pages) → list ≡ other
+  final_one scope seeds table list other here there =
+      here.2
+      ∙ same here.0 (λ a b has has' place. reached_once scope seeds table a b ((here.1 a).0 has) ((here.1 b).0 has') place) there.0
+      (λ page. (λ has. (there.1 page).1 ((here.1 page).0 has), λ has. (here.1 page).1 ((there.1 page).0 has)))
+      ∙ sym there.2
 
 -- ---- over whole records
 
 pub record_answers : AnswersAreOfPagesFound
-unfolding pages_found
-record_answers opening events legal = (λ query. holds (hits_listed query) opening events legal, λ word. holds (occurrences_listed word) opening events legal)
+unfolding pages_found answer_of
+record_answers opening events legal =
+    let once = one_per_place opening events legal in
+    let pages = pages_found events in (
+      λ query. (ranked (hits_among query pages), hits_ordered query pages once, refl),
+      λ word. occurrences_ordered word pages once,
+    )
+
+reached_in : (record_ : List EventData) (opening : OpeningData) (events : List EventData) (table : OutcomeTable) → record_ ≡ Opened opening ∷ events → IsComplete opening events table → AreReachedPages opening.scope opening.seeds table (pages_found record_)
+reached_in record_ opening events table is complete =
+    subst (AreReachedPages opening.scope opening.seeds table) (sym (ap pages_found is ∙ pages_found-opened opening events)) (holds_reach opening events table complete).pages_reached
 
 pub record_final_answer : FinishedCrawlGivesFinalAnswers
-record_final_answer record_ query legal = final (hits_listed query) record_ legal
+record_final_answer opening events table query complete = (pages_found (Opened opening ∷ events), reached_in (Opened opening ∷ events) opening events table refl complete, refl)
 
 pub record_final_occurrences : FinishedCrawlGivesFinalOccurrences
-record_final_occurrences record_ word legal = final (occurrences_listed word) record_ legal
+record_final_occurrences opening events table word complete = (pages_found (Opened opening ∷ events), reached_in (Opened opening ∷ events) opening events table refl complete, refl)
 
-pub record_reach : (record_ : List EventData) → IsLegal record_ → HoldsReachOnceComplete record_
-record_reach record_ legal opening events table is complete agrees = holds_reach opening events table (subst IsLegal is legal) (subst IsComplete is complete) agrees
+-- a list that a call returned
+pub final_returned : {L V E : Type 0} (of : List PageData → L) (items : V → L) (record_ : List EventData) (r : Result V E) → IfOk r (λ v. items v ≡ of (pages_found record_))
+    → IfOk r (λ v. OnceComplete record_ (λ opening events table. (pages : List PageData) × AreReachedPages opening.scope opening.seeds table pages × (items v ≡ of pages)))
+final_returned of items record_ (Ok v) returned = λ opening events table is complete. (pages_found record_, reached_in record_ opening events table is complete, returned)
+final_returned of items record_ (Err e) returned = tt
+
+pub record_reach : (record_ : List EventData) → OnceComplete record_ HoldsReach
+record_reach record_ opening events table is complete = holds_reach opening events table complete
 
 -- occurrences in place order are those of the record
 sorted_occurrences : (word : List ℕ) (list : List (PlaceData × ℕ)) (opening : OpeningData) (events : List EventData) → IsLegal (Opened opening ∷ events) → AreOccurrences (pages_found events) word list → list ≡ occurrences_of (pages_found events) word
-sorted_occurrences word list opening events legal are =
-    (occurrences_listed word).one (Contains (pages_found events)) list (occurrences_of (pages_found events) word) (occurrences_are (pages_found events) word list (pages_distinct opening events legal) are)
-    (holds (occurrences_listed word) opening events legal)
+sorted_occurrences word list opening events legal = occurrences_are (pages_found events) word list (one_per_place opening events legal) (pages_distinct opening events legal)
 
 record_occurrences : (record_ : List EventData) (word : List ℕ) (list : List (PlaceData × ℕ)) → IsLegal record_ → AreOccurrences (pages_found record_) word list → list ≡ occurrences_of (pages_found record_) word
 unfolding pages_found
@@ -107,15 +113,10 @@ occurrences_sorted items record_ word (Err e) legal are = tt
 -- ---- two crawls
 
 pub answer_alike : FinishedCrawlsAnswerAlike
-answer_alike scope seeds seeds' table limit tries limit' tries' events events' same legal complete agrees legal' complete' agrees' =
-    let opening : OpeningData = record { scope = scope; seeds = seeds; limit = limit; tries = tries } in
-    let opening' : OpeningData = record { scope = scope; seeds = seeds'; limit = limit'; tries = tries' } in
-    let one : List EventData = Opened opening ∷ events in
-    let two : List EventData = Opened opening' ∷ events' in (
-      λ query. alike (hits_listed query) scope seeds seeds' table (answer_of (pages_found one) query) (answer_of (pages_found two) query) same
-          (record_final_answer one query legal opening events table refl complete agrees)
-          (record_final_answer two query legal' opening' events' table refl complete' agrees'),
-      λ word. alike (occurrences_listed word) scope seeds seeds' table (occurrences_of (pages_found one) word) (occurrences_of (pages_found two) word) same
-          (record_final_occurrences one word legal opening events table refl complete agrees)
-          (record_final_occurrences two word legal' opening' events' table refl complete' agrees'),
+unfolding pages_found
+answer_alike opening opening' events events' table one same complete complete' =
+    let once = one_per_place opening events complete.legal in
+    let agree = (crawls_agree opening opening' events events' table one same complete complete').1 in (
+      λ query. answers_same query (pages_found events) once (pages_found events') agree,
+      λ word. occurrences_same word (pages_found events) once (pages_found events') agree,
     )

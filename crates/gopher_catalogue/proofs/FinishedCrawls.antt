@@ -6,12 +6,12 @@ use Rattle.std.proofs.lemmas.Bool.{eq-eqb}
 use Rattle.std.proofs.lemmas.List.{append-nil}
 use Rattle.gopher_item.specs.Place.{PlaceData, is_among}
 use Rattle.gopher_item.specs.Scope.{ScopeData}
-use Rattle.gopher_page.specs.Page.{PageData}
+use Rattle.gopher_page.specs.Page.{PageData, page_of}
 use Rattle.gopher_catalogue.specs.Event.{OpeningData, EventData, Opened, Claimed, Found, Failed}
 use Rattle.gopher_catalogue.specs.Frontier.{known, finds}
 use Rattle.gopher_catalogue.specs.Legal.{MayFollow, FollowEachOther, IsLegal}
 use Rattle.gopher_catalogue.specs.Pages.{pages_found}
-use Rattle.gopher_catalogue.specs.Closure.{OutcomeTable, IsReachable, seed, link, IsReachedPage, last_outcome, IsTold, Agrees, GivesEachOutcome, SamePlaces, FinishedCrawlsAgree}
+use Rattle.gopher_catalogue.specs.Closure.{OutcomeTable, links_after, IsReachable, seed, link, IsReachedPage, last_outcome, IsTold, Agrees, GivesEachOutcome, SamePlaces, FinishedCrawlsAgree}
 use Rattle.gopher_catalogue.proofs.Lists.{slice_get_push_cases}
 use Rattle.gopher_catalogue.proofs.Legal.{legal_ind}
 use Rattle.gopher_catalogue.proofs.Steps.{pages_push}
@@ -23,39 +23,32 @@ use Rattle.gopher_catalogue.proofs.Reach.{holds_reach, page_found_at, known_stay
 
 -- ---- two crawls
 
--- equal seeds reach equal places
-pub reach_same : (scope : ScopeData) (seeds seeds' : List PlaceData) (table : OutcomeTable) → SamePlaces seeds seeds' → (p : PlaceData) → IsReachable scope seeds table p → IsReachable scope seeds' table p
-reach_same scope seeds seeds' table same p (seed among) = seed (sym (same p) ∙ among)
-reach_same scope seeds seeds' table same p (link {place} reached among) = link (reach_same scope seeds seeds' table same place reached) among
+-- with one scope, equal seeds reach equal places
+reach_same : (scope scope' : ScopeData) (seeds seeds' : List PlaceData) (table : OutcomeTable) → scope ≡ scope' → SamePlaces seeds seeds' → (p : PlaceData) → IsReachable scope seeds table p → IsReachable scope' seeds' table p
+reach_same scope scope' seeds seeds' table one same p (seed among) = seed (sym (same p) ∙ among)
+reach_same scope scope' seeds seeds' table one same p (link {place} reached among) =
+    link (reach_same scope scope' seeds seeds' table one same place reached) (ap (λ s. is_among (links_after s place (table place)) p) (sym one) ∙ among)
 
-reached_page_same : (scope : ScopeData) (seeds seeds' : List PlaceData) (table : OutcomeTable) → SamePlaces seeds seeds' → (page : PageData) → IsReachedPage scope seeds table page → IsReachedPage scope seeds' table page
-reached_page_same scope seeds seeds' table same page reached = record {
+reached_page_same : (scope scope' : ScopeData) (seeds seeds' : List PlaceData) (table : OutcomeTable) → scope ≡ scope' → SamePlaces seeds seeds' → (page : PageData) → IsReachedPage scope seeds table page → IsReachedPage scope' seeds' table page
+reached_page_same scope scope' seeds seeds' table one same page reached = record {
   place = reached.place;
   bytes = reached.bytes;
-  is_reachable = reach_same scope seeds seeds' table same reached.place reached.is_reachable;
+  is_reachable = reach_same scope scope' seeds seeds' table one same reached.place reached.is_reachable;
   is_fetched = reached.is_fetched;
-  is_page = reached.is_page;
+  is_page = reached.is_page ∙ ap (λ s. page_of s reached.place reached.bytes) one;
 }
 
-pub same_reached_pages : (scope : ScopeData) (seeds seeds' : List PlaceData) (table : OutcomeTable) → SamePlaces seeds seeds' → (page : PageData) → IsReachedPage scope seeds table page ↔ IsReachedPage scope seeds' table page
-same_reached_pages scope seeds seeds' table same page = (
-  reached_page_same scope seeds seeds' table same page,
-  reached_page_same scope seeds' seeds table (λ place. sym (same place)) page,
-)
-
 pub crawls_agree : FinishedCrawlsAgree
-crawls_agree scope seeds seeds' table limit tries limit' tries' events events' same legal complete agrees legal' complete' agrees' =
-    let opening : OpeningData = record { scope = scope; seeds = seeds; limit = limit; tries = tries } in
-    let opening' : OpeningData = record { scope = scope; seeds = seeds'; limit = limit'; tries = tries' } in
-    let back : SamePlaces seeds' seeds = λ place. sym (same place) in
-    let one = holds_reach opening events table legal complete agrees in
-    let two = holds_reach opening' events' table legal' complete' agrees' in (
+crawls_agree opening opening' events events' table one same complete complete' =
+    let here = holds_reach opening events table complete in
+    let there = holds_reach opening' events' table complete' in
+    let back : SamePlaces opening'.seeds opening.seeds = λ place. sym (same place) in (
       λ p. bools_agree (is_among (known opening events) p) (is_among (known opening' events') p)
-          (λ h. (two.known_reachable p).1 (reach_same scope seeds seeds' table same p ((one.known_reachable p).0 h)))
-          (λ h. (one.known_reachable p).1 (reach_same scope seeds' seeds table back p ((two.known_reachable p).0 h))),
+          (λ h. (there.known_reachable p).1 (reach_same opening.scope opening'.scope opening.seeds opening'.seeds table one same p ((here.known_reachable p).0 h)))
+          (λ h. (here.known_reachable p).1 (reach_same opening'.scope opening.scope opening'.seeds opening.seeds table (sym one) back p ((there.known_reachable p).0 h))),
       λ page. (
-        λ h. (two.pages_reached page).1 ((same_reached_pages scope seeds seeds' table same page).0 ((one.pages_reached page).0 h)),
-        λ h. (one.pages_reached page).1 ((same_reached_pages scope seeds seeds' table same page).1 ((two.pages_reached page).0 h)),
+        λ h. (there.pages_reached page).1 (reached_page_same opening.scope opening'.scope opening.seeds opening'.seeds table one same page ((here.pages_reached page).0 h)),
+        λ h. (here.pages_reached page).1 (reached_page_same opening'.scope opening.scope opening'.seeds opening.seeds table (sym one) back page ((there.pages_reached page).0 h)),
       ),
     )
 

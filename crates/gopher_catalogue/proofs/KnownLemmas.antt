@@ -1,5 +1,5 @@
 -- Lists of entries and of places, as `KnownPlaces` keeps them.
-use Rattle.std.proofs.Common.{◌≡◌, ℕ, suc, zero, Bool, true, false, ◌||◌, List, [], ◌∷◌, ◌++◌, map, take, length, replicate, arith, inl, inr, ◌+◌, ◌-◌, ◌<◌, ◌≤◌, ◌&&◌, cond, drop, filter, get_or, add-one, Option, None, Some, is_some, set, refl, ap, sym, ◌∙◌, true≢false}
+use Rattle.std.proofs.Common.{◌≡◌, ℕ, suc, zero, Bool, true, false, ◌||◌, List, [], ◌∷◌, ◌++◌, map, take, length, replicate, arith, inl, inr, ◌+◌, ◌-◌, ◌<◌, ◌≤◌, cond, drop, filter, get_or, add-one, Option, None, Some, is_some, set, refl, ap, sym, ◌∙◌, true≢false}
 use Rattle.std.specs.List.{list_any, range_with_len}
 use Rattle.gopher_catalogue.proofs.Ranges.{range-append}
 use Rattle.std.specs.Int.{from_bool}

@@ -10,92 +10,99 @@ use Rattle.std.specs.declared.cmp.Ordering.TheVariants.{Less, Equal, Greater}
 use Rattle.std.specs.Cmp.{IsTotalOrder}
 use Rattle.std.proofs.lemmas.Bool.{both_ways, false≢true}
 use Rattle.std.proofs.lemmas.Cmp.{nat_cmp_total, back_total, on_total, then_total}
-use Rattle.std.proofs.lemmas.List.Elements.{All-nil, All-cons, All-append, All-contains, Contains-append_left, Contains-append_right, All-contains_itself}
+use Rattle.std.proofs.lemmas.List.Elements.{All-nil, All-append, All-contains, Contains-append_left, Contains-append_right, All-contains_itself}
 use Rattle.std.proofs.lemmas.List.Sorted.{Contains-permutation, IsPermutation-sym}
 use Rattle.std.proofs.lemmas.Map.Keys.{IsDistinct-IsPermutation}
 use Rattle.gopher_item.specs.Laws.{place_cmp_total, same_place_ties, same_place_equiv}
 use Rattle.gopher_item.specs.Place.{PlaceData, same_place, place_cmp}
 use Rattle.gopher_item.proofs.PlaceLemmas.{same_place-true}
 use Rattle.gopher_page.specs.Page.{PageData}
-use Rattle.gopher_page.specs.Query.{TermData, matches}
+use Rattle.gopher_page.specs.Query.{TermData, matches, score}
 use Rattle.gopher_page.specs.Counts.{count_meant}
 use Rattle.gopher_page.proofs.SortedInserts.{sorted_inserts, all_after}
 use Rattle.gopher_index.specs.declared.hit.Hit.{Hit}
 use Rattle.gopher_index.specs.Answer.{rank_cmp, hits_among, ranked, answer_of, occurrence_of, occurrences_among, occurrences_of, occurrence_cmp, AreOccurrences}
-use Rattle.gopher_catalogue.specs.FinalAnswer.{IsShownOf, ListsPages, hit_at, IsAnswerAmong, occurrence_at, AreOccurrencesAmong}
-use Rattle.gopher_catalogue.proofs.SortedLists.{contains_here, contains_none, contains_cases, All-inserts, contains_inserts, sorted_one}
+use Rattle.gopher_catalogue.specs.Closure.{IsOrdered}
+use Rattle.gopher_catalogue.proofs.SortedLists.{contains_here, contains_later, contains_none, contains_cases, All-inserts, contains_inserts, sorted_one}
 
 -- two pages of one place are equal
 abbrev pub IsOnePerPlace : (PageData → Type 0) → Type 0
 IsOnePerPlace IsPage = (a b : PageData) → IsPage a → IsPage b → a.place ≡ b.place → a ≡ b
 
--- the list that a query or a word has of a set of pages: that of found pages, that of an equivalent
--- set, and the only one
-pub record Listing {L : Type 0} (Is : (PageData → Type 0) → L → Type 0) (of : List PageData → L) : Type 1 where
-  pub are : (pages : List PageData) → IsOnePerPlace (Contains pages) → Is (Contains pages) (of pages)
-  pub same : (P Q : PageData → Type 0) (list : L) → ((page : PageData) → P page ↔ Q page) → Is P list → Is Q list
-  pub one : (P : PageData → Type 0) (list other : L) → Is P list → Is P other → list ≡ other
+-- ---- what the elements of a list give
 
-module _ {Y : Type 0} {order : Y → Y → Ordering} (total : IsTotalOrder order) (test : PageData → Bool) (show : PageData → Y) where
-  -- what is shown of a page, if it passes
-  abbrev shown_by : PageData → List Y
-  shown_by page = cond (test page) (show page ∷ []) []
+all_given : {X Y : Type 0} (f : X → List Y) (P : Y → Type 0) (xs : List X) → ((x : X) → Contains xs x → All P (f x)) → All P (flat_map f xs)
+all_given f P [] h = All-nil P
+all_given f P (x ∷ xs) h = All-append P (f x) (flat_map f xs) (h x (contains_here x xs)) (all_given f P xs (λ y has. h y (contains_later x xs y has)))
 
-  pub all_shown : (IsPage : PageData → Type 0) (pages : List PageData) → All IsPage pages → All (IsShownOf IsPage test show) (flat_map shown_by pages)
-  all_shown IsPage [] all = All-nil (IsShownOf IsPage test show)
-  all_shown IsPage (page ∷ pages) all =
-      All-append (IsShownOf IsPage test show) (shown_by page) (flat_map shown_by pages) (first (test page) refl) (all_shown IsPage pages (λ k d within. all (suc k) d (omega arith)))
-    where
-      is_page : IsPage page
-      is_page = All-contains IsPage (page ∷ pages) page all (contains_here page pages)
+given_by : {X Y : Type 0} (f : X → List Y) (xs : List X) (y : Y) → Contains (flat_map f xs) y → (x : X) × Contains xs x × Contains (f x) y
+given_by {X} {Y} f xs y has =
+    let IsGiven : Y → Type 0 = λ z. (x : X) × Contains xs x × Contains (f x) z in
+    All-contains IsGiven (flat_map f xs) y (all_given f IsGiven xs (λ x there k d within. (x, there, All-contains_itself (f x) k d within))) has
 
-      first : (b : Bool) → test page ≡ b → All (IsShownOf IsPage test show) (cond b (show page ∷ []) [])
-      first true e = All-cons (IsShownOf IsPage test show) (show page) [] (record { page = page; is_page = is_page; passes = e; is_shown = refl }) (All-nil (IsShownOf IsPage test show))
-      first false e = All-nil (IsShownOf IsPage test show)
+pub contains_given : {X Y : Type 0} (f : X → List Y) (xs : List X) (x : X) (y : Y) → Contains xs x → Contains (f x) y → Contains (flat_map f xs) y
+contains_given f [] x y has gives = absurd (contains_none x has)
+contains_given f (z ∷ xs) x y has gives = by (contains_cases z xs x has) (contains_given f xs x y)
+  where
+    by : (z ≡ x) ⊎ Contains xs x → (Contains xs x → Contains (f x) y → Contains (flat_map f xs) y) → Contains (f z ++ flat_map f xs) y
+    by (inl e) rest = Contains-append_left (f z) (flat_map f xs) y (subst (λ w. Contains (f w) y) (sym e) gives)
+    by (inr later) rest = Contains-append_right (f z) (flat_map f xs) y (rest later gives)
 
-  pub each_shown : (pages : List PageData) (page : PageData) → Contains pages page → test page ≡ true → Contains (flat_map shown_by pages) (show page)
-  each_shown [] page has passes = absurd (contains_none page has)
-  each_shown (first ∷ pages) page has passes = by (contains_cases first pages page has) (each_shown pages page)
-    where
-      here : Contains (shown_by page) (show page)
-      here = subst (λ b. Contains (cond b (show page ∷ []) []) (show page)) (sym passes) (contains_here (show page) [])
+-- ---- lists in order
 
-      by : (first ≡ page) ⊎ Contains pages page → (Contains pages page → test page ≡ true → Contains (flat_map shown_by pages) (show page)) → Contains (shown_by first ++ flat_map shown_by pages) (show page)
-      by (inl e) rest = Contains-append_left (shown_by first) (flat_map shown_by pages) (show page) (subst (λ p. Contains (shown_by p) (show page)) (sym e) here)
-      by (inr later) rest = Contains-append_right (shown_by first) (flat_map shown_by pages) (show page) (rest later passes)
+module _ {Y : Type 0} {order : Y → Y → Ordering} (total : IsTotalOrder order) where
+  -- lists of the same elements have one list in order
+  pub ordered_one : (some others list other : List Y) → ((y : Y) → Contains some y ↔ Contains others y) → IsOrdered order some list → IsOrdered order others other → list ≡ other
+  ordered_one some others list other same is is' =
+      sorted_one total list other is.in_order is'.in_order (λ y has. (is'.members y).1 ((same y).0 ((is.members y).0 has))) (λ y has. (is.members y).1 ((same y).1 ((is'.members y).0 has)))
 
-  -- what is shown of these pages, inserted one by one in their order, if pages that tie are equal
-  pub lists_inserted : (pages : List PageData) → ((a b : PageData) → Contains pages a → Contains pages b → order (show a) (show b) ≡ Equal → a ≡ b) → ListsPages order (Contains pages) test show (fold (insert_key order) [] (flat_map shown_by pages))
-  lists_inserted pages one =
-      let IsIt : Y → Type 0 = IsShownOf (Contains pages) test show in
-      let all : List Y = flat_map shown_by pages in
-      let from : All IsIt all = all_shown (Contains pages) pages (All-contains_itself pages) in
-      let tied : (a b : Y) → IsIt a → IsIt b → order a b ≡ Equal → a ≡ b =
-      λ a b is is' e.
-      let same : order (show is.page) (show is'.page) ≡ Equal = sym (λ i. order (is.is_shown i) (is'.is_shown i)) ∙ e in
-      is.is_shown ∙ ap show (one is.page is'.page is.is_page is'.is_page same) ∙ sym is'.is_shown in
-      record {
-        members = λ shown. (
-          λ has. All-contains IsIt (fold (insert_key order) [] all) shown (All-inserts total IsIt [] all (All-nil IsIt) from) has,
-          λ is. contains_inserts total IsIt tied [] all shown (All-nil IsIt) from (subst (Contains all) (sym is.is_shown) (each_shown pages is.page is.is_page is.passes)),
-        );
-        in_order = sorted_inserts total all;
-      }
+  module _ (test : PageData → Bool) (show : PageData → Y) where
+    -- what is shown of a page, if it passes
+    abbrev shown_by : PageData → List Y
+    shown_by page = cond (test page) (show page ∷ []) []
 
-  -- lists over two equivalent sets of pages
-  pub lists_same : (P Q : PageData → Type 0) (list : List Y) → ((page : PageData) → P page ↔ Q page) → ListsPages order P test show list → ListsPages order Q test show list
-  lists_same P Q list same lists =
-      record {
-        members = λ shown. (
-          λ has. let is = (lists.members shown).0 has in record { page = is.page; is_page = (same is.page).0 is.is_page; passes = is.passes; is_shown = is.is_shown },
-          λ is. (lists.members shown).1 (record { page = is.page; is_page = (same is.page).1 is.is_page; passes = is.passes; is_shown = is.is_shown }),
-        );
-        in_order = lists.in_order;
-      }
+    only : (page : PageData) (y : Y) → Contains (shown_by page) y → y ≡ show page
+    only page y has = by (test page) has
+      where
+        by : (b : Bool) → Contains (cond b (show page ∷ []) []) y → y ≡ show page
+        by true has' = first (contains_cases (show page) [] y has')
+          where
+            first : (show page ≡ y) ⊎ Contains [] y → y ≡ show page
+            first (inl e) = sym e
+            first (inr none) = absurd (contains_none y none)
+        by false none = absurd (contains_none y none)
 
-  pub lists_one : (P : PageData → Type 0) (list other : List Y) → ListsPages order P test show list → ListsPages order P test show other → list ≡ other
-  lists_one P list other lists lists' =
-      sorted_one total list other lists.in_order lists'.in_order (λ shown has. (lists'.members shown).1 ((lists.members shown).0 has)) (λ shown has. (lists.members shown).1 ((lists'.members shown).0 has))
+    -- what is shown of pages, inserted one by one in order, if pages that tie are equal
+    ordered_shown : (pages : List PageData) → ((a b : PageData) → Contains pages a → Contains pages b → order (show a) (show b) ≡ Equal → a ≡ b)
+        → IsOrdered order (flat_map shown_by pages) (fold (insert_key order) [] (flat_map shown_by pages))
+    ordered_shown pages one =
+        let all : List Y = flat_map shown_by pages in
+        let from : All (Contains all) all = All-contains_itself all in
+        let tied : (y z : Y) → Contains all y → Contains all z → order y z ≡ Equal → y ≡ z =
+        λ y z has has' e.
+        let a = given_by shown_by pages y has in
+        let b = given_by shown_by pages z has' in
+        let first : y ≡ show a.0 = only a.0 y a.2 in
+        let second : z ≡ show b.0 = only b.0 z b.2 in
+        first ∙ ap show (one a.0 b.0 a.1 b.1 (sym (λ i. order (first i) (second i)) ∙ e)) ∙ sym second in
+        record {
+          members = λ y. (
+            λ has. All-contains (Contains all) (fold (insert_key order) [] all) y (All-inserts total (Contains all) [] all (All-nil (Contains all)) from) has,
+            λ has. contains_inserts total (Contains all) tied [] all y (All-nil (Contains all)) from has,
+          );
+          in_order = sorted_inserts total all;
+        }
+
+    -- pages that are the same show the same
+    shown_same : (pages others : List PageData) → ((page : PageData) → Contains pages page → Contains others page) → (y : Y) → Contains (flat_map shown_by pages) y → Contains (flat_map shown_by others) y
+    shown_same pages others same y has = let a = given_by shown_by pages y has in contains_given shown_by others a.0 y (same a.0 a.1) a.2
+
+    inserted_same : (pages others : List PageData) → ((page : PageData) → Contains pages page ↔ Contains others page) → ((a b : PageData) → Contains pages a → Contains pages b → order (show a) (show b) ≡ Equal → a ≡ b)
+        → fold (insert_key order) [] (flat_map shown_by pages) ≡ fold (insert_key order) [] (flat_map shown_by others)
+    inserted_same pages others same one =
+        ordered_one (flat_map shown_by pages) (flat_map shown_by others) _ _
+        (λ y. (shown_same pages others (λ page. (same page).0) y, shown_same others pages (λ page. (same page).1) y))
+        (ordered_shown pages one) (ordered_shown others (λ a b has has'. one a b ((same a).1 has) ((same b).1 has')))
 
 place_tied : (a b : PlaceData) → place_cmp a b ≡ Equal → a ≡ b
 place_tied a b e = same_place-true a b (same_place_ties a b ∙ ap is_eq e)
@@ -110,25 +117,20 @@ second_tied Less s e = absurd (false≢true (ap is_eq e))
 second_tied Equal s e = e
 second_tied Greater s e = absurd (false≢true (ap is_eq e))
 
-pub hits_listed : (query : List TermData) → Listing (λ IsPage hits. IsAnswerAmong IsPage query hits) (λ pages. answer_of pages query)
-unfolding answer_of ranked hits_among
-hits_listed query =
-    let test : PageData → Bool = λ page. matches query page.counts in
-    record {
-      are = λ pages one. record {
-        all = ranked (hits_among query pages);
-        lists = lists_inserted rank_total test (hit_at query) pages
-            (λ a b is is' e. one a b is is' (place_tied a.place b.place (second_tied (nat_cmp (hit_at query b).score (hit_at query a).score) (place_cmp a.place b.place) e)));
-        first = refl;
-      };
-      same = λ P Q hits same answer. record {
-        all = answer.all;
-        lists = lists_same rank_total test (hit_at query) P Q answer.all same answer.lists;
-        first = answer.first;
-      };
-      one = λ P hits other answer answer'.
-          answer.first ∙ ap (take 50) (lists_one rank_total test (hit_at query) P answer.all answer'.all answer.lists answer'.lists) ∙ sym answer'.first;
-    }
+abbrev hit_at : List TermData → PageData → Hit
+hit_at query page = record { place = page.place; title = page.title; score = score query page.counts }
+
+module _ (query : List TermData) (pages : List PageData) (once : IsOnePerPlace (Contains pages)) where
+  hits_tied : (a b : PageData) → Contains pages a → Contains pages b → rank_cmp (hit_at query a) (hit_at query b) ≡ Equal → a ≡ b
+  hits_tied a b has has' e = once a b has has' (place_tied a.place b.place (second_tied (nat_cmp (score query b.counts) (score query a.counts)) (place_cmp a.place b.place) e))
+
+  pub hits_ordered : IsOrdered rank_cmp (hits_among query pages) (ranked (hits_among query pages))
+  unfolding ranked hits_among
+  hits_ordered = ordered_shown rank_total (λ page. matches query page.counts) (hit_at query) pages hits_tied
+
+  pub answers_same : (others : List PageData) → ((page : PageData) → Contains pages page ↔ Contains others page) → answer_of pages query ≡ answer_of others query
+  unfolding answer_of ranked hits_among
+  answers_same others same = ap (take 50) (inserted_same rank_total (λ page. matches query page.counts) (hit_at query) pages others same hits_tied)
 
 -- ---- occurrences
 
@@ -144,13 +146,20 @@ by_place_total = on_total (λ (occurrence : Occurrence). occurrence.0) place_cmp
 abbrev has_word : List ℕ → PageData → Bool
 has_word word page = ltb 0 (count_meant false word page.counts)
 
-pub occurrences_listed : (word : List ℕ) → Listing (λ IsPage list. AreOccurrencesAmong IsPage word list) (λ pages. occurrences_of pages word)
-unfolding occurrences_of occurrences_among
-occurrences_listed word = record {
-  are = λ pages one. lists_inserted by_place_total (has_word word) (occurrence_at word) pages (λ a b is is' e. one a b is is' (place_tied a.place b.place e));
-  same = λ P Q list same are. lists_same by_place_total (has_word word) (occurrence_at word) P Q list same are;
-  one = λ P list other are are'. lists_one by_place_total (has_word word) (occurrence_at word) P list other are are';
-}
+abbrev occurrence_at : List ℕ → PageData → Occurrence
+occurrence_at word page = (page.place, count_meant false word page.counts)
+
+module _ (word : List ℕ) (pages : List PageData) (once : IsOnePerPlace (Contains pages)) where
+  occurrences_tied : (a b : PageData) → Contains pages a → Contains pages b → by_place (occurrence_at word a) (occurrence_at word b) ≡ Equal → a ≡ b
+  occurrences_tied a b has has' e = once a b has has' (place_tied a.place b.place e)
+
+  pub occurrences_ordered : IsOrdered by_place (occurrences_among word pages) (occurrences_of pages word)
+  unfolding occurrences_of occurrences_among
+  occurrences_ordered = ordered_shown by_place_total (has_word word) (occurrence_at word) pages occurrences_tied
+
+  pub occurrences_same : (others : List PageData) → ((page : PageData) → Contains pages page ↔ Contains others page) → occurrences_of pages word ≡ occurrences_of others word
+  unfolding occurrences_of occurrences_among
+  occurrences_same others same = inserted_same by_place_total (has_word word) (occurrence_at word) pages others same occurrences_tied
 
 -- ---- occurrences that were sorted
 
@@ -204,18 +213,15 @@ strictly_sorted (a ∷ b ∷ list) sorted distinct' =
     let less : by_place a b ≡ Less = next_below a b (sorted 0 a (omega arith) (omega arith)) distinct'.0.0 in
     ((less, all_after by_place_total a b list less rest.0), rest)
 
--- the occurrences in pages of distinct places
-pub occurrences_are : (pages : List PageData) (word : List ℕ) (list : List Occurrence) → IsDistinct of_same_place pages → AreOccurrences pages word list → AreOccurrencesAmong (Contains pages) word list
+-- the occurrences in pages of distinct places, sorted, are those of the pages
+pub occurrences_are : (pages : List PageData) (word : List ℕ) (list : List Occurrence) → IsOnePerPlace (Contains pages) → IsDistinct of_same_place pages → AreOccurrences pages word list → list ≡ occurrences_of pages word
 unfolding occurrences_among
-occurrences_are pages word list distinct' are =
+occurrences_are pages word list once distinct' are =
     let all : List Occurrence = occurrences_among word pages in
-    let IsIt : Occurrence → Type 0 = IsShownOf (Contains pages) (has_word word) (occurrence_at word) in
-    let from : All IsIt all = all_shown by_place_total (has_word word) (occurrence_at word) (Contains pages) pages (All-contains_itself pages) in
-    record {
-      members = λ occurrence. (
-        λ has. All-contains IsIt all occurrence from (Contains-permutation list all occurrence (IsPermutation-sym all list are.permutation) has),
-        λ is. Contains-permutation all list occurrence are.permutation (subst (Contains all) (sym is.is_shown) (each_shown by_place_total (has_word word) (occurrence_at word) pages is.page is.is_page is.passes)),
-      );
+    ordered_one by_place_total all all list (occurrences_of pages word) (λ o. (λ has. has, λ has. has))
+    (record {
+      members = λ o. (Contains-permutation list all o (IsPermutation-sym all list are.permutation), Contains-permutation all list o are.permutation);
       in_order = strictly_sorted list are.sorted
           (IsDistinct-IsPermutation at_same_place (λ a b. same_place_equiv.symm a.0 b.0) all list are.permutation (occurrences_distinct word pages distinct'));
-    }
+    })
+    (occurrences_ordered word pages once)

@@ -1,9 +1,9 @@
 -- A finished crawl knows exactly what can be reached.
 use Rattle.std.proofs.Common.{◌≡◌, ℕ, suc, zero, ◌+◌, ◌≤◌, ◌<◌, Bool, true, false, not, cond, List, [], ◌∷◌, ◌++◌, length, take, drop, filter, get_or, inl, inr, Option, Some, None, refl, sym, ◌∙◌, ap, subst, arith, eqb, ltb, leb}
 use Rattle.std.specs.List.{slice_get, flat_map, All, Contains}
-use Rattle.std.proofs.lemmas.Bool.{false≢true, or_left, or_right, and_parts, or_cases, eqb-true, ltb-true, leb-true, not_from_false, true_from_ne_false}
-use Rattle.std.proofs.lemmas.List.{take_all, take-append-drop, nil_from_length}
-use Rattle.std.proofs.lemmas.List.Elements.{Contains-append_left, Contains-append_right, All-nil, All-append, All-filter, All-take, filter_passes}
+use Rattle.std.proofs.lemmas.Bool.{false≢true, or_left, or_right, or_cases, ltb-true, leb-true, not_from_false, true_from_ne_false}
+use Rattle.std.proofs.lemmas.List.{take_all, take-append-drop}
+use Rattle.std.proofs.lemmas.List.Elements.{All-nil, All-append, All-filter, All-take, filter_passes}
 use Rattle.std.proofs.lemmas.List.Folds.{list_any-append}
 use Rattle.std.proofs.lemmas.Option.{slice_get_within, slice_get-get_or, get_or_from_slice_get}
 use Rattle.gopher_item.proofs.PlaceLemmas.{same_place-true}
@@ -11,9 +11,8 @@ use Rattle.gopher_item.specs.Place.{PlaceData, same_place, is_among, distinct}
 use Rattle.gopher_item.specs.Scope.{ScopeData, allows, IsAllowed}
 use Rattle.gopher_page.specs.Page.{PageData, page_of, links_of, menu_links}
 use Rattle.gopher_catalogue.specs.Event.{OpeningData, EventData, Opened, Claimed, Found, Failed}
-use Rattle.gopher_catalogue.specs.Frontier.{mentioned, mentions, known, dropped, finds, failures, waiting, is_done, out}
+use Rattle.gopher_catalogue.specs.Frontier.{mentioned, mentions, known, dropped, finds, failures, is_done}
 use Rattle.gopher_catalogue.specs.Legal.{IsLegal}
-use Rattle.gopher_catalogue.specs.Step.{status_of}
 use Rattle.gopher_catalogue.specs.Pages.{page_of_event, pages_found}
 use Rattle.gopher_catalogue.specs.Closure.{OutcomeData, Fetched, Unfetched, OutcomeTable, links_after, IsReachable, seed, link, last_outcome, IsTold, Agrees, IsComplete, HoldsReach}
 use Rattle.gopher_catalogue.proofs.Lists.{slice_get-append_left, take_next}
@@ -23,6 +22,7 @@ use Rattle.gopher_catalogue.proofs.Steps.{is_done_is, mentions-nil, known_is, dr
 use Rattle.gopher_catalogue.proofs.LegalSizes.{done_is, done_if_ended}
 use Rattle.gopher_catalogue.proofs.LastOutcome.{count_at, last_outcome_at, last_outcome_none, find_is_last}
 use Rattle.gopher_catalogue.proofs.OneTry.{filter_range_every}
+use Rattle.gopher_catalogue.proofs.PageLists.{contains_given}
 
 -- ---- members
 
@@ -73,15 +73,9 @@ page_found_at (Found m other ∷ events) zero page h = let e : other ≡ page = 
 page_found_at (Found m other ∷ events) (suc i) page h = let rest = page_found_at events i page h in (suc rest.0, rest.1, rest.2)
 page_found_at (Failed m why ∷ events) i page h = let rest = page_found_at events i page h in (suc rest.0, rest.1, rest.2)
 
--- what an element of a list gives is among what all of them give
-contains_flat_map : {X Y : Type 0} (f : X → List Y) (xs : List X) (k : ℕ) (x : X) (y : Y) → slice_get xs k ≡ Some x → Contains (f x) y → Contains (flat_map f xs) y
-contains_flat_map f [] k x y h has = cc
-contains_flat_map f (z ∷ xs) zero x y h has = let e : x ≡ z = cc in Contains-append_left (f z) (flat_map f xs) y (subst (λ w. Contains (f w) y) e has)
-contains_flat_map f (z ∷ xs) (suc k) x y h has = Contains-append_right (f z) (flat_map f xs) y (contains_flat_map f xs k x y h has)
-
 contains_found : (events : List EventData) (k n : ℕ) (page : PageData) → slice_get events k ≡ Some (Found n page) → Contains (pages_found events) page
 unfolding pages_found
-contains_found events k n page h = contains_flat_map page_of_event events k (Found n page) page h (0, omega arith, refl)
+contains_found events k n page h = contains_given page_of_event events (Found n page) page (contains_at events k (Found n page) h) (0, omega arith, refl)
 
 -- ---- mentions and known places of a prefix
 
@@ -100,7 +94,7 @@ known_stays opening events k n p h =
 mentions_at : (opening : OpeningData) (events : List EventData) (k : ℕ) (e : EventData) (p : PlaceData) → slice_get events k ≡ Some e → is_among (mentioned opening e) p ≡ true → is_among (flat_map (mentioned opening) events) p ≡ true
 mentions_at opening events k e p h among =
     let at' = at_from_among (mentioned opening e) p among in
-    let has = contains_flat_map (mentioned opening) events k e p h (contains_at (mentioned opening e) at'.0 p at'.1) in
+    let has = contains_given (mentioned opening) events e p (contains_at events k e h) (contains_at (mentioned opening e) at'.0 p at'.1) in
     let found = at_from_contains (flat_map (mentioned opening) events) p has in
     among_at (flat_map (mentioned opening) events) found.0 p found.1
 
@@ -174,24 +168,8 @@ known_reached opening events table legal agrees p among =
 
 -- ---- a complete record
 
--- no place waits, no place is out, and no mention was dropped
-record Ended (opening : OpeningData) (events : List EventData) : Type 0 where
-  none_waiting : waiting opening events ≡ []
-  none_out : out opening events ≡ []
-  none_dropped : dropped opening events ≡ 0
-
-ended : (opening : OpeningData) (events : List EventData) → IsComplete (Opened opening ∷ events) → Ended opening events
-unfolding status_of
-ended opening events complete =
-    let parts = and_parts (eqb (length (waiting opening events)) 0) (eqb (length (out opening events)) 0) complete.is_finished in
-    record {
-      none_waiting = nil_from_length (waiting opening events) (eqb-true (length (waiting opening events)) 0 parts.0);
-      none_out = nil_from_length (out opening events) (eqb-true (length (out opening events)) 0 parts.1);
-      none_dropped = complete.none_dropped;
-    }
-
-each_done : (opening : OpeningData) (events : List EventData) → IsLegal (Opened opening ∷ events) → Ended opening events → (n : ℕ) → n < length (known opening events) → is_done opening events n ≡ true
-each_done opening events legal end n within = done_if_ended opening events legal end.none_waiting end.none_out n within
+each_done : (opening : OpeningData) (events : List EventData) (table : OutcomeTable) → IsComplete opening events table → (n : ℕ) → n < length (known opening events) → is_done opening events n ≡ true
+each_done opening events table complete n within = done_if_ended opening events complete.legal complete.none_waits complete.none_out n within
 
 -- a number that is done has an outcome
 has_outcome : (opening : OpeningData) (events : List EventData) (n : ℕ) → 1 ≤ opening.tries → is_done opening events n ≡ true → 1 ≤ finds events n + failures events n
@@ -204,12 +182,12 @@ has_outcome opening events n some done' =
 -- ---- each place that can be reached is known
 
 -- a known place whose outcome is bytes was found, with the page of these bytes
-found_at : (opening : OpeningData) (events : List EventData) (table : OutcomeTable) → IsLegal (Opened opening ∷ events) → Agrees opening events table → Ended opening events → (place : PlaceData) (bytes : List ℕ) → is_among (known opening events) place ≡ true → table place ≡ Some (Fetched bytes) → (k : ℕ) × (n : ℕ) × (slice_get events k ≡ Some (Found n (page_of opening.scope place bytes)))
-found_at opening events table legal agrees end place bytes among fetched =
+found_at : (opening : OpeningData) (events : List EventData) (table : OutcomeTable) → IsComplete opening events table → (place : PlaceData) (bytes : List ℕ) → is_among (known opening events) place ≡ true → table place ≡ Some (Fetched bytes) → (k : ℕ) × (n : ℕ) × (slice_get events k ≡ Some (Found n (page_of opening.scope place bytes)))
+found_at opening events table complete place bytes among fetched =
     let at' = at_from_among (known opening events) place among in
     let n : ℕ = at'.0 in
-    let ended_once = has_outcome opening events n legal.0.some_try (each_done opening events legal end n (slice_get_within (known opening events) n place at'.1)) in
-    cases n ended_once (last_outcome events n) refl (agrees n place at'.1)
+    let ended_once = has_outcome opening events n complete.legal.0.some_try (each_done opening events table complete n (slice_get_within (known opening events) n place at'.1)) in
+    cases n ended_once (last_outcome events n) refl (complete.agrees n place at'.1)
   where
     cases : (n : ℕ) → 1 ≤ finds events n + failures events n → (last : Option EventData) → last_outcome events n ≡ last → IsTold opening.scope place (table place) (last_outcome events n) → (k : ℕ) × (m : ℕ) × (slice_get events k ≡ Some (Found m (page_of opening.scope place bytes)))
     cases n ended_once None e told =
@@ -227,38 +205,39 @@ found_at opening events table legal agrees end place bytes among fetched =
         let told' : table place ≡ Some (Unfetched why) = subst (IsTold opening.scope place (table place)) e told in
         cc
 
-reached_known : (opening : OpeningData) (events : List EventData) (table : OutcomeTable) → IsLegal (Opened opening ∷ events) → Agrees opening events table → Ended opening events → (p : PlaceData) → IsReachable opening.scope opening.seeds table p → is_among (known opening events) p ≡ true
+reached_known : (opening : OpeningData) (events : List EventData) (table : OutcomeTable) → IsComplete opening events table → (p : PlaceData) → IsReachable opening.scope opening.seeds table p → is_among (known opening events) p ≡ true
 unfolding mentions
-reached_known opening events table legal agrees end p (seed among) =
-    all_known opening events p end.none_dropped
+reached_known opening events table complete p (seed among) =
+    all_known opening events p complete.none_dropped
     (list_any-append (same_place p) opening.seeds (flat_map (mentioned opening) events) ∙ or_left (is_among opening.seeds p) (is_among (flat_map (mentioned opening) events) p) among)
-reached_known opening events table legal agrees end p (link {place} reached among) =
-    cases (reached_known opening events table legal agrees end place reached) (table place) refl
+reached_known opening events table complete p (link {place} reached among) =
+    cases (reached_known opening events table complete place reached) (table place) refl
   where
     cases : is_among (known opening events) place ≡ true → (outcome : Option OutcomeData) → table place ≡ outcome → is_among (known opening events) p ≡ true
     cases ih None e = absurd (false≢true (ap (λ o. is_among (links_after opening.scope place o) p) (sym e) ∙ among))
     cases ih (Some (Unfetched why)) e = absurd (false≢true (ap (λ o. is_among (links_after opening.scope place o) p) (sym e) ∙ among))
     cases ih (Some (Fetched bytes)) e =
         let page : PageData = page_of opening.scope place bytes in
-        let found = found_at opening events table legal agrees end place bytes ih e in
+        let found = found_at opening events table complete place bytes ih e in
         let among' : is_among page.links p ≡ true = ap (λ o. is_among (links_after opening.scope place o) p) (sym e) ∙ among in
         let at' = at_from_among page.links p among' in
         let allowed : allows opening.scope p ≡ true = All_at (IsAllowed opening.scope) page.links at'.0 p (page_of-allowed opening.scope place bytes) at'.1 in
         let mention = mentions_at opening events found.0 (Found found.1 page) p found.2 (among_filter_from (allows opening.scope) page.links p among' allowed) in
-        all_known opening events p end.none_dropped
+        all_known opening events p complete.none_dropped
         (list_any-append (same_place p) opening.seeds (flat_map (mentioned opening) events) ∙ or_right (is_among opening.seeds p) (is_among (flat_map (mentioned opening) events) p) mention)
 
 -- ---- the law
 
-pub holds_reach : (opening : OpeningData) (events : List EventData) (table : OutcomeTable) → IsLegal (Opened opening ∷ events) → IsComplete (Opened opening ∷ events) → Agrees opening events table → HoldsReach opening events table
-holds_reach opening events table legal complete agrees =
-    let end = ended opening events complete in
+pub holds_reach : (opening : OpeningData) (events : List EventData) (table : OutcomeTable) → IsComplete opening events table → HoldsReach opening events table
+holds_reach opening events table complete =
+    let legal : IsLegal (Opened opening ∷ events) = complete.legal in
+    let agrees : Agrees opening events table = complete.agrees in
     record {
-      known_reachable = λ p. (known_reached opening events table legal agrees p, reached_known opening events table legal agrees end p);
+      known_reachable = λ p. (known_reached opening events table legal agrees p, reached_known opening events table complete p);
       reachable_allowed = λ p reached.
-          let at' = at_from_among (known opening events) p (reached_known opening events table legal agrees end p reached) in
+          let at' = at_from_among (known opening events) p (reached_known opening events table complete p reached) in
           All_at (IsAllowed opening.scope) (known opening events) at'.0 p (known-allowed opening events legal) at'.1;
-      all_done = done_is opening events ∙ filter_range_every (is_done opening events) 0 (length (known opening events)) (λ n l u. each_done opening events legal end n (omega arith));
+      all_done = done_is opening events ∙ filter_range_every (is_done opening events) 0 (length (known opening events)) (λ n l u. each_done opening events table complete n (omega arith));
       pages_reached = λ page. (
         λ held.
             let at' = at_from_contains (pages_found events) page held in
@@ -273,7 +252,7 @@ holds_reach opening events table legal complete agrees =
               is_page = told.2;
             },
         λ reached.
-            let found = found_at opening events table legal agrees end reached.place reached.bytes (reached_known opening events table legal agrees end reached.place reached.is_reachable) reached.is_fetched in
+            let found = found_at opening events table complete reached.place reached.bytes (reached_known opening events table complete reached.place reached.is_reachable) reached.is_fetched in
             subst (Contains (pages_found events)) (sym reached.is_page) (contains_found events found.0 found.1 (page_of opening.scope reached.place reached.bytes) found.2),
       );
     }

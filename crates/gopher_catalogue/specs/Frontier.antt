@@ -4,10 +4,6 @@ use Rattle.std.specs.Prelude.{ℕ, ◌+◌, ◌-◌, Bool, true, false, ◌||◌
 use Rattle.std.specs.List.{flat_map, range_with_len}
 use Rattle.gopher_item.specs.Place.{PlaceData, distinct, is_among}
 use Rattle.gopher_item.specs.Scope.{allows}
-use Rattle.std.specs.Arc.{arc_value}
-use Rattle.std.specs.declared.sync.Arc.{Arc}
-use Rattle.gopher_catalogue.specs.Tables.{FrontierData, Learns, allowed}
-use Rattle.gopher_catalogue.specs.declared.frontier.sizes.Added.{Added}
 use Rattle.gopher_catalogue.specs.Event.{OpeningData, EventData, Claimed, Found, Failed}
 
 -- ---- places
@@ -58,7 +54,15 @@ finds events number = count_by (is_find_of number) events
 unfoldable pub failures : List EventData → ℕ → ℕ
 failures events number = count_by (is_failure_of number) events
 
+-- the number of outcomes of a place
+abbrev pub outcomes : List EventData → ℕ → ℕ
+outcomes events number = finds events number + failures events number
+
 -- ---- states
+
+-- the numbers of the known places, in order
+abbrev pub numbers : OpeningData → List EventData → List ℕ
+numbers opening events = range_with_len 0 (length (known opening events))
 
 -- the numbers that an event appends to the queue, after the events before it: those of the places
 -- that become known, or its own if it failed with tries left
@@ -77,8 +81,7 @@ entered_along opening before (event ∷ events) =
 
 -- every number that ever entered the queue, in order: the seeds first
 unfoldable pub entries : OpeningData → List EventData → List ℕ
-entries opening events =
-    range_with_len 0 (length (known opening [])) ++ entered_along opening [] events
+entries opening events = numbers opening [] ++ entered_along opening [] events
 
 -- the numbers that wait to be claimed, in order; each claim takes the first
 unfoldable pub waiting : OpeningData → List EventData → List ℕ
@@ -86,7 +89,7 @@ waiting opening events = drop (count_by is_claim events) (entries opening events
 
 -- a number is out while it has one claim more than outcomes
 unfoldable pub is_out : List EventData → ℕ → Bool
-is_out events number = claims events number == finds events number + failures events number + 1
+is_out events number = claims events number == outcomes events number + 1
 
 -- a number is done once it was found, or failed at its last try
 unfoldable pub is_done : OpeningData → List EventData → ℕ → Bool
@@ -94,14 +97,7 @@ is_done opening events number =
     nat_lt 0 (finds events number) || nat_le opening.tries (failures events number)
 
 unfoldable pub out : OpeningData → List EventData → List ℕ
-out opening events = filter (is_out events) (range_with_len 0 (length (known opening events)))
+out opening events = filter (is_out events) (numbers opening events)
 
 unfoldable pub done : OpeningData → List EventData → List ℕ
-done opening events =
-    filter (is_done opening events) (range_with_len 0 (length (known opening events)))
-
--- the frontier learned the links that the scope of a crawl allows, up to its limit of places
-abbrev pub LearnsLinks : {Z : Type 0} → Arc OpeningData Z → List PlaceData → FrontierData
-    → FrontierData → Added → Type 0
-LearnsLinks opening links before after =
-    Learns (arc_value opening).limit (allowed (arc_value opening).scope links) before after
+done opening events = filter (is_done opening events) (numbers opening events)

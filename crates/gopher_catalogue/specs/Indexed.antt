@@ -1,10 +1,9 @@
 -- The relation between the record and the tables that the catalogue keeps beside it.
 use Rattle.std.specs.Prelude.{◌≡◌, ℕ, ◌+◌, ◌*◌, ◌^◌, ◌<◌, ◌≤◌, List, length, map}
-use Rattle.std.specs.List.{range_with_len}
 use Rattle.gopher_text.specs.declared.reply_reader.TheConstants.{MAX_REPLY}
 use Rattle.gopher_catalogue.specs.declared.frontier.known.Standing.{Standing}
 use Rattle.gopher_catalogue.specs.Event.{OpeningData, EventData}
-use Rattle.gopher_catalogue.specs.Frontier.{known, dropped, waiting, out, done, claims, is_out}
+use Rattle.gopher_catalogue.specs.Frontier.{known, dropped, numbers, waiting, out, done, claims, is_out}
 use Rattle.gopher_catalogue.specs.Legal.{IsLegal}
 use Rattle.gopher_catalogue.specs.Tables.{FrontierData}
 use Rattle.gopher_catalogue.specs.History.{RecordData, opening_in, later_in}
@@ -17,8 +16,7 @@ standing_of events number = record { claims = claims events number; is_out = is_
 pub record Tells (opening : OpeningData) (events : List EventData)
     (frontier : FrontierData) : Type 0 where
   pub places_is : frontier.places ≡ known opening events
-  pub standings_is : frontier.standings
-      ≡ map (standing_of events) (range_with_len 0 (length (known opening events)))
+  pub standings_is : frontier.standings ≡ map (standing_of events) (numbers opening events)
   pub waiting_is : frontier.waiting ≡ waiting opening events
   pub out_is : frontier.out ≡ length (out opening events)
   pub done_is : frontier.done ≡ length (done opening events)

@@ -1,10 +1,10 @@
 -- Laws of every legal record. Each one is the contract of a function of `laws`.
 use Rattle.std.specs.Prelude.{◌≡◌, ℕ, ◌+◌, ◌≤◌, ◌&&◌, List, ◌∷◌, length, take, filter, count_by, Some, slice_get, ◌==◌, nat_lt, if◌then◌else◌}
-use Rattle.std.specs.List.{All, range_with_len}
+use Rattle.std.specs.List.{All}
 use Rattle.gopher_item.specs.Place.{PlaceData}
 use Rattle.gopher_item.specs.Scope.{IsAllowed}
 use Rattle.gopher_catalogue.specs.Event.{OpeningData, EventData, Opened, Claimed}
-use Rattle.gopher_catalogue.specs.Frontier.{known, claims, finds, failures, waiting, out, done}
+use Rattle.gopher_catalogue.specs.Frontier.{known, claims, finds, outcomes, numbers, waiting, out, done}
 use Rattle.gopher_catalogue.specs.Legal.{IsLegal}
 
 -- ---- places
@@ -23,10 +23,6 @@ KnownPlacesAreDistinct =
     → slice_get (known opening events) j ≡ Some place → i ≡ j
 
 -- ---- claims
-
--- the number of outcomes of a place
-abbrev pub outcomes : List EventData → ℕ → ℕ
-outcomes events number = finds events number + failures events number
 
 -- a place is out at most once at a time: each claim but the last has its outcome, and no claim has
 -- two
@@ -81,10 +77,6 @@ abbrev pub OneTryIsOneClaim : Type 0
 OneTryIsOneClaim =
     (opening : OpeningData) (events : List EventData) (number : ℕ)
     → IsLegal (Opened opening ∷ events) → opening.tries ≡ 1 → claims events number ≤ 1
-
--- the numbers of the known places, in order
-abbrev pub numbers : OpeningData → List EventData → List ℕ
-numbers opening events = range_with_len 0 (length (known opening events))
 
 -- the states with one try: a waiting place was never claimed, a place that is out was claimed and
 -- has no outcome, and a place that is done was found or failed

@@ -12,4 +12,3 @@ pub mod Indexed
 pub mod Laws
 pub mod Pages
 pub mod Closure
-pub mod FinalAnswer

@@ -2,12 +2,15 @@
 use Rattle.std.specs.Prelude.{◌≡◌, ℕ, ◌+◌, ◌-◌, ◌≤◌, Bool, true, false, ◌&&◌, ◌||◌, not, List, [], ◌∷◌, ◌++◌, Some, length, filter, replicate, drop, slice_get, slice_set, nat_lt, nat_le, if◌then◌else◌}
 use Rattle.std.specs.List.{range_with_len}
 use Rattle.std.specs.Option.{option_map_or}
+use Rattle.std.specs.Arc.{arc_value}
 use Rattle.std.specs.Vec.{vec_capacity, vec_len}
+use Rattle.std.specs.declared.sync.Arc.{Arc}
 use Rattle.std.specs.declared.vec.Vec.{Vec}
 use Rattle.gopher_item.specs.Place.{PlaceData, same_place, is_among}
 use Rattle.gopher_item.specs.Scope.{ScopeData, allows}
 use Rattle.gopher_item.specs.declared.limits.TheConstants.{MAX_PLACES}
 use Rattle.gopher_text.specs.declared.reply_reader.TheConstants.{MAX_REPLY}
+use Rattle.gopher_catalogue.specs.Opening.{OpeningData}
 use Rattle.gopher_catalogue.specs.declared.frontier.known.Standing.{Standing}
 use Rattle.gopher_catalogue.specs.declared.frontier.sizes.Added.{Added}
 use Rattle.gopher_catalogue.specs.declared.frontier.sizes.Status.{Status}
@@ -160,6 +163,12 @@ pub record Learns (limit : ℕ) (mentions : List PlaceData) (before after : Fron
   pub fresh : added.fresh + length before.places ≡ length after.places
   pub few : added.dropped ≤ MAX_REPLY
   pub room : added.fresh + before.out ≤ after.room
+
+-- the frontier learned the links that the scope of a crawl allows, up to its limit of places
+abbrev pub LearnsLinks : {Z : Type 0} → Arc OpeningData Z → List PlaceData → FrontierData
+    → FrontierData → Added → Type 0
+LearnsLinks opening links before after =
+    Learns (arc_value opening).limit (allowed (arc_value opening).scope links) before after
 
 -- the counts of a frontier
 abbrev pub frontier_status : FrontierData → Status

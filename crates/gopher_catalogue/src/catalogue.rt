@@ -4,15 +4,13 @@ ghost use Rattle.std.specs.Prelude.{◌≡◌, ◌≤◌, ℕ, true, false, None
 ghost use Rattle.std.specs.Arc.{arc_value};
 ghost use Rattle.gopher_item.specs.Scope.{first_outside};
 ghost use Rattle.gopher_index.specs.Index.{IsSliceOf};
-ghost use Rattle.gopher_catalogue.specs.Tables.{KeepsFrontier};
-ghost use Rattle.gopher_catalogue.specs.Frontier.{LearnsLinks};
+ghost use Rattle.gopher_catalogue.specs.Tables.{KeepsFrontier, LearnsLinks};
 ghost use Rattle.gopher_catalogue.specs.Event.{EventData, Opened, Claimed, Found, Failed};
 ghost use Rattle.gopher_catalogue.specs.EventOf.{event_data};
 ghost use Rattle.gopher_catalogue.specs.Fault.{HasOpenFault, HasFoundFault};
 ghost use Rattle.gopher_catalogue.specs.Legal.{IsLegal};
 ghost use Rattle.gopher_catalogue.specs.Step.{open_fault, IsOpenedRecord, turn_of, after_turn, is_out_in, found_fault, added_by, status_of, is_finished, places_of};
-ghost use Rattle.gopher_catalogue.specs.Closure.{HoldsReachOnceComplete};
-ghost use Rattle.gopher_catalogue.specs.FinalAnswer.{AreFinalHits, AreFinalOccurrences};
+ghost use Rattle.gopher_catalogue.specs.Closure.{AreFinalOnceComplete, HoldsReach, IsFinalOnceComplete, OnceComplete};
 ghost use Rattle.gopher_catalogue.specs.Pages.{pages_found, IsDueAmong, AreHitsIn, AreOccurrencesIn};
 ghost use Rattle.gopher_catalogue.specs.Turn.{turn_data, IsTake};
 
@@ -314,7 +312,7 @@ impl Catalogue {
     /// (`closure`).
     pub fn places(&self) -> &[Arc<Place>]
         ensures places { map arc_value result.now ≡ places_of self.now }
-        ensures reach { HoldsReachOnceComplete self.now }
+        ensures reach { OnceComplete self.now HoldsReach }
         ensures legal { IsLegal self.now }
     {
         self.frontier.places()
@@ -343,7 +341,7 @@ impl Catalogue {
     /// places that can be reached, as in `places`.
     pub fn search(&self, query: &Query) -> Result<Vec<Hit>, NoMemory>
         ensures hits { IfOk result (AreHitsIn self.now query.now) }
-        ensures once_complete { IfOk result (AreFinalHits self.now query.now) }
+        ensures complete { IfOk result (λ hits. IsFinalOnceComplete self.now query.now hits.items) }
         ensures legal { IsLegal self.now }
     {
         self.index().search(self.alloc, query)
@@ -355,7 +353,7 @@ impl Catalogue {
     /// places that can be reached, as in `places`.
     pub fn occurrences(&self, word: &[u8]) -> Result<Vec<(Place, u32)>, NoMemory>
         ensures occurrences { IfOk result (AreOccurrencesIn self.now word.now) }
-        ensures once_complete { IfOk result (AreFinalOccurrences self.now word.now) }
+        ensures complete { IfOk result (λ list. AreFinalOnceComplete self.now word.now list.items) }
         ensures legal { IsLegal self.now }
     {
         self.index().occurrences(self.alloc, word)

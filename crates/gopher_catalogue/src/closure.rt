@@ -5,8 +5,7 @@
 //! known place is the table's. A finished crawl that agrees with a table and dropped no mention
 //! depends only on the table, the scope and the seeds. No law says that a crawl finishes.
 
-ghost use Rattle.gopher_catalogue.specs.Closure.{EachPageIsFoundOnce, FinishedCrawlHoldsReach, FinishedCrawlsAgree, OneTryAgreesThroughout};
-ghost use Rattle.gopher_catalogue.specs.FinalAnswer.{AnswersAreOfPagesFound, FinalAnswerIsOne, FinalOccurrencesAreOne, FinishedCrawlGivesFinalAnswers, FinishedCrawlGivesFinalOccurrences, FinishedCrawlsAnswerAlike};
+ghost use Rattle.gopher_catalogue.specs.Closure.{AnswersAreOfPagesFound, EachPageIsFoundOnce, FinalAnswerIsOne, FinalOccurrencesAreOne, FinishedCrawlGivesFinalAnswers, FinishedCrawlGivesFinalOccurrences, FinishedCrawlHoldsReach, FinishedCrawlsAgree, FinishedCrawlsAnswerAlike, OneTryAgreesThroughout};
 
 /// A finished crawl knows exactly the places that can be reached. All of them are allowed and done,
 /// and the pages found are those of the table's bytes.

@@ -40,7 +40,7 @@ impl Why {
 }
 
 /// An event of a crawl. A number identifies a place: its index, from 0, among the known places.
-#[derive(Debug, Drop)]
+#[derive(Drop)]
 pub enum Event {
     /// The crawl began. This is the first event of a record and occurs nowhere else.
     Opened(Arc<Opening>),

@@ -1,6 +1,6 @@
-use Rattle.gopher_catalogue.specs.Closure.{IsReachedPage}
-use Rattle.gopher_catalogue.proofs.PageLists.{occurrences_listed}
+use Rattle.gopher_catalogue.proofs.PageLists.{occurrences_same}
+use Rattle.gopher_catalogue.proofs.FinalAnswers.{final_one}
 use Rattle.gopher_catalogue.proofs.closure.final_occurrences_are_one.Goals as goal
 
 pub returns : goal.returns
-returns c = λ scope seeds table word. (occurrences_listed word).one (IsReachedPage scope seeds table)
+returns c = λ scope seeds table word. final_one (occurrences_same word) scope seeds table

@@ -1,8 +1,7 @@
 use Rattle.std.proofs.Common.{subst}
 use Rattle.std.specs.Prelude.{IfOk}
-use Rattle.gopher_index.specs.Answer.{AreOccurrences}
+use Rattle.gopher_index.specs.Answer.{AreOccurrences, occurrences_of}
 use Rattle.gopher_catalogue.proofs.FinalAnswers.{final_returned, occurrences_sorted}
-use Rattle.gopher_catalogue.proofs.PageLists.{occurrences_listed}
 use Rattle.gopher_catalogue.proofs.catalogue.Catalogue.occurrences.Goals as goal
 
 pub returns-clause-occurrences : goal.returns-clause-occurrences
@@ -10,5 +9,5 @@ returns-clause-occurrences c =
     occurrences_sorted (λ list. list.items) c.args.self.now c.args.word.now c.occurrences.result c.index.ensures.legal
     (subst (λ pages. IfOk c.occurrences.result (λ list. AreOccurrences pages c.args.word.now list.items)) c.index.ensures.pages c.occurrences.ensures)
 
-pub returns-clause-once_complete : goal.returns-clause-once_complete
-returns-clause-once_complete c = final_returned (occurrences_listed c.args.word.now) (λ list. list.items) c.args.self.now c.occurrences.result c.index.ensures.legal (returns-clause-occurrences c)
+pub returns-clause-complete : goal.returns-clause-complete
+returns-clause-complete c = final_returned (λ pages. occurrences_of pages c.args.word.now) (λ list. list.items) c.args.self.now c.occurrences.result (returns-clause-occurrences c)
