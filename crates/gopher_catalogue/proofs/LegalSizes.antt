@@ -8,8 +8,7 @@ use Rattle.std.proofs.lemmas.List.FromFn.{length-range_with_len}
 use Rattle.std.proofs.lemmas.List.Sums.{sum_by-cons, sum_by-le, length-filter}
 use Rattle.gopher_catalogue.specs.Event.{OpeningData, EventData, Opened, Claimed, Found, Failed}
 use Rattle.gopher_catalogue.specs.Frontier.{known, claims, finds, failures, waiting, is_claim_of, is_find_of, is_failure_of, is_out, is_done, out, done}
-use Rattle.gopher_catalogue.specs.Laws.{times_listed}
-use Rattle.gopher_catalogue.specs.Legal.{MayFollow, FollowEachOther, IsLegal}
+use Rattle.gopher_catalogue.specs.Legal.{MayFollow, FollowEachOther, IsLegal, times_listed}
 use Rattle.gopher_catalogue.proofs.Legal.{legal_ind, legal_record}
 use Rattle.gopher_catalogue.proofs.Steps.{is_out_is, is_out_from_claims, not_out_from_claims, is_done_is, length-known}
 use Rattle.gopher_catalogue.proofs.Counting.{times, times-nil, times-cons, times-append, times-filter, times-range, sum-range_ones, sum-range_add, sum-times}

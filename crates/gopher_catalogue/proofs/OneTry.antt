@@ -7,8 +7,7 @@ use Rattle.std.proofs.lemmas.List.Elements.{filter-append}
 use Rattle.std.proofs.lemmas.List.FromFn.{length-range_with_len}
 use Rattle.gopher_catalogue.specs.Event.{OpeningData, EventData, Opened, Claimed, Found, Failed}
 use Rattle.gopher_catalogue.specs.Frontier.{known, claims, finds, failures, outcomes, numbers, waiting, is_out, is_done}
-use Rattle.gopher_catalogue.specs.Legal.{MayFollow, FollowEachOther, IsLegal}
-use Rattle.gopher_catalogue.specs.Laws.{HasSimpleStates}
+use Rattle.gopher_catalogue.specs.Legal.{MayFollow, FollowEachOther, IsLegal, HasSimpleStates}
 use Rattle.gopher_catalogue.proofs.Places.{bools_agree}
 use Rattle.gopher_catalogue.proofs.Ranges.{range-append, filter_range_none, filter_range_agree}
 use Rattle.gopher_catalogue.proofs.Legal.{legal_ind}

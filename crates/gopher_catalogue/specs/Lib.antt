@@ -9,6 +9,5 @@ pub mod Step
 pub mod Turn
 pub mod History
 pub mod Indexed
-pub mod Laws
 pub mod Pages
 pub mod Closure

@@ -1,6 +1,6 @@
 //! Laws of every legal record. Each function does nothing: its contract is the law.
 
-ghost use Rattle.gopher_catalogue.specs.Laws.{BeginningsAreLegal, EachKnownPlaceHasOneState, KnownPlacesAreAllowed, KnownPlacesAreDistinct, NoClaimAfterAFind, NoMoreClaimsThanTries, NoPlaceIsOutTwice, OneTryHasSimpleStates, OneTryIsOneClaim, RecordsAreShort, StateSizesAddUp};
+ghost use Rattle.gopher_catalogue.specs.Legal.{BeginningsAreLegal, EachKnownPlaceHasOneState, KnownPlacesAreAllowed, KnownPlacesAreDistinct, NoClaimAfterAFind, NoMoreClaimsThanTries, NoPlaceIsOutTwice, OneTryHasSimpleStates, OneTryIsOneClaim, RecordsAreShort, StateSizesAddUp};
 
 /// The scope allows each known place.
 pub fn known_places_are_allowed()
