@@ -97,10 +97,7 @@ fn learn(
     ensures err { OnErr result (KeepsFrontier frontier.old frontier.new) }
 {
     let none = Places::new(alloc);
-    let links = match page.packed_links() {
-        Some(links) => links,
-        None => &none,
-    };
+    let links = page.packed_links().unwrap_or(&none);
     frontier.learn(alloc, opening.scope(), opening.places(), links)
 }
 
