@@ -209,10 +209,7 @@ impl Page {
         ensures links { places_lent result ≡ self.now.links }
         ensures few { length self.now.links ≤ MAX_REPLY }
     {
-        match &self.parts.links {
-            Some(links) => Some(links),
-            None => None,
-        }
+        self.parts.links.as_deref()
     }
 
     /// Returns the distinct words of the page in byte order, with their counts.
