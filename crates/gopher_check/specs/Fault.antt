@@ -23,13 +23,17 @@ site_fault_code (fault.SeedOutOfScope seed) = 50
 site_fault_code fault.SettingsUnreadable = 80
 site_fault_code fault.KeyTwice = settings_fault_code settings_fault.NotToml
 
+-- the sum, unless it is over the largest number of 64 bits
+abbrev pub capped_sum : ℕ → ℕ → ℕ
+capped_sum one other = min (one + other) 18446744073709551615
+
 -- the limit that a tree passes at the end of a trail, after `number` files, and by how much
 abbrev pub excess : ℕ → Trail → Obstacle
 excess number trail =
     if nat_lt 16777216 trail.size then obstacle.LargeFile trail.size
-    else (if nat_lt 67108864 (trail.bytes + trail.size)
-    then obstacle.LargeSite (min (trail.bytes + trail.size) 18446744073709551615)
-    else obstacle.ManyNodes (min (length trail.folders.items + number + 2) 18446744073709551615))
+    else (if nat_lt 67108864 (capped_sum trail.bytes trail.size)
+    then obstacle.LargeSite (capped_sum trail.bytes trail.size)
+    else obstacle.ManyNodes (capped_sum (capped_sum (length trail.folders.items) number) 2))
 
 -- the reason why a file or folder can't be read, by the kind of the system's error
 abbrev pub obstacle_of : ErrorKind → Obstacle

@@ -2,6 +2,4 @@ pub mod Fault
 pub mod Lines
 pub mod Links
 pub mod Report
-pub mod Table
-pub mod Tells
 pub mod Text

@@ -1,25 +1,33 @@
--- The words of a check: of a fault, and of a site without one.
-use Rattle.std.specs.Prelude.{ℕ, Bool, true, List, [], ◌∷◌, ◌++◌, codes, length, count_by, Option, None, Some, ◌==◌, ◌&&◌, if◌then◌else◌}
+-- The reports of a check: the words of each, and the one that a text of settings gets.
+use Rattle.std.specs.Prelude.{ℕ, Bool, true, List, [], ◌∷◌, ◌++◌, codes, length, count_by, Option, None, Some, ◌==◌, ◌&&◌, if◌then◌else◌, ◌≡◌, ◌⊎◌, Ok, Err}
 use Rattle.std.specs.List.{flat_map}
+use Rattle.toml.specs.Data.{Members}
+use Rattle.toml.specs.Parse.{parse_document}
+use Rattle.toml.specs.declared.de.error.Error.{Error}
 use Rattle.gopher_item.specs.Place.{PlaceData, HomeData}
 use Rattle.gopher_item.specs.Rule.{RuleData}
-use Rattle.gopher_scope.specs.Rows.{key_name}
-use Rattle.gopher_scope.specs.Settings.{SettingsData}
+use Rattle.gopher_item.specs.Scope.{first_outside}
+use Rattle.gopher_scope.specs.Rows.{key_name, all_keys}
+use Rattle.gopher_scope.specs.Settings.{SettingsData, key_fault, settings_of}
 use Rattle.gopher_scope.specs.declared.fault.SettingsFault.{SettingsFault}
 use Rattle.gopher_scope.specs.declared.fault.SettingsFault.TheVariants as settings_fault
 use Rattle.gopher_scope.specs.declared.settings.key.Key.{Key}
+use Rattle.gopher_scope.specs.Unknown.{Unknown, unknown_keys}
 use Rattle.gopher_tree.specs.Files.{File, is_missing, total_bytes}
 use Rattle.gopher_tree.specs.Path.{is_menu_path}
 use Rattle.gopher_tree.specs.declared.load.trail.Trail.{Trail}
 use Rattle.gopher_tree.specs.declared.fault.TreeFault.{TreeFault}
 use Rattle.gopher_tree.specs.declared.fault.TreeFault.TheVariants as tree_fault
-use Rattle.gopher_check.specs.Fault.{site_fault_code, cause, remedy}
+use Rattle.gopher_tree.specs.Load.{LoadsTo}
+use Rattle.gopher_check.specs.Fault.{site_fault_code, cause, remedy, IsReason}
 use Rattle.gopher_check.specs.Lines.{words_line, count_words, number_line, server_words, place_rest}
 use Rattle.gopher_check.specs.Links.{dead_lines, offers_search}
 use Rattle.gopher_check.specs.declared.obstacle.Obstacle.{Obstacle}
 use Rattle.gopher_check.specs.declared.obstacle.Obstacle.TheVariants as obstacle
 use Rattle.gopher_check.specs.declared.fault.SiteFault.{SiteFault}
 use Rattle.gopher_check.specs.declared.fault.SiteFault.TheVariants as fault
+use Rattle.gopher_check.specs.Text.{toml_fault_line, IsTomlFault, IsKeyOf}
+use Rattle.gopher_check.specs.declared.fault_report.Report.{Report}
 
 -- the line of a name, unless it is empty
 abbrev pub named_line : List ℕ → List ℕ → List ℕ
@@ -137,3 +145,69 @@ site_report path settings files trail =
     ++ rule_lines (codes "may visit: ") settings.scope.allow
     ++ rule_lines (codes "may not visit: ") settings.scope.deny
     ++ warnings settings.home settings.root files settings.seeds trail ++ codes "sound\n"
+
+abbrev pub unknown_report : List ℕ → Unknown → List ℕ
+unknown_report path key =
+    fault_report (fault.Settings settings_fault.UnknownKey) path None key.0 key.1
+
+-- the report of a key's fault, if it has one
+abbrev pub key_report : List ℕ → Option SettingsFault → List ℕ
+key_report path None = []
+key_report path (Some why) = fault_report (fault.Settings why) path None None []
+
+-- the reports of each unknown key, and of each key with a fault
+abbrev pub table_report : List ℕ → Members → List ℕ
+table_report path table =
+    flat_map (unknown_report path) (unknown_keys table)
+    ++ flat_map (λ key. key_report path (key_fault table key)) all_keys
+
+-- the report has this fault and these words
+abbrev pub IsReport : Option SiteFault → List ℕ → Report → Type 0
+IsReport found words report = (report.fault ≡ found) × (report.words.items ≡ words)
+
+-- the report is that of a fault which names no key in an array
+abbrev pub IsReportOf : SiteFault → List ℕ → Option ℕ → List ℕ → Report → Type 0
+IsReportOf why path line key = IsReport (Some why) (fault_report why path line None key)
+
+-- the report is the one on a fault of a folder at the end of a trail
+abbrev pub IsReportOnFolder : TreeFault → List ℕ → Trail → Report → Type 0
+IsReportOnFolder why root trail report =
+    (how : Obstacle) × IsReason why trail how
+    × IsReport (Some (fault.Tree why how)) (folder_report why how root trail.path.items) report
+
+-- the report is the one on settings and their folder: without a fault, or on the folder, or on a
+-- seed that the scope doesn't allow
+abbrev pub IsReportOnSite : List ℕ → SettingsData → Report → Type 0
+IsReportOnSite path settings report =
+    ((files : List File) × (trail : Trail) × LoadsTo trail (Ok files)
+    × (first_outside settings.scope settings.seeds ≡ None)
+    × IsReport None (site_report path settings files trail) report)
+    ⊎ (((why : TreeFault) × (trail : Trail) × LoadsTo trail (Err why)
+    × IsReportOnFolder why settings.root trail report)
+    ⊎ ((seed : ℕ) × (first_outside settings.scope settings.seeds ≡ Some seed)
+    × IsReportOf (fault.SeedOutOfScope seed) path None [] report))
+
+-- the report is the one on a text that isn't TOML: with the line at which the parser's fault
+-- begins, and the key there if it is given twice
+abbrev pub IsReportOnBroken : List ℕ → List ℕ → Error → Report → Type 0
+IsReportOnBroken path text broken report =
+    IsReportOf (fault.Settings settings_fault.NotToml) path (Some (toml_fault_line text broken)) []
+    report
+    ⊎ ((key : List ℕ) × IsKeyOf text broken key
+    × IsReportOf fault.KeyTwice path (Some (toml_fault_line text broken)) key report)
+
+-- the report is the one on all faults of a table, with the first of them
+abbrev pub IsReportOnTable : List ℕ → Members → Report → Type 0
+IsReportOnTable path table report =
+    (why : SettingsFault) × (settings_of (Some table) ≡ Err why)
+    × IsReport (Some (fault.Settings why)) (table_report path table) report
+
+-- the report is the one on a text of settings: on the site that they describe, or on a text that
+-- isn't TOML, or on a table with a fault, or of memory that ran out
+abbrev pub IsReportOnText : List ℕ → List ℕ → Report → Type 0
+IsReportOnText path text report =
+    ((settings : SettingsData) × (settings_of (parse_document text) ≡ Ok settings)
+    × IsReportOnSite path settings report)
+    ⊎ (((broken : Error) × IsTomlFault text broken × IsReportOnBroken path text broken report)
+    ⊎ (((table : Members) × (parse_document text ≡ Some table) × IsReportOnTable path table report)
+    ⊎ IsReportOf (fault.Settings settings_fault.NoMemory) path None [] report))

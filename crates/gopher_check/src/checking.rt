@@ -1,14 +1,12 @@
 //! Checking a site (`check`): its settings, its folder and its seeds; and which line or key a
 //! report names.
 
-ghost use Rattle.std.specs.Prelude.{◌≡◌, ◌++◌, [], None, Some, Err, IfOk, IfSome, OnOk};
-ghost use Rattle.toml.specs.Parse.{parse_document};
+ghost use Rattle.std.specs.Prelude.{◌≡◌, ◌≢◌, ◌++◌, [], None, Some, IfOk, IfSome, OnOk};
 ghost use Rattle.gopher_item.specs.Scope.{first_outside};
-ghost use Rattle.gopher_scope.specs.Settings.{settings_data, settings_of, IsFaultOf};
+ghost use Rattle.gopher_scope.specs.Settings.{settings_data, IsFaultOf};
 ghost use Rattle.gopher_scope.specs.declared.fault.SettingsFault.TheVariants as settings_fault;
 ghost use Rattle.gopher_check.specs.declared.fault.SiteFault.TheVariants.{SettingsUnreadable};
-ghost use Rattle.gopher_check.specs.Report.{fault_report, hint_line, line_of_fault};
-ghost use Rattle.gopher_check.specs.Tells.{IsOfTable, IsReportOnFolder, IsReportOnSite, IsReportOnText};
+ghost use Rattle.gopher_check.specs.Report.{hint_line, line_of_fault, IsReportOf, IsReportOnFolder, IsReportOnSite, IsReportOnText};
 ghost use Rattle.gopher_check.specs.Text.{key_of, toml_fault_line, IsKeyOf, IsTomlFault};
 
 use crate::fault::SiteFault;
@@ -28,9 +26,7 @@ const DUPLICATE: &str = "duplicate key";
 
 /// Reports that the settings file at `path` can't be read.
 pub fn unreadable(alloc: Global, path: &str) -> Result<Report, NoMemory>
-    ensures fault { IfOk result (λ report. report.fault ≡ Some SettingsUnreadable) }
-    ensures words { IfOk result (λ report.
-        report.words.items ≡ fault_report SettingsUnreadable path.now None None []) }
+    ensures { IfOk result (IsReportOf SettingsUnreadable path.now None []) }
 {
     let fault = SiteFault::SettingsUnreadable;
     report_fault(alloc, fault, path.as_bytes(), None, b"")
@@ -99,13 +95,10 @@ fn settings_report<R: Files>(
         Ok(tree) => tree,
         Err(fault) => return folder_report(rt, alloc, settings.root.as_str(), fault, &trail),
     };
-    if let Some(seed) = first_outside(&settings.scope, &settings.seeds) {
-        return report_fault(alloc, SiteFault::SeedOutOfScope(seed), path, None, b"");
+    match first_outside(&settings.scope, &settings.seeds) {
+        Some(seed) => report_fault(alloc, SiteFault::SeedOutOfScope(seed), path, None, b""),
+        None => site_report(alloc, path, settings, &tree, &trail),
     }
-    Ok(Report {
-        words: site_report(alloc, path, settings, &tree, &trail)?,
-        fault: None,
-    })
 }
 
 // The fault with which the TOML parser refuses a text.
@@ -155,9 +148,7 @@ fn key_twice<'a>(text: &'a str, fault: &TomlFault) -> Option<&'a [u8]>
 
 // The report of settings that aren't TOML, or give a key twice, with the line of the parser's
 // fault.
-#[tactic(auto, using(crate::proofs::Tells::tells_broken))]
 fn not_toml_report(alloc: Global, path: &[u8], text: &str) -> Result<Report, NoMemory>
-    requires { settings_of (parse_document text.now) ≡ Err settings_fault.NotToml }
     ensures { IfOk result (IsReportOnText path.now text.now) }
 {
     let broken = toml_fault(alloc, text)?;
@@ -172,7 +163,6 @@ fn not_toml_report(alloc: Global, path: &[u8], text: &str) -> Result<Report, NoM
 }
 
 // The report of a table of settings with a fault.
-#[tactic(auto, using(crate::proofs::Tells::tells_refused))]
 fn refused_report(
     alloc: Global,
     path: &[u8],
@@ -180,7 +170,7 @@ fn refused_report(
     refused: SettingsFault,
 ) -> Result<Report, NoMemory>
     requires fault { IsFaultOf text.now refused }
-    requires table { IsOfTable refused }
+    requires table { refused ≢ settings_fault.NoMemory }
     ensures { IfOk result (IsReportOnText path.now text.now) }
 {
     let Ok(table) = toml::table_from_str(alloc, text) else {
@@ -200,7 +190,6 @@ fn refused_report(
 /// and the key there if it is given twice. After the first of 31 to 34 it names the others. For 23
 /// it names the limit, and the number that is over it. For 26 it reads the file or folder once more
 /// and names the system's reason.
-#[tactic(auto, using(crate::proofs::Tells::tells_memory))]
 pub fn check<R: Files>(rt: &R, alloc: Global, path: &str, text: &str) -> Result<Report, NoMemory>
     ensures { IfOk result (IsReportOnText path.now text.now) }
 {

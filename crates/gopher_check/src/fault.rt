@@ -9,7 +9,7 @@ use gopher_scope::{Key, SettingsFault};
 use gopher_tree::TreeFault;
 
 /// A fault of a site.
-#[derive(Clone, Copy, Debug, PartialEq, Eq)]
+#[derive(Clone, Copy)]
 pub enum SiteFault {
     /// 30 to 34, or 90: the settings are invalid.
     Settings(SettingsFault),

@@ -1,7 +1,7 @@
 //! The report of a fault: number, path, line, key, seed or size, cause and remedy.
 
-ghost use Rattle.std.specs.Prelude.{◌≡◌, ◌++◌, [], None, Some, IfOk, OnOk};
-ghost use Rattle.gopher_check.specs.Report.{named_line, unknown_detail, detail, line_detail, fault_report};
+ghost use Rattle.std.specs.Prelude.{◌≡◌, ◌++◌, IfOk, OnOk};
+ghost use Rattle.gopher_check.specs.Report.{named_line, unknown_detail, detail, line_detail, fault_report, IsReportOf};
 
 use crate::fault::SiteFault;
 use crate::lines::{push_number, push_words};
@@ -11,7 +11,7 @@ use gopher_scope::{Key, SettingsFault};
 use std::alloc::{AllocError, Global};
 
 /// The report of a check.
-#[derive(Debug, Drop)]
+#[derive(Drop)]
 pub struct Report {
     /// The lines of the report.
     pub words: Vec<u8>,
@@ -111,9 +111,7 @@ pub(crate) fn report_fault(
     line: Option<usize>,
     key: &[u8],
 ) -> Result<Report, NoMemory>
-    ensures fault { IfOk result (λ report. report.fault ≡ Some fault) }
-    ensures words { IfOk result (λ report.
-        report.words.items ≡ fault_report fault path.now line None key.now) }
+    ensures { IfOk result (IsReportOf fault path.now line key.now) }
 {
     let mut words = Vec::new(alloc);
     push_fault(fault, path, line, None, key, &mut words)?;

@@ -1,7 +1,7 @@
 //! The check of a site, its settings and the folder that it serves, and its report.
 //!
 //! The crate above uses one contract: `check` reports the first fault of the settings, the folder
-//! or the seeds, or a site without a fault, as `TellsText` defines (`specs/Tells.antt`).
+//! or the seeds, or a site without a fault, as `IsReportOnText` defines (`specs/Report.antt`).
 //!
 //! Error 90 (`NoMemory`) means out of memory; no argument has changed. RFC 1436 doesn't define
 //! settings or reports: this profile defines both.

@@ -11,19 +11,13 @@ use std::alloc::AllocError;
 fn push_byte(byte: u8, out: &mut Vec<u8>) -> Result<(), AllocError>
     ensures { OnOk result (out.new.items ≡ out.old.items ++ shown_byte byte) }
 {
-    if byte == b'\t' {
-        out.extend_from_slice(b"\\t")
-    } else if byte == b'\n' {
-        out.extend_from_slice(b"\\n")
-    } else if byte == b'\r' {
-        out.extend_from_slice(b"\\r")
-    } else if byte == b'\\' {
-        out.extend_from_slice(b"\\\\")
-    } else if is_control(byte) {
-        out.extend_from_slice(b"\\?")
-    } else {
-        out.push(byte)?;
-        Ok(())
+    match byte {
+        b'\t' => out.extend_from_slice(b"\\t"),
+        b'\n' => out.extend_from_slice(b"\\n"),
+        b'\r' => out.extend_from_slice(b"\\r"),
+        b'\\' => out.extend_from_slice(b"\\\\"),
+        _ if is_control(byte) => out.extend_from_slice(b"\\?"),
+        _ => out.extend_from_slice(&[byte]),
     }
 }
 
@@ -69,7 +63,8 @@ pub(crate) fn push_server(host: &[u8], port: u16, out: &mut Vec<u8>) -> Result<(
     ensures { OnOk result (out.new.items ≡ out.old.items ++ server_words host.now port) }
 {
     push_shown(host, out)?;
-    push_count(b" ", usize::from(port), out)
+    push_count(b" ", usize::from(port), out)?;
+    Ok(())
 }
 
 /// Appends the rest of a line: a host, a port, and a selector or a prefix of selectors.

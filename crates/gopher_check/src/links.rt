@@ -5,7 +5,7 @@ ghost use Rattle.gopher_tree.specs.Files.{menu_files};
 ghost use Rattle.gopher_tree.specs.Found.{lent_file};
 ghost use Rattle.gopher_tree.specs.MenuFile.{written_line};
 ghost use Rattle.gopher_tree.specs.WrittenLine.{line_data, server_data};
-ghost use Rattle.gopher_check.specs.Links.{is_own, is_dead, place_words, dead_line, offers, menu_offers, offers_search, line_warning, menu_warnings, dead_lines};
+ghost use Rattle.gopher_check.specs.Links.{is_asked, is_own, is_dead, place_words, dead_line, offers, menu_offers, offers_search, line_warning, menu_warnings, dead_lines};
 
 use crate::lines::{push_count, push_shown, push_words};
 use gopher_item::{Home, NoMemory, first_line};
@@ -33,11 +33,18 @@ fn is_own(home: &Home, server: Option<(&[u8], u16)>) -> bool
     }
 }
 
+// Whether a client asks a Gopher server for items of this type.
+fn is_asked(kind: u8) -> bool
+    ensures { result ≡ is_asked kind }
+{
+    !matches!(kind, b'i' | b'3' | b'2' | b'8' | b'T')
+}
+
 // Whether the server answers a line's selector with `Not found`.
 fn is_dead(site: &Site<'_>, line: WrittenLine<'_>) -> bool
     ensures { result ≡ is_dead site.now.home.now site.now.tree.now (line_data line.entry) }
 {
-    !matches!(line.kind, b'i' | b'3' | b'2' | b'8' | b'T')
+    is_asked(line.kind)
         && is_own(site.home, line.server)
         && !line.selector.starts_with(b"URL:")
         && line.selector != SEARCH

@@ -1,10 +1,11 @@
 //! The report of a site without a fault: address, sizes, seeds, rules and warnings.
 
-ghost use Rattle.std.specs.Prelude.{◌≡◌, ◌++◌, IfOk, OnOk};
+ghost use Rattle.std.specs.Prelude.{◌≡◌, ◌++◌, None, IfOk, OnOk};
 ghost use Rattle.std.specs.List.{flat_map};
 ghost use Rattle.gopher_scope.specs.Settings.{settings_data};
-ghost use Rattle.gopher_check.specs.Report.{address_lines, size_lines, seed_line, rule_lines, seeds_warning, leaves_nothing_out, counts_line, left_out, warnings, site_report};
+ghost use Rattle.gopher_check.specs.Report.{address_lines, size_lines, seed_line, rule_lines, seeds_warning, leaves_nothing_out, counts_line, left_out, warnings, site_report, IsReport};
 
+use crate::fault_report::Report;
 use crate::lines::{push_address, push_count, push_number, push_server, push_words};
 use crate::links::{Site, offers_search, push_dead_lines};
 use gopher_item::{Home, NoMemory, Place};
@@ -83,7 +84,8 @@ fn push_counts(
 {
     push_count(b"warning: not served: empty folders ", empty, out)?;
     push_count(b", links to nothing and devices ", nowhere, out)?;
-    push_number(b", hidden names ", hidden, out)
+    push_number(b", hidden names ", hidden, out)?;
+    Ok(())
 }
 
 // Appends the line that counts what isn't served, if there is something.
@@ -126,9 +128,9 @@ pub(crate) fn site_report(
     settings: Settings,
     tree: &Tree,
     trail: &Trail,
-) -> Result<Vec<u8>, NoMemory>
-    ensures { IfOk result (λ words. words.items
-        ≡ site_report path.now (settings_data settings) tree.now trail.now) }
+) -> Result<Report, NoMemory>
+    ensures { IfOk result
+        (IsReport None (site_report path.now (settings_data settings) tree.now trail.now)) }
 {
     let Settings {
         home,
@@ -138,19 +140,19 @@ pub(crate) fn site_report(
         ..
     } = settings;
     let (allow, deny) = scope.into_rules();
-    let mut report = Vec::new(alloc);
-    push_words(b"settings: ", path, &mut report)?;
-    push_home(&home, root.as_str(), &mut report)?;
-    push_sizes(tree, &mut report)?;
-    push_seeds(&seeds, &mut report)?;
-    push_rules(b"may visit: ", &allow, &mut report)?;
-    push_rules(b"may not visit: ", &deny, &mut report)?;
+    let mut words = Vec::new(alloc);
+    push_words(b"settings: ", path, &mut words)?;
+    push_home(&home, root.as_str(), &mut words)?;
+    push_sizes(tree, &mut words)?;
+    push_seeds(&seeds, &mut words)?;
+    push_rules(b"may visit: ", &allow, &mut words)?;
+    push_rules(b"may not visit: ", &deny, &mut words)?;
     let site = Site {
         home: &home,
         root: root.as_str(),
         tree,
     };
-    push_warnings(alloc, &site, &seeds, trail, &mut report)?;
-    report.extend_from_slice(b"sound\n")?;
-    Ok(report)
+    push_warnings(alloc, &site, &seeds, trail, &mut words)?;
+    words.extend_from_slice(b"sound\n")?;
+    Ok(Report { words, fault: None })
 }

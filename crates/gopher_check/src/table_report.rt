@@ -5,7 +5,7 @@ ghost use Rattle.std.specs.List.{flat_map};
 ghost use Rattle.toml.specs.View.{table_view};
 ghost use Rattle.gopher_scope.specs.Unknown.{unknown_data};
 ghost use Rattle.gopher_scope.specs.Settings.{key_fault};
-ghost use Rattle.gopher_check.specs.Table.{unknown_report, key_report, table_report};
+ghost use Rattle.gopher_check.specs.Report.{unknown_report, key_report, table_report};
 
 use crate::fault::SiteFault;
 use crate::fault_report::push_fault;

@@ -1,7 +1,7 @@
 use Rattle.std.proofs.Common.{◌≡◌, ◌++◌, map, take}
 use Rattle.std.specs.List.{flat_map}
 use Rattle.gopher_scope.specs.Unknown.{unknown_data}
-use Rattle.gopher_check.specs.Table.{unknown_report}
+use Rattle.gopher_check.specs.Report.{unknown_report}
 use Rattle.gopher_check.proofs.table_report.push_all_unknown.Given as goal
 
 abbrev pub invariant-loop-key : goal.invariant-loop-key

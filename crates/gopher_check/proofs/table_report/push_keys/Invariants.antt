@@ -2,7 +2,7 @@ use Rattle.std.proofs.Common.{◌≡◌, ◌++◌, take}
 use Rattle.std.specs.List.{flat_map}
 use Rattle.toml.specs.View.{table_view}
 use Rattle.gopher_scope.specs.Settings.{key_fault}
-use Rattle.gopher_check.specs.Table.{key_report}
+use Rattle.gopher_check.specs.Report.{key_report}
 use Rattle.gopher_check.proofs.table_report.push_keys.Given as goal
 
 abbrev pub invariant-loop-key : goal.invariant-loop-key
