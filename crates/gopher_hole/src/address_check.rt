@@ -22,18 +22,15 @@ fn push_bound<R: Net>(
     address: SocketAddr,
     lines: &mut Vec<u8>,
 ) -> Result<Option<ErrorKind>, NoMemory> {
-    match TcpListener::bind(rt, address) {
-        Ok(_listener) => {
-            let line = format!(in alloc; "can listen at: {address}\n")?;
-            lines.extend_from_slice(line.as_bytes())?;
-            Ok(None)
-        }
+    let (line, refused) = match TcpListener::bind(rt, address) {
+        Ok(_listener) => (format!(in alloc; "can listen at: {address}\n")?, None),
         Err(error) => {
             let line = format!(in alloc; "can't listen at: {address}: {error}\n")?;
-            lines.extend_from_slice(line.as_bytes())?;
-            Ok(Some(error.kind()))
+            (line, Some(error.kind()))
         }
-    }
+    };
+    lines.extend_from_slice(line.as_bytes())?;
+    Ok(refused)
 }
 
 // Appends the lines of an address of the host. If `listens`, binds it for a moment. Returns whether

@@ -10,7 +10,7 @@ use std::net::{IpAddr, Ipv6Addr, SocketAddr};
 const VERSION: &str = "0.2.0";
 
 // The greatest number of connections after which a server may end.
-const MAX_REQUESTS: u64 = 1_000_000;
+const MAX_REQUESTS: i64 = 1_000_000;
 
 /// What the arguments ask for.
 #[derive(Drop)]
@@ -64,20 +64,13 @@ pub struct Serving<'a> {
     pub addresses: Vec<SocketAddr>,
 }
 
-fn log_argument<'a>(alloc: Global) -> Arg<'a> {
-    Arg::new(alloc, "log")
-        .long("log")
-        .value_name("FILE")
+// An option with a value.
+fn option<'a>(alloc: Global, name: &'a str, value: &'a str, help: &'a str) -> Arg<'a> {
+    Arg::new(alloc, name)
+        .long(name)
+        .value_name(value)
         .action(ArgAction::Set)
-        .help("Append a line for each request to this file, or with - to standard error")
-}
-
-fn memory_argument<'a>(alloc: Global) -> Arg<'a> {
-    Arg::new(alloc, "crawl-memory")
-        .long("crawl-memory")
-        .value_name("BYTES")
-        .action(ArgAction::Set)
-        .help("Leave out pages once they take this much memory, for example 64M (or K, G)")
+        .help(help)
 }
 
 fn progress_argument<'a>(alloc: Global) -> Arg<'a> {
@@ -94,45 +87,31 @@ fn settings_argument<'a>(alloc: Global) -> Arg<'a> {
         .help("A TOML file with the settings of the server and its crawl; see hole.toml(5)")
 }
 
-fn address_argument<'a>(alloc: Global) -> Arg<'a> {
-    Arg::new(alloc, "listen")
-        .long("listen")
-        .value_name("ADDRESS")
-        .action(ArgAction::Append)
-        .help("Listen at this IP address, such as 0.0.0.0 or [::]:7070; may be repeated")
-}
-
 fn check_command<'a>(alloc: Global) -> Result<Command<'a>, AllocError> {
-    let listens = Arg::new(alloc, "listen")
-        .long("listen")
-        .value_name("ADDRESS")
+    let help = "Also try to listen at this IP address, or at each address of the host";
+    let listens = option(alloc, "listen", "ADDRESS", help)
         .num_args(0..=1)
-        .action(ArgAction::Append)
-        .help("Also try to listen at this IP address, or at each address of the host");
+        .action(ArgAction::Append);
     Command::new(alloc, "check")
         .about("Report what is wrong with the settings or the folder, and where")
         .arg(settings_argument(alloc))?
         .arg(listens)
 }
 
-fn requests_argument<'a>(alloc: Global) -> Arg<'a> {
-    Arg::new(alloc, "requests")
-        .long("requests")
-        .value_name("N")
-        .action(ArgAction::Set)
-        .value_parser(value_parser!(u64).range(0..=MAX_REQUESTS as i64))
-        .help("Exit after N connections and the end of the crawl; N is at most 1000000")
-}
-
 fn serve_command<'a>(alloc: Global) -> Result<Command<'a>, AllocError> {
+    let listen = "Listen at this IP address, such as 0.0.0.0 or [::]:7070; may be repeated";
+    let requests = "Exit after N connections and the end of the crawl; N is at most 1000000";
+    let log = "Append a line for each request to this file, or with - to standard error";
+    let memory = "Leave out pages once they take this much memory, for example 64M (or K, G)";
+    let numbers = value_parser!(u64).range(0..=MAX_REQUESTS);
     Command::new(alloc, "serve")
         .about("Serve a folder, crawl the allowed hosts and answer searches")
         .arg(settings_argument(alloc))?
-        .arg(address_argument(alloc))?
-        .arg(requests_argument(alloc))?
-        .arg(log_argument(alloc))?
+        .arg(option(alloc, "listen", "ADDRESS", listen).action(ArgAction::Append))?
+        .arg(option(alloc, "requests", "N", requests).value_parser(numbers))?
+        .arg(option(alloc, "log", "FILE", log))?
         .arg(progress_argument(alloc))?
-        .arg(memory_argument(alloc))
+        .arg(option(alloc, "crawl-memory", "BYTES", memory))
 }
 
 fn replay_command<'a>(alloc: Global) -> Command<'a> {

@@ -12,7 +12,7 @@ use gopher_script::ReplayFault;
 use gopher_tree::TreeFault;
 
 /// Why the program ended with status 1.
-#[derive(Clone, Copy, Debug, PartialEq, Eq)]
+#[derive(Clone, Copy)]
 pub enum ProgramFault {
     /// 10 to 13, 70 or 90: the replay failed.
     Replay(ReplayFault),
@@ -35,7 +35,7 @@ pub enum ProgramFault {
 }
 
 /// A detail that the line of a fault names after its number.
-#[derive(Clone, Copy, Debug, PartialEq, Eq)]
+#[derive(Clone, Copy)]
 pub enum Detail {
     /// Nothing.
     Nothing,

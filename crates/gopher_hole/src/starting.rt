@@ -33,7 +33,7 @@ pub struct Started<P: Promise<ThreadEnd>> {
 }
 
 /// How server threads ended.
-#[derive(Clone, Copy, Debug, PartialEq, Eq)]
+#[derive(Clone, Copy)]
 pub struct ThreadsEnd {
     /// Whether a thread failed: a listener was broken, or the system refused to wait.
     pub failed: bool,
