@@ -35,8 +35,8 @@ abbrev pub table_names : Members → List (List ℕ)
 table_names no_members = []
 table_names (member name value more) = name ∷ table_names more
 
-unfoldable pub is_key_name : List ℕ → Bool
-is_key_name name = list_any (λ key. pointwise nat_eq (key_name key) name) all_keys
+unfoldable pub is_key_name : List Key → List ℕ → Bool
+is_key_name keys name = list_any (λ key. pointwise nat_eq (key_name key) name) keys
 
 unfoldable pub is_field_name : Element → List ℕ → Bool
 is_field_name element name =
@@ -48,7 +48,7 @@ is_form_name form name = true
 
 -- a table in the array of this key, or the settings' own table, may have the key
 abbrev pub is_known_in : Option Key → List ℕ → Bool
-is_known_in None name = is_key_name name
+is_known_in None name = is_key_name all_keys name
 is_known_in (Some array) name = is_form_name (key_row array).1 name
 
 -- those of these names that are unknown there

@@ -22,7 +22,7 @@ use toml::Table;
 pub use unknown::{UnknownKey, unknown_keys};
 
 /// The settings of a server and its crawl.
-#[derive(Debug, Drop)]
+#[derive(Drop)]
 pub struct Settings {
     /// The server's own host and port.
     pub home: Home,

@@ -17,7 +17,7 @@ use std::marker::Model;
 use toml::{Table, Value};
 
 /// The fault of a value, or of a key without one.
-#[derive(Clone, Copy, Debug, PartialEq, Eq)]
+#[derive(Clone, Copy)]
 pub(crate) enum Problem {
     /// The key is required and missing.
     Missing,
@@ -41,7 +41,7 @@ impl Problem {
 }
 
 /// The kinds of texts in settings.
-#[derive(Clone, Copy, Debug, PartialEq, Eq)]
+#[derive(Clone, Copy)]
 pub(crate) enum TextKind {
     /// A host: 1 to 255 bytes without spaces and control bytes; required.
     Host,
@@ -112,7 +112,7 @@ fn number_read(most: u32, value: &Value) -> u32
 }
 
 /// The valid values of a key.
-#[derive(Clone, Copy, Debug, PartialEq, Eq)]
+#[derive(Clone, Copy)]
 pub(crate) enum Form {
     /// An integer from 1 to the second number; the first number if the key is missing.
     Integer(u32, u32),
@@ -123,7 +123,7 @@ pub(crate) enum Form {
 }
 
 /// A key's name, and its valid values.
-#[derive(Debug, Drop)]
+#[derive(Drop)]
 pub(crate) struct Row {
     /// The name of the key in the text.
     pub(crate) name: &'static str,

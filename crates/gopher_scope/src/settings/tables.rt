@@ -16,7 +16,7 @@ use toml::{Table, Value};
 const MAX_TABLES: usize = 256;
 
 /// A key of a table in an array.
-#[derive(Clone, Copy, Debug, PartialEq, Eq)]
+#[derive(Clone, Copy)]
 pub(crate) enum Field {
     /// `type`: the type of a place.
     Kind,
@@ -47,7 +47,7 @@ impl Field {
 }
 
 /// The kind of the tables in an array.
-#[derive(Clone, Copy, Debug, PartialEq, Eq)]
+#[derive(Clone, Copy)]
 pub(crate) enum Element {
     /// Tables of places.
     Seed,

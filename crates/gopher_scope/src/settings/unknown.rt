@@ -12,7 +12,7 @@ use std::alloc::{AllocError, Global};
 use toml::{Table, Value};
 
 /// An unknown key of settings.
-#[derive(Clone, Copy, Debug, PartialEq, Eq)]
+#[derive(Clone, Copy)]
 pub struct UnknownKey<'a> {
     /// The key of the array with the table that has it; `None` for one of the settings' own.
     pub array: Option<Key>,
@@ -20,12 +20,12 @@ pub struct UnknownKey<'a> {
     pub name: &'a str,
 }
 
-// Whether the settings have a key of this name.
+// Whether one of these keys of the settings has this name.
 #[tactic(auto, unfolding(crate::specs::Unknown::is_key_name))]
-fn is_key_name(name: &str) -> bool
-    ensures { result ≡ is_key_name name.now }
+fn is_key_name(keys: &[Key], name: &str) -> bool
+    ensures { result ≡ is_key_name keys.now name.now }
 {
-    Key::ALL.iter().any(|key| key.name() == name)
+    keys.iter().any(|key| key.name() == name)
 }
 
 // Whether a table in the array of this key, or the settings' own table, may have the key.
@@ -33,7 +33,7 @@ fn is_known_in(array: Option<Key>, name: &str) -> bool
     ensures { result ≡ is_known_in array name.now }
 {
     let Some(array) = array else {
-        return is_key_name(name);
+        return is_key_name(&Key::ALL, name);
     };
     match array.row().form {
         Form::Tables(element) => element.is_field_name(name),
