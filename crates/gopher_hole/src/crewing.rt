@@ -18,7 +18,7 @@ use crate::starting::{AnyEnd, Started, ThreadsEnd, join_all, start_threads};
 use gopher_catalogue::Status;
 use gopher_crew::{Blank, Crew, Desk, Pass, Share, WorkEnd, crawl};
 use gopher_item::{Home, NoMemory};
-use gopher_replies::Replies;
+use gopher_serve::Replies;
 use gopher_server::{Log, LogQueue, OpenLog, ThreadEnd, max_connections, set_up, start_log};
 use gopher_text::Watched;
 use mio::net::TcpListener;

@@ -5,7 +5,7 @@ ghost use Rattle.std.specs.Prelude.{◌≡◌};
 use gopher_catalogue::Why;
 use gopher_crew::{Calls, Fetch};
 use gopher_item::Place;
-use gopher_serve::fetch_over;
+use gopher_site::fetch_over;
 use gopher_text::Watched;
 use std::alloc::Global;
 use std::net::{Net, TcpListener, TcpStream};

@@ -6,7 +6,7 @@
 //! `TcpFetch` (fetching from other servers) and `replay` (replaying the script of a crawl). It
 //! hands on the types that these calls take and return, and those with which a pass is made.
 //!
-//! The contracts of this crate cover the program's status and what it writes. `gopher_serve` says
+//! The contracts of this crate cover the program's status and what it writes. `gopher_site` says
 //! what a client receives, and `gopher_crew` what a crawl leaves.
 //!
 //! Error 90 (`NoMemory`) means out of memory.
@@ -35,8 +35,9 @@ pub use gopher_crew::{Blank, Calls, Crew, Desk, DeskFault, DeskRefused, Fetch, P
 pub use gopher_item::{Home, ItemFault, NoMemory, Place};
 pub use gopher_scope::{Key, Rule, Scope, SettingsFault};
 pub use gopher_script::{ReplayFault, replay};
-pub use gopher_serve::{ServeFault, answer, fetch_over, serve_one};
+pub use gopher_serve::ServeFault;
 pub use gopher_server::OpenLog;
+pub use gopher_site::{answer, fetch_over, serve_one};
 pub use gopher_text::{MAX_REPLY, Watched};
 pub use gopher_tree::{Trail, Tree, TreeFault};
 pub use program::run;

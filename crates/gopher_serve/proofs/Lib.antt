@@ -1,3 +1,8 @@
-pub mod Searches
-pub mod Fetches
-pub mod SiteLeads
+pub mod KeptLemmas
+pub mod LeadsLemmas
+pub mod FirstLines
+pub mod Talking
+pub mod StepLemmas
+pub mod StopLemmas
+pub mod PauseLemmas
+pub mod PutBack

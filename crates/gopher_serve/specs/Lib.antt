@@ -1,3 +1,8 @@
+pub mod Hits
 pub mod Answer
-pub mod Site
-pub mod Fetch
+pub mod Kept
+pub mod Fault
+pub mod Leads
+pub mod Serve
+pub mod Talk
+pub mod Advance

@@ -1,23 +1,32 @@
-//! The replies of a server to request lines, from a tree and a pass, and the replies that it
-//! fetches from other servers.
+//! What a server sends to a client, from the bytes of the request line to those of the reply: the
+//! kept replies of a tree, menus of hits, and conversations.
 //!
-//! The crates above use one contract: `answer` and `answer_kept` return `reply_of` for the tree's
-//! files, the server's address, the line, and the hits of its search (`specs/Answer.antt`).
-//! `answer_kept` may return a search that goes on in steps; its bytes are decided when it begins.
-//! No socket appears here.
+//! No socket appears here. A conversation reads from any reader and writes to any writer. Over
+//! streams that never block it is a state machine: `converse` goes on until a call would block, or
+//! until others should be served first.
 //!
-//! `NoMemory` (90) means out of memory. Calls that can't fail with it allocate nothing.
+//! The crates above use three contracts. Each reply of a tree is the one that `Tree::reply` makes
+//! (RFC 1436, section 2). The bytes of a search's reply are decided when the search begins. A
+//! client receives exactly the reply to its first line, and nothing before that line's end; if the
+//! conversation breaks, it has received a prefix of the reply.
+//!
+//! Error 90 (`NoMemory`) means out of memory. `Replies::new` returns its arguments in the error.
+//! Calls that can't fail with it allocate nothing.
 #![tactic(auto)]
 
-mod answering;
-mod fetching;
-pub mod laws;
-mod searching;
-mod serving;
-mod site;
+mod advancing;
+mod answer;
+mod conversation;
+mod conversing;
+mod fault;
+mod hits;
+mod kept;
+mod replies;
 
-pub use answering::{answer, answer_kept};
-pub use fetching::fetch_over;
-pub use gopher_conversation::{Answers, Conversation, Progress, ServeFault, advance, converse};
-pub use serving::serve_one;
-pub use site::Site;
+pub use advancing::{Progress, advance};
+pub use answer::{Answer, Answers};
+pub use conversation::Conversation;
+pub use conversing::converse;
+pub use fault::ServeFault;
+pub use hits::hits_menu;
+pub use replies::{Replies, RepliesRefused};

@@ -7,7 +7,7 @@ ghost use Rattle.gopher_server.specs.declared.decisions.held.NextStep.TheVariant
 use crate::decisions::NextStep;
 use crate::logging::{Accepted, ThreadLog, search_of};
 use crate::send_buffer::ReplyWriter;
-use gopher_conversation::{Answers, Conversation, Progress, ServeFault, advance, converse};
+use gopher_serve::{Answers, Conversation, Progress, ServeFault, advance, converse};
 use gopher_text::Watched;
 use mio::net::TcpStream;
 use mio::{Interest, Registry, Token};

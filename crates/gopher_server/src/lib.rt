@@ -6,7 +6,7 @@
 //! first search of the queue. The others hold only their lines, and begin when they are the first.
 //!
 //! Contracts here say what an error of accept(2) means, how the clock counts, and that a
-//! failed thread accepts nothing more; otherwise only that calls are safe. `gopher_conversation`
+//! failed thread accepts nothing more; otherwise only that calls are safe. `gopher_serve`
 //! promises what a client receives. Contracts of `decisions` say what the thread decides: how long
 //! it waits for events, when it accepts, which connection is closed, and which search is next.
 //! Contracts of `logging` say what a line of the log is, and which bytes of it are written.

@@ -16,7 +16,7 @@ use crate::logging::ThreadLog;
 use crate::setup::ThreadSetup;
 use crate::thread_clock::ThreadClock;
 use crate::thread_end::ThreadEnd;
-use gopher_conversation::Answers;
+use gopher_serve::Answers;
 use mio::net::TcpStream;
 use mio::{Events, Poll};
 use std::alloc::Global;

@@ -4,7 +4,7 @@
 use crate::connection::Connection;
 use crate::decisions::NextStep;
 use crate::server::Server;
-use gopher_conversation::Answers;
+use gopher_serve::Answers;
 use std::sync::Wait;
 use std::time::Clock;
 

@@ -12,7 +12,7 @@ use gopher_catalogue::{Turn, Why};
 use gopher_crew::{Blank, Crew, Desk, Note, Pass, Share, Stop, work};
 use gopher_item::Place;
 use gopher_page::{Page, Query};
-use gopher_replies::Replies;
+use gopher_serve::Replies;
 use std::alloc::Global;
 use std::marker::Brand;
 use std::process::Abort;

@@ -3,8 +3,8 @@
 use crate::stream::Stream;
 use gopher_crew::{Crew, Pass};
 use gopher_item::{Home, NoMemory};
-use gopher_replies::Replies;
-use gopher_serve::{ServeFault, serve_one};
+use gopher_serve::{Replies, ServeFault};
+use gopher_site::serve_one;
 use gopher_text::Watched;
 use gopher_tree::Tree;
 use std::alloc::Global;

@@ -7,8 +7,8 @@ use crate::requests::HELLO;
 use crate::stream::Stream;
 use gopher_catalogue::Why;
 use gopher_item::{NoMemory, Place};
-use gopher_replies::{Answer, Reply};
-use gopher_serve::{Answers, Conversation, Progress, ServeFault, converse, fetch_over};
+use gopher_serve::{Answer, Answers, Conversation, Progress, ServeFault, converse};
+use gopher_site::fetch_over;
 use gopher_text::Watched;
 use std::alloc::Global;
 use std::process::Abort;
@@ -27,10 +27,10 @@ impl<'a> Answers<'a> for Fixed {
     ghost leads_to = { λ before after. before ≡ before };
 
     fn answer(&mut self, _alloc: Global, line: &[u8]) -> Result<Answer<'a>, NoMemory> {
-        Ok(Answer::Ready(Reply::Kept(match line {
+        Ok(Answer::Kept(match line {
             b"/a.txt" => HELLO,
             _ => b"",
-        })))
+        }))
     }
 }
 

@@ -1,8 +1,0 @@
-use Rattle.std.proofs.Common.{◌≡◌, ◌++◌, take}
-use Rattle.std.specs.List.{flat_map}
-use Rattle.gopher_item.specs.MenuLine.{menu_line_bytes}
-use Rattle.gopher_replies.specs.Hits.{hit_line}
-use Rattle.gopher_replies.proofs.hits.push_hits.Given as goal
-
-abbrev pub invariant-loop-hit : goal.invariant-loop-hit
-invariant-loop-hit l = l.out.items ≡ l.fn.out.items ++ flat_map (λ hit. menu_line_bytes (hit_line hit)) (take l.hit-index l.hits)

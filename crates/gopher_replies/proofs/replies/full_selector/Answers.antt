@@ -1,6 +1,0 @@
-use Rattle.std.proofs.Common.{rules}
-use Rattle.gopher_replies.proofs.KeptLemmas.{reply_root}
-use Rattle.gopher_replies.proofs.replies.full_selector.Goals as goal
-
-pub returns-in-empty : goal.returns-in-empty
-returns-in-empty c = reply_root c.args.selector.now (search rules)

@@ -1,0 +1,46 @@
+//! The steps of a conversation while its streams are ready (`converse`).
+
+ghost use Rattle.std.specs.Prelude.{◌<◌, length};
+ghost use Rattle.gopher_serve.specs.Advance.{Advances, NearsAtWorks, Stops};
+ghost use Rattle.gopher_serve.specs.Leads.{Leads};
+
+use crate::advancing::{Progress, advance};
+use crate::answer::Answers;
+use crate::conversation::Conversation;
+use gopher_text::Watched;
+use std::alloc::Global;
+use std::io::{Read, Write};
+
+/// Advances a conversation until its progress isn't `Paused`. `buffer` isn't empty.
+///
+/// It returns `Progress::Paused` only after 2^64 - 1 steps. If it returns `Progress::Works` and the
+/// search had begun before, then fewer steps of the search are left.
+///
+/// # Errors
+///
+/// Those of `advance`.
+pub fn converse<'a, A: Answers<'a>, R: Read, W: Write>(
+    alloc: Global,
+    conversation: &mut Conversation<'a>,
+    answers: &mut A,
+    reader: &mut Watched<R>,
+    writer: &mut Watched<W>,
+    buffer: &mut [u8],
+) -> Progress
+    requires { 0 < length buffer.old }
+    ensures leads { Leads A.leads_to answers.old answers.new }
+    ensures goes_on { Advances (Leads A.leads_to) A.gives conversation.old conversation.new
+        answers.old answers.new (R.remaining reader.old.device) (R.remaining reader.new.device)
+        (W.contents writer.old.device) (W.contents writer.new.device) }
+    ensures nears { NearsAtWorks conversation.old conversation.new result }
+    ensures stops { Stops conversation.new reader.old.failures reader.new.failures
+        writer.old.failures writer.new.failures result }
+{
+    for _step in 0..u64::MAX {
+        let progress = advance(alloc, conversation, answers, reader, writer, buffer);
+        if progress != Progress::Paused {
+            return progress;
+        }
+    }
+    Progress::Paused
+}

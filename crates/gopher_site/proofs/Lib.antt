@@ -1,0 +1,3 @@
+mod Fetches
+mod Searches
+mod SiteLeads
