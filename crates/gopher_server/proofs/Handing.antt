@@ -4,8 +4,8 @@ use Rattle.std.specs.Net.Text.{ip_text}
 use Rattle.std.specs.declared.net.ip_addr.IpAddr.{IpAddr}
 use Rattle.jiff_core.specs.declared.civil.datetime.DateTime.{DateTime}
 use Rattle.gopher_server.specs.RequestLine.{request_with}
-use Rattle.gopher_server.specs.Batch.{BatchData}
-use Rattle.gopher_server.specs.ThreadLog.{AddsLine, AddsRequestTo, IsHandedOn}
+use Rattle.gopher_server.specs.Batch.{AddsRequestTo, BatchData}
+use Rattle.gopher_server.specs.ThreadLog.{AddsLine, IsHandedOn}
 
 -- lines were to be handed on twice
 pub handed_again : (a b c : BatchData) → IsHandedOn a b → IsHandedOn b c → IsHandedOn a c

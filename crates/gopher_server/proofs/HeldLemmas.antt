@@ -7,8 +7,7 @@ use Rattle.std.specs.Option.{is_some, option_map, option_map_or}
 use Rattle.lru.specs.LruCache.{promoted}
 use Rattle.lru.proofs.CallerLemmas.{Contains-lookup_entry}
 use Rattle.lru.proofs.Pairs.{lookup-lookup_entry}
-use Rattle.gopher_server.specs.Queue.{occurs, has_key, with_key, without_key}
-use Rattle.gopher_server.specs.Held.{AreHeldOnce}
+use Rattle.gopher_server.specs.Held.{AreHeldOnce, added, has_key, occurs, without_key}
 
 occurs_without : (k key : ℕ) (keys : List ℕ) → occurs k (without_key key keys) ≤ occurs k keys
 occurs_without k key [] = omega arith
@@ -41,15 +40,16 @@ module _ {X : Type 0} where
       by true e = let is : k ≡ key = grind (arith, nat_tests) in let none : occurs k (without_key key keys) ≡ 0 = rw is (occurs_gone key keys) in omega (arith, none)
       by false e = rw (lookup_other k key es e) (less_once key keys es once k)
 
-  more_once : (key : ℕ) (keys : List ℕ) (es : List (ℕ × X)) → is_some (lookup (nat_eq key) es) ≡ true → AreHeldOnce keys es → AreHeldOnce (with_key key keys) es
-  more_once key keys es held once k = by (has_key key keys) refl
+  more_once : (key : ℕ) (keys : List ℕ) (es : List (ℕ × X)) → AreHeldOnce keys es → AreHeldOnce (added es key keys) es
+  more_once key keys es once k = by (is_some (lookup (nat_eq key) es)) refl (has_key key keys) refl
     where
-      by : (has : Bool) → has_key key keys ≡ has → occurs k (with_key key keys) ≤ (if is_some (lookup (nat_eq k) es) then 1 else 0)
-      by true e = rw e (once k)
-      by false e = rw e (also (key == k) refl)
+      by : (held : Bool) → is_some (lookup (nat_eq key) es) ≡ held → (has : Bool) → has_key key keys ≡ has → occurs k (added es key keys) ≤ (if is_some (lookup (nat_eq k) es) then 1 else 0)
+      by false h has e = rw h (once k)
+      by true h true e = rw h (rw e (once k))
+      by true h false e = rw h (rw e (also (key == k) refl))
         where
           also : (same : Bool) → (key == k) ≡ same → occurs k (keys ++ key ∷ []) ≤ (if is_some (lookup (nat_eq k) es) then 1 else 0)
-          also true s = let is : key ≡ k = grind (arith, nat_tests) in subst (λ j. occurs j (keys ++ key ∷ []) ≤ (if is_some (lookup (nat_eq j) es) then 1 else 0)) is (rw held (grind (arith, nat_tests, occurs_added key key keys, occurs_none key keys e)))
+          also true s = let is : key ≡ k = grind (arith, nat_tests) in subst (λ j. occurs j (keys ++ key ∷ []) ≤ (if is_some (lookup (nat_eq j) es) then 1 else 0)) is (rw h (grind (arith, nat_tests, occurs_added key key keys, occurs_none key keys e)))
           also false s = grind (arith, nat_tests, occurs_added k key keys, once k)
 
   lookup_promoted : (k key : ℕ) (es : List (ℕ × X)) → is_some (lookup (nat_eq k) (promoted (nat_eq key) es)) ≡ is_some (lookup (nat_eq k) es)
@@ -76,6 +76,6 @@ module _ {X : Type 0} where
   moved keys {after} es {left} same others once = subst (λ ks. AreHeldOnce ks left) (sym same) (subst (AreHeldOnce keys) (sym others) once)
 
   -- keys after one was added, unless there was no memory
-  pub grown_once : {A B : Type 0} (result : Result A B) (key : ℕ) (keys after : List ℕ) (es : List (ℕ × X)) → OnOk result (after ≡ with_key key keys) → OnErr result (after ≡ keys) → is_some (lookup (nat_eq key) es) ≡ true → AreHeldOnce keys es → AreHeldOnce after es
-  grown_once (Ok _) key keys after es added same held once = moved (with_key key keys) es added refl (more_once key keys es held once)
-  grown_once (Err _) key keys after es added same held once = moved keys es same refl once
+  pub grown_once : {A B : Type 0} (result : Result A B) (key : ℕ) (keys after : List ℕ) (es : List (ℕ × X)) → OnOk result (after ≡ added es key keys) → OnErr result (after ≡ keys) → AreHeldOnce keys es → AreHeldOnce after es
+  grown_once (Ok _) key keys after es more same once = moved (added es key keys) es more refl (more_once key keys es once)
+  grown_once (Err _) key keys after es more same once = moved keys es same refl once

@@ -1,11 +1,13 @@
--- Whether a server thread accepts connections.
-use Rattle.std.specs.Prelude.{ℕ, ◌+◌, ◌^◌, ◌-◌, ◌==◌, Bool, true, false, not, ◌&&◌, nat_le, min, if◌then◌else◌, Option, None, Some}
+-- Whether a server thread accepts connections, and what a failed accept means.
+use Rattle.std.specs.Prelude.{ℕ, ◌+◌, ◌^◌, ◌-◌, ◌==◌, Bool, true, false, not, ◌&&◌, ◌||◌, nat_le, min, if◌then◌else◌, Option, None, Some}
 use Rattle.gopher_server.specs.declared.decisions.accepting.Accepting.{Accepting}
 use Rattle.gopher_server.specs.declared.decisions.accepting.Accepting.TheVariants.{Watches, Leaves, Pauses, Ended}
 use Rattle.gopher_server.specs.declared.decisions.accepting.AcceptEvent.{AcceptEvent}
 use Rattle.gopher_server.specs.declared.decisions.accepting.AcceptEvent.TheVariants.{IsShort, Ends, Round}
 use Rattle.gopher_server.specs.declared.decisions.accepting.AcceptDuty.{AcceptDuty}
 use Rattle.gopher_server.specs.declared.decisions.accepting.AcceptDuty.TheVariants.{Nothing, Watch, HandOver, End}
+use Rattle.gopher_server.specs.declared.decisions.accepting.AcceptFailure.{AcceptFailure}
+use Rattle.gopher_server.specs.declared.decisions.accepting.AcceptFailure.TheVariants as failure
 use Rattle.std.specs.declared.ops.Range.{Range}
 
 -- the token of a thread's waker
@@ -57,3 +59,22 @@ duty_at old new =
 abbrev pub pause_end : Accepting → Option ℕ
 pause_end (Pauses until) = Some until
 pause_end state = None
+
+-- ENOMEM, ENFILE, EMFILE, ENOBUFS
+abbrev pub is_short : ℕ → Bool
+is_short error = (((error == 12) || (error == 23)) || (error == 24)) || (error == 105)
+
+-- EPERM, EINTR, ENONET, EPROTO, ENOPROTOOPT, EOPNOTSUPP, ENETDOWN, ENETUNREACH, ECONNABORTED,
+-- EHOSTDOWN, EHOSTUNREACH
+abbrev pub is_lost : ℕ → Bool
+is_lost error =
+    ((((((((((error == 1) || (error == 4)) || (error == 64)) || (error == 71)) || (error == 92))
+    || (error == 95)) || (error == 100)) || (error == 101)) || (error == 103)) || (error == 112))
+    || (error == 113)
+
+-- what an error of accept(2) means, by its number on Linux, after an accept that failed because
+-- descriptors or memory were short, or not
+abbrev pub failure_of : ℕ → Bool → AcceptFailure
+failure_of error was_short =
+    if is_short error then (if was_short then failure.StaysShort else failure.IsShort)
+    else (if is_lost error then failure.IsLost else failure.IsBroken)

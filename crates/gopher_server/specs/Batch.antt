@@ -1,5 +1,5 @@
 -- Lines of requests that are gathered before they are written, and what a write leaves of them.
-use Rattle.std.specs.Prelude.{◌≡◌, ℕ, ◌+◌, ◌&&◌, ◌==◌, Bool, true, false, List, [], ◌++◌, codes, length, take, drop, min, nat_le, Option, Result, Ok, Err, if◌then◌else◌}
+use Rattle.std.specs.Prelude.{◌≡◌, ◌⊎◌, ℕ, ◌+◌, ◌&&◌, ◌==◌, Bool, true, false, List, [], ◌++◌, codes, length, take, drop, min, nat_le, Option, Result, Ok, Err, if◌then◌else◌}
 use Rattle.std.specs.Fmt.{decimal}
 use Rattle.std.specs.Io.KnownBytes.{Appends, Keeps}
 use Rattle.std.specs.declared.io.ErrorKind.{ErrorKind}
@@ -29,20 +29,17 @@ abbrev pub with_line : BatchData → RequestData → BatchData
 with_line batch request =
     record { written = batch.written ++ logged_bytes request; dropped = batch.dropped }
 
--- a batch that is full takes no line
-abbrev pub with_request : BatchData → RequestData → BatchData
-with_request batch request = if is_full batch then with_dropped batch else with_line batch request
-
-abbrev pub dropped_line : ℕ → List ℕ
-dropped_line dropped = codes "# dropped " ++ decimal dropped ++ codes "\n"
+-- the line of a request was added to a batch that isn't full, or the request was counted as dropped
+abbrev pub AddsRequestTo : RequestData → BatchData → BatchData → Type 0
+AddsRequestTo request before after =
+    ((is_full before ≡ false) × (after ≡ with_line before request))
+    ⊎ (after ≡ with_dropped before)
 
 -- the lines, followed by the line of the dropped requests, if any were dropped
-abbrev pub all_told : BatchData → List ℕ
-all_told batch =
-    if batch.dropped == 0 then batch.written else batch.written ++ dropped_line batch.dropped
-
 abbrev pub with_told : BatchData → BatchData
-with_told batch = record { written = all_told batch; dropped = 0 }
+with_told batch =
+    let told = codes "# dropped " ++ decimal batch.dropped ++ codes "\n" in
+    if batch.dropped == 0 then batch else record { written = batch.written ++ told; dropped = 0 }
 
 -- one write of the lines, by the contents of a writer, the writer before and after, and the batch
 -- before and after: what was written is gone from the lines

@@ -1,14 +1,30 @@
 -- The connections that a server thread holds, and what each is doing.
-use Rattle.std.specs.Prelude.{◌≡◌, ℕ, ◌+◌, ◌-◌, ◌^◌, ◌≤◌, ◌==◌, length, min, nat_eq, Bool, if◌then◌else◌, List, [], ◌∷◌, ◌++◌, Option}
+use Rattle.std.specs.Prelude.{◌≡◌, ℕ, ◌+◌, ◌-◌, ◌^◌, ◌≤◌, ◌==◌, length, min, nat_eq, nat_le, Bool, not, ◌&&◌, if◌then◌else◌, List, [], ◌∷◌, ◌++◌, Option, None, Some}
 use Rattle.std.specs.Borrow.{Fml, LendsIf, MutBor, RattleType}
+use Rattle.std.specs.List.{filter, list_any}
 use Rattle.std.specs.Option.{is_some}
 use Rattle.std.specs.Map.{lookup, set_value}
 use Rattle.lru.specs.LruCache.{lru_cache, put_entries}
-use Rattle.gopher_server.specs.Queue.{has_key, occurs, with_key, without_key}
 use Rattle.gopher_server.specs.declared.decisions.held.Held.{Held}
 use Rattle.gopher_server.specs.contracts.decisions.held.Held.{the_row}
-use Rattle.gopher_server.specs.declared.decisions.held.NextStep.{NextStep}
-use Rattle.gopher_server.specs.declared.decisions.held.NextStep.TheVariants.{Waits, Ready, Ends}
+use Rattle.gopher_serve.specs.declared.advancing.Progress.{Progress}
+use Rattle.gopher_serve.specs.declared.advancing.Progress.TheVariants.{Done, Paused, Waits}
+
+abbrev pub foremost : {X : Type 0} → List X → Option X
+foremost [] = None
+foremost (x ∷ xs) = Some x
+
+-- the keys without this one
+abbrev pub without_key : ℕ → List ℕ → List ℕ
+without_key key keys = filter (λ other. not (other == key)) keys
+
+-- whether a key is among these
+abbrev pub has_key : ℕ → List ℕ → Bool
+has_key key keys = list_any (λ other. other == key) keys
+
+-- how many times a key is among these
+abbrev pub occurs : ℕ → List ℕ → ℕ
+occurs key keys = length (filter (λ other. other == key) keys)
 
 -- the keys of the connections whose replies searches make, in the order of their turns
 abbrev pub queue : {T : Type 0} → Held T → List ℕ
@@ -26,10 +42,6 @@ deadlines held = held.deadlines.items
 abbrev pub held_entries : {T : Type 0} → Held T → List (ℕ × T)
 held_entries held = held.connections.entries
 
--- whether no connection is held
-abbrev pub has_none : {T : Type 0} → Held T → Bool
-has_none held = length (held_entries held) == 0
-
 -- the connection at a key, if there is one
 abbrev pub connection : {T : Type 0} → Held T → ℕ → Option T
 connection held key = lookup (nat_eq key) (held_entries held)
@@ -45,39 +57,22 @@ IsSound held =
     AreHeldOnce (queue held) (held_entries held) × AreHeldOnce (large_of held) (held_entries held)
 
 -- these keys, and once that of a connection that is held
-abbrev pub added : {T : Type 0} → Held T → ℕ → List ℕ → List ℕ
-added held key keys = if is_some (connection held key) then with_key key keys else keys
+abbrev pub added : {T : Type 0} → List (ℕ × T) → ℕ → List ℕ → List ℕ
+added held key keys =
+    if is_some (lookup (nat_eq key) held) && not (has_key key keys) then keys ++ key ∷ [] else keys
 
--- the key after this one; the last is 2^64 - 1
-abbrev pub key_after : ℕ → ℕ
-key_after key = min (key + 1) (2 ^ 64 - 1)
-
--- a connection was taken in at the next key, and is the most recently used
-abbrev pub PutsHeld : {T : Type 0} → Held T → Held T → T → Type 0
-PutsHeld old new taken =
-    held_entries new ≡ put_entries nat_eq old.connections old.next_key taken
-
--- after an event a connection that is held is ready; while a search makes its reply it waits for
--- its turn, or ends if its client is gone
-abbrev pub step_after_event : Bool → Bool → Bool → NextStep
-step_after_event is_held searches is_gone =
-    if is_held then (if searches then (if is_gone then Ends else Waits) else Ready) else Waits
-
-abbrev pub step_at : {T : Type 0} → Held T → ℕ → Bool → NextStep
+-- after an event a connection that is held can go on; while a search makes its reply it waits for
+-- its turn, or is done if its client is gone
+abbrev pub step_at : {T : Type 0} → Held T → ℕ → Bool → Progress
 step_at held key is_gone =
-    step_after_event (is_some (connection held key)) (has_key key (queue held)) is_gone
+    if not (is_some (connection held key)) then Waits
+    else (if not (has_key key (queue held)) then Paused else (if is_gone then Done else Waits))
 
--- a search that goes on keeps its turn; another leaves the queue
-abbrev pub queue_after : Bool → ℕ → List ℕ → List ℕ
-queue_after goes_on key keys = if goes_on then keys else without_key key keys
-
--- 16 s later
-abbrev pub lingers_until : ℕ → ℕ
-lingers_until now = min (now + 16_000) (2 ^ 64 - 1)
-
--- the deadline of a key was set, after all others
-abbrev pub Lingers : {T : Type 0} → Held T → Held T → ℕ → ℕ → Type 0
-Lingers old new key now = deadlines new ≡ deadlines old ++ (key, lingers_until now) ∷ []
+-- the key of the first deadline, if that isn't after `now`, and the other deadlines
+abbrev pub due_at : ℕ → List (ℕ × ℕ) → Option ℕ × List (ℕ × ℕ)
+due_at now [] = (None, [])
+due_at now (pair ∷ pairs) =
+    if nat_le pair.1 now then (Some pair.0, pairs) else (None, pair ∷ pairs)
 
 -- all connections in their states, with this one in place of the one at a key
 abbrev pub with_written : {T : Type 0} → Held T → ℕ → T → Held T

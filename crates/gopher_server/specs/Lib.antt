@@ -1,14 +1,8 @@
-pub mod AcceptFailure
 pub mod Accepting
-pub mod Deadlines
-pub mod Moment
-pub mod Escaped
 pub mod RequestLine
 pub mod Batch
 pub mod ThreadLog
 pub mod Places
 pub mod Rests
-pub mod Timing
-pub mod Queue
 pub mod Held
 pub mod Waits

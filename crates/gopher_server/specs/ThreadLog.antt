@@ -1,11 +1,17 @@
 -- The lines of a server thread, until it hands them on.
-use Rattle.std.specs.Prelude.{◌≡◌, ◌⊎◌, ℕ, ◌+◌, nat_le, Bool, false, IfSome, List, Option, None, Some, if◌then◌else◌}
+use Rattle.std.specs.Prelude.{◌≡◌, ◌⊎◌, ℕ, ◌+◌, ◌-◌, ◌/◌, ◌^◌, min, nat_le, Bool, false, IfSome, List, Option, None, Some, if◌then◌else◌}
+use Rattle.std.specs.Duration.{as_nanos}
 use Rattle.std.specs.Time.{instant_nanos}
+use Rattle.std.specs.declared.time.Duration.{Duration}
 use Rattle.std.specs.declared.time.Instant.{Instant}
 use Rattle.std.specs.Net.Text.{ip_text}
 use Rattle.std.specs.declared.net.ip_addr.IpAddr.{IpAddr}
 use Rattle.gopher_server.specs.RequestLine.{RequestData}
-use Rattle.gopher_server.specs.Batch.{BatchData, is_empty, no_lines, with_request, with_dropped}
+use Rattle.gopher_server.specs.Batch.{AddsRequestTo, BatchData, is_empty, no_lines}
+
+-- the whole microseconds of a time, at most 2^64 - 1
+abbrev pub micros_of : Duration → ℕ
+micros_of time = min (as_nanos time / 1_000) (2 ^ 64 - 1)
 
 -- lines are kept since the time at which the first of them was added
 abbrev pub since_with : Option Instant → Instant → Option Instant
@@ -28,11 +34,6 @@ poll_timeout batch = if is_empty batch then None else Some 250
 -- a batch was handed on whole, or was kept whole
 abbrev pub IsHandedOn : BatchData → BatchData → Type 0
 IsHandedOn before after = (after ≡ no_lines) ⊎ (after ≡ before)
-
--- the line of a request was added to a batch, or the request was counted as dropped
-abbrev pub AddsRequestTo : RequestData → BatchData → BatchData → Type 0
-AddsRequestTo request before after =
-    (after ≡ with_request before request) ⊎ (after ≡ with_dropped before)
 
 -- the line of a request, from this address, with this line asked and this many bytes sent, was
 -- added to a batch or to the next one

@@ -1,21 +1,64 @@
-//! How a server thread accepts connections: its listeners, its quota, and its pauses.
+//! How a server thread accepts connections: its listeners, its quota, its pauses, and what it
+//! shares with other threads.
 
 ghost use Rattle.std.specs.Prelude.{◌≡◌, None};
 ghost use Rattle.gopher_server.specs.declared.decisions.accepting.Accepting.TheVariants.{Ended};
 ghost use Rattle.gopher_server.specs.declared.decisions.accepting.AcceptDuty.TheVariants.{End};
 ghost use Rattle.gopher_server.specs.declared.decisions.accepting.AcceptEvent.TheVariants.{Ends};
 
-use crate::decisions::{AcceptDuty, AcceptEvent, Accepting};
-use crate::listeners::{unwatch, watch};
-use crate::shared::ServerShared;
-use mio::Poll;
+use crate::decisions::{AcceptDuty, AcceptEvent, Accepting, FIRST_LISTENER, Places};
+use libc::net::{EPOLL_CTL_ADD, EPOLL_CTL_DEL, EPOLLIN};
 use mio::net::{TcpListener, TcpStream};
+use mio::{Poll, Waker};
 use std::io;
 use std::net::SocketAddr;
+use std::os::fd::AsRawFd;
 use std::sync::Arc;
 
-// After this many reports in a row of one connection each, a thread looks whether more wait.
-const MAX_SINGLE: u32 = 4;
+/// The most listeners of a server.
+pub const MAX_LISTENERS: usize = 1_024;
+
+// Wakes one thread for each connection instead of all (`EPOLLEXCLUSIVE` of Linux).
+const EPOLLEXCLUSIVE: u32 = 1 << 28;
+
+/// The state that all server threads share: how many connections they hold and accept together, and
+/// the waker of each thread.
+#[derive(Drop)]
+pub(crate) struct ServerShared {
+    pub(crate) places: Places,
+    pub(crate) wakers: Vec<Waker>,
+}
+
+impl ServerShared {
+    /// Wakes all threads, so that each looks at the shared state again.
+    pub(crate) fn wake_all(&self) {
+        for waker in self.wakers.iter() {
+            let _refused = waker.wake();
+        }
+    }
+}
+
+/// Starts reports of the connections that wait at the listeners. Returns false if the system
+/// refuses.
+pub(crate) fn watch(poll: &Poll, listeners: &[TcpListener]) -> bool {
+    for (index, listener) in listeners.iter().enumerate() {
+        let token = FIRST_LISTENER.saturating_add(index) as u64;
+        let (poll_fd, fd) = (poll.as_raw_fd(), listener.as_raw_fd());
+        if os::epoll_ctl(poll_fd, EPOLL_CTL_ADD, fd, EPOLLIN | EPOLLEXCLUSIVE, token) != 0 {
+            unwatch(poll, listeners);
+            return false;
+        }
+    }
+    true
+}
+
+/// Stops the reports of connections that wait at the listeners.
+pub(crate) fn unwatch(poll: &Poll, listeners: &[TcpListener]) {
+    for listener in listeners {
+        let (poll, fd) = (poll.as_raw_fd(), listener.as_raw_fd());
+        let _refused = os::epoll_ctl(poll, EPOLL_CTL_DEL, fd, 0, 0);
+    }
+}
 
 /// What accepts the connections of a server thread. Times are milliseconds by the thread's clock.
 #[derive(Drop)]
@@ -23,9 +66,9 @@ pub(crate) struct Acceptor {
     listeners: Option<Arc<Vec<TcpListener>>>,
     /// Whether it accepts connections, and if not, why.
     pub(crate) state: Accepting,
-    // How many reports in a row it took for one connection each; `MAX_SINGLE` while it accepts
-    // until none waits.
-    single: u32,
+    /// How many reports in a row it took for one connection each; `MAX_SINGLE` while it accepts
+    /// until none waits.
+    pub(crate) single: u32,
     /// What it shares with those of other threads.
     pub(crate) shared: Arc<ServerShared>,
 }
@@ -44,17 +87,9 @@ impl Acceptor {
 
     /// Returns how many listeners it has, 0 if it accepts nothing more.
     pub(crate) fn number_of_listeners(&self) -> usize {
-        match &self.listeners {
-            Some(listeners) => listeners.len(),
-            None => 0,
-        }
-    }
-
-    // Stops the reports of the listeners' connections.
-    fn unwatch(&self, poll: &Poll) {
-        if let Some(listeners) = &self.listeners {
-            unwatch(poll, listeners);
-        }
+        self.listeners
+            .as_ref()
+            .map_or(0, |listeners| listeners.len())
     }
 
     // Does what a change of its state asks. Returns false if the system refuses.
@@ -62,25 +97,21 @@ impl Acceptor {
         ensures state { self.new.state ≡ self.old.state }
         ensures closed { duty ≡ End → self.new.listeners ≡ None }
     {
+        let Some(listeners) = &self.listeners else {
+            return true;
+        };
         match duty {
-            AcceptDuty::Nothing => true,
-            AcceptDuty::Watch => match &self.listeners {
-                Some(listeners) => watch(poll, listeners),
-                None => true,
-            },
-            AcceptDuty::HandOver => {
-                self.unwatch(poll);
-                self.shared.wake_all();
-                true
-            }
+            AcceptDuty::Nothing => return true,
+            AcceptDuty::Watch => return watch(poll, listeners),
+            AcceptDuty::HandOver => unwatch(poll, listeners),
             AcceptDuty::End => {
-                self.unwatch(poll);
+                unwatch(poll, listeners);
                 let _closed = self.listeners.take();
                 self.shared.places.lose_thread();
-                self.shared.wake_all();
-                true
             }
         }
+        self.shared.wake_all();
+        true
     }
 
     /// Goes over to the state after an event at the time `now`, and does what that asks. The last
@@ -98,7 +129,7 @@ impl Acceptor {
 
     /// Takes one of the quota, or stops accepting if none is left.
     pub(crate) fn take_quota(&mut self, poll: &Poll) {
-        if !self.shared.quota.take() {
+        if !self.shared.places.take_quota() {
             self.meet(poll, AcceptEvent::Ends, 0);
         }
     }
@@ -110,33 +141,5 @@ impl Acceptor {
         }
         let listener = self.listeners.as_ref()?.get(index)?;
         Some(listener.accept())
-    }
-
-    /// Returns whether to accept another connection after one, before other events are handled. An
-    /// accept that finds none costs more than a further report, so it expects none while one came
-    /// at a time.
-    pub(crate) fn expects_more(&mut self) -> bool {
-        if self.single >= MAX_SINGLE {
-            return true;
-        }
-        self.single += 1;
-        false
-    }
-
-    /// Has the next accepts go on until none waits.
-    pub(crate) fn expect_more(&mut self) {
-        self.single = MAX_SINGLE;
-    }
-
-    /// Records that no connection waits.
-    pub(crate) fn found_none(&mut self) {
-        self.single = 0;
-    }
-
-    /// Leaves new connections to other threads while this thread holds many more than its share.
-    /// Accepts again when it doesn't, or when a pause is over.
-    pub(crate) fn keep_share(&mut self, poll: &Poll, held: u64, now: u64) {
-        let leaves = self.shared.places.leaves_to_others(held);
-        self.meet(poll, AcceptEvent::Round(leaves), now);
     }
 }

@@ -1,10 +1,8 @@
 //! One connection with a client.
 
-ghost use Rattle.std.specs.Prelude.{◌≡◌, ◌&&◌, length, nat_lt, true};
+ghost use Rattle.std.specs.Prelude.{◌≡◌, ◌&&◌, length, nat_lt, not, true};
 ghost use Rattle.gopher_server.specs.RequestLine.{search_of};
-ghost use Rattle.gopher_server.specs.declared.decisions.held.NextStep.TheVariants.{Ends, Lingers};
 
-use crate::decisions::NextStep;
 use crate::logging::{Accepted, ThreadLog, search_of};
 use crate::send_buffer::ReplyWriter;
 use gopher_serve::{Answers, Conversation, Progress, ServeFault, advance, converse};
@@ -13,6 +11,7 @@ use mio::net::TcpStream;
 use mio::{Interest, Registry, Token};
 use std::alloc::Global;
 use std::io::{ErrorKind, Read};
+use std::mem::replace;
 use std::net::Shutdown;
 use std::sync::Wait;
 use std::time::Clock;
@@ -47,27 +46,14 @@ pub(crate) struct Answering<A: Drop> {
 #[derive(Drop)]
 pub(crate) struct Connection<'a> {
     stream: TcpStream,
-    conversation: Conversation<'a>,
+    pub(crate) conversation: Conversation<'a>,
     accepted: Option<Accepted>,
-    // Whether its reply is sent, and it reads what the client still sends.
+    // Whether its reply is sent, and it reads what the client still sends until a deadline.
     lingers: bool,
     // What the poll reports of it; nothing so far if `None`.
     reported: Option<Interest>,
     /// Whether the system queues more for its client than for others.
     pub(crate) is_large: bool,
-}
-
-// Adds the line of a conversation to the log, if a line was asked.
-fn add_line<R: Wait + Clock>(
-    rt: &R,
-    alloc: Global,
-    log: &mut ThreadLog,
-    accepted: Accepted,
-    conversation: &Conversation<'_>,
-) {
-    if let Some(asked) = conversation.asked_line() {
-        log.add(rt, alloc, accepted, asked, conversation.sent_len() as u64);
-    }
 }
 
 // Whether a line has a long search string.
@@ -112,19 +98,18 @@ impl<'a> Connection<'a> {
         }
     }
 
-    /// Returns whether the poll has to be told what it waits for, at its next step.
-    pub(crate) fn lacks_reports(&self, step: NextStep) -> bool {
-        match step {
-            NextStep::Ready | NextStep::Lingers => true,
-            NextStep::Waits => self.reported != Some(self.interest()),
-            NextStep::Works | NextStep::Ends => self.reported.is_none(),
-        }
-    }
-
-    /// Has the poll report by `key` when its client is ready, even if it is ready already. Returns
-    /// false if the system refuses.
-    pub(crate) fn watch(&mut self, registry: &Registry, key: usize) -> bool {
+    /// Has the poll report by `key` when its client is ready, even if it is ready already, unless
+    /// the reports suffice after this progress. Returns false if the system refuses.
+    pub(crate) fn watch(&mut self, registry: &Registry, key: usize, progress: Progress) -> bool {
         let interest = self.interest();
+        let suffice = match progress {
+            Progress::Paused => false,
+            Progress::Waits => self.reported == Some(interest),
+            _ => self.reported.is_some(),
+        };
+        if suffice {
+            return true;
+        }
         let watched = match self.reported {
             Some(_) => registry.reregister(&mut self.stream, Token(key), interest),
             None => registry.register(&mut self.stream, Token(key), interest),
@@ -135,30 +120,40 @@ impl<'a> Connection<'a> {
 
     /// Goes on while the client is ready. If a search makes the reply, takes one step of it. If it
     /// may enlarge its queue, the system then queues more of a long reply. If `is_held_back`, it
-    /// doesn't begin a long search.
+    /// doesn't begin a long search. The progress is `Paused` if it lingers and can go on at once.
     pub(crate) fn go_on<A: Answers<'a> + Drop>(
         &mut self,
         answering: &mut Answering<A>,
         may_enlarge: bool,
         is_held_back: bool,
-    ) -> NextStep {
+    ) -> Progress {
         if self.lingers {
             return self.read_on(&mut answering.buffer);
         }
+        let mut progress = Progress::Paused;
         if is_held_back && self.conversation.asked_line().is_none() {
-            if let Some(step) = self.listen(answering) {
-                return step;
-            }
+            progress = self.listen(answering);
         }
-        self.talk(answering, may_enlarge)
+        if progress == Progress::Paused {
+            progress = self.talk(answering, may_enlarge);
+        }
+        answering.is_short |= progress == Progress::Failed(ServeFault::NoMemory);
+        match progress {
+            Progress::Done => self.end_reply(),
+            _ => progress,
+        }
     }
 
-    // Takes the steps up to the end of its line. Returns its next step if it stops before, or if
-    // the line has a long search string.
-    fn listen<A: Answers<'a> + Drop>(&mut self, answering: &mut Answering<A>) -> Option<NextStep> {
+    // Takes the steps up to the end of its line. The progress is `Works` if the line has a long
+    // search string, and `Paused` if it has another one.
+    fn listen<A: Answers<'a> + Drop>(&mut self, answering: &mut Answering<A>) -> Progress {
         for _step in 0..MAX_LISTENS {
             if let Some(asked) = self.conversation.asked_line() {
-                return has_long_search(asked).then_some(NextStep::Works);
+                return if has_long_search(asked) {
+                    Progress::Works
+                } else {
+                    Progress::Paused
+                };
             }
             let progress = advance(
                 answering.alloc,
@@ -169,15 +164,10 @@ impl<'a> Connection<'a> {
                 &mut answering.buffer,
             );
             if progress != Progress::Paused {
-                return Some(self.step_after(progress, &mut answering.is_short));
+                return progress;
             }
         }
-        None
-    }
-
-    /// Drops the search that makes its reply. It begins anew when the connection goes on.
-    pub(crate) fn put_back(&mut self) {
-        self.conversation.put_back();
+        Progress::Paused
     }
 
     /// Adds its request to the log, unless that was done or no line was asked.
@@ -187,8 +177,9 @@ impl<'a> Connection<'a> {
         alloc: Global,
         log: &mut ThreadLog,
     ) {
-        if let Some(accepted) = self.accepted.take() {
-            add_line(rt, alloc, log, accepted, &self.conversation);
+        let (asked, sent) = (self.conversation.asked_line(), self.conversation.sent_len());
+        if let (Some(accepted), Some(asked)) = (self.accepted.take(), asked) {
+            log.add(rt, alloc, accepted, asked, sent as u64);
         }
     }
 
@@ -197,9 +188,9 @@ impl<'a> Connection<'a> {
         &mut self,
         answering: &mut Answering<A>,
         may_enlarge: bool,
-    ) -> NextStep {
-        let may_enlarge = may_enlarge && !self.is_large;
-        let mut writer = Watched::new(ReplyWriter::new(&self.stream, may_enlarge));
+    ) -> Progress {
+        let reply_writer = ReplyWriter::new(&self.stream, may_enlarge && !self.is_large);
+        let mut writer = Watched::new(reply_writer);
         let progress = converse(
             answering.alloc,
             &mut self.conversation,
@@ -209,53 +200,42 @@ impl<'a> Connection<'a> {
             &mut answering.buffer,
         );
         self.is_large = self.is_large || writer.into_inner().is_large;
-        self.step_after(progress, &mut answering.is_short)
-    }
-
-    // The next step after a progress of its conversation. Records in `is_short` that memory ran
-    // out.
-    fn step_after(&mut self, progress: Progress, is_short: &mut bool) -> NextStep {
-        match progress {
-            Progress::Works => NextStep::Works,
-            Progress::Waits => NextStep::Waits,
-            Progress::Done => self.end_reply(),
-            Progress::Paused => NextStep::Ends,
-            Progress::Failed(fault) => {
-                *is_short |= fault == ServeFault::NoMemory;
-                NextStep::Ends
-            }
-        }
+        progress
     }
 
     // Ends the sending side: the client sees the end of the reply. It may have sent more than its
     // line, and a connection that is closed over unread bytes is reset, which takes from the client
-    // what it hasn't read of the reply.
-    fn end_reply(&mut self) -> NextStep
-        ensures lingers { result ≡ Lingers → self.new.lingers ≡ true }
-        ensures ends { result ≡ Ends → self.new.lingers ≡ self.old.lingers }
-    {
+    // what it hasn't read of the reply. So after a large reply it lingers.
+    fn end_reply(&mut self) -> Progress {
         let ended = self.stream.shutdown(Shutdown::Write);
         if lingers_after(ended.is_ok(), self.conversation.sent_len()) {
-            self.lingers = true;
-            NextStep::Lingers
+            Progress::Paused
         } else {
-            NextStep::Ends
+            Progress::Done
         }
     }
 
+    /// Has it read from now on what the client still sends. Returns false if it did before.
+    pub(crate) fn begin_lingering(&mut self) -> bool
+        ensures lingers { self.new.lingers ≡ true }
+        ensures first { result ≡ not self.old.lingers }
+    {
+        !replace(&mut self.lingers, true)
+    }
+
     // Reads what the client still sends.
-    fn read_on(&mut self, buffer: &mut [u8; BUFFER_BYTES]) -> NextStep {
+    fn read_on(&mut self, buffer: &mut [u8; BUFFER_BYTES]) -> Progress {
         for _read in 0..MAX_READS {
             match (&self.stream).read(buffer) {
-                Ok(0) => return NextStep::Ends,
+                Ok(0) => return Progress::Done,
                 Ok(_) => {}
                 Err(error) => match error.kind() {
                     ErrorKind::Interrupted => {}
-                    ErrorKind::WouldBlock => return NextStep::Waits,
-                    _ => return NextStep::Ends,
+                    ErrorKind::WouldBlock => return Progress::Waits,
+                    _ => return Progress::Done,
                 },
             }
         }
-        NextStep::Ready
+        Progress::Paused
     }
 }

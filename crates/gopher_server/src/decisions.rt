@@ -12,16 +12,15 @@
 //! Error 90 (`AllocError`) means out of memory, and leaves everything unchanged. Calls that can't
 //! fail with it allocate nothing.
 
-mod accept_failure;
 mod accepting;
 mod held;
 mod places;
-mod quota;
 mod waits;
 
-pub use accept_failure::{AcceptFailure, failure_of};
-pub use accepting::{AcceptDuty, AcceptEvent, Accepting, FIRST_LISTENER, WAKER, listeners_at};
-pub use held::{Held, NextStep};
+pub use accepting::{
+    AcceptDuty, AcceptEvent, AcceptFailure, Accepting, FIRST_LISTENER, WAKER, failure_of,
+    listeners_at,
+};
+pub use held::Held;
 pub use places::{Places, max_places};
-pub use quota::AcceptQuota;
 pub use waits::longest_wait;

@@ -15,20 +15,17 @@
 mod acceptor;
 mod connection;
 mod decisions;
-mod listeners;
 mod logging;
 mod send_buffer;
 mod server;
 mod setup;
-mod shared;
 mod thread_clock;
 mod thread_end;
 mod waiting;
 
-pub use listeners::MAX_LISTENERS;
+pub use acceptor::MAX_LISTENERS;
 pub use logging::{Log, LogQueue, OpenLog, start_log};
 pub use send_buffer::limit_send_buffers;
 pub use server::serve;
 pub use setup::{ThreadSetup, max_connections, set_up};
-pub use shared::ServerShared;
 pub use thread_end::ThreadEnd;

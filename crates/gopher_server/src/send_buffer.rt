@@ -1,5 +1,6 @@
 //! How many bytes of a reply the system queues for a client.
 
+use libc::net::{SO_SNDBUF, SOL_SOCKET, setsockopt};
 use mio::net::{TcpListener, TcpStream};
 use std::io::{self, Write};
 use std::os::fd::{AsRawFd, RawFd};
@@ -19,15 +20,7 @@ const LONG_REPLY: usize = 114_688;
 fn set_send_buffer(socket: RawFd, bytes: i32) {
     let mut value = [0u8; 16];
     value[..4].copy_from_slice(&bytes.to_ne_bytes());
-    let _refused = unsafe {
-        libc::net::setsockopt(
-            socket,
-            libc::net::SOL_SOCKET,
-            libc::net::SO_SNDBUF,
-            &value,
-            4,
-        )
-    };
+    let _refused = unsafe { setsockopt(socket, SOL_SOCKET, SO_SNDBUF, &value, 4) };
 }
 
 /// Limits the bytes that the system queues for each client of these listeners. A client that

@@ -1,8 +1,8 @@
 //! A server thread at work (`serve`): accepting clients, and its round of events.
 
-ghost use Rattle.std.specs.Prelude.{◌≡◌, ◌&&◌};
+ghost use Rattle.std.specs.Prelude.{◌≡◌, ◌&&◌, ◌==◌, length};
 ghost use Rattle.gopher_server.specs.Accepting.{has_ended};
-ghost use Rattle.gopher_server.specs.Held.{has_none};
+ghost use Rattle.gopher_server.specs.Held.{held_entries};
 ghost use Rattle.gopher_server.specs.Waits.{IsLongestWait};
 ghost use Rattle.gopher_server.specs.declared.decisions.accepting.Accepting.TheVariants.{Ended};
 ghost use Rattle.gopher_server.specs.declared.thread_end.ThreadEnd.TheVariants.{Failed};
@@ -10,13 +10,13 @@ ghost use Rattle.gopher_server.specs.declared.thread_end.ThreadEnd.TheVariants.{
 use crate::acceptor::Acceptor;
 use crate::connection::{Answering, BUFFER_BYTES, Connection};
 use crate::decisions::{
-    AcceptEvent, AcceptFailure, Held, NextStep, WAKER, failure_of, listeners_at, longest_wait,
+    AcceptEvent, AcceptFailure, Held, WAKER, failure_of, listeners_at, longest_wait,
 };
 use crate::logging::ThreadLog;
 use crate::setup::ThreadSetup;
 use crate::thread_clock::ThreadClock;
 use crate::thread_end::ThreadEnd;
-use gopher_serve::Answers;
+use gopher_serve::{Answers, Progress};
 use mio::net::TcpStream;
 use mio::{Events, Poll};
 use std::alloc::Global;
@@ -28,6 +28,9 @@ use std::time::{Clock, Duration, Instant};
 // The most connections that are accepted at a listener before other events are handled. Those left
 // wait in the system's queue, which reports them again in the next round.
 const MAX_ACCEPTS: u32 = 64;
+
+// After this many reports in a row of one connection each, a thread looks whether more wait.
+const MAX_SINGLE: u32 = 4;
 
 /// A server thread.
 #[derive(Drop)]
@@ -57,27 +60,29 @@ impl<'a, A: Answers<'a> + Drop> Server<'a, A> {
     // ---- accepting
 
     // Accepts the connections that wait at a listener, or the first of them: the system reports the
-    // others again, unless another thread woke this one. While a search waits it accepts all,
-    // because each round then takes longer.
+    // others again, unless another thread woke this one. An accept that finds none costs more than
+    // a further report, so it takes one connection for each report while one came at a time. While
+    // a search waits it accepts all, because each round then takes longer.
     fn accept<R: Wait + Clock + Eprint>(&mut self, rt: &R, index: usize, is_woken: bool) {
         if is_woken || self.connections.next_search().is_some() {
-            self.acceptor.expect_more();
+            self.acceptor.single = MAX_SINGLE;
         }
         let mut was_short = false;
         for _accepted in 0..MAX_ACCEPTS {
             match self.acceptor.next_client(index) {
                 Some(Ok((stream, address))) => {
                     self.welcome(rt, stream, address);
-                    if !self.acceptor.expects_more() {
+                    self.acceptor.take_quota(&self.poll);
+                    if self.acceptor.single < MAX_SINGLE {
+                        self.acceptor.single += 1;
                         return;
                     }
                 }
-                Some(Err(error)) => {
-                    if error.kind() == ErrorKind::WouldBlock {
-                        return self.acceptor.found_none();
-                    }
-                    was_short = self.meet_failure(rt, error, was_short);
+                Some(Err(error)) if error.kind() == ErrorKind::WouldBlock => {
+                    self.acceptor.single = 0;
+                    return;
                 }
+                Some(Err(error)) => was_short = self.meet_failure(rt, error, was_short),
                 None => return,
             }
         }
@@ -94,58 +99,46 @@ impl<'a, A: Answers<'a> + Drop> Server<'a, A> {
     ) -> bool {
         let number = error.raw_os_error().unwrap_or(0).unsigned_abs();
         match failure_of(number, was_short) {
-            AcceptFailure::IsLost => false,
+            AcceptFailure::IsLost => return false,
             AcceptFailure::IsShort => {
-                match self.connections.idle_longest() {
-                    Some(key) => self.close(rt, key),
-                    None => self.pause(rt),
+                if let Some(key) = self.connections.idle_longest() {
+                    self.close(rt, key);
+                    return true;
                 }
-                true
             }
-            AcceptFailure::StaysShort => {
-                self.pause(rt);
-                true
-            }
+            AcceptFailure::StaysShort => {}
             AcceptFailure::IsBroken => {
                 let what = "hole: connections can't be accepted: ";
                 tell(rt, what, error, self.tells);
                 self.fail();
-                false
+                return false;
             }
         }
-    }
-
-    // Accepts nothing for a time.
-    fn pause(&mut self, clock: &impl Clock) {
-        let now = self.clock.now(clock);
+        let now = self.clock.now(rt);
         self.acceptor.meet(&self.poll, AcceptEvent::IsShort, now);
+        true
     }
 
-    // Takes in a client that was accepted.
+    // Goes on with a new connection at once, and keeps it if it has to wait. Then makes room if
+    // there are too many.
     fn welcome<R: Wait + Clock>(&mut self, rt: &R, stream: TcpStream, address: SocketAddr) {
+        let alloc = self.answering.alloc;
         let accepted = self.log.accept(rt, address.ip());
-        self.begin(rt, Connection::new(self.answering.alloc, stream, accepted));
-        self.acceptor.take_quota(&self.poll);
-    }
-
-    // Goes on with a new connection at once, and keeps it if it has to wait.
-    fn begin<R: Wait + Clock>(&mut self, rt: &R, connection: Connection<'a>) {
-        let mut connection = connection;
+        let mut connection: Connection<'a> = Connection::new(alloc, stream, accepted);
         let may_enlarge = self.connections.may_enlarge();
         let is_held_back = self.connections.next_search().is_some();
-        let step = connection.go_on(&mut self.answering, may_enlarge, is_held_back);
-        if step == NextStep::Ends {
-            connection.log_request(rt, self.answering.alloc, &mut self.log);
-        } else {
-            self.keep(rt, connection, step);
-        }
-    }
-
-    // Prints once on the error stream that a client got no whole reply, if it tells.
-    fn tell_shortage(&mut self, rt: &impl Eprint) {
-        if self.answering.is_short && self.tells_shortage {
-            self.tells_shortage = false;
-            let _ = rt.eprintln("hole: a client got no whole reply: out of memory");
+        match connection.go_on(&mut self.answering, may_enlarge, is_held_back) {
+            Progress::Done | Progress::Failed(_) => {
+                connection.log_request(rt, alloc, &mut self.log);
+            }
+            progress => match self.connections.take_in(connection) {
+                Ok(key) => {
+                    self.acceptor.shared.places.take();
+                    self.meet_progress(rt, key, progress);
+                    self.make_room(rt);
+                }
+                Err(mut refused) => refused.log_request(rt, alloc, &mut self.log),
+            },
         }
     }
 
@@ -153,19 +146,25 @@ impl<'a, A: Answers<'a> + Drop> Server<'a, A> {
 
     // Goes on with what an event names. `is_gone` says that a client takes nothing more.
     fn handle_event<R: Wait + Clock + Eprint>(&mut self, rt: &R, token: usize, is_gone: bool) {
-        let Some(listeners) = listeners_at(token, self.acceptor.number_of_listeners()) else {
-            return self.meet_event(rt, token, is_gone);
-        };
-        for index in listeners {
-            self.accept(rt, index, token == WAKER);
+        if let Some(listeners) = listeners_at(token, self.acceptor.number_of_listeners()) {
+            for index in listeners {
+                self.accept(rt, index, token == WAKER);
+            }
+            return;
+        }
+        match self.connections.step_after_event(token, is_gone) {
+            Progress::Paused => self.go_on(rt, token),
+            Progress::Done => self.close(rt, token),
+            _ => {}
         }
     }
 
     // Whether nothing is left to do.
     fn is_done(&self) -> bool
-        ensures { result ≡ (has_ended self.now.acceptor.state && has_none self.now.connections) }
+        ensures { result ≡ (has_ended self.now.acceptor.state
+            && (length (held_entries self.now.connections) == 0)) }
     {
-        self.acceptor.state.has_ended() && self.connections.is_empty()
+        self.acceptor.state.has_ended() && self.connections.len() == 0
     }
 
     /// Returns the time, or 0 if it isn't needed: if nothing has a time, a round reads no clock.
@@ -187,14 +186,9 @@ impl<'a, A: Answers<'a> + Drop> Server<'a, A> {
         Some(Duration::from_millis(wait))
     }
 
-    // Accepts no more than its share of connections.
-    fn keep_share(&mut self, clock: &impl Clock) {
-        let now = self.time_if(clock, !self.acceptor.state.is_watching());
-        let held = self.connections.len() as u64;
-        self.acceptor.keep_share(&self.poll, held, now);
-    }
-
-    // Waits for events, and handles them.
+    // Waits for events, and handles them. Then accepts no more than its share of connections: it
+    // leaves new ones to other threads while it holds many more than its share, and accepts again
+    // when it doesn't, or when a pause is over.
     fn work<R: Wait + Clock + Eprint>(&mut self, rt: &R, events: &mut Events) -> io::Result<()> {
         let timeout = self.poll_timeout(rt);
         self.poll.poll(events, timeout)?;
@@ -203,10 +197,16 @@ impl<'a, A: Answers<'a> + Drop> Server<'a, A> {
             self.handle_event(rt, event.token().0, is_gone);
         }
         self.search(rt);
-        self.tell_shortage(rt);
+        if self.answering.is_short && self.tells_shortage {
+            self.tells_shortage = false;
+            let _ = rt.eprintln("hole: a client got no whole reply: out of memory");
+        }
         self.end_lingering(rt);
         self.close_excess(rt);
-        self.keep_share(rt);
+        let now = self.time_if(rt, !self.acceptor.state.is_watching());
+        let held = self.connections.len() as u64;
+        let round = AcceptEvent::Round(self.acceptor.shared.places.leaves_to_others(held));
+        self.acceptor.meet(&self.poll, round, now);
         if self.log.poll_timeout().is_some() {
             if let Ok(now) = Instant::now(rt) {
                 self.log.hand_on_due(rt, self.answering.alloc, now);
@@ -215,25 +215,21 @@ impl<'a, A: Answers<'a> + Drop> Server<'a, A> {
         Ok(())
     }
 
-    // Works until nothing is left to do, or the system refuses to wait.
-    fn work_on<R: Wait + Clock + Eprint>(&mut self, rt: &R, events: &mut Events) {
+    // Works until nothing is left to do, or the system refuses to wait. Then hands on what is left
+    // of the log.
+    fn work_to_end<R: Wait + Clock + Eprint>(&mut self, rt: &R, events: &mut Events) -> ThreadEnd {
+        self.acceptor.take_quota(&self.poll);
         for _round in rt.forever() {
             if self.is_done() {
-                return;
+                break;
             }
             if let Err(error) = self.work(rt, events) {
                 let what = "hole: a server thread can't wait for clients: ";
                 tell(rt, what, error, self.tells);
-                return self.give_up(rt);
+                self.give_up(rt);
+                break;
             }
         }
-        unreachable!()
-    }
-
-    // Works to its end, and hands on what is left of the log.
-    fn work_to_end<R: Wait + Clock + Eprint>(&mut self, rt: &R, events: &mut Events) -> ThreadEnd {
-        self.acceptor.take_quota(&self.poll);
-        self.work_on(rt, events);
         self.log.end(rt, self.answering.alloc);
         self.end
     }
@@ -270,38 +266,30 @@ pub fn serve<'a, A: Answers<'a> + Drop, R: Wait + Clock + Eprint>(
     setup: ThreadSetup,
     answers: A,
 ) -> ThreadEnd {
-    let ThreadSetup {
-        poll,
-        events,
-        listeners,
-        shared,
-        log,
-        blocks,
-        tells,
-    } = setup;
-    drop(blocks);
-    let mut events = events;
+    drop(setup.blocks);
+    let mut events = setup.events;
     let (Ok(connections), Ok(clock)) = (Held::new(alloc), ThreadClock::new(rt)) else {
-        if tells {
+        if setup.tells {
             let _ = rt.eprintln("hole: a server thread ends: out of memory");
         }
         return ThreadEnd::LacksMemory;
     };
+    let answering = Answering {
+        alloc,
+        answers,
+        buffer: [0u8; BUFFER_BYTES],
+        is_short: false,
+    };
     let mut server = Server {
-        poll,
-        acceptor: Acceptor::new(listeners, shared),
+        poll: setup.poll,
+        acceptor: Acceptor::new(setup.listeners, setup.shared),
         connections,
-        answering: Answering {
-            alloc,
-            answers,
-            buffer: [0u8; BUFFER_BYTES],
-            is_short: false,
-        },
-        log,
+        answering,
+        log: setup.log,
         clock,
         end: ThreadEnd::Served,
-        tells,
-        tells_shortage: tells,
+        tells: setup.tells,
+        tells_shortage: setup.tells,
     };
     server.work_to_end(rt, &mut events)
 }

@@ -1,9 +1,8 @@
 //! What server threads need of the system, made before they start (`set_up`).
 
-use crate::decisions::{AcceptQuota, Places, WAKER, max_places};
-use crate::listeners::watch;
+use crate::acceptor::{ServerShared, watch};
+use crate::decisions::{Places, WAKER, max_places};
 use crate::logging::{LogQueue, ThreadLog};
-use crate::shared::ServerShared;
 use gopher_item::NoMemory;
 use mio::net::TcpListener;
 use mio::{Events, Poll, Token, Waker};
@@ -37,34 +36,23 @@ pub struct ThreadSetup {
     pub(crate) tells: bool,
 }
 
-// The limit of open files of the process.
+// The limit of open files of the process, 0 if it isn't known.
 fn max_files() -> u64 {
     let mut limit = libc::types::rlimit {
         rlim_cur: 0,
         rlim_max: 0,
     };
-    if libc::getrlimit(libc::RLIMIT_NOFILE, &mut limit) == 0 {
-        limit.rlim_cur
-    } else {
-        0
-    }
-}
-
-// A number of things as a `u32`, or its last value if there are more.
-fn count_of(number: usize) -> u32 {
-    u32::try_from(number).unwrap_or(u32::MAX)
+    let _refused = libc::getrlimit(libc::RLIMIT_NOFILE, &mut limit);
+    limit.rlim_cur
 }
 
 /// Returns how many connections a server may hold at once by the limit of open files: at most
 /// 16,384. `None` if they don't suffice for a crawl of this very server by `workers` workers, and
 /// one client beside it. Without a crawl, `workers` is 0.
 pub fn max_connections(listeners: usize, threads: usize, workers: usize) -> Option<u64> {
-    max_places(
-        max_files(),
-        count_of(listeners),
-        count_of(threads),
-        count_of(workers),
-    )
+    let files = max_files();
+    let count = |number: usize| u32::try_from(number).unwrap_or(u32::MAX);
+    max_places(files, count(listeners), count(threads), count(workers))
 }
 
 // A poll for a thread, and its waker.
@@ -111,10 +99,7 @@ fn setup_with(
     log: &Option<Arc<LogQueue>>,
     tells: bool,
 ) -> Result<ThreadSetup, NoMemory> {
-    let queue = match log {
-        Some(queue) => Some(Arc::try_clone(queue)?),
-        None => None,
-    };
+    let queue = log.as_ref().map(Arc::try_clone).transpose()?;
     Ok(ThreadSetup {
         poll,
         events: Events::with_capacity(alloc, MAX_EVENTS)?,
@@ -147,14 +132,8 @@ pub fn set_up<R: Net>(
 ) -> Result<Vec<ThreadSetup>, NoMemory> {
     let (polls, wakers) = polls_and_wakers(rt, alloc, threads)?;
     let listeners = Arc::new(alloc, listeners)?;
-    let shared = Arc::new(
-        alloc,
-        ServerShared {
-            quota: AcceptQuota::new(requests),
-            places: Places::new(places),
-            wakers,
-        },
-    )?;
+    let places = Places::new(places, requests);
+    let shared = Arc::new(alloc, ServerShared { places, wakers })?;
     let mut setups = Vec::with_capacity(alloc, threads)?;
     for poll in polls {
         let setup = setup_with(alloc, poll, &listeners, &shared, log, tells)?;

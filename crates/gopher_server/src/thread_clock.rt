@@ -1,7 +1,7 @@
 //! The clock of a server thread.
 
 ghost use Rattle.std.specs.Prelude.{◌≡◌};
-ghost use Rattle.gopher_server.specs.Timing.{micros_of};
+ghost use Rattle.gopher_server.specs.ThreadLog.{micros_of};
 
 use std::io;
 use std::time::{Clock, Duration, Instant};

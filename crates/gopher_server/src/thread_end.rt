@@ -1,7 +1,7 @@
 //! How a server thread ended.
 
 /// How a server thread ended.
-#[derive(Clone, Copy, Debug, PartialEq, Eq)]
+#[derive(Clone, Copy)]
 pub enum ThreadEnd {
     /// All connections of the quota were accepted, and all of its connections have ended.
     Served,

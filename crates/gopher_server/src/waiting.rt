@@ -1,10 +1,8 @@
 //! The connections of a server thread that wait: for their clients, or for the search that makes
 //! their reply.
 
-use crate::connection::Connection;
-use crate::decisions::NextStep;
 use crate::server::Server;
-use gopher_serve::Answers;
+use gopher_serve::{Answers, Progress};
 use std::sync::Wait;
 use std::time::Clock;
 
@@ -16,36 +14,9 @@ const SEARCH_TIME: u64 = 1_000;
 const MAX_SEARCH_STEPS: u32 = 1_000;
 
 impl<'a, A: Answers<'a> + Drop> Server<'a, A> {
-    /// Keeps a connection, and closes the one idle longest if there are too many.
-    pub(crate) fn keep<R: Wait + Clock>(
-        &mut self,
-        rt: &R,
-        connection: Connection<'a>,
-        step: NextStep,
-    ) {
-        let is_large = connection.is_large;
-        match self.connections.take_in(connection) {
-            Ok(key) => {
-                self.acceptor.shared.places.take();
-                self.meet_step(rt, key, step, is_large);
-                self.make_room(rt);
-            }
-            Err(refused) => {
-                let mut connection = refused;
-                connection.log_request(rt, self.answering.alloc, &mut self.log);
-            }
-        }
-    }
-
-    // Whether it holds more than its share of the places.
-    fn is_above_share(&self) -> bool {
-        let held = self.connections.len() as u64;
-        self.acceptor.shared.places.is_above_share(held)
-    }
-
-    // Closes connections of this thread if all places are taken and it has more than its share of
-    // them; if another has, that one does.
-    fn make_room<R: Wait + Clock>(&mut self, rt: &R) {
+    /// If all places are taken, closes connections of this thread if it has more than its share of
+    /// them, or else wakes the other threads: one of them has.
+    pub(crate) fn make_room<R: Wait + Clock>(&mut self, rt: &R) {
         if !self.acceptor.shared.places.are_exceeded() {
             return;
         }
@@ -56,14 +27,17 @@ impl<'a, A: Answers<'a> + Drop> Server<'a, A> {
         }
     }
 
+    // Whether it holds more than its share of the places.
+    fn is_above_share(&self) -> bool {
+        let held = self.connections.len() as u64;
+        self.acceptor.shared.places.is_above_share(held)
+    }
+
     /// Closes the connections idle longest while all places are taken and this thread has more than
     /// its share of them.
     pub(crate) fn close_excess<R: Wait + Clock>(&mut self, rt: &R) {
         for _closed in 0..self.connections.len() {
-            if !self.is_above_share() {
-                return;
-            }
-            if !self.acceptor.shared.places.give_back_excess() {
+            if !self.is_above_share() || !self.acceptor.shared.places.give_back_excess() {
                 return;
             }
             if let Some(key) = self.connections.idle_longest() {
@@ -72,17 +46,13 @@ impl<'a, A: Answers<'a> + Drop> Server<'a, A> {
         }
     }
 
-    // Has the request of the connection at a key logged.
-    fn log_at<R: Wait + Clock>(&mut self, rt: &R, key: usize) {
-        if let Some(connection) = self.connections.get_mut(key) {
-            connection.log_request(rt, self.answering.alloc, &mut self.log);
-        }
-    }
-
-    /// Takes out the connection at a key, which closes it, and returns whether there was one.
-    pub(crate) fn take_out<R: Wait + Clock>(&mut self, rt: &R, key: usize) -> bool {
-        self.log_at(rt, key);
-        self.connections.end(key).is_some()
+    // Takes out the connection at a key, which closes it, and returns whether there was one.
+    fn take_out<R: Wait + Clock>(&mut self, rt: &R, key: usize) -> bool {
+        let Some(mut connection) = self.connections.end(key) else {
+            return false;
+        };
+        connection.log_request(rt, self.answering.alloc, &mut self.log);
+        true
     }
 
     /// Closes the connection at a key, and gives its place back.
@@ -92,63 +62,53 @@ impl<'a, A: Answers<'a> + Drop> Server<'a, A> {
         }
     }
 
-    /// Does what an event asks for the connection at a key. `is_gone` says that its client takes
-    /// nothing more.
-    pub(crate) fn meet_event<R: Wait + Clock>(&mut self, rt: &R, key: usize, is_gone: bool) {
-        match self.connections.step_after_event(key, is_gone) {
-            NextStep::Ready => self.go_on(rt, key),
-            NextStep::Ends => self.close(rt, key),
-            NextStep::Waits | NextStep::Works | NextStep::Lingers => {}
-        }
-    }
-
-    // Goes on with the connection at a key, for which no search works.
-    fn go_on<R: Wait + Clock>(&mut self, rt: &R, key: usize) {
+    /// Goes on with the connection at a key, for which no search works.
+    pub(crate) fn go_on<R: Wait + Clock>(&mut self, rt: &R, key: usize) {
         let may_enlarge = self.connections.may_enlarge();
         let is_held_back = self.connections.next_search().is_some();
         let Some(connection) = self.connections.get_mut(key) else {
             return;
         };
-        let step = connection.go_on(&mut self.answering, may_enlarge, is_held_back);
-        let is_large = connection.is_large;
+        let progress = connection.go_on(&mut self.answering, may_enlarge, is_held_back);
         self.connections.touch(key);
-        self.meet_step(rt, key, step, is_large);
+        self.meet_progress(rt, key, progress);
     }
 
-    // Does what the next step of the connection at a key asks. `is_large` says that it has a larger
-    // queue.
-    fn meet_step<R: Wait + Clock>(&mut self, rt: &R, key: usize, step: NextStep, is_large: bool) {
-        if is_large && self.connections.mark_large(key).is_err() {
-            return self.close(rt, key);
+    /// Does what the progress of the connection at a key asks. Then has it reported when its client
+    /// is ready.
+    pub(crate) fn meet_progress<R: Wait + Clock>(
+        &mut self,
+        rt: &R,
+        key: usize,
+        progress: Progress,
+    ) {
+        match progress {
+            Progress::Waits => {}
+            Progress::Works => self.queue_search(rt, key),
+            Progress::Paused => self.linger(rt, key),
+            Progress::Done | Progress::Failed(_) => return self.close(rt, key),
         }
-        match step {
-            NextStep::Waits | NextStep::Ready => {}
-            NextStep::Works => self.queue_search(rt, key),
-            NextStep::Lingers => self.linger(rt, key),
-            NextStep::Ends => self.close(rt, key),
-        }
-        if !self.watch(key, step) {
+        let Some(connection) = self.connections.get_mut(key) else {
+            return;
+        };
+        let is_large = connection.is_large;
+        let is_watched = connection.watch(self.poll.registry(), key, progress);
+        if !is_watched || is_large && self.connections.mark_large(key).is_err() {
             self.close(rt, key);
         }
     }
 
-    // Has the connection at a key reported when its client is ready, even if it is ready already,
-    // if the poll lacks that. False if the system refuses.
-    fn watch(&mut self, key: usize, step: NextStep) -> bool {
-        match self.connections.get_mut(key) {
-            Some(connection) => {
-                !connection.lacks_reports(step) || connection.watch(self.poll.registry(), key)
-            }
-            None => true,
-        }
-    }
-
-    // Has the connection at a key, whose reply is sent, closed in time.
+    // Has the connection at a key, whose reply is sent, logged, and closed in time.
     fn linger<R: Wait + Clock>(&mut self, rt: &R, key: usize) {
-        self.log_at(rt, key);
-        let now = self.clock.now(rt);
-        if self.connections.linger(key, now).is_err() {
-            self.close(rt, key);
+        let Some(connection) = self.connections.get_mut(key) else {
+            return;
+        };
+        if connection.begin_lingering() {
+            connection.log_request(rt, self.answering.alloc, &mut self.log);
+            let now = self.clock.now(rt);
+            if self.connections.linger(key, now).is_err() {
+                self.close(rt, key);
+            }
         }
     }
 
@@ -170,26 +130,26 @@ impl<'a, A: Answers<'a> + Drop> Server<'a, A> {
     fn queue_search<R: Wait + Clock>(&mut self, rt: &R, key: usize) {
         if self.connections.queue_search(key).is_err() {
             self.close(rt, key);
-        } else if self.connections.waits_for_turn(key) {
+        } else if self.connections.next_search() != Some(key) {
             if let Some(connection) = self.connections.get_mut(key) {
-                connection.put_back();
+                connection.conversation.put_back();
             }
         }
     }
 
     // Takes steps of the search of the connection at a key, for about `SEARCH_TIME`.
-    fn take_steps(&mut self, clock: &impl Clock, key: usize) -> NextStep {
+    fn take_steps(&mut self, clock: &impl Clock, key: usize) -> Progress {
         let until = self.clock.micros(clock).saturating_add(SEARCH_TIME);
         for _step in 0..MAX_SEARCH_STEPS {
             let Some(connection) = self.connections.get_mut(key) else {
-                return NextStep::Ends;
+                return Progress::Done;
             };
-            let step = connection.go_on(&mut self.answering, false, false);
-            if step != NextStep::Works || self.clock.micros(clock) >= until {
-                return step;
+            let progress = connection.go_on(&mut self.answering, false, false);
+            if progress != Progress::Works || self.clock.micros(clock) >= until {
+                return progress;
             }
         }
-        NextStep::Works
+        Progress::Works
     }
 
     /// Works for a time on the search that is first in the queue.
@@ -197,11 +157,11 @@ impl<'a, A: Answers<'a> + Drop> Server<'a, A> {
         let Some(key) = self.connections.next_search() else {
             return;
         };
-        let step = self.take_steps(rt, key);
-        let goes_on = step == NextStep::Works;
+        let progress = self.take_steps(rt, key);
+        let goes_on = progress == Progress::Works;
         self.connections.end_turn(key, goes_on);
         if !goes_on {
-            self.meet_step(rt, key, step, false);
+            self.meet_progress(rt, key, progress);
         }
     }
 }

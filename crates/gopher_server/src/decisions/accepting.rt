@@ -1,8 +1,8 @@
-//! Whether a server thread accepts connections, what it has to do when that changes, and at which
-//! listeners an event has it accept.
+//! Whether a server thread accepts connections, what it has to do when that changes, at which
+//! listeners an event has it accept, and what the error of a failed accept means.
 
 ghost use Rattle.std.specs.Prelude.{◌≡◌};
-ghost use Rattle.gopher_server.specs.Accepting.{after_event as after, duty_at, has_ended, is_watching, listeners_at as listeners_at_token, pause_end};
+ghost use Rattle.gopher_server.specs.Accepting.{after_event, duty_at, failure_of, has_ended, is_watching, listeners_at as listeners_at_token, pause_end};
 
 use std::ops::Range;
 
@@ -66,22 +66,38 @@ pub fn listeners_at(token: usize, listeners: usize) -> Option<Range<usize>>
     Some(first..first + 1)
 }
 
-// The state after an event.
-fn after_event(state: Accepting, event: AcceptEvent, now: u64) -> Accepting
-    ensures { result ≡ after state event now }
+/// What the error of a failed accept means.
+#[derive(Clone, Copy)]
+pub enum AcceptFailure {
+    /// The connection is lost; the next may be accepted.
+    IsLost,
+    /// Descriptors or memory are short; the connection waits.
+    IsShort,
+    /// They are short again, so closing one more connection makes no room.
+    StaysShort,
+    /// The listener is broken.
+    IsBroken,
+}
+
+/// Returns what an error of accept(2) means, by its number on Linux. `was_short` says whether the
+/// accept before failed because descriptors or memory were short.
+pub fn failure_of(error: u32, was_short: bool) -> AcceptFailure
+    ensures { result ≡ failure_of error was_short }
 {
-    match (state, event) {
-        (Accepting::Ended, _) | (_, AcceptEvent::Ends) => Accepting::Ended,
-        (_, AcceptEvent::IsShort) => Accepting::Pauses(now.saturating_add(PAUSE)),
-        (Accepting::Pauses(until), AcceptEvent::Round(_)) => {
-            if until <= now {
-                Accepting::Watches
+    match error {
+        // ENOMEM, ENFILE, EMFILE, ENOBUFS
+        12 | 23 | 24 | 105 => {
+            if was_short {
+                AcceptFailure::StaysShort
             } else {
-                state
+                AcceptFailure::IsShort
             }
         }
-        (_, AcceptEvent::Round(true)) => Accepting::Leaves,
-        (_, AcceptEvent::Round(false)) => Accepting::Watches,
+        // The call was interrupted, or one connection is lost. EPERM, EINTR, and the network errors
+        // after which accept(2) says to try again: ENONET, EPROTO, ENOPROTOOPT, EOPNOTSUPP,
+        // ENETDOWN, ENETUNREACH, ECONNABORTED, EHOSTDOWN, EHOSTUNREACH
+        1 | 4 | 64 | 71 | 92 | 95 | 100 | 101 | 103 | 112 | 113 => AcceptFailure::IsLost,
+        _ => AcceptFailure::IsBroken,
     }
 }
 
@@ -106,7 +122,7 @@ impl Accepting {
     {
         match self {
             Accepting::Pauses(until) => Some(until),
-            Accepting::Watches | Accepting::Leaves | Accepting::Ended => None,
+            _ => None,
         }
     }
 
@@ -128,12 +144,18 @@ impl Accepting {
     /// Goes over to the state after an event at the time `now`, in milliseconds. Returns what the
     /// thread has to do.
     pub fn meet(&mut self, event: AcceptEvent, now: u64) -> AcceptDuty
-        ensures state { self.new ≡ after self.old event now }
+        ensures state { self.new ≡ after_event self.old event now }
         ensures duty { result ≡ duty_at self.old self.new }
     {
         let old = *self;
-        let new = after_event(old, event, now);
-        *self = new;
-        old.duty_at(new)
+        *self = match (old, event) {
+            (Accepting::Ended, _) | (_, AcceptEvent::Ends) => Accepting::Ended,
+            (_, AcceptEvent::IsShort) => Accepting::Pauses(now.saturating_add(PAUSE)),
+            (Accepting::Pauses(until), AcceptEvent::Round(_)) if now < until => old,
+            (Accepting::Pauses(_), AcceptEvent::Round(_)) => Accepting::Watches,
+            (_, AcceptEvent::Round(true)) => Accepting::Leaves,
+            (_, AcceptEvent::Round(false)) => Accepting::Watches,
+        };
+        old.duty_at(*self)
     }
 }

@@ -1,14 +1,13 @@
 //! The connections that a server thread holds, and what each is doing.
 
-ghost use Rattle.std.specs.Prelude.{◌≡◌, ◌==◌, [], length, nat_eq, nat_lt, Some, IfOk, IfErr, OnOk, OnErr};
+ghost use Rattle.std.specs.Prelude.{◌≡◌, ◌+◌, ◌-◌, ◌^◌, [], ◌∷◌, ◌++◌, length, min, nat_eq, nat_lt, Some, IfOk, IfErr, OnOk, OnErr, if◌then◌else◌};
 ghost use Rattle.std.specs.Option.{option_map, option_copied_mut};
 ghost use Rattle.std.specs.Borrow.{sem};
 ghost use Rattle.std.specs.Map.{remove_entry};
-ghost use Rattle.lru.specs.LruCache.{last_entry, promoted};
-ghost use Rattle.gopher_server.specs.Deadlines.{TakesIfDue, first_deadline};
-ghost use Rattle.gopher_server.specs.Queue.{first_key, is_behind, with_key, without_key};
-ghost use Rattle.gopher_server.specs.Held.{added, connection, deadlines, held_entries, IsSound, key_after, large_of, Lingers, LendsHeld, queue, queue_after, PutsHeld, step_at};
+ghost use Rattle.lru.specs.LruCache.{last_entry, promoted, put_entries};
+ghost use Rattle.gopher_server.specs.Held.{IsSound, LendsHeld, added, connection, deadlines, due_at, foremost, held_entries, large_of, queue, step_at, without_key};
 
+use gopher_serve::Progress;
 use lru::LruCache;
 use std::alloc::{AllocError, Global};
 use std::collections::VecDeque;
@@ -19,21 +18,6 @@ const LINGER: u64 = 16_000;
 
 // The most connections of a thread that have a larger queue.
 const MAX_LARGE: usize = 16;
-
-/// The next step of a connection.
-#[derive(Clone, Copy, PartialEq, Eq)]
-pub enum NextStep {
-    /// It goes on when the client is ready.
-    Waits,
-    /// A search makes its reply. It can go on at once, but others are served first.
-    Works,
-    /// It can go on at once.
-    Ready,
-    /// Its reply is sent. What the client still sends is read and dropped.
-    Lingers,
-    /// It ends.
-    Ends,
-}
 
 /// The connections that a server thread holds. Each is in one of three states: its key is in the
 /// queue of searches, or its reply is sent and it lingers until its deadline, or it waits for its
@@ -52,12 +36,16 @@ pub struct Held<T: Drop> {
     deadlines: VecDeque<(usize, u64)>,
 }
 
-// Appends a key, unless it is there.
-fn add_key(keys: &mut VecDeque<usize>, key: usize) -> Result<(), AllocError>
-    ensures added { OnOk result (keys.new.items ≡ with_key key keys.old.items) }
+// Appends the key of a connection that is held, unless it is there.
+fn add_key<T: Drop>(
+    held: &LruCache<usize, T>,
+    keys: &mut VecDeque<usize>,
+    key: usize,
+) -> Result<(), AllocError>
+    ensures added { OnOk result (keys.new.items ≡ added held.now.entries key keys.old.items) }
     ensures refused { OnErr result (keys.new.items ≡ keys.old.items) }
 {
-    if !keys.contains(&key) {
+    if held.contains(&key) && !keys.contains(&key) {
         keys.push_back(key)?;
     }
     Ok(())
@@ -95,13 +83,6 @@ impl<T: Drop> Held<T> {
         self.connections.len()
     }
 
-    /// Returns whether there are no connections.
-    pub fn is_empty(&self) -> bool
-        ensures { result ≡ (length (held_entries self.now) == 0) }
-    {
-        self.connections.len() == 0
-    }
-
     /// Takes in a connection at a new key and returns the key. The connection is then the most
     /// recently used, and waits for its client.
     ///
@@ -111,8 +92,9 @@ impl<T: Drop> Held<T> {
     pub fn take_in(&mut self, taken: T) -> Result<usize, T>
         ensures key { IfOk result (λ key. key ≡ self.old.next_key) }
         ensures named { IfOk result (λ key. connection self.new key ≡ Some taken) }
-        ensures others { OnOk result (PutsHeld self.old self.new taken) }
-        ensures next { OnOk result (self.new.next_key ≡ key_after self.old.next_key) }
+        ensures others { OnOk result (held_entries self.new
+            ≡ put_entries nat_eq self.old.connections self.old.next_key taken) }
+        ensures next { OnOk result (self.new.next_key ≡ min (self.old.next_key + 1) (2 ^ 64 - 1)) }
         ensures returned { IfErr result (λ refused. refused ≡ taken) }
         ensures kept { OnErr result (self.new ≡ self.old) }
         ensures queue { queue self.new ≡ queue self.old }
@@ -141,10 +123,7 @@ impl<T: Drop> Held<T> {
     pub fn idle_longest(&self) -> Option<usize>
         ensures { result ≡ option_map (λ pair. pair.0) (last_entry (held_entries self.now)) }
     {
-        match self.connections.peek_lru() {
-            Some((key, _connection)) => Some(*key),
-            None => None,
-        }
+        self.connections.peek_lru().map(|pair| *pair.0)
     }
 
     /// Makes the connection at a key the most recently used.
@@ -173,19 +152,20 @@ impl<T: Drop> Held<T> {
         self.connections.pop(&key)
     }
 
-    /// Returns the step of the connection at a key after an event: it is ready; or, in the queue of
-    /// searches, it ends if its client takes nothing more (`is_gone`), and else waits for its turn.
-    pub fn step_after_event(&self, key: usize, is_gone: bool) -> NextStep
+    /// Returns the progress of the connection at a key after an event: it can go on; or, in the
+    /// queue of searches, it is done if its client takes nothing more (`is_gone`), and else waits
+    /// for its turn.
+    pub fn step_after_event(&self, key: usize, is_gone: bool) -> Progress
         ensures { result ≡ step_at self.now key is_gone }
     {
         if !self.connections.contains(&key) {
-            NextStep::Waits
+            Progress::Waits
         } else if !self.searching.contains(&key) {
-            NextStep::Ready
+            Progress::Paused
         } else if is_gone {
-            NextStep::Ends
+            Progress::Done
         } else {
-            NextStep::Waits
+            Progress::Waits
         }
     }
 
@@ -194,32 +174,19 @@ impl<T: Drop> Held<T> {
     /// Puts a connection whose reply a search makes behind the others in the queue, unless it is in
     /// the queue.
     pub fn queue_search(&mut self, key: usize) -> Result<(), AllocError>
-        ensures queue { OnOk result (queue self.new ≡ added self.old key (queue self.old)) }
+        ensures queue { OnOk result (queue self.new
+            ≡ added (held_entries self.old) key (queue self.old)) }
         ensures refused { OnErr result (queue self.new ≡ queue self.old) }
         ensures others { held_entries self.new ≡ held_entries self.old }
         ensures large { large_of self.new ≡ large_of self.old }
         ensures sound { IsSound self.old → IsSound self.new }
     {
-        if !self.connections.contains(&key) {
-            return Ok(());
-        }
-        add_key(&mut self.searching, key)
-    }
-
-    /// Returns whether the connection at a key waits for its turn to search: others are before it
-    /// in the queue. Its search begins when it is the first.
-    pub fn waits_for_turn(&self, key: usize) -> bool
-        ensures { result ≡ is_behind key (queue self.now) }
-    {
-        match self.searching.front() {
-            Some(first) => *first != key,
-            None => false,
-        }
+        add_key(&self.connections, &mut self.searching, key)
     }
 
     /// Returns the key of the connection whose search is next, or `None` if none searches.
     pub fn next_search(&self) -> Option<usize>
-        ensures { result ≡ first_key (queue self.now) }
+        ensures { result ≡ foremost (queue self.now) }
     {
         self.searching.front().copied()
     }
@@ -228,7 +195,8 @@ impl<T: Drop> Held<T> {
     /// If the search goes on, it keeps its place in the queue, otherwise it leaves the queue.
     pub fn end_turn(&mut self, key: usize, goes_on: bool)
         ensures first { held_entries self.new ≡ promoted (nat_eq key) (held_entries self.old) }
-        ensures queue { queue self.new ≡ queue_after goes_on key (queue self.old) }
+        ensures queue { queue self.new
+            ≡ (if goes_on then queue self.old else without_key key (queue self.old)) }
         ensures large { large_of self.new ≡ large_of self.old }
         ensures sound { IsSound self.old → IsSound self.new }
     {
@@ -243,7 +211,8 @@ impl<T: Drop> Held<T> {
     /// Has the connection at a key linger for 16 s (`LINGER`) from `now`. Times are milliseconds by
     /// one clock.
     pub fn linger(&mut self, key: usize, now: u64) -> Result<(), AllocError>
-        ensures set { OnOk result (Lingers self.old self.new key now) }
+        ensures set { OnOk result (deadlines self.new
+            ≡ deadlines self.old ++ (key, min (now + 16_000) (2 ^ 64 - 1)) ∷ []) }
         ensures others { held_entries self.new ≡ held_entries self.old }
         ensures queue { queue self.new ≡ queue self.old }
         ensures large { large_of self.new ≡ large_of self.old }
@@ -254,27 +223,20 @@ impl<T: Drop> Held<T> {
 
     /// Returns the first deadline, or `None` if there is none.
     pub fn first_deadline(&self) -> Option<u64>
-        ensures { result ≡ first_deadline (deadlines self.now) }
+        ensures { result ≡ option_map (λ pair. pair.1) (foremost (deadlines self.now)) }
     {
-        match self.deadlines.front() {
-            Some((_key, deadline)) => Some(*deadline),
-            None => None,
-        }
+        self.deadlines.front().map(|pair| pair.1)
     }
 
     /// Removes the first deadline and returns its key, if the deadline isn't after the time `now`.
     pub fn take_due(&mut self, now: u64) -> Option<usize>
-        ensures due { TakesIfDue now (deadlines self.old) (deadlines self.new) result }
+        ensures due { (result, deadlines self.new) ≡ due_at now (deadlines self.old) }
         ensures others { held_entries self.new ≡ held_entries self.old }
         ensures queue { queue self.new ≡ queue self.old }
         ensures large { large_of self.new ≡ large_of self.old }
     {
-        let (key, deadline) = self.deadlines.front().copied()?;
-        if deadline > now {
-            return None;
-        }
-        let _taken = self.deadlines.pop_front();
-        Some(key)
+        let taken = self.deadlines.pop_front_if(|pair| pair.1 <= now);
+        taken.map(|pair| pair.0)
     }
 
     // ---- larger queues
@@ -289,15 +251,13 @@ impl<T: Drop> Held<T> {
 
     /// Records that the connection at a key has a larger queue.
     pub fn mark_large(&mut self, key: usize) -> Result<(), AllocError>
-        ensures large { OnOk result (large_of self.new ≡ added self.old key (large_of self.old)) }
+        ensures large { OnOk result (large_of self.new
+            ≡ added (held_entries self.old) key (large_of self.old)) }
         ensures refused { OnErr result (large_of self.new ≡ large_of self.old) }
         ensures others { held_entries self.new ≡ held_entries self.old }
         ensures queue { queue self.new ≡ queue self.old }
         ensures sound { IsSound self.old → IsSound self.new }
     {
-        if !self.connections.contains(&key) {
-            return Ok(());
-        }
-        add_key(&mut self.large, key)
+        add_key(&self.connections, &mut self.large, key)
     }
 }

@@ -1,7 +1,8 @@
-//! How many connections all server threads may hold together, and the fair share of one thread.
+//! How many connections all server threads hold and accept together, and the fair share of one
+//! thread.
 
 ghost use Rattle.std.specs.Prelude.{◌≡◌, ◌-◌, ◌<◌, ◌≤◌, max, nat_lt, true, false, None, Some, if◌then◌else◌};
-ghost use Rattle.gopher_server.specs.Places.{max_places as most, other_files, fair_share};
+ghost use Rattle.gopher_server.specs.Places.{fair_share, max_places as most, may_accept, other_files};
 
 use std::sync::atomic::{AtomicU64, Ordering};
 
@@ -38,11 +39,7 @@ pub fn max_places(files: u64, listeners: u32, threads: u32, workers: u32) -> Opt
 {
     let others = other_files(listeners, threads, workers);
     let places = files.saturating_sub(others).min(MAX_CONNECTIONS);
-    if u64::from(workers) < places {
-        Some(places)
-    } else {
-        None
-    }
+    (u64::from(workers) < places).then_some(places)
 }
 
 // The fair share of one of `threads` threads in `all` connections, at least 1.
@@ -52,26 +49,48 @@ fn fair_share(all: u64, threads: u64) -> u64
     (all / threads.max(1)).max(1)
 }
 
-/// The connections that all server threads may hold together (their places), and how many places
-/// are taken. A thread without a connection takes a place even if all are taken, so each thread can
-/// add one connection to the limit.
+// Returns whether one more connection may be accepted after `accepted` connections.
+fn may_accept(quota: Option<u64>, accepted: u64) -> bool
+    ensures { result ≡ may_accept quota accepted }
+{
+    quota.is_none_or(|quota| accepted < quota)
+}
+
+/// The connections that all server threads may hold together (their places), how many places are
+/// taken, and how many connections they still accept (their quota). A thread without a connection
+/// takes a place even if all are taken, so each thread can add one connection to the limit.
 #[derive(Drop)]
 pub struct Places {
     most: u64,
     threads: AtomicU64,
     taken: AtomicU64,
+    quota: Option<u64>,
+    accepted: AtomicU64,
 }
 
 impl Places {
-    /// Makes `most` places, none of them taken, without a thread.
-    pub fn new(most: u64) -> Places
-        ensures { result.most ≡ most }
+    /// Makes `most` places, none of them taken, without a thread. The quota is any number if it is
+    /// `None`.
+    pub fn new(most: u64, quota: Option<u64>) -> Places
+        ensures most { result.most ≡ most }
+        ensures quota { result.quota ≡ quota }
     {
         Places {
             most,
             threads: AtomicU64::new(0),
             taken: AtomicU64::new(0),
+            quota,
+            accepted: AtomicU64::new(0),
         }
+    }
+
+    /// Takes one from the quota, and returns whether one was left. A thread takes one before it
+    /// accepts a connection.
+    pub fn take_quota(&self) -> bool
+        ensures unlimited { self.now.quota ≡ None → result ≡ true }
+        ensures none { self.now.quota ≡ Some 0 → result ≡ false }
+    {
+        may_accept(self.quota, self.accepted.fetch_add(1, Ordering::SeqCst))
     }
 
     /// Takes a place.

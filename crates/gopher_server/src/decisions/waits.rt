@@ -1,17 +1,7 @@
 //! How long a server thread may wait for events.
 
 ghost use Rattle.std.specs.Prelude.{◌≡◌};
-ghost use Rattle.gopher_server.specs.Waits.{longest_wait as longest, shorter, wait_until};
-
-// How long it is until a time, from `now`.
-fn wait_until(now: u64, time: Option<u64>) -> Option<u64>
-    ensures { result ≡ wait_until now time }
-{
-    match time {
-        Some(time) => Some(time.saturating_sub(now)),
-        None => None,
-    }
-}
+ghost use Rattle.gopher_server.specs.Waits.{longest_wait as longest, shorter};
 
 // The shorter of two waits, if there are any.
 fn shorter(wait: Option<u64>, other: Option<u64>) -> Option<u64>
@@ -19,8 +9,7 @@ fn shorter(wait: Option<u64>, other: Option<u64>) -> Option<u64>
 {
     match (wait, other) {
         (Some(wait), Some(other)) => Some(wait.min(other)),
-        (Some(wait), None) => Some(wait),
-        (None, other) => other,
+        _ => wait.or(other),
     }
 }
 
@@ -40,6 +29,6 @@ pub fn longest_wait(
     if searches {
         return Some(0);
     }
-    let first = shorter(wait_until(now, resume), wait_until(now, deadline));
-    shorter(first, log)
+    let time = shorter(resume, deadline);
+    shorter(time.map(|time| time.saturating_sub(now)), log)
 }

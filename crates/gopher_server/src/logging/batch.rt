@@ -1,11 +1,10 @@
 //! Lines of the log, gathered before they are written, and what a write leaves of them (`Batch`).
 
 ghost use Rattle.std.specs.Prelude.{◌≡◌, OnOk, OnErr};
-ghost use Rattle.gopher_server.specs.Batch.{is_full, is_empty, with_line, with_dropped, with_request, with_told, no_lines, WritesFirst};
+ghost use Rattle.gopher_server.specs.Batch.{AddsRequestTo, WritesFirst, is_empty, is_full, no_lines, with_told};
 
-use crate::logging::request_line::{RequestLine, push_request};
+use crate::logging::request_line::{RequestLine, push_number, push_request};
 use gopher_item::NoMemory;
-use itoa::Buffer;
 use std::alloc::Global;
 use std::io::{self, Write};
 use std::marker::Model;
@@ -57,42 +56,18 @@ impl Batch {
         self.written.is_empty() && self.dropped == 0
     }
 
-    /// Appends the line of a request. A full batch counts the request as dropped instead.
-    ///
-    /// # Errors
-    ///
-    /// `NoMemory` (90): the request is counted as dropped.
-    pub fn add(&mut self, request: &RequestLine<'_>) -> Result<(), NoMemory>
-        ensures added { OnOk result (self.new ≡ with_request self.old request.now) }
-        ensures refused { OnErr result (self.new ≡ with_dropped self.old) }
-    {
-        if self.is_full() {
-            self.drop_one();
-            return Ok(());
-        }
-        if self.push(request).is_err() {
-            self.drop_one();
-            return Err(NoMemory);
-        }
-        Ok(())
-    }
-
-    // Appends the line of a request.
-    fn push(&mut self, request: &RequestLine<'_>) -> Result<(), NoMemory>
-        ensures written { OnOk result (self.new ≡ with_line self.old request.now) }
-        ensures refused { OnErr result (self.new ≡ self.old) }
+    /// Appends the line of a request. If it is full or memory runs out, counts the request as
+    /// dropped instead.
+    pub fn add(&mut self, request: &RequestLine<'_>)
+        ensures { AddsRequestTo request.now self.old self.new }
     {
         self.line.clear();
-        push_request(&mut self.line, request)?;
-        self.written.extend_from_slice(&self.line)?;
-        Ok(())
-    }
-
-    // Counts a request that was dropped.
-    fn drop_one(&mut self)
-        ensures { self.new ≡ with_dropped self.old }
-    {
-        self.dropped = self.dropped.saturating_add(1);
+        if self.is_full()
+            || push_request(&mut self.line, request).is_err()
+            || self.written.extend_from_slice(&self.line).is_err()
+        {
+            self.dropped = self.dropped.saturating_add(1);
+        }
     }
 
     /// Appends a line with the number of dropped requests, if there are any, and sets the number to
@@ -108,11 +83,9 @@ impl Batch {
         if self.dropped == 0 {
             return Ok(());
         }
-        let mut digits = Buffer::new();
         self.line.clear();
         self.line.extend_from_slice(b"# dropped ")?;
-        self.line
-            .extend_from_slice(digits.format(self.dropped).as_bytes())?;
+        push_number(&mut self.line, self.dropped)?;
         self.line.push(b'\n')?;
         self.written.extend_from_slice(&self.line)?;
         self.dropped = 0;

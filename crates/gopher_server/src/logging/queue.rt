@@ -42,10 +42,8 @@ impl LogQueue {
     pub(crate) fn offer(&self, rt: &impl Wait, batch: Batch) -> Result<(), Batch>
         ensures { IfErr result (λ refused. refused ≡ batch) }
     {
-        match self.sender.try_send(rt, batch) {
-            Ok(()) => Ok(()),
-            Err(refused) => Err(refused.into_inner()),
-        }
+        let sent = self.sender.try_send(rt, batch);
+        sent.map_err(|refused| refused.into_inner())
     }
 
     /// Records that no more batches come, and wakes the thread that writes with an empty one.

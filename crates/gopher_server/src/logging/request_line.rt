@@ -1,14 +1,13 @@
-//! The log's line of a request.
+//! The log's line of a request, in which the bytes that a client sent are escaped.
 
-ghost use Rattle.std.specs.Prelude.{◌≡◌, ◌++◌, OnOk};
+ghost use Rattle.std.specs.Prelude.{◌≡◌, ◌++◌, ◌<◌, OnOk};
 ghost use Rattle.std.specs.Fmt.{decimal};
-ghost use Rattle.gopher_server.specs.RequestLine.{selector_of, search_of, asked_bytes, numbers_bytes, logged_bytes};
+ghost use Rattle.gopher_server.specs.RequestLine.{asked_bytes, escaped, hex_digit, is_plain, logged_bytes, moment_bytes, numbers_bytes, search_of, selector_of};
 
-use crate::logging::escaping::push_escaped;
-use crate::logging::moment::push_moment;
 use gopher_item::split_once;
 use itoa::Buffer;
 use jiff_core::civil::DateTime;
+use jiff_fmt::temporal::DateTimePrinter;
 use std::alloc::AllocError;
 use std::marker::Model;
 
@@ -39,20 +38,66 @@ impl<'a> Model for RequestLine<'a> {
 fn selector_of(asked: &[u8]) -> &[u8]
     ensures { result.now ≡ selector_of asked.now }
 {
-    match split_once(b'\t', asked) {
-        Some((selector, _rest)) => selector,
-        None => asked,
-    }
+    split_once(b'\t', asked).map_or(asked, |parts| parts.0)
 }
 
 /// Returns the search string of a line; empty if it has none.
 pub fn search_of(asked: &[u8]) -> &[u8]
     ensures { result.now ≡ search_of asked.now }
 {
-    match split_once(b'\t', asked) {
-        Some((_selector, rest)) => selector_of(rest),
-        None => &[],
+    split_once(b'\t', asked).map_or(&[], |parts| selector_of(parts.1))
+}
+
+/// Appends a number.
+pub fn push_number(out: &mut Vec<u8>, number: u64) -> Result<(), AllocError>
+    ensures { OnOk result (out.new.items ≡ out.old.items ++ decimal number) }
+{
+    let mut digits = Buffer::new();
+    out.extend_from_slice(digits.format(number).as_bytes())
+}
+
+// Whether a byte is written as it is.
+fn is_plain(byte: u8) -> bool
+    ensures { result ≡ is_plain byte }
+{
+    byte >= 32 && byte <= 126 && byte != b'\\'
+}
+
+// The digit of a number below 16.
+fn hex_digit(number: u8) -> u8
+    requires { number < 16 }
+    ensures { result ≡ hex_digit number }
+{
+    if number < 10 {
+        b'0' + number
+    } else {
+        b'a' - 10 + number
     }
+}
+
+// Appends bytes, escaped: those from 32 to 126 except the backslash as they are, any other as a
+// backslash, `x` and its two hexadecimal digits.
+fn push_escaped(out: &mut Vec<u8>, bytes: &[u8]) -> Result<(), AllocError>
+    ensures { OnOk result (out.new.items ≡ out.old.items ++ escaped bytes.now) }
+{
+    for byte in bytes {
+        if is_plain(*byte) {
+            out.push(*byte)?;
+        } else {
+            out.extend_from_slice(&[b'\\', b'x', hex_digit(byte / 16), hex_digit(byte % 16)])?;
+        }
+    }
+    Ok(())
+}
+
+// Appends a moment, for example `2001-02-03T04:05:06.000789Z` (RFC 3339, section 5.6).
+fn push_moment(out: &mut Vec<u8>, moment: DateTime) -> Result<(), AllocError>
+    ensures { OnOk result (out.new.items ≡ out.old.items ++ moment_bytes moment) }
+{
+    let printer = DateTimePrinter::new().precision(Some(6));
+    out.extend_from_slice(printer.datetime_text(moment).as_str().as_bytes())?;
+    out.push(b'Z')?;
+    Ok(())
 }
 
 // Appends the selector and the search string of a line.
@@ -62,14 +107,6 @@ fn push_asked(out: &mut Vec<u8>, asked: &[u8]) -> Result<(), AllocError>
     push_escaped(out, selector_of(asked))?;
     out.push(b'\t')?;
     push_escaped(out, search_of(asked))
-}
-
-// Appends a number.
-fn push_number(out: &mut Vec<u8>, number: u64) -> Result<(), AllocError>
-    ensures { OnOk result (out.new.items ≡ out.old.items ++ decimal number) }
-{
-    let mut digits = Buffer::new();
-    out.extend_from_slice(digits.format(number).as_bytes())
 }
 
 // Appends two numbers, each after a TAB.

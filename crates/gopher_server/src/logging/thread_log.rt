@@ -1,11 +1,12 @@
 //! A server thread's part of the log: adding lines, and handing on batches.
 
-ghost use Rattle.std.specs.Prelude.{◌≡◌, false, None, Some, IfSome, if◌then◌else◌};
-ghost use Rattle.gopher_server.specs.Batch.{is_empty, is_full, no_lines};
-ghost use Rattle.gopher_server.specs.ThreadLog.{AddsLine, AddsRequestTo, IsHandedOn, KeepsSince, is_due, poll_timeout, since_with};
+ghost use Rattle.std.specs.Prelude.{◌≡◌, ◌<◌, false, pos, None, Some, IfSome, MatchOption, if◌then◌else◌};
+ghost use Rattle.std.specs.Duration.{as_nanos};
+ghost use Rattle.jiff_core.specs.DateTime.{civil_nanos};
+ghost use Rattle.gopher_server.specs.Batch.{AddsRequestTo, is_empty, is_full, no_lines};
+ghost use Rattle.gopher_server.specs.ThreadLog.{AddsLine, IsHandedOn, KeepsSince, is_due, poll_timeout, since_with};
 
 use crate::logging::batch::Batch;
-use crate::logging::moment::moment_at;
 use crate::logging::queue::LogQueue;
 use crate::logging::request_line::RequestLine;
 use crate::thread_clock::micros_of;
@@ -32,6 +33,15 @@ pub struct Accepted {
     began: Instant,
 }
 
+// Returns the moment at a time after the beginning of 1970, or `None` after the year 9999.
+fn moment_at(since: Duration) -> Option<DateTime>
+    ensures { MatchOption result (253_402_300_799_999_999_999 < as_nanos since)
+        (λ moment. civil_nanos moment ≡ pos (as_nanos since)) }
+{
+    let nanos = i128::try_from(since.as_nanos()).ok()?;
+    DateTime::from_nanosecond(nanos).ok()
+}
+
 // Returns the present moment, or `None` if the clock can't be read, or is set before 1970 or after
 // 9999.
 fn moment_now(clock: &impl Clock) -> Option<DateTime> {
@@ -43,10 +53,7 @@ fn moment_now(clock: &impl Clock) -> Option<DateTime> {
 fn is_due(since: Option<Instant>, now: Instant) -> bool
     ensures { result ≡ is_due since now }
 {
-    match since {
-        Some(since) => now.duration_since(since) >= Duration::from_millis(MAX_KEPT),
-        None => false,
-    }
+    since.is_some_and(|since| now.duration_since(since) >= Duration::from_millis(MAX_KEPT))
 }
 
 /// A server thread's part of the log. It never waits for the thread that writes: if the queue is
@@ -124,7 +131,7 @@ impl ThreadLog {
         ensures lines { AddsRequestTo request.now self.old.batch self.new.batch }
         ensures since { self.new.since ≡ since_with self.old.since now }
     {
-        let _refused = self.batch.add(request);
+        self.batch.add(request);
         self.since = self.since.or(Some(now));
     }
 
@@ -133,11 +140,7 @@ impl ThreadLog {
     pub fn poll_timeout(&self) -> Option<u64>
         ensures { result ≡ poll_timeout self.now.batch }
     {
-        if self.batch.is_empty() {
-            None
-        } else {
-            Some(MAX_KEPT)
-        }
+        (!self.batch.is_empty()).then_some(MAX_KEPT)
     }
 
     /// Hands on its lines, if the first of them is kept for 250 ms (`MAX_KEPT`) at the time `now`.
@@ -156,11 +159,7 @@ impl ThreadLog {
         ensures since { self.new.since ≡ (if is_empty self.new.batch then None else Some now) }
     {
         self.offer(rt, alloc);
-        self.since = if self.batch.is_empty() {
-            None
-        } else {
-            Some(now)
-        };
+        self.since = (!self.batch.is_empty()).then_some(now);
     }
 
     // Hands on its lines, if the queue has room.

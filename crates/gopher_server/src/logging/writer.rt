@@ -1,21 +1,23 @@
 //! The thread that writes the log.
 
-ghost use Rattle.std.specs.Prelude.{◌≡◌};
+ghost use Rattle.std.specs.Prelude.{◌≡◌, None};
 ghost use Rattle.gopher_server.specs.Batch.{KeepsPending, is_tried_again};
 
 use crate::logging::batch::Batch;
 use crate::logging::queue::LogQueue;
 use crate::logging::rests::Rests;
-use crate::logging::standard_error::{ErrorStream, STANDARD_ERROR};
 use crossbeam_channel::Receiver;
-use gopher_item::NoMemory;
 use std::alloc::Global;
 use std::fs::{File, OpenOptions};
-use std::io::{self, Eprint, ErrorKind};
+use std::io::{self, Eprint, ErrorKind, Write};
 use std::os::fd::AsRawFd;
+use std::str;
 use std::sync::{Arc, Wait};
 use std::thread::{self, JoinHandle, Threads};
 use std::time::{Clock, Duration};
+
+// The path that stands for standard error.
+const STANDARD_ERROR: &str = "-";
 
 /// The log of a server, while it is written.
 #[derive(Drop)]
@@ -54,6 +56,26 @@ impl OpenLog for HostRuntime {
         let file = how.open(self, path)?;
         let _refused = os::set_nonblocking(file.as_raw_fd(), true);
         Ok(file)
+    }
+}
+
+// Standard error as the stream of a log. A write waits until all bytes are written.
+#[derive(Drop)]
+struct ErrorStream<'a, R: Eprint> {
+    rt: &'a R,
+}
+
+impl<R: Eprint> Write for ErrorStream<'_, R> {
+    ghost contents = { λ _. None };
+
+    fn write(&mut self, bytes: &[u8]) -> io::Result<usize> {
+        let text = str::from_utf8(bytes).unwrap_or("");
+        self.rt.eprint(text)?;
+        Ok(bytes.len())
+    }
+
+    fn flush(&mut self) -> io::Result<()> {
+        Ok(())
     }
 }
 
@@ -168,28 +190,24 @@ fn write_log<R: OpenLog + Wait + Clock + Eprint>(
     unreachable!()
 }
 
-// Starts the thread. `None` if the system refuses it.
+// Starts the thread. `None` if the system refuses it or memory runs out.
 fn spawn_writer<R: OpenLog + Threads + Wait + Clock + Eprint + Clone + Send + Drop + 'static>(
     rt: &R,
     alloc: Global,
     path: &str,
-) -> Result<Option<Log>, NoMemory> {
-    let (queue, receiver) = LogQueue::new(alloc)?;
-    let queue = Arc::new(alloc, queue)?;
+) -> Option<Log> {
+    let (queue, receiver) = LogQueue::new(alloc).ok()?;
+    let queue = Arc::new(alloc, queue).ok()?;
     let writer = LogWriter {
-        path: String::from_str(alloc, path)?,
+        path: String::from_str(alloc, path).ok()?,
         file: None,
         pending: Batch::new(alloc),
         is_told: false,
     };
-    let theirs = Arc::try_clone(&queue)?;
-    let Ok(runtime) = rt.clone() else {
-        return Err(NoMemory);
-    };
-    match thread::spawn(rt, move || write_log(&runtime, writer, &receiver, &theirs)) {
-        Ok(thread) => Ok(Some(Log { queue, thread })),
-        Err(_refused) => Ok(None),
-    }
+    let theirs = Arc::try_clone(&queue).ok()?;
+    let runtime = rt.clone().ok()?;
+    let thread = thread::spawn(rt, move || write_log(&runtime, writer, &receiver, &theirs)).ok()?;
+    Some(Log { queue, thread })
 }
 
 /// Starts the thread that writes the log at `path`. If it can't be started, prints that on the
@@ -199,13 +217,11 @@ pub fn start_log<R: OpenLog + Threads + Wait + Clock + Eprint + Clone + Send + D
     alloc: Global,
     path: &str,
 ) -> Option<Log> {
-    match spawn_writer(rt, alloc, path) {
-        Ok(Some(log)) => Some(log),
-        _ => {
-            let _ = rt.eprintln("hole: the log can't be written: its thread can't be started");
-            None
-        }
+    let log = spawn_writer(rt, alloc, path);
+    if log.is_none() {
+        let _ = rt.eprintln("hole: the log can't be written: its thread can't be started");
     }
+    log
 }
 
 impl Log {

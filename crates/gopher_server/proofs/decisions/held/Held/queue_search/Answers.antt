@@ -1,11 +1,7 @@
-use Rattle.std.proofs.Common.{◌≡◌, true, nat_eq, rules}
-use Rattle.std.specs.Option.{is_some}
-use Rattle.std.specs.Map.{lookup}
 use Rattle.gopher_server.proofs.HeldLemmas.{grown_once}
 use Rattle.gopher_server.proofs.decisions.held.Held.queue_search.Goals as goal
 
 pub returns-clause-sound : goal.returns-clause-sound
 returns-clause-sound g c =
     let old = c.args.self.now in
-    let held : is_some (lookup (nat_eq c.args.key) c.args.self.now.connections.entries) ≡ true = search rules in
-    λ sound. (grown_once c.add_key.result c.args.key old.searching.items c.add_key.new.keys.items old.connections.entries c.add_key.ensures.added c.add_key.ensures.refused held sound.0, sound.1)
+    λ sound. (grown_once c.add_key.result c.args.key old.searching.items c.add_key.new.keys.items old.connections.entries c.add_key.ensures.added c.add_key.ensures.refused sound.0, sound.1)
