@@ -6,7 +6,7 @@ use Rattle.std.proofs.lemmas.List.{take-map, drop-map, map-append}
 use Rattle.gopher_page.specs.Page.{PageData}
 use Rattle.gopher_page.specs.Query.{TermData, matches, score}
 use Rattle.gopher_index.specs.Best.{BestData, lowest_score, TakesIn}
-use Rattle.gopher_index.specs.Cells.{AreCells, scores_of}
+use Rattle.gopher_index.specs.Cells.{AreCells}
 use Rattle.gopher_index.proofs.Taking.{takes_none, takes_both, takes_below}
 
 -- ---- a block where none is
@@ -20,12 +20,12 @@ neither_right true b e = absurd cc
 neither_right false b e = e
 
 module _ (terms : List TermData) (best : BestData) (lowest : ℕ) (low : lowest ≤ lowest_score best) where
-  passes_all : (pages : List PageData) → list_any (λ n. nat_le lowest n) (scores_of terms pages) ≡ false → TakesIn terms pages best best
+  passes_all : (pages : List PageData) → list_any (λ n. nat_le lowest n) (map (λ (p : PageData). score terms p.counts) pages) ≡ false → TakesIn terms pages best best
   passes_all [] none = takes_none terms best
   passes_all (page ∷ pages) none =
-      let below : nat_le lowest (score terms page.counts) ≡ false = neither_left (nat_le lowest (score terms page.counts)) (list_any (λ n. nat_le lowest n) (scores_of terms pages)) none in
+      let below : nat_le lowest (score terms page.counts) ≡ false = neither_left (nat_le lowest (score terms page.counts)) (list_any (λ n. nat_le lowest n) (map (λ (p : PageData). score terms p.counts) pages)) none in
       takes_both terms (page ∷ []) pages best best best (takes_below terms page best (grind (arith, below, low)))
-      (passes_all pages (neither_right (nat_le lowest (score terms page.counts)) (list_any (λ n. nat_le lowest n) (scores_of terms pages)) none))
+      (passes_all pages (neither_right (nat_le lowest (score terms page.counts)) (list_any (λ n. nat_le lowest n) (map (λ (p : PageData). score terms p.counts) pages)) none))
 
   pub passes_block : (pages : List PageData) (truths : List Bool) (scores : List ℕ) → AreCells terms pages truths scores → list_any (λ n. nat_le lowest n) scores ≡ false → TakesIn terms pages best best
   passes_block pages truths scores cells none = passes_all pages (ap (list_any (λ n. nat_le lowest n)) (sym cells.scoring) ∙ none)

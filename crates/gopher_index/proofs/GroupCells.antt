@@ -2,7 +2,7 @@
 use Rattle.std.proofs.Common.{◌≡◌, ℕ, zero, suc, ◌+◌, ◌*◌, ◌<◌, ◌≤◌, List, [], ◌∷◌, ◌++◌, length, map, max, replicate, get_or, take, refl, sym, ap, subst, ◌∙◌, arith}
 use Rattle.std.specs.List.{All, length_refill}
 use Rattle.std.specs.Vec.{with_items}
-use Rattle.std.proofs.lemmas.List.{length-map, with_items_is}
+use Rattle.std.proofs.lemmas.List.{length-map, take_all, with_items_is}
 use Rattle.std.proofs.lemmas.List.Elements.{All-map}
 use Rattle.std.proofs.lemmas.Simd.{map-map, splat_is_map}
 use Rattle.gopher_page.specs.Page.{PageData}
@@ -55,6 +55,10 @@ groups_cells terms groups pages verdicts read scores counted are cells same alik
       ∙ (λ i. map (λ (page : PageData). sym (are.matching page.counts) i) pages);
   scoring = alike ∙ cells.scoring ∙ (λ i. map (λ (page : PageData). sym (are.scoring page.counts) i) pages);
 }
+
+-- the cells of all groups, once all were joined
+pub whole_groups : (groups : List Group) (pages : List PageData) (joined : Joined) → AreJoined groups pages joined → joined.groups ≡ length groups → AreGroupCells groups pages joined.verdicts.items joined.scores.items
+whole_groups groups pages joined are all = subst (λ l. AreGroupCells l pages joined.verdicts.items joined.scores.items) (take_all joined.groups groups (omega (arith, all))) are.cells
 
 -- scores that are multiples of counts
 pub times_all : (times : ℕ) (counts : List ℕ) → All (λ count. count ≤ 1048576) counts → All (λ score. score ≤ 1048576 * times) (map (λ count. times * count) counts)

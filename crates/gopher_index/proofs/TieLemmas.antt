@@ -15,7 +15,6 @@ use Rattle.gopher_page.specs.Query.{TermData, matches}
 use Rattle.gopher_segment.specs.Ranks.{AreRanks}
 use Rattle.gopher_index.specs.Answer.{rank_cmp, ranked}
 use Rattle.gopher_index.specs.Best.{BestData, hit_with, is_beyond, reaches, TakesHit}
-use Rattle.gopher_index.specs.Cells.{truths_of}
 use Rattle.gopher_index.specs.Plan.{is_match}
 use Rattle.gopher_index.specs.declared.hit.Hit.{Hit}
 use Rattle.gopher_index.proofs.AnswerLemmas.{best_beyond, rank_cmp_total}
@@ -110,7 +109,7 @@ read_at f pages zs index page d there made =
     ap (λ l. get_or l index d) made ∙ get_or_from_slice_get (map f pages) index (f page) d (slice_get-map f pages index ∙ ap (option_map f) there)
 
 -- whether a page matches, by its verdict
-pub truth_at : (terms : List TermData) (pages : List PageData) (verdicts : List ℕ) (index : ℕ) (page : PageData) → slice_get pages index ≡ Some page → map is_match verdicts ≡ truths_of terms pages → is_match (get_or verdicts index 0) ≡ matches terms page.counts
+pub truth_at : (terms : List TermData) (pages : List PageData) (verdicts : List ℕ) (index : ℕ) (page : PageData) → slice_get pages index ≡ Some page → map is_match verdicts ≡ map (λ (p : PageData). matches terms p.counts) pages → is_match (get_or verdicts index 0) ≡ matches terms page.counts
 truth_at terms pages verdicts index page there made =
     let within : index < length verdicts = omega (arith, slice_get_within pages index page there, length-map verdicts is_match, ap length made, length-map pages (λ (p : PageData). matches terms p.counts)) in
     sym (get_or-map is_match verdicts index 0 false within) ∙ read_at (λ (p : PageData). matches terms p.counts) pages (map is_match verdicts) index page false there made

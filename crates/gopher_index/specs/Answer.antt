@@ -67,15 +67,10 @@ pub record AreOccurrences (pages : List PageData) (word : List ℕ) (list : List
   pub permutation : IsPermutation (occurrences_among word pages) list
   pub sorted : IsSorted occurrence_cmp list
 
--- the occurrences of a word in these pages are appended to those found before, unless it fails
-abbrev pub FindsIn : {T E : Type 0} → List ℕ → List PageData → List (PlaceData × ℕ)
-    → List (PlaceData × ℕ) → Result T E → Type 0
-FindsIn word pages old new result = OnOk result (new ≡ old ++ occurrences_among word pages)
-
 -- if these are the counts of a word in the pages, its occurrences in them are appended to those
 -- found before, unless it fails
 abbrev pub FindsCounted : {T E Z : Type 0} → List (Arc PageData Z) → List ℕ → List (PlaceData × ℕ)
     → List (PlaceData × ℕ) → Result T E → Type 0
 FindsCounted pages counts old new result =
     (word : List ℕ) → counts ≡ meant_counts false word (map arc_value pages)
-    → FindsIn word (map arc_value pages) old new result
+    → OnOk result (new ≡ old ++ occurrences_among word (map arc_value pages))

@@ -1,7 +1,7 @@
 -- The beginning of a search.
 use Rattle.std.specs.Prelude.{List}
-use Rattle.gopher_index.specs.declared.begun.Begun.{Begun}
-use Rattle.gopher_index.specs.declared.begun.Begun.TheVariants.{Found, Searching}
+use Rattle.gopher_index.specs.declared.searching.Begun.{Begun}
+use Rattle.gopher_index.specs.declared.searching.Begun.TheVariants.{Found, Searching}
 use Rattle.gopher_index.specs.declared.hit.Hit.{Hit}
 
 -- the hits of a short search, or those that a search in steps will find

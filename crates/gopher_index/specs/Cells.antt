@@ -19,16 +19,8 @@ abbrev pub RisesAtMost : ℕ → List ℕ → List ℕ → Type 0
 RisesAtMost rise old new =
     (bound : ℕ) → All (λ score. score ≤ bound) old → All (λ score. score ≤ bound + rise) new
 
--- whether each page matches these terms
-abbrev pub truths_of : List TermData → List PageData → List Bool
-truths_of terms pages = map (λ page. matches terms page.counts) pages
-
--- the score of each page for these terms
-abbrev pub scores_of : List TermData → List PageData → List ℕ
-scores_of terms pages = map (λ page. score terms page.counts) pages
-
 -- the matches and the scores of the pages of a segment
 pub record AreCells (terms : List TermData) (pages : List PageData) (truths : List Bool)
     (scores : List ℕ) : Type 0 where
-  pub matching : truths ≡ truths_of terms pages
-  pub scoring : scores ≡ scores_of terms pages
+  pub matching : truths ≡ map (λ page. matches terms page.counts) pages
+  pub scoring : scores ≡ map (λ page. score terms page.counts) pages

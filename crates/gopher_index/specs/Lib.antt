@@ -1,13 +1,10 @@
-pub mod Due
 pub mod Part
 pub mod Index
 pub mod Answer
 pub mod Best
 pub mod Cells
-pub mod ByCells
 pub mod ByPostings
 pub mod Plan
-pub mod Search
 pub mod Ties
 pub mod Begun
 pub mod Joined

@@ -14,6 +14,11 @@ use Rattle.gopher_index.specs.declared.plan.Group.{Group}
 use Rattle.gopher_index.specs.declared.progress.Progress.{Progress}
 use Rattle.gopher_segment.specs.Segment.{SegmentData, pages_of}
 
+-- the hits that a search will find, and the most steps that are left
+pub record SearchData : Type 0 where
+  pub hits : List Hit
+  pub left : ℕ
+
 -- the pages of a search
 abbrev pub all_pages : Progress → List PageData
 all_pages progress = pages_of progress.parts.items
@@ -47,10 +52,6 @@ pub record IsProgress (progress : Progress) : Type 0 where
       → AreBegun progress.groups.items part.pages progress.joined
   pub best : map kept_hit progress.kept.items
       ≡ answer_from 0 (pages_done progress) progress.terms.items
-
--- as many steps are left as before
-abbrev pub HasAsManySteps : Progress → Progress → Type 0
-HasAsManySteps old new = steps_left new ≡ steps_left old
 
 -- the same search after some steps
 pub record IsSameSearch (old new : Progress) : Type 0 where

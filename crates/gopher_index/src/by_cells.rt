@@ -2,8 +2,7 @@
 
 ghost use Rattle.std.specs.Prelude.{◌≡◌, ◌≤◌, length, nat_le, OnOk};
 ghost use Rattle.std.specs.List.{list_any};
-ghost use Rattle.gopher_index.specs.Ties.{AreTies};
-ghost use Rattle.gopher_index.specs.ByCells.{TakesBlock, TakesCells};
+ghost use Rattle.gopher_index.specs.Ties.{AreTies, TakesBlock, TakesCells};
 
 use crate::best::Best;
 use crate::part::Part;

@@ -46,7 +46,7 @@ fn segment_of(alloc: Global, first: usize, parts: &[Part]) -> Result<Segment, No
 /// Consecutive pages of an index that are due to be merged into one segment.
 ///
 /// It shares the pages, so they can be merged without access to the index.
-#[derive(Debug, Drop)]
+#[derive(Drop)]
 pub struct Due {
     pub(crate) first: usize,
     pub(crate) parts: Vec<Part>,
@@ -55,8 +55,7 @@ pub struct Due {
 
 impl Model for Due {
     ghost use Rattle.gopher_segment.specs.Segment.{SegmentData};
-    ghost use Rattle.gopher_index.specs.Due.{IsDue};
-    ghost use Rattle.gopher_index.specs.Index.{run_data};
+    ghost use Rattle.gopher_index.specs.Index.{IsDue, run_data};
 
     ghost Value = { SegmentData };
 

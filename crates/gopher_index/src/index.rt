@@ -6,7 +6,6 @@ ghost use Rattle.gopher_index.specs.Answer.{answer_of, AreOccurrences};
 ghost use Rattle.gopher_index.specs.Begun.{begun_hits};
 ghost use Rattle.gopher_index.specs.Index.{EndsWith, IsSliceOf, AppendsPage};
 
-use crate::begun::Begun;
 use crate::due::Due;
 use crate::hit::Hit;
 use crate::installing::put_part;
@@ -14,7 +13,7 @@ use crate::occurrences::occurrences;
 use crate::part::{Part, copies};
 use crate::picking::due_span;
 use crate::search::search;
-use crate::searching::Search;
+use crate::searching::{Begun, Search};
 use gopher_item::{NoMemory, Place};
 use gopher_page::{Page, Query, Term};
 use std::alloc::Global;
@@ -71,7 +70,7 @@ fn loose_len(parts: &[Part]) -> usize {
 }
 
 /// A list of pages that can be searched.
-#[derive(Debug, Drop)]
+#[derive(Drop)]
 pub struct Index {
     parts: Vec<Part>,
     // The number of pages.

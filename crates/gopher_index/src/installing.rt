@@ -1,10 +1,10 @@
 //! Replacing parts by the segment that they were merged into.
 
-ghost use Rattle.std.specs.Prelude.{◌≡◌, ◌+◌, ◌≤◌, length, IfOk, IfSome};
+ghost use Rattle.std.specs.Prelude.{◌≡◌, ◌+◌, ◌≤◌, length, IfSome};
 ghost use Rattle.gopher_segment.specs.SegmentRows.{AreConsecutive};
-ghost use Rattle.gopher_index.specs.Index.{IsBorder, KeepsPages, Replaces};
+ghost use Rattle.gopher_index.specs.Index.{IsBorder, KeepsPages};
 
-use crate::part::{Part, copies, push_parts};
+use crate::part::{Part, copies};
 use gopher_item::NoMemory;
 use std::alloc::Global;
 
@@ -30,24 +30,6 @@ fn border(parts: &[Part], pages: usize) -> Option<usize>
     None
 }
 
-// Returns the parts with those from `start` to `end` replaced by one.
-fn with_one(
-    alloc: Global,
-    parts: &[Part],
-    start: usize,
-    end: usize,
-    merged: Part,
-) -> Result<Vec<Part>, NoMemory>
-    requires start { start ≤ length parts.now }
-    requires end { end ≤ length parts.now }
-    ensures { IfOk result (λ list. Replaces start end merged parts.now list.items) }
-{
-    let mut list = copies(alloc, &parts[..start])?;
-    list.push(merged)?;
-    push_parts(&parts[end..], &mut list)?;
-    Ok(list)
-}
-
 /// Replaces whole parts by the segment that they were merged into. Changes nothing if its pages
 /// aren't those of whole parts.
 pub(crate) fn put_part(alloc: Global, merged: Part, parts: &mut Vec<Part>) -> Result<(), NoMemory>
@@ -61,6 +43,9 @@ pub(crate) fn put_part(alloc: Global, merged: Part, parts: &mut Vec<Part>) -> Re
     let Some(end) = border(parts, merged.first() + merged.pages().len()) else {
         return Ok(());
     };
-    *parts = with_one(alloc, parts, start, end, merged)?;
+    let mut list = copies(alloc, &parts[..start])?;
+    list.push(merged)?;
+    list.extend_from_slice(&parts[end..])?;
+    *parts = list;
     Ok(())
 }

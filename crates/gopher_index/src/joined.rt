@@ -1,13 +1,12 @@
 //! The verdicts and scores of a part's pages, joined group by group of a query's terms.
 
-ghost use Rattle.std.specs.Prelude.{None, ◌≡◌, ◌+◌, ◌*◌, ◌^◌, ◌≤◌, ◌<◌, ◌==◌, ◌∷◌, [], length, map, replicate, if◌then◌else◌, IfSome, OnErr, OnOk};
+ghost use Rattle.std.specs.Prelude.{◌≡◌, ◌+◌, ◌*◌, ◌^◌, ◌≤◌, ◌<◌, ◌==◌, ◌∷◌, [], length, map, replicate, if◌then◌else◌, IfSome, OnOk};
 ghost use Rattle.std.specs.List.{All};
 ghost use Rattle.gopher_index.specs.Cells.{RisesAtMost, zipped};
-ghost use Rattle.gopher_index.specs.Joined.{AreBegun, AreJoined, AddsOne, HasCells, IsUnwantedList, JoinsOne, RaisesEach, posted, posted_count, raised_verdicts};
+ghost use Rattle.gopher_index.specs.Joined.{AreBegun, AreJoined, AddsOne, IsUnwantedList, JoinsTo, RaisesEach, posted, posted_count, raised_verdicts};
 ghost use Rattle.gopher_segment.specs.Postings.{AreWithin};
 ghost use Rattle.gopher_index.specs.Plan.{AreGroupCells, wanted_in};
 
-use crate::likely::Highest;
 use crate::part::Part;
 use crate::plan::{Group, higher, verdict_for};
 use gopher_item::{MAX_LINE, NoMemory};
@@ -17,7 +16,7 @@ use std::alloc::Global;
 /// The verdicts and scores of a part's pages by the first groups of a query's terms.
 ///
 /// Its memory is used for one part after another.
-#[derive(Debug, Drop)]
+#[derive(Drop)]
 pub(crate) struct Joined {
     counts: Vec<u32>,
     pub verdicts: Vec<u16>,
@@ -205,7 +204,7 @@ impl Joined {
         requires some { 0 < length groups.now }
         requires none { self.old.groups ≡ 0 }
         ensures cells { OnOk result (AreJoined groups.now part.now.pages self.new) }
-        ensures one { JoinsOne self.old self.new result }
+        ensures joined { JoinsTo 1 self.old self.new result }
     {
         self.clear(part.pages().len())?;
         let Joined {
@@ -237,48 +236,22 @@ impl Joined {
         self.groups = next + 1;
     }
 
-    /// Joins the next group. After an error no group is joined.
-    pub fn advance(&mut self, part: &Part, groups: &[Group]) -> Result<(), NoMemory>
+    /// Joins the next groups, until `end` groups are joined. After an error none is joined, and
+    /// none was before.
+    pub fn join_to(&mut self, end: usize, part: &Part, groups: &[Group]) -> Result<(), NoMemory>
         requires few { wanted_in groups.now ≤ MAX_LINE }
-        requires ahead { self.old.groups < length groups.now }
+        requires ahead { self.old.groups < end }
+        requires within { end ≤ length groups.now }
         requires begun { AreBegun groups.now part.now.pages self.old }
         ensures cells { OnOk result (AreJoined groups.now part.now.pages self.new) }
-        ensures one { JoinsOne self.old self.new result }
+        ensures joined { JoinsTo end self.old self.new result }
     {
         if self.groups == 0 {
-            return self.start(part, groups);
+            self.start(part, groups)?;
         }
-        self.join(part, groups);
-        Ok(())
-    }
-
-    /// Joins all groups.
-    pub fn fill(&mut self, part: &Part, groups: &[Group]) -> Result<(), NoMemory>
-        requires few { wanted_in groups.now ≤ MAX_LINE }
-        requires some { 0 < length groups.now }
-        ensures cells { OnOk result (HasCells groups.now part.now.pages self.new) }
-        ensures joined { OnOk result (AreJoined groups.now part.now.pages self.new) }
-        ensures all { OnOk result (self.new.groups ≡ length groups.now) }
-        ensures none { OnErr result (self.new.groups ≡ 0) }
-    {
-        self.groups = 0;
-        self.start(part, groups)?;
-        while self.groups < groups.len() {
+        while self.groups < end {
             self.join(part, groups);
         }
         Ok(())
-    }
-
-    /// Guesses a score that `wanted` pages of the part reach; 0 if nothing is wanted.
-    pub fn likely_score(&self, wanted: Option<usize>) -> u64
-        requires { length self.now.scores.items ≡ length self.now.verdicts.items }
-        ensures { wanted ≡ None → result ≡ 0 }
-    {
-        let Some(wanted) = wanted else {
-            return 0;
-        };
-        let mut highest = Highest::new();
-        highest.note_scores(&self.verdicts, &self.scores);
-        highest.reached(wanted)
     }
 }

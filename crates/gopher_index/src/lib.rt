@@ -48,7 +48,6 @@
 //! `NoMemory` (90) means out of memory. The object is then as it was before the call.
 #![tactic(auto)]
 
-mod begun;
 mod best;
 mod by_cells;
 mod by_postings;
@@ -67,8 +66,7 @@ mod search;
 mod searching;
 mod ties;
 
-pub use begun::Begun;
 pub use due::Due;
 pub use hit::Hit;
 pub use index::Index;
-pub use searching::Search;
+pub use searching::{Begun, Search};

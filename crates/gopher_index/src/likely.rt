@@ -13,12 +13,6 @@ use gopher_segment::Postings;
 // has more blocks than the 18 that are wanted if it is a quarter of all pages.
 const BLOCK: usize = 16;
 
-/// The number of blocks by their highest score. Scores above 255 count as 255.
-#[derive(Drop)]
-pub(crate) struct Highest {
-    blocks: [u32; 256],
-}
-
 fn highest_count(counts: &[u8]) -> u8 {
     let mut highest = 0;
     for count in counts {
@@ -37,49 +31,23 @@ fn highest_score(verdicts: &[u16], scores: &[u32]) -> u32
     highest
 }
 
-impl Highest {
-    /// Creates a histogram of no blocks.
-    pub fn new() -> Highest {
-        Highest { blocks: [0; 256] }
-    }
+// Counts a block by its highest score. Scores above 255 count as 255.
+fn note(blocks: &mut [u32; 256], highest: u32) {
+    let index = highest.min(255) as usize;
+    blocks[index] = blocks[index].saturating_add(1);
+}
 
-    fn note(&mut self, highest: u8) {
-        let index = usize::from(highest);
-        self.blocks[index] = self.blocks[index].saturating_add(1);
-    }
-
-    /// Adds the blocks of a list of counts.
-    pub fn note_counts(&mut self, counts: &[u8]) {
-        for block in counts.chunks(BLOCK) {
-            self.note(highest_count(block));
+// Returns the highest score that `wanted` blocks reach, or 0 if there is none.
+fn reached(blocks: &[u32; 256], wanted: usize) -> u64 {
+    let mut reaching = 0_usize;
+    for score in 1..256 {
+        let score = 256 - score;
+        reaching = reaching.saturating_add(blocks[score] as usize);
+        if reaching >= wanted {
+            return score as u64;
         }
     }
-
-    /// Adds the blocks of a list of pages. A page that doesn't match counts as score 0.
-    pub fn note_scores(&mut self, verdicts: &[u16], scores: &[u32])
-        requires { length scores.now ≡ length verdicts.now }
-    {
-        let mut start = 0;
-        while start < verdicts.len() {
-            let end = verdicts.len().min(start + BLOCK);
-            let highest = highest_score(&verdicts[start..end], &scores[start..end]);
-            self.note(highest.min(255) as u8);
-            start = end;
-        }
-    }
-
-    /// Returns the highest score that `wanted` blocks reach, or 0 if there is none.
-    pub fn reached(&self, wanted: usize) -> u64 {
-        let mut blocks = 0_usize;
-        for score in 1..256 {
-            let score = 256 - score;
-            blocks = blocks.saturating_add(self.blocks[score] as usize);
-            if blocks >= wanted {
-                return score as u64;
-            }
-        }
-        0
-    }
+    0
 }
 
 /// Guesses how many of the first 50 hits are in the first of these parts: one and a half times its
@@ -97,7 +65,7 @@ pub(crate) fn likely_hits(parts: &[Part]) -> Option<usize> {
 
 /// Guesses a score that `wanted` pages reach for a word, from its posting list in a segment; 0 if
 /// nothing is wanted.
-pub(crate) fn likely_score(postings: &Postings, wanted: Option<usize>) -> u64
+pub(crate) fn likely_count(postings: &Postings, wanted: Option<usize>) -> u64
     ensures { wanted ≡ None → result ≡ 0 }
 {
     let Some(wanted) = wanted else {
@@ -106,7 +74,30 @@ pub(crate) fn likely_score(postings: &Postings, wanted: Option<usize>) -> u64
     if postings.counts.len() < MOST_HITS {
         return 0;
     }
-    let mut highest = Highest::new();
-    highest.note_counts(postings.counts);
-    highest.reached(wanted)
+    let mut blocks = [0; 256];
+    for block in postings.counts.chunks(BLOCK) {
+        note(&mut blocks, u32::from(highest_count(block)));
+    }
+    reached(&blocks, wanted)
+}
+
+/// Guesses a score that `wanted` pages of a part reach; 0 if nothing is wanted.
+pub(crate) fn likely_score(verdicts: &[u16], scores: &[u32], wanted: Option<usize>) -> u64
+    requires { length scores.now ≡ length verdicts.now }
+    ensures { wanted ≡ None → result ≡ 0 }
+{
+    let Some(wanted) = wanted else {
+        return 0;
+    };
+    let mut blocks = [0; 256];
+    let mut start = 0;
+    while start < verdicts.len() {
+        let end = verdicts.len().min(start + BLOCK);
+        note(
+            &mut blocks,
+            highest_score(&verdicts[start..end], &scores[start..end]),
+        );
+        start = end;
+    }
+    reached(&blocks, wanted)
 }

@@ -1,7 +1,7 @@
 //! Listing the pages that contain a word.
 
-ghost use Rattle.std.specs.Prelude.{◌≡◌, length, IfOk};
-ghost use Rattle.gopher_index.specs.Answer.{AreOccurrences, FindsCounted, FindsIn};
+ghost use Rattle.std.specs.Prelude.{◌≡◌, ◌++◌, length, IfOk, OnOk};
+ghost use Rattle.gopher_index.specs.Answer.{occurrences_among, AreOccurrences, FindsCounted};
 ghost use Rattle.gopher_segment.specs.Segment.{pages_of};
 
 use crate::part::Part;
@@ -30,7 +30,8 @@ fn push_part(
     word: &[u8],
     found: &mut Vec<(Place, u32)>,
 ) -> Result<(), NoMemory>
-    ensures { FindsIn word.now part.now.pages found.old.items found.new.items result }
+    ensures { OnOk result
+        (found.new.items ≡ found.old.items ++ occurrences_among word.now part.now.pages) }
 {
     let pages = part.pages();
     let mut counts = vec![in alloc; 0; pages.len()]?;

@@ -1,6 +1,6 @@
 //! `Part`: consecutive pages that are searched together, a page that was found or a segment.
 
-ghost use Rattle.std.specs.Prelude.{◌≡◌, ◌<◌, ◌≤◌, ◌∷◌, ◌++◌, [], length, map, replicate, IfOk, IfSome, OnOk};
+ghost use Rattle.std.specs.Prelude.{◌≡◌, ◌<◌, ◌≤◌, ◌∷◌, [], length, map, replicate, IfOk, IfSome};
 ghost use Rattle.std.specs.Arc.{arc_value};
 ghost use Rattle.std.specs.List.{All};
 ghost use Rattle.gopher_page.specs.Counts.{count_meant};
@@ -11,13 +11,13 @@ ghost use Rattle.gopher_segment.specs.Segment.{meant_counts, pages_of};
 use gopher_item::NoMemory;
 use gopher_page::Page;
 use gopher_segment::{Postings, Segment, share};
-use std::alloc::Global;
+use std::alloc::{AllocError, Global};
 use std::marker::Model;
 use std::slice::from_ref;
 use std::sync::Arc;
 
 /// The pages of a part.
-#[derive(Debug, Drop)]
+#[derive(Drop)]
 pub(crate) enum Held {
     Page(Arc<Page>),
     Segment(Arc<Segment>),
@@ -25,7 +25,7 @@ pub(crate) enum Held {
 
 /// Consecutive pages of an index: a page that was found, which has no table but its own counts, or
 /// a segment.
-#[derive(Debug, Drop)]
+#[derive(Drop)]
 pub(crate) struct Part {
     first: usize,
     held: Held,
@@ -76,20 +76,6 @@ impl Part {
             first,
             held: Held::Segment(segment),
         }
-    }
-
-    /// Returns a copy that shares the pages.
-    pub fn again(&self) -> Result<Part, NoMemory>
-        ensures { IfOk result (λ part. part ≡ self.now) }
-    {
-        let held = match &self.held {
-            Held::Page(page) => Held::Page(page.clone()?),
-            Held::Segment(segment) => Held::Segment(segment.clone()?),
-        };
-        Ok(Part {
-            first: self.first,
-            held,
-        })
     }
 
     /// Returns the number of the first page.
@@ -165,24 +151,27 @@ impl Part {
     }
 }
 
-/// Appends copies of parts to a list.
-pub(crate) fn push_parts(parts: &[Part], list: &mut Vec<Part>) -> Result<(), NoMemory>
-    ensures { OnOk result (list.new.items ≡ list.old.items ++ parts.now) }
-{
-    list.reserve(parts.len())?;
-    for part in parts {
-        list.push(part.again()?)?;
+// A clone shares the pages.
+impl Clone for Part {
+    ghost is_clone = { λ part copy. copy ≡ part };
+
+    fn clone(&self) -> Result<Part, AllocError> {
+        let held = match &self.held {
+            Held::Page(page) => Held::Page(page.clone()?),
+            Held::Segment(segment) => Held::Segment(segment.clone()?),
+        };
+        Ok(Part {
+            first: self.first,
+            held,
+        })
     }
-    Ok(())
 }
 
 /// Returns copies of parts.
 pub(crate) fn copies(alloc: Global, parts: &[Part]) -> Result<Vec<Part>, NoMemory>
     ensures { IfOk result (λ list. list.items ≡ parts.now) }
 {
-    let mut list = Vec::new(alloc);
-    push_parts(parts, &mut list)?;
-    Ok(list)
+    Ok(parts.to_vec(alloc)?)
 }
 
 /// Returns the pages of parts.

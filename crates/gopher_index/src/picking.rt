@@ -1,7 +1,6 @@
 //! Picking the parts that are due to be merged.
 
 ghost use Rattle.std.specs.Prelude.{◌<◌, ◌≤◌, length, IfSome};
-ghost use Rattle.gopher_index.specs.Index.{IsSpan};
 
 use crate::part::Part;
 use gopher_segment::Size;
@@ -64,7 +63,7 @@ fn due_len(parts: &[Part]) -> Option<usize>
 /// Returns the start and the end of the first parts that are due to be merged, if there are any.
 /// `taken` contains the numbers of the first pages of runs that are being merged.
 pub(crate) fn due_span(parts: &[Part], taken: &[usize]) -> Option<(usize, usize)>
-    ensures { IfSome result (IsSpan (length parts.now)) }
+    ensures { IfSome result (λ span. (span.0 < span.1) × (span.1 ≤ length parts.now)) }
 {
     for (start, part) in parts.iter().enumerate() {
         if taken.contains(&part.first()) {

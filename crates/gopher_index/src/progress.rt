@@ -4,7 +4,7 @@
 ghost use Rattle.std.specs.Prelude.{◌≡◌, ◌<◌, None, Ok, length, IfOk, IfSome, OnErr, OnOk};
 ghost use Rattle.gopher_page.specs.Query.{IsQuery};
 ghost use Rattle.gopher_segment.specs.Segment.{pages_of};
-ghost use Rattle.gopher_index.specs.Progress.{all_pages, steps_left, HasAsManySteps, IsProgress, IsSameSearch, AddsCells, search_hits};
+ghost use Rattle.gopher_index.specs.Progress.{all_pages, steps_left, IsProgress, IsSameSearch, AddsCells, search_hits};
 
 use crate::best::{Best, Kept};
 use crate::by_cells::rank_cells;
@@ -21,7 +21,7 @@ use std::alloc::Global;
 /// The first step groups the terms. `new` doesn't, because the time grows with the square of their
 /// number, and beginning a search must be quick. The next steps go through the parts in order: they
 /// join one group after another, or all groups in a single page, then rank the part's pages.
-#[derive(Debug, Drop)]
+#[derive(Drop)]
 pub(crate) struct Progress {
     alloc: Global,
     parts: Vec<Part>,
@@ -90,12 +90,11 @@ impl Progress {
         ensures refused { OnErr result (steps_left self.new ≡ steps_left self.old) }
     {
         let part = &self.parts[self.done];
-        if self.joined.groups == 0 && part.as_segment().is_none() {
-            self.joined.fill(part, &self.groups)?;
-        } else {
-            self.joined.advance(part, &self.groups)?;
-        }
-        Ok(())
+        let end = match part.as_segment() {
+            Some(_) => self.joined.groups + 1,
+            None => self.groups.len(),
+        };
+        self.joined.join_to(end, part, &self.groups)
     }
 
     // Inserts the matching pages of the current part into the best. All groups were joined in it.
@@ -134,7 +133,8 @@ impl Progress {
         requires { IsProgress self.old }
         ensures same { IsSameSearch self.old self.new }
         ensures found { IfOk result (λ it. IfSome it (λ hits. hits.items ≡ search_hits self.old)) }
-        ensures still { IfOk result (λ it. IfSome it (λ _. HasAsManySteps self.old self.new)) }
+        ensures still { IfOk result
+            (λ it. IfSome it (λ _. steps_left self.new ≡ steps_left self.old)) }
         ensures fewer { result ≡ Ok None → steps_left self.new < steps_left self.old }
         ensures refused { OnErr result (steps_left self.new ≡ steps_left self.old) }
     {

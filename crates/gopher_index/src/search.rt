@@ -14,7 +14,7 @@ use crate::by_cells::rank_cells;
 use crate::by_postings::rank_postings;
 use crate::hit::Hit;
 use crate::joined::Joined;
-use crate::likely::{likely_hits, likely_score};
+use crate::likely::{likely_count, likely_hits, likely_score};
 use crate::part::Part;
 use crate::plan::{Group, groups_of};
 use gopher_item::NoMemory;
@@ -50,11 +50,12 @@ fn rank_part<'a>(
     ensures plain { wanted ≡ None → OnOk result (best.new.least ≡ best.old.least) }
 {
     if let Some(list) = list_of(part, terms) {
-        best.raise_least(likely_score(&list, wanted));
+        best.raise_least(likely_count(&list, wanted));
         return rank_postings(part, &terms[0], &list, best);
     }
-    joined.fill(part, groups)?;
-    best.raise_least(joined.likely_score(wanted));
+    joined.groups = 0;
+    joined.join_to(groups.len(), part, groups)?;
+    best.raise_least(likely_score(&joined.verdicts, &joined.scores, wanted));
     rank_cells(part, &joined.verdicts, &joined.scores, best)
 }
 

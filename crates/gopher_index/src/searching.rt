@@ -17,14 +17,13 @@ use std::marker::Model;
 ///
 /// It shares the pages that the index had at `Index::begin`. If the index changes meanwhile, the
 /// hits stay those of these pages.
-#[derive(Debug, Drop)]
+#[derive(Drop)]
 pub struct Search {
     progress: Progress,
 }
 
 impl Model for Search {
-    ghost use Rattle.gopher_index.specs.Progress.{search_hits, steps_left, IsProgress};
-    ghost use Rattle.gopher_index.specs.Search.{SearchData};
+    ghost use Rattle.gopher_index.specs.Progress.{search_hits, steps_left, IsProgress, SearchData};
 
     ghost Value = { SearchData };
 
@@ -78,4 +77,13 @@ impl Search {
             }
         }
     }
+}
+
+/// A search that has ended or is under way, as `Index::begin` returns it.
+#[derive(Drop)]
+pub enum Begun {
+    /// The hits of a short search.
+    Found(Vec<Hit>),
+    /// A search that finds the hits in steps.
+    Searching(Search),
 }

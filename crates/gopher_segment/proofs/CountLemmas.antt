@@ -2,8 +2,8 @@
 use Rattle.std.proofs.Common.{◌≡◌, ℕ, Bool, true, false, not, zero, suc, ◌+◌, ◌<◌, ◌≤◌, List, [], ◌∷◌, cond, length, map, get_or, refl, sym, ap, subst, ◌∙◌, arith}
 use Rattle.std.proofs.lemmas.List.{length-map}
 use Rattle.std.proofs.lemmas.List.Filters.{length-filter_both}
-use Rattle.std.proofs.lemmas.List.Sums.{sum_by-cons}
-use Rattle.std.specs.List.{AllByRecursion, filter, sum_by}
+use Rattle.std.proofs.lemmas.List.Sums.{sum_by-cons, sum_by-le-sum_by}
+use Rattle.std.specs.List.{AllByRecursion, filter}
 use Rattle.std.specs.Cmp.Lexicographic.{bytes_decides}
 use Rattle.gopher_page.specs.Words.{same_word}
 use Rattle.gopher_page.specs.Counts.{count_where, count_meant}
@@ -112,15 +112,10 @@ counts_of_page first pages rows tell test k within =
 
 -- ---- which are few
 
-count_where_le : (test : List ℕ → Bool) (counts : Entries) → count_where test counts ≤ sum_by (λ entry. entry.1) counts
-count_where_le test [] = omega arith
-count_where_le test (entry ∷ counts) =
-    omega (arith, count_where_le test counts, sum_by-cons (λ (e : List ℕ × ℕ). cond (test e.0) e.1 0) entry counts, sum_by-cons (λ (e : List ℕ × ℕ). e.1) entry counts, at_most (test entry.0) entry.1)
-
 -- each page has the words that pass a test at most `MAX_REPLY` times
 pub counts_few : (test : List ℕ → Bool) (pages : List PageData) → AreSmall pages → (k d : ℕ) → k < length pages → get_or (map (λ page. count_where test page.counts) pages) k d ≤ 1048576
 counts_few test [] small k d within = absurd (omega (arith, within))
-counts_few test (page ∷ pages) small zero d within = omega (arith, small.0, count_where_le test page.counts)
+counts_few test (page ∷ pages) small zero d within = omega (arith, small.0, sum_by-le-sum_by (λ (e : List ℕ × ℕ). cond (test e.0) e.1 0) (λ (e : List ℕ × ℕ). e.1) page.counts (λ e. at_most (test e.0) e.1))
 counts_few test (page ∷ pages) small (suc k) d within = counts_few test pages small.1 k d (omega (arith, within))
 
 -- ---- and are of the pages

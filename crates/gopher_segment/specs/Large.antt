@@ -16,12 +16,6 @@ large_from index [] = []
 large_from index (page ∷ pages) =
     if is_large page then index ∷ large_from (index + 1) pages else large_from (index + 1) pages
 
--- each cell has how often the sought word, or the words that begin with it, occur in a page, or 0
--- if the page is large
-abbrev pub AreCountsInTable : Bool → List ℕ → List PageData → List ℕ → Type 0
-AreCountsInTable is_prefix sought pages cells =
-    cells ≡ meant_counts is_prefix sought (pages_in_table pages)
-
 -- the count of the page at an index was written in its cell
 abbrev pub WritesCount : Bool → List ℕ → List PageData → ℕ → List ℕ → List ℕ → Type 0
 WritesCount is_prefix sought pages at old new =

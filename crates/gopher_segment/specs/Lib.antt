@@ -1,9 +1,7 @@
-pub mod Cells
 pub mod Large
 pub mod PostingList
 pub mod Postings
 pub mod Rows
 pub mod Segment
 pub mod SegmentRows
-pub mod Sharing
 pub mod Ranks

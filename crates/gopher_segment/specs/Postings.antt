@@ -1,5 +1,5 @@
 -- Postings of a word: pairs of a page's number and a count.
-use Rattle.std.specs.Prelude.{◌≡◌, ℕ, zero, suc, ◌+◌, ◌-◌, ◌*◌, ◌/◌, ◌<◌, ◌≤◌, List, [], ◌∷◌, ◌++◌, length, replicate, ◌==◌, if◌then◌else◌}
+use Rattle.std.specs.Prelude.{◌≡◌, ℕ, zero, suc, ◌+◌, ◌-◌, ◌*◌, ◌/◌, ◌^◌, ◌<◌, ◌≤◌, List, [], ◌∷◌, ◌++◌, length, replicate, slice_index, ◌==◌, if◌then◌else◌}
 use Rattle.std.specs.List.{AllByRecursion, flat_map}
 use Rattle.gopher_bytes.specs.Parts.{AreEnds}
 
@@ -39,3 +39,14 @@ pub record ArePackedRuns (pages counts ends : List ℕ) : Type 0 where
 pub record RunsData : Type 0 where
   pub whole : List (List (ℕ × ℕ))
   pub begun : List (ℕ × ℕ)
+
+-- each cell stays below 2^32 if the count of its page is added; the first cell is that of page
+-- `first`
+abbrev pub HaveRoom : ℕ → List ℕ → (ℕ → ℕ) → Type 0
+HaveRoom first cells count =
+    (k : ℕ) → k < length cells → slice_index cells k + count (first + k) < 2 ^ 32
+
+-- the count of its page was added to each cell; the first cell is that of page `first`
+abbrev pub AreRaised : ℕ → List ℕ → List ℕ → (ℕ → ℕ) → Type 0
+AreRaised first old new count =
+    (k : ℕ) → k < length old → slice_index new k ≡ slice_index old k + count (first + k)

@@ -7,7 +7,7 @@ use Rattle.std.specs.Cmp.Lexicographic.{slice_cmp}
 use Rattle.std.specs.declared.cmp.Ordering.TheVariants.{Less}
 use Rattle.gopher_page.specs.Words.{same_word}
 use Rattle.gopher_page.specs.Counts.{is_before, is_meant}
-use Rattle.gopher_segment.specs.Postings.{RunsData, pieces}
+use Rattle.gopher_segment.specs.Postings.{pieces}
 
 abbrev pub words_of_rows : List (List ℕ × List (ℕ × ℕ)) → List (List ℕ)
 words_of_rows rows = map (λ row. row.0) rows
@@ -68,11 +68,6 @@ passed word (row ∷ rows) = if same_word row.0 word then rows else row ∷ rows
 abbrev pub taken : List ℕ → List (List ℕ × List (ℕ × ℕ)) → List (ℕ × ℕ)
 taken word [] = []
 taken word (row ∷ rows) = if same_word row.0 word then row.1 else []
-
--- the postings of a word, from each table that begins with it, were appended to the run that isn't
--- ended yet
-abbrev pub TakesRuns : List ℕ → List (List (List ℕ × List (ℕ × ℕ))) → RunsData → RunsData → Type 0
-TakesRuns word tables old new = new.begun ≡ old.begun ++ flat_map (taken word) tables
 
 -- none of the tables before an index begins with a word
 abbrev pub LackBefore : List ℕ → ℕ → List (List (List ℕ × List (ℕ × ℕ))) → Type 0

@@ -1,11 +1,11 @@
 -- The rows of a segment, which say the same as its pages.
-use Rattle.std.specs.Prelude.{ℕ, ◌+◌, ◌≤◌, ◌≡◌, false, List, [], ◌∷◌, ◌++◌, length}
+use Rattle.std.specs.Prelude.{ℕ, ◌+◌, ◌≤◌, ◌≡◌, false, List, [], ◌∷◌, length}
 use Rattle.std.specs.List.{sum_by, AllByRecursion, AllZip}
 use Rattle.gopher_text.specs.declared.reply_reader.TheConstants.{MAX_REPLY}
 use Rattle.gopher_page.specs.Page.{PageData}
-use Rattle.gopher_segment.specs.Large.{in_table, large_from, pages_in_table}
+use Rattle.gopher_segment.specs.Large.{large_from, pages_in_table}
 use Rattle.gopher_segment.specs.Postings.{run_of}
-use Rattle.gopher_segment.specs.Rows.{AreRowsInOrder, page_rows, postings_of}
+use Rattle.gopher_segment.specs.Rows.{AreRowsInOrder, postings_of}
 use Rattle.gopher_segment.specs.Segment.{SegmentData, meant_counts}
 
 -- no page has more than `MAX_REPLY` words
@@ -17,15 +17,6 @@ AreSmall pages =
 abbrev pub Tell : ℕ → List PageData → List (List ℕ × List (ℕ × ℕ)) → Type 0
 Tell first pages rows =
     (word : List ℕ) → postings_of word rows ≡ run_of first (meant_counts false word pages)
-
--- the rows say what these pages count, without the words of large ones
-abbrev pub TellInTable : ℕ → List PageData → List (List ℕ × List (ℕ × ℕ)) → Type 0
-TellInTable first pages rows = Tell first (pages_in_table pages) rows
-
--- the rows of a page, as a table has it, were appended
-abbrev pub AddsPageRows : ℕ → PageData → List (List ℕ × List (ℕ × ℕ))
-    → List (List ℕ × List (ℕ × ℕ)) → Type 0
-AddsPageRows number page old new = new ≡ old ++ page_rows number (in_table page).counts
 
 -- the rows of these pages, in order
 pub record AreRowsOf (first : ℕ) (pages : List PageData) (rows : List (List ℕ × List (ℕ × ℕ)))

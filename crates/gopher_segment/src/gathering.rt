@@ -1,11 +1,12 @@
 //! Making the rows of pages, one page after another.
 
-ghost use Rattle.std.specs.Prelude.{◌≡◌, ◌+◌, ◌≤◌, ◌-◌, ◌^◌, length, map, min, IfOk, OnOk};
+ghost use Rattle.std.specs.Prelude.{◌≡◌, ◌+◌, ◌≤◌, ◌-◌, ◌^◌, ◌++◌, length, map, min, IfOk, OnOk};
 ghost use Rattle.std.specs.Arc.{arc_value};
 ghost use Rattle.gopher_page.specs.Packed.{AreCounts};
-ghost use Rattle.gopher_segment.specs.Large.{pages_in_table};
+ghost use Rattle.gopher_segment.specs.Large.{in_table, pages_in_table};
 ghost use Rattle.gopher_segment.specs.Segment.{words_count};
-ghost use Rattle.gopher_segment.specs.SegmentRows.{AddsPageRows, AreSmall, TellInTable};
+ghost use Rattle.gopher_segment.specs.Rows.{page_rows};
+ghost use Rattle.gopher_segment.specs.SegmentRows.{AreSmall, Tell};
 
 use crate::row::Row;
 use gopher_bytes::NoMemory;
@@ -15,7 +16,8 @@ use std::sync::Arc;
 
 // Appends the rows of the page `number`, which has none if it is large.
 fn add_page<'a>(number: u16, page: &'a Page, rows: &mut Vec<Row<'a>>) -> Result<(), NoMemory>
-    ensures rows { OnOk result (AddsPageRows number page.now rows.old.items rows.new.items) }
+    ensures rows { OnOk result
+        (rows.new.items ≡ rows.old.items ++ page_rows number (in_table page.now).counts) }
     ensures sound { AreCounts page.now.counts }
 {
     let counts = page.counts();
@@ -53,7 +55,8 @@ pub(crate) fn rows_of<'a>(
     pages: &'a [Arc<Page>],
 ) -> Result<Vec<Row<'a>>, NoMemory>
     requires { first + length pages.now ≤ 65536 }
-    ensures tell { IfOk result (λ rows. TellInTable first (map arc_value pages.now) rows.items) }
+    ensures tell { IfOk result
+        (λ rows. Tell first (pages_in_table (map arc_value pages.now)) rows.items) }
     ensures small { IfOk result (λ rows. AreSmall (map arc_value pages.now)) }
 {
     let mut rows = Vec::with_capacity(alloc, rows_len(pages))?;

@@ -2,7 +2,7 @@
 
 ghost use Rattle.std.specs.Prelude.{◌≡◌, ◌<◌, length, map, IfOk};
 ghost use Rattle.std.specs.Arc.{arc_value};
-ghost use Rattle.gopher_segment.specs.Large.{AreCountsInTable, WritesCount, large_from};
+ghost use Rattle.gopher_segment.specs.Large.{WritesCount, large_from, pages_in_table};
 ghost use Rattle.gopher_segment.specs.Segment.{meant_counts};
 
 use gopher_bytes::NoMemory;
@@ -41,21 +41,11 @@ pub(crate) fn spread_large(
     cells: &mut [u32],
 )
     requires large { large.now ≡ large_from 0 (map arc_value pages.now) }
-    requires cells { AreCountsInTable is_prefix sought.now (map arc_value pages.now) cells.old }
+    requires cells { cells.old
+        ≡ meant_counts is_prefix sought.now (pages_in_table (map arc_value pages.now)) }
     ensures { cells.new ≡ meant_counts is_prefix sought.now (map arc_value pages.now) }
 {
     for at in large {
         write_count(pages, *at, is_prefix, sought, cells);
     }
-}
-
-/// Returns the sum of the numbers of distinct words of the pages at these indices.
-pub(crate) fn words_at(pages: &[Arc<Page>], large: &[usize]) -> usize {
-    let mut words = 0_usize;
-    for at in large {
-        if let Some(page) = pages.get(*at) {
-            words = words.saturating_add(page.counts().len());
-        }
-    }
-    words
 }

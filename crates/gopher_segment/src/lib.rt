@@ -30,6 +30,6 @@ mod table;
 
 pub use gathering::rows_len;
 pub use postings::Postings;
-pub use segment::{Segment, pages_len};
-pub use sharing::{share, shared};
+pub use segment::Segment;
+pub use sharing::share;
 pub use size::Size;

@@ -1,8 +1,9 @@
 //! Merging the tables of consecutive segments into one.
 
 ghost use Rattle.std.specs.Prelude.{◌≡◌, ◌<◌, None, ◌++◌, length, map, drop, IfOk, IfSome, OnOk};
+ghost use Rattle.std.specs.List.{flat_map};
 ghost use Rattle.std.specs.Option.{option_copied};
-ghost use Rattle.gopher_segment.specs.Rows.{AreRowsInOrder, first_word, first_run, IsLowest, is_at, LackBefore, is_lower, passed, rows_left, taken, AreAllInOrder, HavePostingsOf, TakesRuns};
+ghost use Rattle.gopher_segment.specs.Rows.{AreRowsInOrder, first_word, first_run, IsLowest, is_at, LackBefore, is_lower, passed, rows_left, taken, AreAllInOrder, HavePostingsOf};
 
 use crate::runs::{Run, Runs};
 use crate::table::Table;
@@ -25,7 +26,7 @@ fn word_at<'a>(table: &'a Table, at: usize) -> Option<Numbered<'a>>
 /// The rows of a table that aren't merged yet.
 ///
 /// The first row's word is kept, because it is compared many times.
-#[derive(Debug, Drop)]
+#[derive(Drop)]
 pub(crate) struct Cursor<'a> {
     table: &'a Table,
     at: usize,
@@ -149,7 +150,8 @@ fn take_runs(
     requires { LackBefore word.now first cursors.old }
     ensures cursors { OnOk result (cursors.new ≡ map (passed word.now) cursors.old) }
     ensures whole { runs.new.whole ≡ runs.old.whole }
-    ensures begun { OnOk result (TakesRuns word.now cursors.old runs.old runs.new) }
+    ensures begun { OnOk result
+        (runs.new.begun ≡ runs.old.begun ++ flat_map (taken word.now) cursors.old) }
 {
     for index in first..cursors.len() {
         take_run(word, &mut cursors[index], runs)?;

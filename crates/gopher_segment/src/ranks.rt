@@ -2,19 +2,17 @@
 
 ghost use Rattle.std.specs.Prelude.{◌≡◌, map, IfOk};
 ghost use Rattle.std.specs.Arc.{arc_value};
-ghost use Rattle.gopher_item.specs.Place.{place_cmp};
 ghost use Rattle.gopher_segment.specs.Ranks.{AreNumbered, AreRanks, AreScattered, HaveIndices};
 
 use gopher_bytes::NoMemory;
 use gopher_item::Place;
 use gopher_page::Page;
 use std::alloc::Global;
-use std::cmp::Ordering;
 use std::marker::Model;
 use std::sync::Arc;
 
 // The place of a page, and the page's index.
-#[derive(Debug, Drop)]
+#[derive(Drop)]
 struct Placed<'a> {
     place: &'a Place,
     index: usize,
@@ -27,14 +25,6 @@ impl<'a> Model for Placed<'a> {
     ghost Value = { PlaceData × ℕ };
 
     ghost view = { λ p. (p.place.now, p.index) };
-}
-
-impl<'a> Placed<'a> {
-    fn cmp_place(&self, other: &Placed<'_>) -> Ordering
-        ensures { result ≡ place_cmp self.now.0 other.now.0 }
-    {
-        self.place.cmp(other.place)
-    }
 }
 
 // The places of pages, with the index of each page.
@@ -69,6 +59,6 @@ pub(crate) fn ranks_of(alloc: Global, pages: &[Arc<Page>]) -> Result<Vec<u16>, N
     ensures { IfOk result (λ ranks. AreRanks (map arc_value pages.now) ranks.items) }
 {
     let mut sorted = placed_of(alloc, pages)?;
-    sorted.sort_by(|placed, other| placed.cmp_place(other))?;
+    sorted.sort_by(|placed, other| placed.place.cmp(other.place))?;
     positions(alloc, &sorted)
 }

@@ -13,7 +13,7 @@ use std::cmp::Ordering;
 use std::marker::Model;
 
 /// A word of a page, with the page's number and its count of the word.
-#[derive(Debug, Drop)]
+#[derive(Drop)]
 pub(crate) struct Row<'a> {
     word: Numbered<'a>,
     number: u16,

@@ -2,8 +2,7 @@
 
 ghost use Rattle.std.specs.Prelude.{◌≡◌, ◌+◌, ◌<◌, ◌≤◌, Some, [], ◌∷◌, ◌++◌, ◌-◌, length, take, drop, slice_get, ◌==◌, if◌then◌else◌, IfOk, OnOk};
 ghost use Rattle.std.specs.List.{zip};
-ghost use Rattle.gopher_segment.specs.Cells.{AreRaised, HaveRoom};
-ghost use Rattle.gopher_segment.specs.Postings.{AreWithin, count_in, one_run, pieces};
+ghost use Rattle.gopher_segment.specs.Postings.{AreRaised, AreWithin, HaveRoom, count_in, one_run, pieces};
 
 use gopher_bytes::{MAX_PACKED, NoMemory, range_at, span_at};
 use std::alloc::Global;
@@ -12,7 +11,7 @@ use std::marker::Model;
 /// The postings of a word: page numbers, with a count for each.
 ///
 /// A posting counts at most 255. A page with a higher count has several postings in sequence.
-#[derive(Debug, Drop)]
+#[derive(Drop)]
 pub(crate) struct Run<'a> {
     pages: &'a [u16],
     counts: &'a [u8],

@@ -1,6 +1,6 @@
 //! `Segment`: consecutive pages with a table of their words; made of pages, searched by word.
 
-ghost use Rattle.std.specs.Prelude.{None, ◌≡◌, ◌<◌, ◌+◌, ◌≤◌, ◌-◌, ◌^◌, length, map, min, replicate, IfOk, IfSome};
+ghost use Rattle.std.specs.Prelude.{None, ◌≡◌, ◌<◌, ◌+◌, ◌≤◌, length, map, replicate, IfOk, IfSome};
 ghost use Rattle.std.specs.Arc.{arc_value};
 ghost use Rattle.std.specs.List.{All};
 ghost use Rattle.gopher_segment.specs.Large.{large_from, pages_in_table};
@@ -8,15 +8,14 @@ ghost use Rattle.gopher_segment.specs.PostingList.{IsPostingListOf};
 ghost use Rattle.gopher_segment.specs.Ranks.{AreRanks};
 ghost use Rattle.gopher_segment.specs.Segment.{pages_of, meant_counts};
 ghost use Rattle.gopher_segment.specs.SegmentRows.{AreSmall, AreRowsOf, AreConsecutive, AreSegmentTables};
-ghost use Rattle.gopher_segment.specs.Sharing.{SharesPages};
 
 use crate::gathering::rows_of;
 use crate::joining::join;
-use crate::large::{large_of, spread_large, words_at};
+use crate::large::{large_of, spread_large};
 use crate::merging::{Cursor, merge};
 use crate::postings::Postings;
 use crate::ranks::ranks_of;
-use crate::sharing::{share, shared};
+use crate::sharing::share;
 use crate::table::Table;
 use gopher_bytes::NoMemory;
 use gopher_page::Page;
@@ -92,8 +91,9 @@ impl Segment {
     {
         let rows = rows_of(alloc, first, pages)?;
         let table = join(alloc, rows)?;
-        let pages = shared(alloc, pages)?;
-        Segment::of_table(alloc, first, pages, table)
+        let mut list = Vec::new(alloc);
+        share(pages, &mut list)?;
+        Segment::of_table(alloc, first, list, table)
     }
 
     /// Merges consecutive segments into one. The first page has the number `first`.
@@ -176,7 +176,13 @@ impl Segment {
 
     /// Returns the number of words of the large pages, counted for each page.
     pub(crate) fn large_words(&self) -> usize {
-        words_at(&self.pages, &self.large)
+        let mut words = 0_usize;
+        for at in &self.large {
+            if let Some(page) = self.pages.get(*at) {
+                words = words.saturating_add(page.counts().len());
+            }
+        }
+        words
     }
 }
 
@@ -190,10 +196,8 @@ fn cursors_of<'a>(alloc: Global, segments: &'a [Arc<Segment>]) -> Result<Vec<Cur
     Ok(cursors)
 }
 
-/// Returns the number of pages of all segments, at most `usize::MAX`.
-pub fn pages_len(segments: &[Arc<Segment>]) -> usize
-    ensures { result ≡ min (length (pages_of (map arc_value segments.now))) (2 ^ 64 - 1) }
-{
+// Returns the number of pages of all segments, at most `usize::MAX`.
+fn pages_len(segments: &[Arc<Segment>]) -> usize {
     let mut pages = 0_usize;
     for segment in segments {
         pages = pages.saturating_add(segment.pages().len());
@@ -202,7 +206,8 @@ pub fn pages_len(segments: &[Arc<Segment>]) -> usize
 }
 
 fn shared_pages(alloc: Global, segments: &[Arc<Segment>]) -> Result<Vec<Arc<Page>>, NoMemory>
-    ensures pages { IfOk result (λ pages. SharesPages segments.now pages.items) }
+    ensures pages { IfOk result
+        (λ pages. map arc_value pages.items ≡ pages_of (map arc_value segments.now)) }
     ensures small { IfOk result (λ pages. AreSmall (map arc_value pages.items)) }
 {
     let mut pages = Vec::with_capacity(alloc, pages_len(segments))?;

@@ -1,10 +1,9 @@
-use Rattle.std.proofs.Common.{map, refl, sym, ap, subst, ◌∙◌, arith}
-use Rattle.std.proofs.lemmas.List.{take_all}
+use Rattle.std.proofs.Common.{map, refl, sym, ap, ◌∙◌, arith}
 use Rattle.gopher_index.specs.Best.{answer_from, kept_hit}
 use Rattle.gopher_index.specs.Cells.{AreCells}
-use Rattle.gopher_index.specs.Plan.{is_match, AreGroupCells}
+use Rattle.gopher_index.specs.Plan.{is_match}
 use Rattle.gopher_index.specs.Progress.{pages_done}
-use Rattle.gopher_index.proofs.GroupCells.{groups_cells}
+use Rattle.gopher_index.proofs.GroupCells.{groups_cells, whole_groups}
 use Rattle.gopher_index.proofs.Segments.{pages-next}
 use Rattle.gopher_index.proofs.progress.Progress.rank_joined_part.Goals as goal
 
@@ -14,8 +13,7 @@ returns-clause-same c =
     let terms = old.terms.items in
     let part = c.index-part.result.now in
     let joined = c.requires.is.under_way part c.index-part.ensures (omega (arith, c.requires.groups, c.requires.planned)) in
-    let all : AreGroupCells old.groups.items part.pages old.joined.verdicts.items old.joined.scores.items =
-    subst (λ groups. AreGroupCells groups part.pages old.joined.verdicts.items old.joined.scores.items) (take_all old.joined.groups old.groups.items (omega (arith, c.requires.groups))) joined.cells in
+    let all = whole_groups old.groups.items part.pages old.joined joined c.requires.groups in
     let cells : AreCells terms part.pages (map is_match c.deref-2.result.now) c.deref-3.result.now =
     groups_cells terms old.groups.items part.pages old.joined.verdicts.items c.deref-2.result.now old.joined.scores.items c.deref-3.result.now (c.requires.is.plan c.requires.planned).groups_are all c.deref-2.ensures.value c.deref-3.ensures.value in
     record {

@@ -1,5 +1,5 @@
 use Rattle.std.proofs.Common.{◌-◌, ◌≤◌, length}
-use Rattle.gopher_index.proofs.likely.Highest.note_scores.Given as goal
+use Rattle.gopher_index.proofs.likely.likely_score.Given as goal
 
 abbrev pub invariant-loop-start : goal.invariant-loop-start
 invariant-loop-start l = l.start ≤ length l.verdicts
