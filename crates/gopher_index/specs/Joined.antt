@@ -58,7 +58,7 @@ pub record AreJoined (groups : List Group) (pages : List PageData) (joined : Joi
 abbrev pub AreBegun : List Group → List PageData → Joined → Type 0
 AreBegun groups pages joined = 0 < joined.groups → AreJoined groups pages joined
 
--- so many groups are joined; after an error none is joined, and none was before
+-- `end` groups are joined; after an error none is joined, and none was before
 abbrev pub JoinsTo : {T E : Type 0} → ℕ → Joined → Joined → Result T E → Type 0
 JoinsTo end old new result =
     MatchResult result (λ _. new.groups ≡ end) (λ _. (old.groups ≡ 0) × (new.groups ≡ 0))
