@@ -5,20 +5,26 @@ ghost use Rattle.gopher_serve.specs.Fault.{serve_fault_code, fault_of_line};
 
 use gopher_item::NoMemory;
 use gopher_text::{LineFault, SendFault};
+use thiserror::Error;
 
 /// Why a conversation failed.
-#[derive(Clone, Copy, PartialEq, Eq)]
+#[derive(Clone, Copy, Debug, PartialEq, Eq, Error)]
 pub enum ServeFault {
     /// 7: the line has more than 1,024 bytes before its end.
+    #[error("the line is too long")]
     LineTooLong,
     /// 10: a read failed, and wasn't just interrupted.
+    #[error("a read failed")]
     ReadFailed,
     /// 11: too many reads or writes, including interrupted ones.
+    #[error("too many reads")]
     TooManyTurns,
     /// 13: a write failed and wasn't just interrupted, or took nothing, or too many were
     /// interrupted.
+    #[error("a write failed")]
     WriteFailed,
     /// 90: out of memory.
+    #[error("no memory")]
     NoMemory,
 }
 
