@@ -3,7 +3,7 @@ use Rattle.std.proofs.Common.{◌≡◌, List, ◌++◌, map, ap, sym, ◌∙◌
 use Rattle.gopher_page.specs.Page.{PageData}
 use Rattle.gopher_page.specs.Query.{TermData}
 use Rattle.gopher_index.specs.Best.{BestData, answer_from, kept_hit, TakesIn}
-use Rattle.gopher_index.specs.Progress.{AddsPages}
+use Rattle.gopher_index.specs.Searching.{AddsPages}
 use Rattle.gopher_index.specs.declared.best.Kept.{Kept}
 
 pub adds_pages : (terms : List TermData) (pages : List PageData) (kept taken : List Kept) (old new : BestData) → old.least ≡ 0 → old.hits ≡ map kept_hit kept → TakesIn terms pages old new → map kept_hit taken ≡ new.hits → AddsPages terms pages kept taken

@@ -40,6 +40,11 @@ ranked hits = fold (insert_key rank_cmp) [] hits
 unfoldable pub answer_of : List PageData → List TermData → List Hit
 answer_of pages query = take 50 (ranked (hits_among query pages))
 
+-- a search that is done in steps: the hits that it will find, and the most steps that are left
+pub record SearchData : Type 0 where
+  pub hits : List Hit
+  pub left : ℕ
+
 -- ---- occurrences
 
 -- the place of a page with its number of occurrences of a word, if the page contains the word

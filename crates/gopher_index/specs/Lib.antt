@@ -8,4 +8,4 @@ pub mod Plan
 pub mod Ties
 pub mod Begun
 pub mod Joined
-pub mod Progress
+pub mod Searching

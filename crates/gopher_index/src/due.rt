@@ -5,7 +5,7 @@ ghost use Rattle.std.specs.Arc.{arc_value};
 ghost use Rattle.gopher_segment.specs.Segment.{pages_of};
 ghost use Rattle.gopher_index.specs.Index.{IsIndexRun, run_data};
 
-use crate::part::{Part, copies, pages_in};
+use crate::part::{Part, pages_in};
 use gopher_item::NoMemory;
 use gopher_segment::{Segment, rows_len};
 use std::alloc::Global;
@@ -72,7 +72,7 @@ impl Due {
     {
         Ok(Due {
             first,
-            parts: copies(alloc, parts)?,
+            parts: parts.to_vec(alloc)?,
             merged: None,
         })
     }

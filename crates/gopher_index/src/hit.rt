@@ -3,7 +3,7 @@
 use gopher_item::{ByteString, Place};
 
 /// A page that a search found.
-#[derive(Debug, Drop)]
+#[derive(Drop)]
 pub struct Hit {
     /// The place that the page was fetched from.
     pub place: Place,

@@ -10,7 +10,7 @@ use crate::due::Due;
 use crate::hit::Hit;
 use crate::installing::put_part;
 use crate::occurrences::occurrences;
-use crate::part::{Part, copies};
+use crate::part::Part;
 use crate::picking::due_span;
 use crate::search::search;
 use crate::searching::{Begun, Search};
@@ -126,14 +126,6 @@ impl Index {
             self.taken.clear();
             self.settle();
         }
-        self.push(page)
-    }
-
-    // Adds a loose page at the end.
-    fn push(&mut self, page: Arc<Page>) -> Result<(), NoMemory>
-        requires { length self.old < 65536 }
-        ensures { AppendsPage (arc_value page) self.old self.new result }
-    {
         let words = page.counts().len();
         self.parts.push(Part::page(self.count, page))?;
         self.count += 1;
@@ -204,7 +196,7 @@ impl Index {
         ensures { IfOk result (λ index. index ≡ self.now) }
     {
         Ok(Index {
-            parts: copies(alloc, &self.parts)?,
+            parts: self.parts.to_vec(alloc)?,
             count: self.count,
             taken: Vec::new(alloc),
             words: self.words,

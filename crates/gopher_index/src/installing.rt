@@ -4,7 +4,7 @@ ghost use Rattle.std.specs.Prelude.{◌≡◌, ◌+◌, ◌≤◌, length, IfSom
 ghost use Rattle.gopher_segment.specs.SegmentRows.{AreConsecutive};
 ghost use Rattle.gopher_index.specs.Index.{IsBorder, KeepsPages};
 
-use crate::part::{Part, copies};
+use crate::part::Part;
 use gopher_item::NoMemory;
 use std::alloc::Global;
 
@@ -43,7 +43,7 @@ pub(crate) fn put_part(alloc: Global, merged: Part, parts: &mut Vec<Part>) -> Re
     let Some(end) = border(parts, merged.first() + merged.pages().len()) else {
         return Ok(());
     };
-    let mut list = copies(alloc, &parts[..start])?;
+    let mut list = parts[..start].to_vec(alloc)?;
     list.push(merged)?;
     list.extend_from_slice(&parts[end..])?;
     *parts = list;

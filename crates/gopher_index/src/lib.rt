@@ -37,7 +37,7 @@
 //! (`likely`). If fewer than 50 hits reach it, the search runs again without a guess. No contract
 //! depends on the guess.
 //!
-//! Any other search becomes a `Search`, which shares the pages and goes on in steps (`progress`).
+//! Any other search becomes a `Search`, which shares the pages and goes on in steps (`searching`).
 //! Its first step groups the terms. Each further step does one of two things. It joins one group in
 //! one segment: it goes through at most all postings of the segment, and 2,048 for each of its
 //! large pages. A word of a large page counts as a posting. In a loose page it joins all groups. Or
@@ -61,7 +61,6 @@ mod occurrences;
 mod part;
 mod picking;
 mod plan;
-mod progress;
 mod search;
 mod searching;
 mod ties;

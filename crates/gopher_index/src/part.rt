@@ -167,13 +167,6 @@ impl Clone for Part {
     }
 }
 
-/// Returns copies of parts.
-pub(crate) fn copies(alloc: Global, parts: &[Part]) -> Result<Vec<Part>, NoMemory>
-    ensures { IfOk result (λ list. list.items ≡ parts.now) }
-{
-    Ok(parts.to_vec(alloc)?)
-}
-
 /// Returns the pages of parts.
 pub(crate) fn pages_in(alloc: Global, parts: &[Part]) -> Result<Vec<Arc<Page>>, NoMemory>
     ensures { IfOk result (λ pages. map arc_value pages.items ≡ pages_of parts.now) }

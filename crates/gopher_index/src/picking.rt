@@ -22,18 +22,14 @@ fn are_alike(parts: &[Part], pages: usize) -> bool {
 // Returns whether one segment can hold the contents of all of these segments. Single pages always
 // fit.
 fn fit(parts: &[Part]) -> bool {
-    let mut sum: Option<Size> = None;
+    let mut sum = Size::default();
     for part in parts {
         let Some(segment) = part.as_segment() else {
             return true;
         };
-        let size = Size::of(segment);
-        sum = Some(match sum {
-            Some(sum) => sum.with(size),
-            None => size,
-        });
+        sum = sum.with(Size::of(segment));
     }
-    sum.is_none_or(|sum| sum.fits())
+    sum.fits()
 }
 
 // Returns how many parts from the first one on are due to be merged, if they are. All have the same

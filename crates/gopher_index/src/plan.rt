@@ -132,14 +132,3 @@ pub(crate) fn groups_of(alloc: Global, terms: &[Term]) -> Result<Vec<Group>, NoM
     }
     Ok(groups)
 }
-
-/// Returns a copy of the terms.
-pub(crate) fn copied(alloc: Global, terms: &[Term]) -> Result<Vec<Term>, NoMemory>
-    ensures { IfOk result (λ copy. copy.items ≡ terms.now) }
-{
-    let mut copy = Vec::with_capacity(alloc, terms.len())?;
-    for term in terms {
-        copy.push(term.clone()?)?;
-    }
-    Ok(copy)
-}

@@ -1,13 +1,17 @@
-//! Searches that are done in steps.
+//! Searches that are done in steps, so that a thread can serve others in between.
 
-ghost use Rattle.std.specs.Prelude.{◌≡◌, ◌<◌, None, Ok, IfOk, IfSome, OnErr};
+ghost use Rattle.std.specs.Prelude.{◌≡◌, ◌<◌, None, Ok, length, IfOk, IfSome, OnErr};
 ghost use Rattle.gopher_page.specs.Query.{IsQuery};
-ghost use Rattle.gopher_index.specs.Answer.{answer_of};
 ghost use Rattle.gopher_segment.specs.Segment.{pages_of};
+ghost use Rattle.gopher_index.specs.Answer.{answer_of};
+ghost use Rattle.gopher_index.specs.Searching.{AddsCells};
 
+use crate::best::{Best, Kept};
+use crate::by_cells::rank_cells;
 use crate::hit::Hit;
+use crate::joined::Joined;
 use crate::part::Part;
-use crate::progress::Progress;
+use crate::plan::{Group, groups_of};
 use gopher_item::NoMemory;
 use gopher_page::Term;
 use std::alloc::Global;
@@ -19,30 +23,64 @@ use std::marker::Model;
 /// hits stay those of these pages.
 #[derive(Drop)]
 pub struct Search {
-    progress: Progress,
+    alloc: Global,
+    parts: Vec<Part>,
+    terms: Vec<Term>,
+    // None before the first step.
+    groups: Vec<Group>,
+    // The best of the pages that were searched.
+    kept: Vec<Kept>,
+    // The groups that were joined in the current part.
+    joined: Joined,
+    // The number of parts that were searched.
+    done: usize,
 }
 
 impl Model for Search {
-    ghost use Rattle.gopher_index.specs.Progress.{search_hits, steps_left, IsProgress, SearchData};
+    ghost use Rattle.gopher_index.specs.Answer.{SearchData};
 
     ghost Value = { SearchData };
 
-    ghost view = { λ s. record {
-      hits = search_hits s.progress;
-      left = steps_left s.progress;
-    } };
+    ghost use Rattle.gopher_index.specs.Searching.{search_data, IsSearching};
 
-    ghost invariant = { λ s. IsProgress s.progress };
+    ghost view = { search_data };
+
+    ghost invariant = { IsSearching };
+}
+
+// Returns the best of the kept candidates and the pages of a part.
+fn kept_with_cells(
+    alloc: Global,
+    kept: &[Kept],
+    part: &Part,
+    verdicts: &[u16],
+    scores: &[u32],
+) -> Result<Vec<Kept>, NoMemory>
+    requires verdicts { length verdicts.now ≡ length part.now.pages }
+    requires scores { length scores.now ≡ length part.now.pages }
+    ensures { AddsCells part.now.pages verdicts.now scores.now kept.now result }
+{
+    let mut best = Best::of(alloc, kept)?;
+    rank_cells(part, verdicts, scores, &mut best)?;
+    best.kept(alloc)
 }
 
 impl Search {
-    /// Starts a search for the terms of a query in the pages of parts.
+    /// Starts a search for the terms of a query in the pages of parts, which it shares. It doesn't
+    /// group the terms, because the time grows with the square of their number, and beginning a
+    /// search must be quick.
     pub(crate) fn new(alloc: Global, parts: &[Part], terms: &[Term]) -> Result<Search, NoMemory>
         requires { IsQuery terms.now }
         ensures { IfOk result (λ new. new.hits ≡ answer_of (pages_of parts.now) terms.now) }
     {
         Ok(Search {
-            progress: Progress::new(alloc, parts, terms)?,
+            alloc,
+            parts: parts.to_vec(alloc)?,
+            terms: terms.to_vec(alloc)?,
+            groups: Vec::new(alloc),
+            kept: Vec::new(alloc),
+            joined: Joined::new(alloc),
+            done: 0,
         })
     }
 
@@ -63,7 +101,32 @@ impl Search {
         ensures left { result ≡ Ok None → self.new.left < self.old.left }
         ensures refused { OnErr result (self.new.left ≡ self.old.left) }
     {
-        self.progress.step()
+        if self.groups.is_empty() {
+            self.groups = groups_of(self.alloc, &self.terms)?;
+            return Ok(None);
+        }
+        if self.done == self.parts.len() {
+            let hits = Best::of(self.alloc, &self.kept)?.hits(self.alloc)?;
+            return Ok(Some(hits));
+        }
+        let part = &self.parts[self.done];
+        if self.joined.groups < self.groups.len() {
+            let end = match part.as_segment() {
+                Some(_) => self.joined.groups + 1,
+                None => self.groups.len(),
+            };
+            self.joined.join_to(end, part, &self.groups)?;
+            return Ok(None);
+        }
+        let Joined {
+            verdicts,
+            scores,
+            ..
+        } = &self.joined;
+        self.kept = kept_with_cells(self.alloc, &self.kept, part, verdicts, scores)?;
+        self.done += 1;
+        self.joined.groups = 0;
+        Ok(None)
     }
 
     /// Does all steps that are left.

@@ -23,7 +23,7 @@ use std::marker::Model;
 /// The distinct words of a page in byte order, each with its number of occurrences.
 ///
 /// The words' bytes share one allocation, because a catalogue keeps every page.
-#[derive(Debug, Drop)]
+#[derive(Drop)]
 pub struct Counts {
     words: ByteStrings,
     counts: Repeats,

@@ -20,7 +20,7 @@ use std::alloc::Global;
 use std::marker::Model;
 use std::sync::Arc;
 
-#[derive(Debug, Drop)]
+#[derive(Drop)]
 struct Parts {
     place: Arc<Place>,
     title: ByteString,
@@ -46,7 +46,7 @@ impl Model for Parts {
 ///
 /// Copies share the parts, so a copy takes no bytes of its own. The links are packed; a frontier
 /// copies those that become known places.
-#[derive(Debug, Drop)]
+#[derive(Drop)]
 pub struct Page {
     parts: Arc<Parts>,
 }

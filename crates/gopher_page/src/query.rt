@@ -7,11 +7,11 @@ use crate::fault::QueryFault;
 use crate::page::Page;
 use crate::word::next_token;
 use gopher_item::{ByteString, MAX_LINE, NoMemory};
-use std::alloc::Global;
+use std::alloc::{AllocError, Global};
 use std::marker::Model;
 
 /// How a term is joined to the terms before it.
-#[derive(Clone, Copy, Debug, PartialEq, Eq)]
+#[derive(Clone, Copy)]
 pub enum Operator {
     /// Both match.
     And,
@@ -43,7 +43,7 @@ impl Operator {
 }
 
 /// One term of a query.
-#[derive(Debug, Drop)]
+#[derive(Drop)]
 pub struct Term {
     operator: Operator,
     word: ByteString,
@@ -80,22 +80,23 @@ impl Term {
         self.is_prefix
     }
 
-    /// Returns a copy of the term.
-    pub fn clone(&self) -> Result<Term, NoMemory>
-        ensures { IfOk result (λ term. term ≡ self.now) }
-    {
-        Ok(Term {
-            operator: self.operator,
-            word: self.word.clone()?,
-            is_prefix: self.is_prefix,
-        })
-    }
-
     /// Returns how often the words that the term matches occur in `page`.
     pub fn count_in(&self, page: &Page) -> u32
         ensures { result ≡ count_of_term page.now.counts self.now }
     {
         page.counts().count_meant(self.is_prefix(), self.word())
+    }
+}
+
+impl Clone for Term {
+    ghost is_clone = { λ term copy. copy ≡ term };
+
+    fn clone(&self) -> Result<Term, AllocError> {
+        Ok(Term {
+            operator: self.operator,
+            word: self.word.clone()?,
+            is_prefix: self.is_prefix,
+        })
     }
 }
 
@@ -166,7 +167,7 @@ fn is_wanted(term: &Term) -> bool
 }
 
 /// The query of a search: words and prefixes, joined by `and`, `or` and `not` from left to right.
-#[derive(Debug, Drop)]
+#[derive(Drop)]
 pub struct Query {
     terms: Vec<Term>,
 }

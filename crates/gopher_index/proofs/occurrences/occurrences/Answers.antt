@@ -1,6 +1,4 @@
-use Rattle.std.proofs.Common.{[], ◌++◌, take, sym, ap, subst, ◌∙◌, arith}
-use Rattle.std.proofs.lemmas.List.{take_all}
-use Rattle.std.specs.List.Sorted.{IsPermutation}
+use Rattle.std.proofs.Common.{◌++◌, take, sym, ap, ◌∙◌, arith}
 use Rattle.gopher_index.specs.Answer.{occurrences_among}
 use Rattle.gopher_segment.specs.Segment.{pages_of}
 use Rattle.gopher_index.proofs.Found.{found_none, found_both}

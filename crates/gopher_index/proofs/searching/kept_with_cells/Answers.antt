@@ -1,9 +1,9 @@
 use Rattle.std.proofs.Common.{◌≡◌, map}
 use Rattle.gopher_index.specs.Best.{kept_hit}
-use Rattle.gopher_index.specs.Progress.{AddsPages}
+use Rattle.gopher_index.specs.Searching.{AddsPages}
 use Rattle.gopher_index.proofs.Steps.{adds_pages}
 use Rattle.std.proofs.lemmas.Result.{IfOk-weaker}
-use Rattle.gopher_index.proofs.progress.kept_with_cells.Goals as goal
+use Rattle.gopher_index.proofs.searching.kept_with_cells.Goals as goal
 
 pub returns : goal.returns
 returns c = λ terms are.
