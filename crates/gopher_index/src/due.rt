@@ -3,7 +3,7 @@
 ghost use Rattle.std.specs.Prelude.{◌≡◌, map, IfOk};
 ghost use Rattle.std.specs.Arc.{arc_value};
 ghost use Rattle.gopher_segment.specs.Segment.{pages_of};
-ghost use Rattle.gopher_index.specs.Index.{IsIndexRun, run_data};
+ghost use Rattle.gopher_index.specs.Index.{IsIndexRun};
 
 use crate::part::{Part, pages_in};
 use gopher_item::NoMemory;
@@ -65,18 +65,6 @@ impl Model for Due {
 }
 
 impl Due {
-    /// Creates an unmerged run of parts. `first` is the number of the first page.
-    pub(crate) fn new(alloc: Global, first: usize, parts: &[Part]) -> Result<Due, NoMemory>
-        requires { IsIndexRun first parts.now }
-        ensures { IfOk result (λ due. due ≡ run_data first parts.now) }
-    {
-        Ok(Due {
-            first,
-            parts: parts.to_vec(alloc)?,
-            merged: None,
-        })
-    }
-
     /// Merges the pages into one segment, for `Index::install`.
     pub fn merge(&mut self, alloc: Global) -> Result<(), NoMemory>
         ensures { self.new ≡ self.old }

@@ -149,9 +149,13 @@ impl Index {
             return Ok(None);
         };
         let first = self.parts[start].first();
-        let due = Due::new(*self.parts.allocator(), first, &self.parts[start..end])?;
+        let parts = self.parts[start..end].to_vec(*self.parts.allocator())?;
         self.taken.push(first)?;
-        Ok(Some(due))
+        Ok(Some(Due {
+            first,
+            parts,
+            merged: None,
+        }))
     }
 
     /// Puts a merged run in the place of its pages. A run that wasn't merged becomes due again. The
