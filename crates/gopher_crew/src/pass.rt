@@ -5,7 +5,7 @@ ghost use mathlib.Core.List.{IsPrefix};
 ghost use Rattle.left_right.specs.Sides.{view};
 ghost use Rattle.gopher_catalogue.specs.Legal.{IsLegal};
 ghost use Rattle.gopher_catalogue.specs.Pages.{pages_found};
-ghost use Rattle.gopher_index.specs.Begun.{begun_hits};
+ghost use Rattle.gopher_index.specs.Searching.{begun_hits};
 ghost use Rattle.gopher_crew.specs.Desk.{has_seen};
 ghost use Rattle.gopher_crew.specs.Crew.{CountsEntry, hits_of};
 ghost use Rattle.gopher_crew.specs.Version.{IsSeenVersion};

@@ -6,7 +6,7 @@ use Rattle.std.proofs.lemmas.List.{take-map, drop-map}
 use Rattle.gopher_page.specs.Page.{PageData}
 use Rattle.gopher_page.specs.Query.{TermData, matches, score}
 use Rattle.gopher_index.specs.Best.{BestData, lowest_score, TakesIn}
-use Rattle.gopher_index.specs.Cells.{AreCells}
+use Rattle.gopher_index.specs.Plan.{AreCells}
 use Rattle.gopher_index.proofs.Taking.{takes_none, takes_both, takes_below}
 
 -- ---- a block where none is

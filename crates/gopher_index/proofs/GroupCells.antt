@@ -7,9 +7,8 @@ use Rattle.std.proofs.lemmas.List.Elements.{All-map}
 use Rattle.std.proofs.lemmas.Simd.{map-map, splat_is_map}
 use Rattle.gopher_page.specs.Page.{PageData}
 use Rattle.gopher_page.specs.Query.{TermData, count_of_term, score}
-use Rattle.gopher_index.specs.Cells.{AreCells, term_counts, zipped}
+use Rattle.gopher_index.specs.Plan.{AreCells, term_counts, zipped, is_match, verdict_by, verdict, total, wanted_in, AreTermGroups, AreGroupCells}
 use Rattle.gopher_index.specs.Joined.{AreJoined}
-use Rattle.gopher_index.specs.Plan.{is_match, verdict_by, verdict, total, wanted_in, AreTermGroups, AreGroupCells}
 use Rattle.gopher_index.specs.declared.joined.Joined.{Joined}
 use Rattle.gopher_index.specs.declared.plan.Group.{Group}
 use Rattle.gopher_index.proofs.Groups.{next_group, verdict_push, total_push, times_few}

@@ -5,7 +5,7 @@ use Rattle.gopher_page.specs.Page.{PageData}
 use Rattle.gopher_page.specs.Query.{TermData, count_of_term}
 use Rattle.gopher_segment.specs.Postings.{pieces, run_of}
 use Rattle.gopher_segment.proofs.Pieces.{BeginsPage, pieces_begin}
-use Rattle.gopher_index.specs.Cells.{term_counts}
+use Rattle.gopher_index.specs.Plan.{term_counts}
 
 module _ (term : TermData) where
   abbrev pub HaveNone : List PageData → Type 0

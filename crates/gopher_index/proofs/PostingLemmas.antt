@@ -13,7 +13,7 @@ use Rattle.gopher_segment.specs.Postings.{run_of}
 use Rattle.gopher_segment.specs.Segment.{SegmentData, meant_counts}
 use Rattle.gopher_segment.specs.declared.postings.Postings.{Postings}
 use Rattle.gopher_index.specs.ByPostings.{IsListOf}
-use Rattle.gopher_index.specs.Cells.{term_counts}
+use Rattle.gopher_index.specs.Plan.{term_counts}
 use Rattle.gopher_page.proofs.OneMoreTerm.{added, matches_one_more, score_one_more, score_of_none, all_match}
 
 pub meant_is_term : (term : TermData) (pages : List PageData) → meant_counts term.is_prefix term.word pages ≡ term_counts term pages

@@ -10,9 +10,8 @@ use Rattle.gopher_segment.specs.PostingList.{IsPostingListOf}
 use Rattle.gopher_segment.proofs.Pieces.{count_in-run, run_within}
 use Rattle.gopher_segment.specs.Segment.{meant_counts}
 use Rattle.gopher_segment.specs.declared.postings.Postings.{Postings}
-use Rattle.gopher_index.specs.Cells.{term_counts, zipped}
+use Rattle.gopher_index.specs.Plan.{term_counts, zipped, verdict_by}
 use Rattle.gopher_index.specs.Joined.{IsUnwantedList, RaisesEach, posted, posted_count}
-use Rattle.gopher_index.specs.Plan.{verdict_by}
 use Rattle.gopher_index.specs.declared.plan.Group.{Group}
 use Rattle.gopher_index.proofs.PostingLemmas.{meant_is_term}
 use Rattle.gopher_index.proofs.Zipping.{zipped_each, zipped_idle}

@@ -10,7 +10,7 @@ use Rattle.gopher_page.specs.Page.{PageData}
 use Rattle.gopher_page.specs.Query.{TermData, count_of_term}
 use Rattle.gopher_page.specs.declared.query.Operator.TheVariants.{And}
 use Rattle.gopher_index.specs.Best.{BestData, lowest_score, TakesIn}
-use Rattle.gopher_index.specs.Cells.{term_counts}
+use Rattle.gopher_index.specs.Plan.{term_counts}
 use Rattle.gopher_index.specs.ByPostings.{is_again, Walk}
 use Rattle.gopher_segment.specs.Postings.{run_of}
 use Rattle.gopher_index.proofs.Blocks.{neither_left, neither_right}

@@ -1,6 +1,6 @@
 -- Elements that a loop takes on by the counts at their places.
 use Rattle.std.proofs.Common.{◌≡◌, ℕ, zero, suc, ◌+◌, ◌*◌, ◌<◌, List, [], ◌∷◌, length, map, replicate, take, get_or, set, refl, sym, ap, ◌∙◌, arith}
-use Rattle.gopher_index.specs.Cells.{zipped}
+use Rattle.gopher_index.specs.Plan.{zipped}
 
 module _ {X : Type 0} (step : X → ℕ → X) where
   pub zipped_none : (xs : List X) → xs ≡ zipped step xs []

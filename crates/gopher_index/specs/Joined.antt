@@ -6,8 +6,7 @@ use Rattle.gopher_segment.specs.Postings.{count_in}
 use Rattle.gopher_segment.specs.Segment.{SegmentData}
 use Rattle.gopher_segment.specs.declared.postings.Postings.{Postings}
 use Rattle.gopher_index.specs.ByPostings.{ArePostingsOf}
-use Rattle.gopher_index.specs.Cells.{zipped}
-use Rattle.gopher_index.specs.Plan.{AreGroupCells, verdict_by, wanted_in}
+use Rattle.gopher_index.specs.Plan.{zipped, AreGroupCells, verdict_by, wanted_in}
 use Rattle.gopher_index.specs.declared.joined.Joined.{Joined}
 use Rattle.gopher_index.specs.declared.plan.Group.{Group}
 

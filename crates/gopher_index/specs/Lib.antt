@@ -2,10 +2,8 @@ pub mod Part
 pub mod Index
 pub mod Answer
 pub mod Best
-pub mod Cells
 pub mod ByPostings
 pub mod Plan
 pub mod Ties
-pub mod Begun
 pub mod Joined
 pub mod Searching

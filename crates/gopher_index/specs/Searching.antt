@@ -5,12 +5,14 @@ use Rattle.gopher_page.specs.Page.{PageData}
 use Rattle.gopher_page.specs.Query.{TermData, IsQuery}
 use Rattle.gopher_index.specs.Answer.{SearchData, answer_of}
 use Rattle.gopher_index.specs.Best.{answer_from, kept_hit}
-use Rattle.gopher_index.specs.Cells.{AreCells}
+use Rattle.gopher_index.specs.Plan.{AreCells, IsPlan, is_match}
 use Rattle.gopher_index.specs.Joined.{AreBegun}
-use Rattle.gopher_index.specs.Plan.{IsPlan, is_match}
 use Rattle.gopher_index.specs.declared.best.Kept.{Kept}
 use Rattle.gopher_index.specs.declared.searching.Search.TheInside.{Inside}
 use Rattle.gopher_segment.specs.Segment.{SegmentData, pages_of}
+use Rattle.gopher_index.specs.declared.searching.Begun.{Begun}
+use Rattle.gopher_index.specs.declared.searching.Begun.TheVariants.{Found, Searching}
+use Rattle.gopher_index.specs.declared.hit.Hit.{Hit}
 
 -- the most steps that are left: one for each term in each part, one for the pages of each part, and
 -- one that groups the terms
@@ -54,3 +56,8 @@ abbrev pub AddsCells : {E : Type 0} → List PageData → List ℕ → List ℕ 
 AddsCells pages verdicts scores old result =
     (terms : List TermData) → AreCells terms pages (map is_match verdicts) scores
     → IfOk result (λ new. AddsPages terms pages old new.items)
+
+-- the hits of a short search, or those that a search in steps will find
+abbrev pub begun_hits : Begun → List Hit
+begun_hits (Found hits) = hits.items
+begun_hits (Searching search) = search.hits

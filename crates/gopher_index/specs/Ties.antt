@@ -5,8 +5,7 @@ use Rattle.gopher_page.specs.Page.{PageData}
 use Rattle.gopher_segment.specs.Ranks.{AreRanks}
 use Rattle.gopher_page.specs.Query.{TermData}
 use Rattle.gopher_index.specs.Best.{BestData, TakesHit, TakesIn, hit_with, is_beyond}
-use Rattle.gopher_index.specs.Cells.{AreCells}
-use Rattle.gopher_index.specs.Plan.{is_match}
+use Rattle.gopher_index.specs.Plan.{AreCells, is_match}
 use Rattle.gopher_index.specs.declared.ties.Ties.{Ties}
 
 -- whether the ranks show that the page at an index can't get among the best with this score

@@ -3,7 +3,7 @@
 ghost use Rattle.std.specs.Prelude.{◌≡◌, ◌+◌, ◌<◌, ◌≤◌, [], length, IfOk, IfSome, OnSome};
 ghost use Rattle.std.specs.Arc.{arc_value};
 ghost use Rattle.gopher_index.specs.Answer.{answer_of, AreOccurrences};
-ghost use Rattle.gopher_index.specs.Begun.{begun_hits};
+ghost use Rattle.gopher_index.specs.Searching.{begun_hits};
 ghost use Rattle.gopher_index.specs.Index.{EndsWith, IsSliceOf, AppendsPage};
 
 use crate::due::Due;

@@ -2,10 +2,9 @@
 
 ghost use Rattle.std.specs.Prelude.{◌≡◌, ◌+◌, ◌*◌, ◌^◌, ◌≤◌, ◌<◌, ◌==◌, ◌∷◌, [], length, map, replicate, if◌then◌else◌, IfSome, OnOk};
 ghost use Rattle.std.specs.List.{All};
-ghost use Rattle.gopher_index.specs.Cells.{RisesAtMost, zipped};
+ghost use Rattle.gopher_index.specs.Plan.{RisesAtMost, zipped, AreGroupCells, wanted_in};
 ghost use Rattle.gopher_index.specs.Joined.{AreBegun, AreJoined, AddsOne, IsUnwantedList, JoinsTo, RaisesEach, posted, posted_count, raised_verdicts};
 ghost use Rattle.gopher_segment.specs.Postings.{AreWithin};
-ghost use Rattle.gopher_index.specs.Plan.{AreGroupCells, wanted_in};
 
 use crate::part::Part;
 use crate::plan::{Group, higher, verdict_for};

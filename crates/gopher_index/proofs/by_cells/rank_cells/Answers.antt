@@ -1,8 +1,7 @@
 use Rattle.std.proofs.Common.{◌-◌, ◌≤◌, map, take, drop, sym, subst, ◌∙◌, arith}
 use Rattle.std.specs.Arc.{arc_value}
 use Rattle.gopher_index.specs.Best.{lowest_score, TakesIn}
-use Rattle.gopher_index.specs.Cells.{AreCells}
-use Rattle.gopher_index.specs.Plan.{is_match}
+use Rattle.gopher_index.specs.Plan.{AreCells, is_match}
 use Rattle.gopher_index.proofs.Blocks.{passes_block, span_cells, span_next}
 use Rattle.gopher_index.proofs.Taking.{takes_both, takes_none}
 use Rattle.gopher_index.proofs.by_cells.rank_cells.Goals as goal

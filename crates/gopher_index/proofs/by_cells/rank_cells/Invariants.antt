@@ -2,8 +2,7 @@ use Rattle.std.proofs.Common.{◌≡◌, ◌-◌, ◌≤◌, List, length, map, 
 use Rattle.std.specs.Arc.{arc_value}
 use Rattle.gopher_page.specs.Query.{TermData}
 use Rattle.gopher_index.specs.Best.{TakesIn}
-use Rattle.gopher_index.specs.Cells.{AreCells}
-use Rattle.gopher_index.specs.Plan.{is_match}
+use Rattle.gopher_index.specs.Plan.{AreCells, is_match}
 use Rattle.gopher_index.specs.Ties.{AreTies}
 use Rattle.gopher_index.proofs.by_cells.rank_cells.Given as goal
 

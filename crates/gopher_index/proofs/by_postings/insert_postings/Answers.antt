@@ -5,7 +5,7 @@ use Rattle.gopher_page.specs.Page.{PageData}
 use Rattle.gopher_page.specs.Query.{count_of_term}
 use Rattle.gopher_index.specs.Best.{lowest_score}
 use Rattle.gopher_index.specs.ByPostings.{Walk}
-use Rattle.gopher_index.specs.Cells.{term_counts}
+use Rattle.gopher_index.specs.Plan.{term_counts}
 use Rattle.gopher_index.specs.Ties.{AreTies}
 use Rattle.gopher_index.specs.declared.ties.Ties.{Ties}
 use Rattle.gopher_index.proofs.Walking.{number_within, page_found, walk_again, walk_below, walk_turn}

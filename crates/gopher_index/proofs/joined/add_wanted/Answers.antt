@@ -1,5 +1,5 @@
 use Rattle.std.proofs.Common.{◌≡◌, ℕ, ◌+◌, ◌*◌, ◌∙◌, sym, arith}
-use Rattle.gopher_index.specs.Cells.{zipped}
+use Rattle.gopher_index.specs.Plan.{zipped}
 use Rattle.gopher_index.proofs.Zipping.{zipped_idle}
 use Rattle.gopher_index.proofs.joined.add_wanted.Goals as goal
 

@@ -4,7 +4,7 @@ use Rattle.std.proofs.lemmas.List.{length-map}
 use Rattle.gopher_page.specs.Page.{PageData}
 use Rattle.gopher_page.specs.Query.{count_of_term}
 use Rattle.gopher_segment.specs.Segment.{meant_counts}
-use Rattle.gopher_index.specs.Cells.{term_counts, zipped}
+use Rattle.gopher_index.specs.Plan.{term_counts, zipped}
 use Rattle.gopher_index.proofs.PostingLemmas.{meant_is_term}
 use Rattle.gopher_index.proofs.GroupCells.{no_group, one_group, times_all}
 use Rattle.gopher_index.proofs.Zipping.{zipped_zeros}

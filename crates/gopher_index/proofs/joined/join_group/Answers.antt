@@ -4,7 +4,7 @@ use Rattle.gopher_segment.specs.Segment.{meant_counts}
 use Rattle.gopher_index.proofs.GroupCells.{one_group, group_few}
 use Rattle.gopher_index.proofs.PostingLemmas.{meant_is_term}
 use Rattle.gopher_index.proofs.Unwanted.{listed_within, listed_raises, unwanted_adds}
-use Rattle.gopher_index.specs.Cells.{term_counts}
+use Rattle.gopher_index.specs.Plan.{term_counts}
 use Rattle.gopher_index.proofs.joined.join_group.Goals as goal
 
 pub raise_listed-requires-clause-within : goal.raise_listed-requires-clause-within

@@ -1,6 +1,6 @@
 use Rattle.std.proofs.Common.{◌≡◌, ◌*◌, get_or, refl, ap, ◌∙◌, arith}
 use Rattle.std.proofs.lemmas.List.{take_all}
-use Rattle.gopher_index.specs.Cells.{zipped}
+use Rattle.gopher_index.specs.Plan.{zipped}
 use Rattle.gopher_index.proofs.Groups.{times_few}
 use Rattle.gopher_index.proofs.Zipping.{zipped_at, zipped_next, zipped_none, zipped_own}
 use Rattle.gopher_index.proofs.joined.multiply.Goals as goal

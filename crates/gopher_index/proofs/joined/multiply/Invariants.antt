@@ -1,5 +1,5 @@
 use Rattle.std.proofs.Common.{◌≡◌, ◌*◌, take}
-use Rattle.gopher_index.specs.Cells.{zipped}
+use Rattle.gopher_index.specs.Plan.{zipped}
 use Rattle.gopher_index.proofs.joined.multiply.Given as goal
 
 abbrev pub invariant-loop-index : goal.invariant-loop-index

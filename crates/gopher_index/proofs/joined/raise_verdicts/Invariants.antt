@@ -1,6 +1,5 @@
 use Rattle.std.proofs.Common.{◌≡◌, max, take}
-use Rattle.gopher_index.specs.Cells.{zipped}
-use Rattle.gopher_index.specs.Plan.{verdict_by}
+use Rattle.gopher_index.specs.Plan.{zipped, verdict_by}
 use Rattle.gopher_index.proofs.joined.raise_verdicts.Given as goal
 
 abbrev pub invariant-loop-index : goal.invariant-loop-index

@@ -1,7 +1,6 @@
 use Rattle.std.proofs.Common.{OnOk, length, map, sym, ap, subst, arith}
 use Rattle.gopher_index.specs.Best.{TakesIn}
-use Rattle.gopher_index.specs.Cells.{AreCells}
-use Rattle.gopher_index.specs.Plan.{is_match}
+use Rattle.gopher_index.specs.Plan.{AreCells, is_match}
 use Rattle.std.proofs.lemmas.Result.{on_ok_weaker}
 use Rattle.gopher_index.proofs.GroupCells.{groups_cells, whole_groups}
 use Rattle.gopher_index.proofs.PostingLemmas.{alone_is}

@@ -1,8 +1,7 @@
 use Rattle.std.proofs.Common.{◌≡◌, ◌<◌, length, map, take, refl, sym, ap, ◌∙◌, arith}
 use Rattle.std.proofs.lemmas.List.{take_all}
 use Rattle.gopher_index.specs.Best.{answer_from, kept_hit}
-use Rattle.gopher_index.specs.Cells.{AreCells}
-use Rattle.gopher_index.specs.Plan.{is_match}
+use Rattle.gopher_index.specs.Plan.{AreCells, is_match}
 use Rattle.gopher_index.proofs.GroupCells.{groups_cells, whole_groups}
 use Rattle.gopher_index.proofs.LeastLemmas.{answer_from_0}
 use Rattle.gopher_index.proofs.Segments.{pages-next}
