@@ -5,7 +5,8 @@ use Rattle.std.specs.List.{list_any, filter_map, cons_option}
 use Rattle.std.specs.Ordering.{is_eq, eq_by_cmp}
 use Rattle.std.specs.Cmp.{eq_by_cmp_equiv}
 use Rattle.std.specs.Cmp.Lexicographic.{pointwise, nat_list_cmp_total, texts_ties, bytes_decides}
-use Rattle.std.specs.Map.{keys_of}
+use Rattle.std.specs.BTreeMap.{is_at}
+use Rattle.std.proofs.lemmas.Map.Made.{is_some-lookup}
 use Rattle.std.proofs.Math.Bool.{or-false}
 use Rattle.std.proofs.lemmas.Map.Views.{list_any-from_Contains, Contains-from_any}
 use Rattle.gopher_tree.specs.Path.{names_of, first_name, menu_name, is_menu_name, rest_below}
@@ -22,14 +23,6 @@ listings_ascend files folder = names_ascend [] (filter_map (child_below folder) 
 
 abbrev is_named : List ℕ → Child → Bool
 is_named name child = is_eq (order name child.0)
-
-some_key : (name : List ℕ) (names : List Child) → is_some (at_name name names) ≡ list_any (eq_by_cmp order name) (keys_of names)
-some_key name [] = refl
-some_key name (c ∷ names) = by (is_eq (order name c.0)) (some_key name names)
-  where
-    by : (t : Bool) → is_some (at_name name names) ≡ list_any (eq_by_cmp order name) (keys_of names) → is_some (cond t (Some c.1) (at_name name names)) ≡ (t || list_any (eq_by_cmp order name) (keys_of names))
-    by true h = refl
-    by false h = h
 
 some_put : (name : List ℕ) (names put : List Child) → is_some (at_name name (fold add_child names put)) ≡ (is_some (at_name name names) || list_any (is_named name) put)
 some_put name names [] = sym (or-false (is_some (at_name name names)))
@@ -104,7 +97,7 @@ any_child folder name (file ∷ files) =
 
 listed : (files : List File) (folder name : List ℕ) → list_any (eq_by_cmp order name) (listed_names files folder) ≡ list_any (λ file. leads_to_name folder name file.0) files
 listed files folder name =
-    sym (some_key name (children files folder)) ∙ some_put name [] (filter_map (child_below folder) files) ∙ any_child folder name files
+    sym (is_some-lookup (is_at (order name)) (children files folder)) ∙ some_put name [] (filter_map (child_below folder) files) ∙ any_child folder name files
 
 pub listings_are_whole : ListingsAreWhole
 listings_are_whole files folder name = (

@@ -4,7 +4,7 @@ ghost use Rattle.std.specs.Prelude.{◌≡◌, false, map, IfOk};
 ghost use Rattle.gopher_item.specs.Special.{has_special};
 ghost use Rattle.gopher_item.specs.MenuLine.{menu_bytes};
 ghost use Rattle.gopher_tree.specs.MenuFile.{written_menu};
-ghost use Rattle.gopher_tree.specs.Reply.{PutsLine, PutsLines, child_line, head_lines, listing_bytes, file_reply, error_bytes, not_found_bytes};
+ghost use Rattle.gopher_tree.specs.Reply.{PutsLine, PutsLines, child_line, head_lines, listing_of, file_reply, error_bytes, not_found_bytes};
 
 use crate::menu_file::push_written_lines;
 use crate::tree::path::push_prefix;
@@ -103,7 +103,7 @@ pub(crate) fn listing_reply(
     home: &Home,
 ) -> Result<Vec<u8>, NoMemory>
     ensures { IfOk result (λ bytes. bytes.items
-        ≡ listing_bytes home.now folder.now children.now.entries) }
+        ≡ menu_bytes (listing_of home.now folder.now children.now.entries)) }
 {
     let mut front = Vec::from_slice(alloc, b"/")?;
     push_prefix(folder, &mut front)?;

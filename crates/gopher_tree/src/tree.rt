@@ -4,7 +4,7 @@ ghost use Rattle.std.specs.Prelude.{◌≡◌, ◌||◌, ◌&&◌, ◌==◌, ◌
 ghost use Rattle.std.specs.Option.{option_copied};
 ghost use Rattle.gopher_tree.specs.Path.{is_menu_path};
 ghost use Rattle.gopher_tree.specs.Files.{is_file, is_folder, file_at, is_missing, menu_files, leads_through_file, nodes, is_path_among, AreNodes, total_bytes};
-ghost use Rattle.gopher_tree.specs.Fault.{is_too_big, is_twice, menu_fault, file_fault, AddsFileTo, MakesTree};
+ghost use Rattle.gopher_tree.specs.Fault.{is_too_big, is_twice, menu_fault, file_fault, AddsFile, MakesTree};
 ghost use Rattle.gopher_tree.specs.Tree.{AddsNodes};
 ghost use Rattle.gopher_tree.specs.Found.{file_data, lent_file};
 
@@ -36,7 +36,7 @@ pub const MAX_NODES: usize = 4_096;
 /// Files and the folders that their paths lead through, as a server sends them.
 ///
 /// Contracts see a tree as the list of its files, each a path and its bytes.
-#[derive(Debug, Drop)]
+#[derive(Drop)]
 pub struct Tree {
     files: Vec<File>,
     nodes: Nodes,
@@ -55,7 +55,7 @@ impl Model for Tree {
 }
 
 /// The node that a selector names.
-#[derive(Clone, Copy, Debug)]
+#[derive(Clone, Copy)]
 pub enum Node<'a> {
     /// A file: its type (RFC 1436, section 3.8) and its bytes.
     File(u8, &'a [u8]),
@@ -179,11 +179,7 @@ impl Tree {
             && is_missing self.now (take place path.now) then 1 else 0) }
         ensures bound { result ≤ 1 }
     {
-        if path[place] == b'/' && !self.has_node(&path[..place]) {
-            1
-        } else {
-            0
-        }
+        usize::from(path[place] == b'/' && !self.has_node(&path[..place]))
     }
 
     // How many nodes a path adds.
@@ -256,7 +252,8 @@ impl Tree {
         path: Vec<u8>,
         bytes: Vec<u8>,
     ) -> Result<Tree, TreeFault>
-        ensures { AddsFileTo self (path.items, bytes.items) result }
+        ensures { AddsFile (file_fault self (path.items, bytes.items))
+            (self ++ (path.items, bytes.items) ∷ []) result }
     {
         if let Some(fault) = self.file_fault(&path, &bytes) {
             return Err(fault);

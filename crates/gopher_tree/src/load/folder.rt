@@ -5,10 +5,10 @@
 
 ghost use Rattle.std.specs.Prelude.{◌≡◌, ◌≢◌, [], IfErr, IfOk, None, OnOk, Some, map, string_bytes, string_cmp};
 ghost use Rattle.std.specs.List.Sorted.{IsSorted};
-ghost use Rattle.std.specs.Fs.{metadata_len};
+ghost use Rattle.std.specs.Fs.{IsDir, IsFile, file_type, metadata_len};
 ghost use Rattle.std.specs.IoError.{error_kind};
 ghost use Rattle.std.specs.declared.io.ErrorKind.TheVariants.{OutOfMemory};
-ghost use Rattle.gopher_tree.specs.Load.{is_shown, with_shown, AreShown, CountsHidden, HasSize, IsOfFolder, IsOfFile, IsUnreadable, most_read, ReadsMost};
+ghost use Rattle.gopher_tree.specs.Load.{is_shown, with_shown, AreShown, CountsHidden, HasSize, IsUnreadable, most_read, ReadsMost};
 
 use crate::fault::TreeFault;
 use crate::tree::MAX_FILE;
@@ -153,9 +153,10 @@ pub(crate) fn target_of<R: Files>(
 
 // The target by its metadata.
 fn target_found(found: fs::Metadata) -> Target
-    ensures folder { IsOfFolder found → result ≡ Target.Folder }
-    ensures file { IsOfFile found → result ≡ Target.File }
-    ensures neither { (IsOfFolder found → ⊥) → (IsOfFile found → ⊥) → result ≡ Target.Neither }
+    ensures folder { IsDir (file_type found) → result ≡ Target.Folder }
+    ensures file { IsFile (file_type found) → result ≡ Target.File }
+    ensures neither { (IsDir (file_type found) → ⊥) → (IsFile (file_type found) → ⊥)
+        → result ≡ Target.Neither }
 {
     if found.is_dir() {
         Target::Folder
@@ -185,8 +186,9 @@ pub(crate) fn without_links<R: Files>(
 // How many bytes of an open file are read: at most its length, and one over the largest file;
 // `None` if it isn't a regular file.
 fn most_read(found: &fs::Metadata) -> Option<u64>
-    ensures file { IsOfFile found.now → result ≡ Some (most_read (metadata_len found.now)) }
-    ensures other { (IsOfFile found.now → ⊥) → result ≡ None }
+    ensures file { IsFile (file_type found.now)
+        → result ≡ Some (most_read (metadata_len found.now)) }
+    ensures other { (IsFile (file_type found.now) → ⊥) → result ≡ None }
 {
     if !found.is_file() {
         return None;
@@ -233,14 +235,12 @@ fn read_open<F: Read + OpenFile + Drop>(
         Ok(found) => found,
         Err(error) => return Err(read_fault(error, number)),
     };
-    match most_read(&found) {
-        Some(most) => {
-            let bytes = read_most(alloc, file, most, number)?;
-            *size = bytes.len().max(found.len() as usize);
-            Ok(Some(bytes))
-        }
-        None => Ok(None),
-    }
+    let Some(most) = most_read(&found) else {
+        return Ok(None);
+    };
+    let bytes = read_most(alloc, file, most, number)?;
+    *size = bytes.len().max(found.len() as usize);
+    Ok(Some(bytes))
 }
 
 // An empty vector. It has room for the bytes, and for one more that shows that no others follow, if
