@@ -192,24 +192,16 @@ impl Tree {
         for place in 1..path.len() {
             count += self.new_folder_at(path, place);
         }
-        if self.has_node(path) {
-            count
-        } else {
-            count + 1
-        }
+        count + usize::from(!self.has_node(path))
     }
 
     fn is_too_big(&self, path: &[u8], bytes: &[u8]) -> bool
         requires { 0 < length path.now }
         ensures { result ≡ is_too_big self.now (path.now, bytes.now) }
     {
-        if bytes.len() > MAX_FILE {
-            return true;
-        }
-        if self.bytes + bytes.len() > MAX_BYTES {
-            return true;
-        }
-        self.nodes.len() + 1 + self.new_nodes(path) > MAX_NODES
+        bytes.len() > MAX_FILE
+            || self.bytes + bytes.len() > MAX_BYTES
+            || self.nodes.len() + 1 + self.new_nodes(path) > MAX_NODES
     }
 
     // The first fault of a file after these files.
@@ -294,8 +286,6 @@ fn menu_fault(number: usize, path: &[u8], bytes: &[u8]) -> Option<TreeFault>
     if !is_menu_path(path) {
         return None;
     }
-    match bad_line(bytes) {
-        Some(line) => Some(TreeFault::BadMenuLine { file: number, line }),
-        None => None,
-    }
+    let line = bad_line(bytes)?;
+    Some(TreeFault::BadMenuLine { file: number, line })
 }

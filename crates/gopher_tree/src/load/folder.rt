@@ -193,12 +193,7 @@ fn most_read(found: &fs::Metadata) -> Option<u64>
     if !found.is_file() {
         return None;
     }
-    let length = found.len();
-    if length < MAX_READ {
-        Some(length)
-    } else {
-        Some(MAX_READ)
-    }
+    Some(found.len().min(MAX_READ))
 }
 
 // The bytes of a file; `None` if it has vanished, or its path leads to no regular file by now.
