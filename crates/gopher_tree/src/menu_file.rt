@@ -59,11 +59,7 @@ fn server_of<'a>(host: &'a [u8], port: &[u8]) -> Option<(&'a [u8], u16)>
 {
     let host = trim_spaces(host);
     let port = read_number(65535, trim_spaces(port))?;
-    if is_host(host) {
-        Some((host, port as u16))
-    } else {
-        None
-    }
+    is_host(host).then_some((host, port as u16))
 }
 
 // The line of a first field and the bytes after its TAB.

@@ -86,10 +86,8 @@ impl Tree {
     pub fn number_of_menus(&self) -> usize
         ensures { result ≡ count_by (λ file. is_menu_path file.0) self.now }
     {
-        self.files
-            .iter()
-            .filter(|file| is_menu_path(file.path()))
-            .count()
+        let files = self.files.iter();
+        files.filter(|file| is_menu_path(file.path())).count()
     }
 
     /// Returns the path and the bytes of each menu file, in the order of the files.
@@ -250,10 +248,7 @@ impl Tree {
         if let Some(fault) = self.file_fault(&path, &bytes) {
             return Err(fault);
         }
-        match self.add(alloc, path, bytes) {
-            Ok(tree) => Ok(tree),
-            Err(_) => Err(TreeFault::NoMemory),
-        }
+        self.add(alloc, path, bytes).or(Err(TreeFault::NoMemory))
     }
 
     /// Makes the tree of a list of files. Each is a path, names joined by slashes, and its bytes.

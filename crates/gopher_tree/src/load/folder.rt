@@ -129,9 +129,7 @@ pub(crate) fn names_in<R: Files>(
         Err(error) if !is_root && is_missing(error.kind()) => Vec::new(alloc),
         Err(error) => return Err(read_fault(error, number)),
     };
-    let Ok(()) = names.sort() else {
-        return Err(TreeFault::NoMemory);
-    };
+    names.sort().or(Err(TreeFault::NoMemory))?;
     Ok(names)
 }
 
@@ -244,10 +242,7 @@ fn room_for(alloc: Global, bytes: u64) -> Vec<u8>
     ensures { result.items ≡ [] }
 {
     let room = bytes.saturating_add(1) as usize;
-    match Vec::with_capacity(alloc, room) {
-        Ok(vector) => vector,
-        Err(_refused) => Vec::new(alloc),
-    }
+    Vec::with_capacity(alloc, room).unwrap_or(Vec::new(alloc))
 }
 
 // The first `most` bytes of a reader, or all bytes if there are fewer.

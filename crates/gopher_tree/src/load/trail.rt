@@ -76,10 +76,7 @@ impl Trail {
         if self.leaves_no_room(number) {
             return Err(TreeFault::TooBig { file: number });
         }
-        let Ok(()) = note(alloc, &self.path, &mut self.folders) else {
-            return Err(TreeFault::NoMemory);
-        };
-        Ok(())
+        note(alloc, &self.path, &mut self.folders).or(Err(TreeFault::NoMemory))
     }
 }
 
