@@ -7,7 +7,7 @@ use Rattle.std.specs.Cmp.{eq_by_cmp_equiv}
 use Rattle.std.specs.Cmp.Lexicographic.{pointwise, nat_list_cmp_total, texts_ties, bytes_decides}
 use Rattle.std.specs.BTreeMap.{is_at}
 use Rattle.std.proofs.lemmas.Map.Made.{is_some-lookup}
-use Rattle.std.proofs.Math.Bool.{or-false}
+use Rattle.std.proofs.Math.Bool.{and-false, and-true, or-false}
 use Rattle.std.proofs.lemmas.Map.Views.{list_any-from_Contains, Contains-from_any}
 use Rattle.gopher_tree.specs.Path.{names_of, first_name, menu_name, is_menu_name, rest_below}
 use Rattle.gopher_tree.specs.Kind.{kind_of}
@@ -57,22 +57,10 @@ child_is : (kind : ℕ) (name rest n : List ℕ) (more : List (List ℕ)) → na
 child_is kind name rest n [] names =
     by (is_menu_name n) ∙ ap (λ l. pointwise nat_eq name n && not (is_menu_name l)) (sym (names_of-one rest n names))
   where
-    both : (t : Bool) → t ≡ (t && true)
-    both true = refl
-    both false = refl
-
-    neither : (t : Bool) → false ≡ (t && false)
-    neither true = refl
-    neither false = refl
-
     by : (t : Bool) → is_child name (cond {A = Option Child} t None (Some (n, kind))) ≡ (pointwise nat_eq name n && not t)
-    by true = neither (pointwise nat_eq name n)
-    by false = same_test name n ∙ both (pointwise nat_eq name n)
-child_is kind name rest n (y ∷ ys) names = same_test name n ∙ both (pointwise nat_eq name n) ∙ ap (λ t. pointwise nat_eq name n && t) (sym (no_menu rest n y ys names))
-  where
-    both : (t : Bool) → t ≡ (t && true)
-    both true = refl
-    both false = refl
+    by true = sym (and-false (pointwise nat_eq name n))
+    by false = same_test name n ∙ sym (and-true (pointwise nat_eq name n))
+child_is kind name rest n (y ∷ ys) names = same_test name n ∙ sym (and-true (pointwise nat_eq name n)) ∙ ap (λ t. pointwise nat_eq name n && t) (sym (no_menu rest n y ys names))
 
 child_leads : (folder name : List ℕ) (file : File) → is_child name (child_below folder file) ≡ leads_to_name folder name file.0
 child_leads folder name file = by (rest_below folder file.0)

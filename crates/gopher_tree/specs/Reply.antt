@@ -1,7 +1,7 @@
 -- The reply of a tree to a selector (RFC 1436, section 2; folders as menus are this profile's).
 use Rattle.std.specs.Prelude.{◌≡◌, ℕ, length, ◌==◌, List, [], ◌∷◌, ◌++◌, codes, map, Option, None, Some, Result, OnOk, if◌then◌else◌}
 use Rattle.std.specs.List.{flat_map}
-use Rattle.std.specs.Option.{option_map}
+use Rattle.std.specs.Option.{option_and_then, option_map}
 use Rattle.std.specs.declared.vec.Vec.{Vec}
 use Rattle.gopher_bytes.specs.Lines.{lines_of}
 use Rattle.gopher_item.specs.MenuLine.{MenuLineData, menu_line_bytes, menu_line_of, menu_bytes}
@@ -34,8 +34,7 @@ named_by files path (Some file) =
 named_by files path None = if is_folder files path then Some (NamedFolder path) else None
 
 abbrev pub named_at : List File → Option (List ℕ) → Option Named
-named_at files None = None
-named_at files (Some path) = named_by files path (file_at files path)
+named_at files path = option_and_then (λ p. named_by files p (file_at files p)) path
 
 abbrev pub named : List File → List ℕ → Option Named
 named files selector = named_at files (path_of selector)

@@ -60,8 +60,3 @@ pub record ArePathsOf {A : Type 0} (held : BTreeMap (Vec ℕ A) (Option ℕ))
     (paths : List (List ℕ)) : Type 0 where
   pub all : paths ≡ [] ∷ map (λ key. key.items) (keys held)
   pub order : IsStrictlySortedBy (λ x y. slice_cmp nat_cmp x.items y.items) (keys held)
-
--- a path adds this many nodes to those of the files
-abbrev pub AddsNodes : List File → List ℕ → ℕ → Type 0
-AddsNodes files path count =
-    length (fold add_path (nodes files) (paths_of path)) ≡ length (nodes files) + count

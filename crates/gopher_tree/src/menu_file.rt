@@ -2,8 +2,8 @@
 
 ghost use Rattle.std.specs.Prelude.{◌≡◌, ◌∷◌};
 ghost use Rattle.gopher_item.specs.Menu.{fields_of};
-ghost use Rattle.gopher_tree.specs.MenuFile.{is_item, line_of_fields, server_of, written_line, bad_line, written_menu, sent_line};
-ghost use Rattle.gopher_tree.specs.WrittenLine.{line_data, server_data, IsWrittenItem, IsWrittenLine};
+ghost use Rattle.gopher_tree.specs.MenuFile.{is_item, line_of_fields, server_of, written_item, written_line, bad_line, written_menu, sent_line};
+ghost use Rattle.gopher_tree.specs.WrittenLine.{line_data, server_data, IsWrittenLine};
 ghost use Rattle.gopher_tree.specs.Reply.{PutsLine, PutsLines};
 
 use gopher_item::{
@@ -40,7 +40,8 @@ fn written_item<'a>(
     selector: &'a [u8],
     server: Option<(&'a [u8], u16)>,
 ) -> Option<WrittenLine<'a>>
-    ensures { IsWrittenItem kind display.now selector.now server.entry result }
+    ensures { IsWrittenLine (written_item kind display.now selector.now
+        (server_data server.entry)) result }
 {
     if !is_item(kind, display, selector) {
         return None;

@@ -1,11 +1,10 @@
 //! `Tree`: its limits, its numbers, and how a file is added.
 
-ghost use Rattle.std.specs.Prelude.{◌≡◌, ◌||◌, ◌&&◌, ◌==◌, ◌≤◌, ◌<◌, ◌++◌, ◌∷◌, [], None, length, take, slice_index, map, count_by, if◌then◌else◌, IfOk};
+ghost use Rattle.std.specs.Prelude.{◌≡◌, ◌||◌, ◌&&◌, ◌==◌, ◌+◌, ◌≤◌, ◌<◌, ◌++◌, ◌∷◌, [], None, length, take, fold, slice_index, map, count_by, if◌then◌else◌, IfOk};
 ghost use Rattle.std.specs.Option.{option_copied};
 ghost use Rattle.gopher_tree.specs.Path.{is_menu_path};
-ghost use Rattle.gopher_tree.specs.Files.{is_file, is_folder, file_at, is_missing, menu_files, leads_through_file, nodes, is_path_among, AreNodes, total_bytes};
+ghost use Rattle.gopher_tree.specs.Files.{is_file, is_folder, file_at, is_missing, menu_files, leads_through_file, nodes, is_path_among, add_path, paths_of, AreNodes, total_bytes};
 ghost use Rattle.gopher_tree.specs.Fault.{is_too_big, is_twice, menu_fault, file_fault, AddsFile, MakesTree};
-ghost use Rattle.gopher_tree.specs.Tree.{AddsNodes};
 ghost use Rattle.gopher_tree.specs.Found.{file_data, lent_file};
 
 pub(crate) mod file;
@@ -183,7 +182,8 @@ impl Tree {
     // How many nodes a path adds.
     fn new_nodes(&self, path: &[u8]) -> usize
         requires { 0 < length path.now }
-        ensures count { AddsNodes self.now path.now result }
+        ensures count { length (fold add_path (nodes self.now) (paths_of path.now))
+            ≡ length (nodes self.now) + result }
         ensures bound { result ≤ length path.now }
     {
         let mut count = 0;
