@@ -1,5 +1,5 @@
 -- Fields that don't make a line of a menu file, and one more line.
-use Rattle.std.proofs.Common.{◌≡◌, ℕ, ◌<◌, Bool, true, false, eqb, List, [], ◌∷◌, length, None, refl, ap, ◌∙◌, arith}
+use Rattle.std.proofs.Common.{◌≡◌, ℕ, ◌<◌, eqb, List, [], ◌∷◌, length, None, refl, ap, ◌∙◌, arith}
 use Rattle.gopher_bytes.proofs.Splits.{some_part}
 use Rattle.gopher_item.specs.Menu.{fields_of}
 use Rattle.gopher_tree.specs.MenuFile.{line_of_fields}

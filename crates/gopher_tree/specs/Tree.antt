@@ -6,7 +6,7 @@ use Rattle.std.specs.Ordering.{nat_cmp}
 use Rattle.std.specs.Cmp.Lexicographic.{pointwise, slice_cmp}
 use Rattle.std.specs.BTreeMap.{BTreeMap, keys, get_by, btree_map_len}
 use Rattle.std.specs.declared.vec.Vec.{Vec}
-use Rattle.gopher_tree.specs.Files.{File, file_at, is_path_among, add_path, paths_of, nodes, total_bytes}
+use Rattle.gopher_tree.specs.Files.{File, file_at, is_path_among, add_path, nodes, total_bytes}
 
 -- the entry at a path: the number of a file, or a folder
 abbrev pub entry_at : {A : Type 0} → BTreeMap (Vec ℕ A) (Option ℕ) → List ℕ → Option (Option ℕ)
