@@ -111,10 +111,7 @@ pub(crate) fn bad_line(bytes: &[u8]) -> Option<usize>
 fn push_written(line: WrittenLine, home: &Home, out: &mut Vec<u8>) -> Result<(), NoMemory>
     ensures written { PutsLine (sent_line home.now (line_data line.entry)) out.old out.new result }
 {
-    let (host, port) = match line.server {
-        Some(server) => server,
-        None => (home.host(), home.port()),
-    };
+    let (host, port) = line.server.unwrap_or((home.host(), home.port()));
     push_menu_line(line.kind, line.display, line.selector, host, port, out)
 }
 

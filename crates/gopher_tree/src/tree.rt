@@ -216,10 +216,8 @@ impl Tree {
         if let Some(fault) = menu_fault(number, path, bytes) {
             return Some(fault);
         }
-        if self.is_twice(path) {
-            return Some(TreeFault::Twice { file: number });
-        }
-        None
+        self.is_twice(path)
+            .then_some(TreeFault::Twice { file: number })
     }
 
     // Adds a file without a fault.
