@@ -10,17 +10,22 @@ use crate::menu_line::MenuLine;
 use gopher_bytes::NoMemory;
 use itoa::Buffer;
 
+// At least as many bytes as the parts have.
+fn room_for(parts: &[&[u8]]) -> usize {
+    let mut room = 0_usize;
+    for part in parts {
+        room = room.saturating_add(part.len());
+    }
+    room
+}
+
 // Appends these parts in sequence. If out of memory, `out` stays unchanged.
 pub(crate) fn push_parts(parts: &[&[u8]], out: &mut Vec<u8>) -> Result<(), NoMemory>
     ensures written { OnOk result (out.new.items ≡ out.old.items ++ in_sequence parts.now) }
     ensures refused { OnErr result (out.new.items ≡ out.old.items) }
 {
     let length = out.len();
-    let mut room = 0_usize;
-    for part in parts {
-        room = room.saturating_add(part.len());
-    }
-    out.reserve(room)?;
+    out.reserve(room_for(parts))?;
     for part in parts {
         if out.extend_from_slice(part).is_err() {
             out.truncate(length);
