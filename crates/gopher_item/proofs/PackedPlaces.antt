@@ -6,8 +6,12 @@ use Rattle.std.proofs.lemmas.List.{length-append, length-map, map-append, get_or
 use Rattle.std.proofs.lemmas.Option.{slice_get-map, slice_get_within, get_or_from_slice_get}
 use Rattle.gopher_bytes.proofs.Zips.{length-zip, slice_get-zip, zip-append}
 use Rattle.gopher_item.specs.Place.{PlaceData}
-use Rattle.gopher_item.specs.Places.{place_of_row, unpacked, HasHost, AreRows, HasMore}
+use Rattle.gopher_item.specs.Places.{place_of_row, unpacked, AreRows}
 use Rattle.gopher_item.specs.declared.places.Row.{Row}
+
+-- the index is that of a host
+abbrev pub HasHost : List (List ℕ) → Row → Type 0
+HasHost hosts row = row.host < length hosts
 
 pub err_keeps : {T E P : Type 0} (r : Result T E) → P → OnErr r P
 err_keeps (Ok x) p = tt
@@ -50,15 +54,15 @@ unpacked-append hosts more (selector ∷ selectors) (row ∷ rows) all =
     ap (λ name. with_host row selector name ∷ unpacked (hosts ++ more) selectors rows) (get_or_append_left hosts more [] row.host all.0)
     ∙ ap (λ places. place_of_row hosts (selector, row) ∷ places) (unpacked-append hosts more selectors rows all.1)
 
-module _ (hosts next selectors : List (List ℕ)) (rows : List Row) (are : AreRows hosts selectors rows) (grown : HasMore hosts next) where
+module _ (hosts next selectors : List (List ℕ)) (rows : List Row) (are : AreRows hosts selectors rows) (grown : (more : List (List ℕ)) × (next ≡ hosts ++ more)) where
   all-next : AllByRecursion (HasHost next) rows
-  all-next = rw (grown.is) (all-more hosts grown.more rows are.within)
+  all-next = rw (grown.1) (all-more hosts grown.0 rows are.within)
 
   pub AreRows-more : AreRows next selectors rows
   AreRows-more = record { same = are.same; within = all-next }
 
   pub unpacked-more : unpacked next selectors rows ≡ unpacked hosts selectors rows
-  unpacked-more = rw (grown.is) (unpacked-append hosts grown.more selectors rows are.within)
+  unpacked-more = rw (grown.1) (unpacked-append hosts grown.0 selectors rows are.within)
 
   pub AreRows-push : (selector : List ℕ) (row : Row) → row.host < length next → AreRows next (selectors ++ selector ∷ []) (rows ++ row ∷ [])
   AreRows-push selector row h =

@@ -1,9 +1,7 @@
--- The numbers of the faults of items and requests.
+-- The numbers of the faults of items.
 use Rattle.std.specs.Prelude.{◌≡◌, ℕ, Option, None, Some, Result, Ok, Err}
 use Rattle.gopher_item.specs.declared.fault.ItemFault.{ItemFault}
 use Rattle.gopher_item.specs.declared.fault.ItemFault.TheVariants.{BadKind, BadSelector, BadHost, BadPort, BadDisplay, BadType, NoMemory}
-use Rattle.gopher_item.specs.declared.fault.RequestFault.{RequestFault}
-use Rattle.gopher_item.specs.declared.fault.RequestFault.TheVariants as requests
 
 abbrev pub item_fault_code : ItemFault → ℕ
 item_fault_code BadKind = 1
@@ -13,11 +11,6 @@ item_fault_code BadPort = 4
 item_fault_code BadDisplay = 5
 item_fault_code BadType = 6
 item_fault_code NoMemory = 90
-
-abbrev pub request_fault_code : RequestFault → ℕ
-request_fault_code requests.BadSelector = 2
-request_fault_code requests.LineTooLong = 7
-request_fault_code requests.NoMemory = 90
 
 -- a constructor fails with the first fault of the parts, returns the value, or is out of memory
 abbrev pub Makes : {T : Type 0} → Option ItemFault → T → Result T ItemFault → Type 0

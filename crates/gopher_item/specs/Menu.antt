@@ -29,10 +29,6 @@ item_of_fields (kind ∷ display) selector host port =
     option_map (λ number. menu_line_of kind display selector (trim_spaces host) number)
     (number_of MAX_PORT (trim_spaces port))
 
--- the item is the result of reading these four fields
-abbrev pub IsItemOf : List ℕ → List ℕ → List ℕ → List ℕ → Option MenuLineData → Type 0
-IsItemOf first selector host port item = item ≡ item_of_fields first selector host port
-
 -- the item of a list of fields; fields after the fourth are ignored
 abbrev pub item_of_list : List (List ℕ) → Option MenuLineData
 item_of_list (first ∷ selector ∷ host ∷ port ∷ more) = item_of_fields first selector host port
@@ -52,17 +48,13 @@ pub record BeginsWithField (bytes first rest : List ℕ) : Type 0 where
   pub fields : fields_of bytes ≡ first ∷ fields_of rest
   pub plain : has_return_or_nul bytes ≡ has_return_or_nul rest
 
--- the bytes are one field that contains no CR and no NUL
-pub record IsLastField (bytes first : List ℕ) : Type 0 where
-  pub fields : fields_of bytes ≡ first ∷ []
-  pub plain : has_return_or_nul bytes ≡ false
-
 -- the first field of the bytes, which contains no CR and no NUL, and the bytes after its TAB, if
 -- there is a TAB; no field only if the bytes contain a CR or a NUL
 abbrev pub SplitsPlainField : List ℕ → Option (Bor (List ℕ) × Option (Bor (List ℕ))) → Type 0
 SplitsPlainField bytes result =
     MatchOption result (has_return_or_nul bytes ≡ true)
-    (λ parts. MatchOption parts.1 (IsLastField bytes parts.0.now)
+    (λ parts. MatchOption parts.1
+    ((fields_of bytes ≡ parts.0.now ∷ []) × (has_return_or_nul bytes ≡ false))
     (λ rest. BeginsWithField bytes parts.0.now rest.now))
 
 -- the first field of bytes that contain no CR and no NUL

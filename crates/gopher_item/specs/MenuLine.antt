@@ -1,11 +1,10 @@
 -- One item of a menu (RFC 1436, section 2, and appendix: DirEntity).
-use Rattle.std.specs.Prelude.{◌≡◌, ℕ, ◌+◌, ◌^◌, ◌<◌, ◌≤◌, Bool, false, ◌||◌, ◌&&◌, not, nat_eq, List, [], ◌∷◌, ◌++◌, codes, length, drop, slice_range, Option, None, Some, is_some, Result, OnOk, ◌==◌, if◌then◌else◌}
+use Rattle.std.specs.Prelude.{◌≡◌, ℕ, ◌+◌, ◌^◌, ◌<◌, ◌≤◌, Bool, false, ◌||◌, not, List, ◌∷◌, ◌++◌, codes, length, drop, slice_range, Option, None, Some, is_some, Result, OnOk, ◌==◌, if◌then◌else◌}
 use Rattle.std.specs.List.{flat_map}
 use Rattle.std.specs.Arc.{arc_value}
 use Rattle.std.specs.Borrow.{Bor}
 use Rattle.std.specs.Fmt.{decimal}
 use Rattle.std.specs.Global.{Vec}
-use Rattle.std.specs.Cmp.Lexicographic.{pointwise}
 use Rattle.std.specs.declared.sync.Arc.{Arc}
 use Rattle.gopher_bytes.specs.Trim.{trim_spaces}
 use Rattle.gopher_item.specs.Fault.{Makes}
@@ -26,18 +25,6 @@ pub record MenuLineData : Type 0 where
 abbrev pub menu_line_of : ℕ → List ℕ → List ℕ → List ℕ → ℕ → MenuLineData
 menu_line_of kind display selector host port =
     record { kind = kind; display = display; selector = selector; host = host; port = port }
-
--- the menu line has these five parts
-abbrev pub IsMenuLineOf : ℕ → List ℕ → List ℕ → List ℕ → ℕ → MenuLineData → Type 0
-IsMenuLineOf kind display selector host port line =
-    line ≡ menu_line_of kind display selector host port
-
--- two menu lines have the same parts
-abbrev pub same_line : MenuLineData → MenuLineData → Bool
-same_line a b =
-    (a.kind == b.kind) && pointwise nat_eq a.display b.display
-    && pointwise nat_eq a.selector b.selector && pointwise nat_eq a.host b.host
-    && (a.port == b.port)
 
 -- every menu line, read or made: no field contains a special byte, and the host has no space at its
 -- ends
@@ -95,36 +82,25 @@ StandsAt text start bytes = (after : List ℕ) × (drop start text ≡ bytes ++ 
 abbrev pub tabbed : List ℕ → List ℕ → List ℕ → List ℕ
 tabbed display selector host = display ++ 9 ∷ (selector ++ 9 ∷ host)
 
--- a type, and three fields with a TAB between them
-abbrev pub joined_after : ℕ → List ℕ → List ℕ → List ℕ → List ℕ
-joined_after kind display selector host = tabbed (kind ∷ display) selector host
-
 -- at `start` the shared text contains a type, and three fields with a TAB between them
 abbrev pub FieldsStandAt : {Z : Type 0} → Arc (List ℕ) Z → ℕ → ℕ → List ℕ → List ℕ → List ℕ
     → Type 0
 FieldsStandAt text start kind display selector host =
-    StandsAt (arc_value text) start (joined_after kind display selector host)
+    StandsAt (arc_value text) start (tabbed (kind ∷ display) selector host)
 
 -- the bytes of these parts in sequence
 abbrev pub in_sequence : List (Bor (List ℕ)) → List ℕ
 in_sequence parts = flat_map (λ part. part.now) parts
 
+-- the bytes of the end of a menu line: TAB, host, TAB, port, CR LF
+abbrev pub server_bytes : List ℕ → ℕ → List ℕ
+server_bytes host port = 9 ∷ (host ++ 9 ∷ (decimal port ++ codes "\r\n"))
+
 -- the bytes of a menu line: type, display, TAB, selector, TAB, host, TAB, port, CR LF (RFC 1436,
 -- appendix: DirEntity)
 abbrev pub menu_line_bytes : MenuLineData → List ℕ
 menu_line_bytes line =
-    line.kind ∷ line.display ++ 9 ∷ line.selector ++ 9 ∷ line.host ++ 9 ∷ decimal line.port
-    ++ codes "\r\n"
-
--- a call that succeeds appends the start of a menu line: type, display, TAB
-abbrev pub PutsFront : {T E : Type 0} → ℕ → List ℕ → Vec ℕ → Vec ℕ → Result T E → Type 0
-PutsFront kind display old new result =
-    OnOk result (new.items ≡ old.items ++ (kind ∷ display ++ 9 ∷ []))
-
--- a call that succeeds appends the end of a menu line: TAB, host, TAB, port, CR LF
-abbrev pub PutsServer : {T E : Type 0} → List ℕ → ℕ → Vec ℕ → Vec ℕ → Result T E → Type 0
-PutsServer host port old new result =
-    OnOk result (new.items ≡ old.items ++ (9 ∷ host ++ 9 ∷ decimal port ++ codes "\r\n"))
+    line.kind ∷ line.display ++ 9 ∷ line.selector ++ server_bytes line.host line.port
 
 -- a call that succeeds appends the menu line of an item with these five parts
 abbrev pub PutsItem : {T E : Type 0} → ℕ → List ℕ → List ℕ → List ℕ → ℕ → Vec ℕ → Vec ℕ

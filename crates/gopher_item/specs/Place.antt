@@ -1,5 +1,5 @@
 -- A place: one file or directory of one Gopher server.
-use Rattle.std.specs.Prelude.{◌≡◌, ℕ, Bool, List, [], ◌∷◌, length, map, filter, nat_eq, Option, None, Some, Result, ◌==◌, ◌||◌, ◌&&◌, not, nat_lt, nat_le, if◌then◌else◌}
+use Rattle.std.specs.Prelude.{ℕ, Bool, List, [], ◌∷◌, length, map, filter, nat_eq, Option, None, Some, Result, ◌==◌, ◌||◌, ◌&&◌, not, nat_lt, nat_le, if◌then◌else◌}
 use Rattle.std.specs.List.{list_any}
 use Rattle.std.specs.Ordering.{nat_cmp, on, then_cmp}
 use Rattle.std.specs.declared.cmp.Ordering.{Ordering}
@@ -43,12 +43,6 @@ abbrev pub address_fault : List ℕ → ℕ → Option ItemFault
 address_fault host port =
     if not (is_host host) then Some BadHost else
     (if port == 0 then Some BadPort else None)
-
--- making a server's address of these parts fails with their first fault, returns the address, or
--- is out of memory
-abbrev pub MakesHome : List ℕ → ℕ → Result HomeData ItemFault → Type 0
-MakesHome host port result =
-    Makes (address_fault host port) (record { host = host; port = port }) result
 
 -- the first fault of the parts of a place, if they have one
 abbrev pub place_fault : ℕ → List ℕ → List ℕ → ℕ → Option ItemFault

@@ -1,5 +1,5 @@
 -- A packed list of places: their hosts, their selectors, and a row for each with the rest.
-use Rattle.std.specs.Prelude.{◌≡◌, ℕ, ◌+◌, ◌<◌, ◌≤◌, ◌⊎◌, List, ◌++◌, Option, length, map, slice_index_or, []}
+use Rattle.std.specs.Prelude.{◌≡◌, ℕ, ◌+◌, ◌<◌, ◌≤◌, ◌⊎◌, List, Option, length, map, slice_index_or, []}
 use Rattle.std.specs.Borrow.{Bor}
 use Rattle.std.specs.List.{sum_by, zip, AllByRecursion}
 use Rattle.std.specs.Option.{option_map_or}
@@ -24,19 +24,10 @@ unpacked hosts selectors rows = map (place_of_row hosts) (zip selectors rows)
 abbrev pub places_lent : Option (Bor (List PlaceData)) → List PlaceData
 places_lent places = option_map_or (λ lent. lent.now) places []
 
--- the index is that of a host
-abbrev pub HasHost : List (List ℕ) → Row → Type 0
-HasHost hosts row = row.host < length hosts
-
 -- each row has a selector and a host
 pub record AreRows (hosts selectors : List (List ℕ)) (rows : List Row) : Type 0 where
   pub same : length rows ≡ length selectors
-  pub within : AllByRecursion (HasHost hosts) rows
-
--- the list before, and possibly more strings
-pub record HasMore (old new : List (List ℕ)) : Type 0 where
-  pub more : List (List ℕ)
-  pub is : new ≡ old ++ more
+  pub within : AllByRecursion (λ row. row.host < length hosts) rows
 
 -- the bytes of the selectors and hosts of places, if each has its own
 abbrev pub names_len : List PlaceData → ℕ

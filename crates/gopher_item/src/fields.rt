@@ -1,17 +1,34 @@
-//! Valid fields: `is_selector`, `is_host`, `address_fault`; and hosts in lower case.
+//! The bytes that RFC 1436 keeps out of fields; valid fields: `is_selector`, `is_host`,
+//! `address_fault`; and hosts in lower case.
 
 ghost use Rattle.std.specs.Prelude.{◌≡◌, ◌==◌, ◌||◌, map};
 ghost use Rattle.std.specs.List.{list_any};
-ghost use Rattle.gopher_item.specs.Special.{is_control};
+ghost use Rattle.gopher_item.specs.Special.{has_special, is_control};
 ghost use Rattle.gopher_item.specs.Fault.{Makes};
 ghost use Rattle.gopher_bytes.specs.Case.{lower_case};
 ghost use Rattle.gopher_item.specs.Place.{address_fault, is_host, is_selector};
 
 use crate::fault::ItemFault;
 use crate::limits::{MAX_HOST, MAX_SELECTOR};
-use crate::special::{has_special, is_control};
 use gopher_bytes::ByteString;
 use std::alloc::Global;
+
+/// Returns whether the byte is an ASCII control byte: 0 to 31, or 127.
+pub fn is_control(byte: u8) -> bool
+    ensures { result ≡ is_control byte }
+{
+    byte < 32 || byte == 127
+}
+
+/// Returns whether the bytes contain a TAB, LF, CR or NUL, which no field may contain (RFC 1436,
+/// appendix: UNASCII).
+pub fn has_special(bytes: &[u8]) -> bool
+    ensures { result ≡ has_special bytes.now }
+{
+    bytes
+        .iter()
+        .any(|byte| matches!(*byte, b'\t' | b'\n' | b'\r' | 0))
+}
 
 /// Returns whether the bytes are a valid selector: at most 255 bytes (`MAX_SELECTOR`) without TAB,
 /// CR, LF and NUL (RFC 1436, appendix: Selector).

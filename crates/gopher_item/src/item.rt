@@ -4,7 +4,7 @@ ghost use Rattle.std.specs.Prelude.{◌≡◌, false, IfOk};
 ghost use Rattle.std.specs.Arc.{arc_value};
 ghost use Rattle.gopher_item.specs.Special.{has_special};
 ghost use Rattle.gopher_bytes.specs.Lines.{has_feed};
-ghost use Rattle.gopher_item.specs.Menu.{FindsFirstField, FindsFourFields, IsItemOf, SplitsField, SplitsPlainField, entry_of, has_return_or_nul, item_of};
+ghost use Rattle.gopher_item.specs.Menu.{FindsFirstField, FindsFourFields, SplitsField, SplitsPlainField, entry_of, has_return_or_nul, item_of, item_of_fields};
 ghost use Rattle.gopher_item.specs.MenuLine.{StandsAt, tabbed};
 
 use crate::limits::MAX_PORT;
@@ -61,8 +61,7 @@ fn four_fields(line: &[u8]) -> Option<(&[u8], &[u8], &[u8], &[u8])>
     let (third, Some(rest)) = plain_field(rest)? else {
         return None;
     };
-    let fourth = last_field(rest)?;
-    Some((first, second, third, fourth))
+    Some((first, second, third, last_field(rest)?))
 }
 
 // The first field, if the bytes contain no CR and no NUL.
@@ -70,13 +69,10 @@ fn last_field(bytes: &[u8]) -> Option<&[u8]>
     ensures { FindsFirstField bytes.now result }
 {
     let (first, rest) = plain_field(bytes)?;
-    let Some(rest) = rest else {
-        return Some(first);
-    };
-    if has_return_or_nul(rest) {
-        return None;
+    match rest {
+        Some(rest) if has_return_or_nul(rest) => None,
+        _ => Some(first),
     }
-    Some(first)
 }
 
 // The item with these four fields, which contain no special byte. From `start` on the text contains
@@ -94,7 +90,7 @@ fn item_of_fields(
     requires first { has_special first.now ≡ false }
     requires selector { has_special selector.now ≡ false }
     requires host { has_special host.now ≡ false }
-    ensures { IfOk result (λ item. IsItemOf first.now selector.now host.now port.now item) }
+    ensures { IfOk result (λ item. item ≡ item_of_fields first.now selector.now host.now port.now) }
 {
     let [kind, display @ ..] = first else {
         return Ok(None);
@@ -123,12 +119,10 @@ fn item_of(
     requires one { has_feed line.now ≡ false }
     ensures { IfOk result (λ item. item ≡ item_of line.now) }
 {
-    match four_fields(line) {
-        Some((first, selector, host, port)) => {
-            item_of_fields(alloc, text, start, first, selector, host, port)
-        }
-        None => Ok(None),
-    }
+    let Some((first, selector, host, port)) = four_fields(line) else {
+        return Ok(None);
+    };
+    item_of_fields(alloc, text, start, first, selector, host, port)
 }
 
 // The entry of a line that begins at `start` in the text.
@@ -144,9 +138,6 @@ pub(crate) fn entry_of(
 {
     match item_of(alloc, text, start, line)? {
         Some(item) => Ok(Entry::Item(item)),
-        None => {
-            let (first, _) = field(line);
-            Ok(Entry::Odd(ByteString::from_slice(alloc, first)?))
-        }
+        None => Ok(Entry::Odd(ByteString::from_slice(alloc, field(line).0)?)),
     }
 }

@@ -17,7 +17,6 @@
 //! Library API that only tests and benchmarks here call: `write_menu`.
 #![tactic(auto)]
 
-mod each_place;
 mod fault;
 mod fields;
 mod home;
@@ -26,17 +25,14 @@ mod limits;
 mod menu;
 mod menu_line;
 mod place;
-mod place_parts;
 mod places;
 mod request;
 mod rule;
 mod scope;
-mod special;
 mod writing;
 
-pub use each_place::EachPlace;
-pub use fault::{ItemFault, RequestFault};
-pub use fields::{address_fault, is_host, is_selector, lowered_host};
+pub use fault::ItemFault;
+pub use fields::{address_fault, has_special, is_control, is_host, is_selector, lowered_host};
 pub use gopher_bytes::{
     ByteString, ByteStrings, MAX_LINE, NoMemory, first_line, lines, read_number, split_once,
     trim_spaces,
@@ -46,10 +42,8 @@ pub use limits::{MAX_HOST, MAX_PLACES, MAX_PORT, MAX_SELECTOR, MAX_TRIES};
 pub use menu::{Entry, Menu, read_menu};
 pub use menu_line::{MenuLine, is_bad_type};
 pub use place::Place;
-pub use place_parts::PlaceParts;
-pub use places::Places;
-pub use request::{Request, read_request};
+pub use places::{EachPlace, PlaceParts, Places};
+pub use request::{Request, RequestFault, read_request};
 pub use rule::Rule;
 pub use scope::Scope;
-pub use special::{has_special, is_control};
 pub use writing::{push_front, push_last_line, push_menu_line, push_server, write_menu};

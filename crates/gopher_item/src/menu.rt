@@ -1,6 +1,7 @@
 //! `Menu`, `Entry`: reading a whole menu (`read_menu`).
 
-ghost use Rattle.std.specs.Prelude.{◌≡◌, IfOk};
+ghost use Rattle.std.specs.Prelude.{◌≡◌, [], IfOk};
+ghost use Rattle.std.specs.Arc.{arc_value};
 ghost use Rattle.gopher_item.specs.Menu.{ReadsMenu};
 
 use crate::item::entry_of;
@@ -13,7 +14,7 @@ use std::sync::Arc;
 const BYTES_OF_A_LINE: usize = 64;
 
 /// A line of a menu that was read.
-#[derive(Debug, Drop, PartialEq, Eq)]
+#[derive(Drop)]
 pub enum Entry {
     /// A line with the form of an item.
     Item(MenuLine),
@@ -22,12 +23,36 @@ pub enum Entry {
 }
 
 /// A menu that was read.
-#[derive(Debug, Drop, PartialEq, Eq)]
+#[derive(Drop)]
 pub struct Menu {
     /// The items and the odd lines, in order.
     pub entries: Vec<Entry>,
     /// Whether a line with a single period ended the menu.
     pub ended: bool,
+}
+
+// Appends the entries of a menu to no entries. Returns whether a single period ends the menu.
+fn push_entries(
+    alloc: Global,
+    text: &Arc<ByteString>,
+    entries: &mut Vec<Entry>,
+) -> Result<bool, NoMemory>
+    requires { entries.old.items ≡ [] }
+    ensures { IfOk result (λ ended. ReadsMenu (arc_value text.now) entries.new.items ended) }
+{
+    let bytes = text.as_slice();
+    let mut rest = bytes;
+    while let Some((line, after)) = first_line(rest) {
+        if is_last_line(line) {
+            return Ok(true);
+        }
+        if !line.is_empty() {
+            let start = bytes.len() - rest.len();
+            entries.push(entry_of(alloc, text, start, line)?)?;
+        }
+        rest = after;
+    }
+    Ok(false)
 }
 
 /// Reads a menu from any bytes (RFC 1436, section 2, and appendix: Menu).
@@ -41,22 +66,6 @@ pub fn read_menu(alloc: Global, bytes: &[u8]) -> Result<Menu, NoMemory>
 {
     let text = Arc::new(alloc, ByteString::from_slice(alloc, bytes)?)?;
     let mut entries = Vec::with_capacity(alloc, bytes.len() / BYTES_OF_A_LINE)?;
-    let mut rest = bytes;
-    while let Some((line, after)) = first_line(rest) {
-        if is_last_line(line) {
-            return Ok(Menu {
-                entries,
-                ended: true,
-            });
-        }
-        if !line.is_empty() {
-            let start = bytes.len() - rest.len();
-            entries.push(entry_of(alloc, &text, start, line)?)?;
-        }
-        rest = after;
-    }
-    Ok(Menu {
-        entries,
-        ended: false,
-    })
+    let ended = push_entries(alloc, &text, &mut entries)?;
+    Ok(Menu { entries, ended })
 }

@@ -1,19 +1,15 @@
 //! `MenuLine`: the type, display string, selector, host and port of an item.
 
 ghost use Rattle.std.specs.Prelude.{◌≡◌, IfOk, IfNone};
-ghost use Rattle.std.specs.Cmp;
 ghost use Rattle.gopher_item.specs.Place.{MakesPlace};
-ghost use Rattle.gopher_item.specs.Laws.{same_line_equiv};
-ghost use Rattle.gopher_item.specs.MenuLine.{FieldsStandAt, IsMenuLine, IsMenuLineOf, IsMenuLineWithAnyPort, MakesMenuLine, is_bad_type, menu_line_fault, menu_line_of, same_line};
+ghost use Rattle.gopher_item.specs.MenuLine.{FieldsStandAt, IsMenuLine, IsMenuLineWithAnyPort, MakesMenuLine, is_bad_type, menu_line_fault, menu_line_of};
 
 use crate::fault::ItemFault;
-use crate::fields::{is_host, is_selector};
+use crate::fields::{has_special, is_control, is_host, is_selector};
 use crate::place::Place;
-use crate::special::{has_special, is_control};
 use crate::writing::push_parts;
 use gopher_bytes::{ByteString, NoMemory};
 use std::alloc::Global;
-use std::fmt;
 use std::marker::Model;
 use std::sync::Arc;
 
@@ -85,7 +81,7 @@ impl MenuLine {
     ) -> Result<MenuLine, NoMemory>
         requires fields { IsMenuLine (menu_line_of kind display.now selector.now host.now port) }
         requires stands { FieldsStandAt text.now start kind display.now selector.now host.now }
-        ensures { IfOk result (IsMenuLineOf kind display.now selector.now host.now port) }
+        ensures { IfOk result (λ l. l ≡ menu_line_of kind display.now selector.now host.now port) }
     {
         // The text's length fits a `usize`, and so does each position in it.
         let _length = text.as_slice().len();
@@ -114,7 +110,7 @@ impl MenuLine {
         port: u16,
     ) -> Result<MenuLine, NoMemory>
         requires { IsMenuLine (menu_line_of kind display.now selector.now host.now port) }
-        ensures { IfOk result (IsMenuLineOf kind display.now selector.now host.now port) }
+        ensures { IfOk result (λ l. l ≡ menu_line_of kind display.now selector.now host.now port) }
     {
         let mut text = Vec::new(alloc);
         push_parts(&[&[kind], display, b"\t", selector, b"\t", host], &mut text)?;
@@ -189,42 +185,7 @@ impl MenuLine {
     pub fn place(&self, alloc: Global) -> Result<Place, ItemFault>
         ensures { MakesPlace self.now.kind self.now.selector self.now.host self.now.port result }
     {
-        Place::new(
-            alloc,
-            self.kind(),
-            self.selector(),
-            self.host(),
-            self.port(),
-        )
+        let (selector, host) = (self.selector(), self.host());
+        Place::new(alloc, self.kind, selector, host, self.port)
     }
-}
-
-impl fmt::Debug for MenuLine {
-    fn fmt<W: fmt::Write>(&self, f: &mut fmt::Formatter<W>) -> fmt::Result {
-        f.debug_struct("MenuLine")
-            .field("kind", &self.kind())
-            .field("display", &self.display())
-            .field("selector", &self.selector())
-            .field("host", &self.host())
-            .field("port", &self.port())
-            .finish()
-    }
-}
-
-impl PartialEq for MenuLine {
-    ghost eq = { same_line };
-
-    ghost laws = { Cmp.partial_equiv_from_equiv same_line_equiv };
-
-    fn eq(&self, other: &MenuLine) -> bool {
-        self.kind() == other.kind()
-            && self.display() == other.display()
-            && self.selector() == other.selector()
-            && self.host() == other.host()
-            && self.port() == other.port()
-    }
-}
-
-impl Eq for MenuLine {
-    ghost laws = { same_line_equiv };
 }

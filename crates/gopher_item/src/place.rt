@@ -4,10 +4,10 @@ ghost use Rattle.std.specs.Prelude.{◌≡◌, refl, IfOk};
 ghost use Rattle.std.specs.Cmp;
 ghost use Rattle.std.specs.Ordering.{as_partial_cmp};
 ghost use Rattle.gopher_item.specs.Laws.{same_place_equiv, place_cmp_total, same_place_ties};
-ghost use Rattle.gopher_item.specs.Place.{MakesPlace, same_place, place_cmp};
+ghost use Rattle.gopher_item.specs.Place.{MakesPlace, place_fault, same_place, place_cmp};
 
 use crate::fault::ItemFault;
-use crate::fields::{is_selector, lowered_host};
+use crate::fields::{address_fault, is_selector};
 use gopher_bytes::{ByteString, NoMemory};
 use std::alloc::Global;
 use std::cmp::Ordering;
@@ -36,6 +36,18 @@ impl Model for Place {
         record { host = d.host; port = d.port; selector = d.selector; kind = d.kind } };
 }
 
+fn place_fault(kind: u8, selector: &[u8], host: &[u8], port: u16) -> Option<ItemFault>
+    ensures { result ≡ place_fault kind selector.now host.now port }
+{
+    if !matches!(kind, b'0' | b'1') {
+        Some(ItemFault::BadKind)
+    } else if !is_selector(selector) {
+        Some(ItemFault::BadSelector)
+    } else {
+        address_fault(host, port)
+    }
+}
+
 impl Place {
     /// Makes the place of these parts, with the ASCII letters of the host in lower case.
     ///
@@ -57,13 +69,10 @@ impl Place {
     ) -> Result<Place, ItemFault>
         ensures { MakesPlace kind selector.now host.now port result }
     {
-        if !matches!(kind, b'0' | b'1') {
-            return Err(ItemFault::BadKind);
+        if let Some(fault) = place_fault(kind, selector, host, port) {
+            return Err(fault);
         }
-        if !is_selector(selector) {
-            return Err(ItemFault::BadSelector);
-        }
-        let host = lowered_host(alloc, host, port)?;
+        let host = ByteString::lower_cased(alloc, host)?;
         let selector = ByteString::from_slice(alloc, selector)?;
         Ok(Place {
             host,

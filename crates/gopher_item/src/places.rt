@@ -1,17 +1,16 @@
-//! `Places`: a packed list of places.
+//! `Places`: a packed list of places; `PlaceParts`, one of them; `EachPlace`, its iterator.
 
-ghost use Rattle.std.specs.Prelude.{◌≡◌, ◌<◌, ◌++◌, [], ◌∷◌, Some, length, slice_get, IfOk, OnOk, OnErr};
-ghost use Rattle.gopher_item.specs.Places.{HasMore, names_len, IsSum};
+ghost use Rattle.std.specs.Prelude.{◌≡◌, ℕ, ◌<◌, List, ◌++◌, [], ◌∷◌, Some, length, slice_get, IfOk, OnOk, OnErr};
+ghost use Rattle.std.specs.Iterator.{YieldsFirst, item_count};
+ghost use Rattle.gopher_item.specs.Places.{names_len, IsSum, places_lent};
 
-use crate::each_place::EachPlace;
 use crate::place::Place;
-use crate::place_parts::PlaceParts;
-use gopher_bytes::{ByteStrings, MAX_PACKED, NoMemory};
+use gopher_bytes::{ByteString, ByteStrings, MAX_PACKED, NoMemory};
 use std::alloc::Global;
 use std::marker::Model;
 
 // What a place has beside its selector; its host by its index among the hosts.
-#[derive(Clone, Copy, Debug)]
+#[derive(Clone, Copy)]
 pub(crate) struct Row {
     pub(crate) host: u32,
     pub(crate) port: u16,
@@ -21,7 +20,7 @@ pub(crate) struct Row {
 /// A packed list of places.
 ///
 /// The selectors share one allocation. Places of one host that follow each other share its bytes.
-#[derive(Debug, Drop)]
+#[derive(Drop)]
 pub struct Places {
     hosts: ByteStrings,
     selectors: ByteStrings,
@@ -43,7 +42,7 @@ impl Model for Places {
 // The index of this host. If it isn't the last of the hosts, it is appended.
 fn index_of(hosts: &mut ByteStrings, host: &[u8]) -> Result<u32, NoMemory>
     ensures there { IfOk result (λ index. slice_get hosts.new index ≡ Some host.now) }
-    ensures more { HasMore hosts.old hosts.new }
+    ensures more { (more : List (List ℕ)) × (hosts.new ≡ hosts.old ++ more) }
 {
     let len = hosts.len();
     if len > MAX_PACKED {
@@ -136,5 +135,124 @@ impl Places {
         let (port, kind) = (place.port(), place.kind());
         self.rows.push_reserved(Row { host, port, kind });
         Ok(())
+    }
+}
+
+/// A place in a packed list, which lends its host and its selector.
+#[derive(Drop)]
+pub struct PlaceParts<'a> {
+    pub(crate) host: &'a [u8],
+    pub(crate) port: u16,
+    pub(crate) selector: &'a [u8],
+    pub(crate) kind: u8,
+}
+
+impl<'a> Model for PlaceParts<'a> {
+    ghost use Rattle.gopher_item.specs.Place.{PlaceData};
+
+    ghost Value = { PlaceData };
+
+    ghost view = { λ p.
+        record { host = p.host.now; port = p.port; selector = p.selector.now; kind = p.kind } };
+}
+
+impl<'a> PlaceParts<'a> {
+    /// Returns the host in lower case.
+    pub fn host(&self) -> &'a [u8]
+        ensures { result.now ≡ self.now.host }
+    {
+        self.host
+    }
+
+    /// Returns the port, at least 1.
+    pub fn port(&self) -> u16
+        ensures { result ≡ self.now.port }
+    {
+        self.port
+    }
+
+    /// Returns the selector, which a client sends for this place.
+    pub fn selector(&self) -> &'a [u8]
+        ensures { result.now ≡ self.now.selector }
+    {
+        self.selector
+    }
+
+    /// Returns the type: `0` for a file, `1` for a directory (RFC 1436, section 3.8).
+    pub fn kind(&self) -> u8
+        ensures { result ≡ self.now.kind }
+    {
+        self.kind
+    }
+
+    /// Copies the parts into a `Place`.
+    pub fn to_place(&self, alloc: Global) -> Result<Place, NoMemory>
+        ensures { IfOk result (λ place. place ≡ self.now) }
+    {
+        Ok(Place {
+            host: ByteString::from_slice(alloc, self.host)?,
+            port: self.port,
+            selector: ByteString::from_slice(alloc, self.selector)?,
+            kind: self.kind,
+        })
+    }
+}
+
+/// An iterator over the places of a packed list, in order. It allocates nothing.
+#[derive(Drop)]
+pub struct EachPlace<'a> {
+    // `None`: no list, so no places.
+    places: Option<&'a Places>,
+    next: usize,
+}
+
+impl<'a> Model for EachPlace<'a> {
+    ghost use Rattle.std.specs.Prelude.{List, drop};
+    ghost use Rattle.gopher_item.specs.Place.{PlaceData};
+    ghost use Rattle.gopher_item.specs.Places.{places_lent};
+
+    ghost Value = { List PlaceData };
+
+    ghost view = { λ e. drop e.next (places_lent e.places) };
+}
+
+impl<'a> EachPlace<'a> {
+    /// Starts before the first place of the list. Without a list, there are no places.
+    pub fn of(places: Option<&'a Places>) -> EachPlace<'a>
+        ensures { result ≡ places_lent places.entry }
+    {
+        EachPlace { places, next: 0 }
+    }
+}
+
+impl<'a> Iterator for EachPlace<'a> {
+    type Item = PlaceParts<'a>;
+
+    ghost next_gives = { YieldsFirst (λ left. left) };
+
+    ghost remaining = { item_count (λ left. left) };
+
+    fn next(&mut self) -> Option<PlaceParts<'a>> {
+        let places = self.places?;
+        if self.next >= places.len() {
+            return None;
+        }
+        let parts = places.get(self.next);
+        self.next += 1;
+        Some(parts)
+    }
+
+    fn size_hint(&self) -> (usize, Option<usize>) {
+        let len = self.len();
+        (len, Some(len))
+    }
+}
+
+impl<'a> ExactSizeIterator for EachPlace<'a> {
+    fn len(&self) -> usize {
+        match self.places {
+            Some(places) => places.len().saturating_sub(self.next),
+            None => 0,
+        }
     }
 }

@@ -1,7 +1,8 @@
 //! `Rule`: the places of one server whose selectors begin with a prefix.
 
 ghost use Rattle.std.specs.Prelude.{◌≡◌};
-ghost use Rattle.gopher_item.specs.Rule.{RuleData, MakesRule, covers};
+ghost use Rattle.gopher_item.specs.Fault.{Makes};
+ghost use Rattle.gopher_item.specs.Rule.{RuleData, covers, rule_fault, rule_of};
 
 use crate::fault::ItemFault;
 use crate::fields::{is_selector, lowered_host};
@@ -40,7 +41,8 @@ impl Rule {
     /// - `BadPort` (4): the port is 0
     /// - `NoMemory` (90)
     pub fn new(alloc: Global, host: &[u8], port: u16, prefix: &[u8]) -> Result<Rule, ItemFault>
-        ensures { MakesRule host.now port prefix.now result }
+        ensures { Makes (rule_fault host.now port prefix.now)
+            (rule_of host.now port prefix.now) result }
     {
         if !is_selector(prefix) {
             return Err(ItemFault::BadSelector);

@@ -1,8 +1,8 @@
 //! Writing menus: `write_menu`, and the parts of a menu line.
 
-ghost use Rattle.std.specs.Prelude.{◌≡◌, ◌++◌, true, codes, map, All, OnOk, OnErr};
+ghost use Rattle.std.specs.Prelude.{◌≡◌, ◌++◌, [], ◌∷◌, true, codes, map, All, OnOk, OnErr};
 ghost use Rattle.std.specs.Io.{StartsWith};
-ghost use Rattle.gopher_item.specs.MenuLine.{IsMenuLine, PutsFront, PutsItem, PutsServer, in_sequence, menu_bytes};
+ghost use Rattle.gopher_item.specs.MenuLine.{IsMenuLine, PutsItem, in_sequence, menu_bytes, server_bytes};
 ghost use Rattle.gopher_item.specs.Menu.{ReadsMenu};
 ghost use Rattle.gopher_item.specs.declared.menu.Entry.TheVariants.{Item};
 
@@ -10,16 +10,22 @@ use crate::menu_line::MenuLine;
 use gopher_bytes::NoMemory;
 use itoa::Buffer;
 
+// At least as many bytes as the parts have.
+fn room_for(parts: &[&[u8]]) -> usize {
+    let mut room = 0_usize;
+    for part in parts {
+        room = room.saturating_add(part.len());
+    }
+    room
+}
+
 // Appends these parts in sequence. If out of memory, `out` stays unchanged.
 pub(crate) fn push_parts(parts: &[&[u8]], out: &mut Vec<u8>) -> Result<(), NoMemory>
     ensures written { OnOk result (out.new.items ≡ out.old.items ++ in_sequence parts.now) }
     ensures refused { OnErr result (out.new.items ≡ out.old.items) }
 {
     let length = out.len();
-    let room = parts
-        .iter()
-        .fold(0_usize, |room, part| room.saturating_add(part.len()));
-    out.reserve(room)?;
+    out.reserve(room_for(parts))?;
     for part in parts {
         if out.extend_from_slice(part).is_err() {
             out.truncate(length);
@@ -33,7 +39,7 @@ pub(crate) fn push_parts(parts: &[&[u8]], out: &mut Vec<u8>) -> Result<(), NoMem
 ///
 /// If out of memory, `out` stays unchanged.
 pub fn push_front(kind: u8, display: &[u8], out: &mut Vec<u8>) -> Result<(), NoMemory>
-    ensures written { PutsFront kind display.now out.old out.new result }
+    ensures written { OnOk result (out.new.items ≡ out.old.items ++ kind ∷ display.now ++ 9 ∷ []) }
     ensures refused { OnErr result (out.new.items ≡ out.old.items) }
 {
     push_parts(&[&[kind], display, b"\t"], out)
@@ -43,7 +49,7 @@ pub fn push_front(kind: u8, display: &[u8], out: &mut Vec<u8>) -> Result<(), NoM
 ///
 /// If out of memory, `out` stays unchanged.
 pub fn push_server(host: &[u8], port: u16, out: &mut Vec<u8>) -> Result<(), NoMemory>
-    ensures written { PutsServer host.now port out.old out.new result }
+    ensures written { OnOk result (out.new.items ≡ out.old.items ++ server_bytes host.now port) }
     ensures refused { OnErr result (out.new.items ≡ out.old.items) }
 {
     let mut digits = Buffer::new();
@@ -102,14 +108,8 @@ fn push_lines(lines: &[MenuLine], out: &mut Vec<u8>) -> Result<(), NoMemory>
     ensures kept { StartsWith out.new.items out.old.items }
 {
     for line in lines {
-        push_menu_line(
-            line.kind(),
-            line.display(),
-            line.selector(),
-            line.host(),
-            line.port(),
-            out,
-        )?;
+        let (display, selector, host) = (line.display(), line.selector(), line.host());
+        push_menu_line(line.kind(), display, selector, host, line.port(), out)?;
     }
     push_last_line(out)
 }

@@ -1,11 +1,10 @@
 -- Reading the bytes of a line: what was read, and in how many turns.
-use Rattle.std.proofs.Common.{◌≡◌, ℕ, ◌+◌, ◌-◌, ◌<◌, ◌≤◌, Bool, true, false, ◌||◌, ◌&&◌, ◌==◌, List, [], ◌∷◌, ◌++◌, take, length, IfSome, None, Some, Result, Ok, Err, IfOk, IfErr, OnOk, refl, sym, subst, ap, ◌∙◌, arith, inl, inr, append-nil, append_assoc, length-append, length-take, if◌then◌else◌}
+use Rattle.std.proofs.Common.{◌≡◌, ℕ, ◌+◌, ◌-◌, ◌<◌, ◌≤◌, Bool, true, false, ◌==◌, List, [], ◌∷◌, ◌++◌, take, length, IfSome, None, Some, Err, refl, sym, subst, ap, ◌∙◌, arith, inl, inr, append-nil, append_assoc, length-append, length-take, if◌then◌else◌}
 use Rattle.std.proofs.Math.Seq.{take-append_seam}
 use Rattle.std.proofs.lemmas.List.{take_all}
 use Rattle.std.proofs.lemmas.List.Folds.{list_any_at}
 use Rattle.std.proofs.lemmas.Bool.{and_parts, or_parts, true≢false}
 use Rattle.std.proofs.lemmas.Bool.Decides.{nat_tests}
-use Rattle.std.specs.Result.{IsErrAnd}
 use Rattle.std.specs.declared.option.Option.{Option}
 use Rattle.std.specs.Io.KnownBytes.{Consumes}
 use Rattle.std.specs.Io.BufRead.{take_through, drop_through, ends_with_byte, strip_last, first_line, DropsThrough}
@@ -126,11 +125,6 @@ long_line_begun (Some all) (Some left) bytes read unfed long =
 pub line_refused : {R : Type 0} (remaining : R → Option (List ℕ)) (old new : WatchedData R) (bytes : List ℕ) (fault : LineFault)
     → HasRead remaining old new bytes → StopsInLine {T = Unit {0}} remaining old new bytes (Err fault) → FailsToReadLine remaining old new fault
 line_refused remaining old new bytes LineTooLong read stop = long_line_begun (remaining old.device) (remaining new.device) bytes read stop.0 stop.1
-line_refused remaining old new bytes ReadFailed read stop = (bytes, (read, stop.0, stop.1, stop.2))
-line_refused remaining old new bytes TooManyTurns read stop = (bytes, ((read, stop.0, stop.1, stop.2), stop.3))
+line_refused remaining old new bytes ReadFailed read stop = (bytes, read, stop)
+line_refused remaining old new bytes TooManyTurns read stop = (bytes, read, stop.0, stop.1)
 line_refused remaining old new bytes NoMemory read stop = absurd stop
-
--- a call that fails because it is out of memory
-pub no_memory_answered : {T : Type 0} (result : Result T LineFault) (P : LineFault → Type 0) → IsErrAnd result (λ fault. fault ≡ NoMemory) → P NoMemory → IfErr result P
-no_memory_answered (Ok value) P is refused = tt
-no_memory_answered (Err fault) P is refused = subst P (sym is) refused

@@ -1,5 +1,5 @@
 -- The effect of one more line on a text; written lines are read back.
-use Rattle.std.proofs.Common.{◌≡◌, ℕ, ◌-◌, Bool, true, false, ◌||◌, eqb, cond, List, [], ◌∷◌, ◌++◌, length, get_or, take, map, refl, sym, ap, ◌∙◌, append_assoc, arith, length-append}
+use Rattle.std.proofs.Common.{◌≡◌, ℕ, ◌-◌, Bool, true, false, eqb, cond, List, [], ◌∷◌, ◌++◌, length, get_or, take, map, refl, sym, ap, ◌∙◌, append_assoc, arith, length-append}
 use Rattle.std.specs.Io.{StartsWith}
 use Rattle.std.specs.List.{slice_split, flat_map, AllByRecursion}
 use Rattle.std.specs.Str.Lines.{strip_carriage_return}

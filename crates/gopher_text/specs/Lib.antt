@@ -3,4 +3,3 @@ pub mod Watched
 pub mod Reply
 pub mod Line
 pub mod Text
-pub mod Send

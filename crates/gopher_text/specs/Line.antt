@@ -4,7 +4,7 @@ use Rattle.std.specs.Io.BufRead.{take_through, first_line, ends_with_byte, strip
 use Rattle.std.specs.Io.KnownBytes.{Consumes, IsAtEnd}
 pub use Rattle.gopher_bytes.specs.Lines.{has_feed}
 use Rattle.gopher_bytes.specs.declared.line.TheConstants.{MAX_LINE}
-use Rattle.gopher_text.specs.Watched.{WatchedData, CountsFailure, HasFailed, HasRead}
+use Rattle.gopher_text.specs.Watched.{WatchedData, HasFailed, HasRead}
 use Rattle.gopher_text.specs.Reply.{SpendsTurns}
 use Rattle.gopher_text.specs.declared.fault.LineFault.{LineFault}
 use Rattle.gopher_text.specs.declared.fault.LineFault.TheVariants.{LineTooLong, ReadFailed, TooManyTurns, NoMemory}
@@ -20,11 +20,10 @@ IsWholeLine new bytes =
     ((front : List ℕ) × (bytes ≡ front ++ 10 ∷ []) × (has_feed front ≡ false))
     ⊎ ((has_feed bytes ≡ false) × IsAtEnd new)
 
--- these bytes without LF were read before a read failed
-abbrev pub FailsInLine : Option (List ℕ) → Option (List ℕ) → ℕ → ℕ → List ℕ → Type 0
-FailsInLine old new before after bytes =
-    Consumes old new bytes × (has_feed bytes ≡ false) × (length bytes ≤ 1025)
-    × HasFailed before after
+-- the bytes are a part of a line before its LF, and a read failed
+abbrev pub IsPartOfLine : ℕ → ℕ → List ℕ → Type 0
+IsPartOfLine before after bytes =
+    (has_feed bytes ≡ false) × (length bytes ≤ 1025) × HasFailed before after
 
 -- the bytes that a failed call read: at most 1,026 of a line that is too long, a part of the line
 -- if reads failed, and the line with its end if out of memory
@@ -33,10 +32,10 @@ RefusesLine old new before after LineTooLong =
     IfSome old (λ bytes. (MAX_LINE < length (first_line bytes))
     × Consumes old new (take 1026 (take_through 10 bytes)))
 RefusesLine old new before after ReadFailed =
-    (bytes : List ℕ) × FailsInLine old new before after bytes
+    (bytes : List ℕ) × Consumes old new bytes × IsPartOfLine before after bytes
 RefusesLine old new before after TooManyTurns =
-    (bytes : List ℕ) × (FailsInLine old new before after bytes
-    × SpendsTurns 4096 before after (length bytes))
+    (bytes : List ℕ) × Consumes old new bytes × IsPartOfLine before after bytes
+    × SpendsTurns 4096 before after (length bytes)
 RefusesLine old new before after NoMemory =
     IfSome old (λ bytes. length (first_line bytes) ≤ MAX_LINE) × DropsThrough old new 10
 
@@ -46,10 +45,9 @@ abbrev pub StopsInLine : {R T : Type 0} → (R → Option (List ℕ)) → Watche
 StopsInLine remaining old new bytes (Ok value) = IsWholeLine (remaining new.device) bytes
 StopsInLine remaining old new bytes (Err LineTooLong) =
     (has_feed bytes ≡ false) × (length bytes ≡ 1026)
-StopsInLine remaining old new bytes (Err ReadFailed) =
-    (has_feed bytes ≡ false) × (length bytes ≤ 1025) × HasFailed old.failures new.failures
+StopsInLine remaining old new bytes (Err ReadFailed) = IsPartOfLine old.failures new.failures bytes
 StopsInLine remaining old new bytes (Err TooManyTurns) =
-    (has_feed bytes ≡ false) × (length bytes ≤ 1025) × HasFailed old.failures new.failures
+    IsPartOfLine old.failures new.failures bytes
     × SpendsTurns 4096 old.failures new.failures (length bytes)
 StopsInLine remaining old new bytes (Err NoMemory) = ⊥
 
@@ -79,6 +77,5 @@ TakesAndFailsAtMost old new taken limit =
 abbrev pub ReadsAndFailsAtMost : {R : Type 0} → (R → Option (List ℕ)) → WatchedData R
     → WatchedData R → ℕ → Type 0
 ReadsAndFailsAtMost remaining old new limit =
-    (old.failures ≤ new.failures)
-    × ((bytes : List ℕ) × HasRead remaining old new bytes
-    × (new.failures + length bytes ≤ old.failures + limit))
+    (bytes : List ℕ) × HasRead remaining old new bytes
+    × TakesAndFailsAtMost old new (length bytes) limit

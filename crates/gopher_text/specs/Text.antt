@@ -32,10 +32,6 @@ text_bytes lines = flat_map text_line_bytes lines ++ codes ".\r\n"
 abbrev pub lines_in : List (Vec ℕ) → List (List ℕ)
 lines_in vectors = map vec_items vectors
 
--- the bytes of a file's text as it is sent
-abbrev pub file_text_bytes : List ℕ → List ℕ
-file_text_bytes bytes = text_bytes (lines_of bytes)
-
 -- the lines of a text, up to the first last line
 abbrev pub text_lines : List ℕ → List (List ℕ)
 text_lines bytes = map line_read (lines_before_last (lines_of bytes))

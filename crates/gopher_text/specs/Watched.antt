@@ -1,6 +1,6 @@
 -- Readers and writers that count their failed calls.
 use Rattle.std.specs.Prelude.{◌≡◌, ℕ, ◌+◌, ◌-◌, ◌^◌, ◌<◌, ◌≤◌, ◌⊎◌, List, length, Option, Result, Ok, Err}
-use Rattle.std.specs.Io.KnownBytes.{Appends, Consumes, ReadConsumes, WriteAppends}
+use Rattle.std.specs.Io.KnownBytes.{Appends, Consumes}
 
 -- a reader or a writer, and the number of its failed calls
 pub record WatchedData (D : Type 0) : Type 0 where
@@ -18,20 +18,6 @@ HasRead remaining old new bytes = Consumes (remaining old.device) (remaining new
 abbrev pub HasSent : {W : Type 0} → (W → Option (List ℕ)) → WatchedData W → WatchedData W → List ℕ
     → Type 0
 HasSent contents old new bytes = Appends (contents old.device) (contents new.device) bytes
-
--- one read, with the buffer after it: the result says how many bytes were read, which are the first
--- of the buffer. It is 0 only at the end of the input or with an empty buffer; an error reads none
-abbrev pub ReadsInto : {R E : Type 0} → (R → Option (List ℕ)) → WatchedData R → WatchedData R
-    → List ℕ → Result ℕ E → Type 0
-ReadsInto remaining old new buffer result =
-    ReadConsumes (remaining old.device) (remaining new.device) result buffer
-
--- one write of these bytes: the result says how many of the first were written, and an error writes
--- none
-abbrev pub WritesFrom : {W E : Type 0} → (W → Option (List ℕ)) → WatchedData W → WatchedData W
-    → List ℕ → Result ℕ E → Type 0
-WritesFrom contents old new bytes result =
-    WriteAppends (contents old.device) (contents new.device) result bytes
 
 -- at most this many failures were counted in between: the reader or writer before and after
 abbrev pub FailsAtMost : {D : Type 0} → WatchedData D → WatchedData D → ℕ → Type 0

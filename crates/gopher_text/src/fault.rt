@@ -3,7 +3,6 @@
 ghost use Rattle.std.specs.Prelude.{◌≡◌};
 ghost use Rattle.gopher_text.specs.Fault.{line_fault_code, reply_fault_code};
 
-use std::alloc::AllocError;
 use thiserror::Error;
 
 /// Why no line was read.
@@ -37,16 +36,6 @@ impl LineFault {
     }
 }
 
-impl From<AllocError> for LineFault {
-    ghost use Rattle.gopher_text.specs.declared.fault.LineFault.TheVariants.{NoMemory};
-
-    ghost from_gives = { λ _ fault. fault ≡ NoMemory };
-
-    fn from(_refused: AllocError) -> LineFault {
-        LineFault::NoMemory
-    }
-}
-
 /// Why a reply wasn't read to its end.
 #[derive(Clone, Copy, Debug, PartialEq, Eq, Error)]
 pub enum ReplyFault {
@@ -75,16 +64,6 @@ impl ReplyFault {
             ReplyFault::ReplyTooLong => 12,
             ReplyFault::NoMemory => 90,
         }
-    }
-}
-
-impl From<AllocError> for ReplyFault {
-    ghost use Rattle.gopher_text.specs.declared.fault.ReplyFault.TheVariants.{NoMemory};
-
-    ghost from_gives = { λ _ fault. fault ≡ NoMemory };
-
-    fn from(_refused: AllocError) -> ReplyFault {
-        ReplyFault::NoMemory
     }
 }
 

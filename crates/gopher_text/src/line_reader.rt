@@ -46,7 +46,10 @@ pub fn read_line_from<R: Read>(alloc: Global, reader: &mut Watched<R>) -> Result
     if line.len() > MAX_LINE {
         return Err(LineFault::LineTooLong);
     }
-    Ok(Vec::from_slice(alloc, line)?)
+    let Ok(line) = Vec::from_slice(alloc, line) else {
+        return Err(LineFault::NoMemory);
+    };
+    Ok(line)
 }
 
 // Reads into `held` up to an LF or the end of the input. Returns the number of bytes read, and why

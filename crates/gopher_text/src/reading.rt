@@ -27,12 +27,7 @@ pub(crate) fn read_once<R: Read>(reader: &mut Watched<R>, buffer: &mut [u8]) -> 
     match reader.read(buffer) {
         Ok(0) => Reading::Ended,
         Ok(count) => Reading::Took(count),
-        Err(error) => {
-            if error.kind() == ErrorKind::Interrupted {
-                Reading::Interrupted
-            } else {
-                Reading::Failed
-            }
-        }
+        Err(error) if error.kind() == ErrorKind::Interrupted => Reading::Interrupted,
+        Err(_) => Reading::Failed,
     }
 }

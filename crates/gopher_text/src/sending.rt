@@ -1,15 +1,14 @@
 //! Sending all bytes to a writer: `send`.
 
-ghost use Rattle.std.specs.Prelude.{◌<◌, length, IfErr, OnOk, OnErr};
+ghost use Rattle.std.specs.Prelude.{◌<◌, length, take, IfErr, OnOk, OnErr};
 ghost use Rattle.gopher_text.specs.Watched.{FailsAtMost, HasFailed, HasSent};
-ghost use Rattle.gopher_text.specs.Send.{HasSentPart};
 
 use crate::fault::SendFault;
 use crate::watched::Watched;
 use std::io::{ErrorKind, Write};
 
-// A call fails after this many interrupted writes.
-const MAX_INTERRUPTIONS: u64 = 4_096;
+// How many interrupted writes of a call are tried again.
+const MAX_RETRIES: u64 = 4_095;
 
 /// Sends all of `bytes`, in as many writes as `writer` needs. Interrupted writes are tried again.
 ///
@@ -20,7 +19,8 @@ const MAX_INTERRUPTIONS: u64 = 4_096;
 #[tactic(auto, using(crate::proofs::Streams::appends_more))]
 pub fn send<W: Write>(writer: &mut Watched<W>, bytes: &[u8]) -> Result<(), SendFault>
     ensures all { OnOk result (HasSent W.contents writer.old writer.new bytes.now) }
-    ensures sent { IfErr result (HasSentPart W.contents writer.old writer.new bytes.now) }
+    ensures sent { IfErr result
+        (λ fault. HasSent W.contents writer.old writer.new (take fault.sent bytes.now)) }
     ensures part { IfErr result (λ fault. fault.sent < length bytes.now) }
     ensures failed { OnErr result (HasFailed writer.old.failures writer.new.failures) }
     ensures interruptions { FailsAtMost writer.old writer.new 4096 }
@@ -31,15 +31,10 @@ pub fn send<W: Write>(writer: &mut Watched<W>, bytes: &[u8]) -> Result<(), SendF
         match writer.write(&bytes[sent..]) {
             Ok(0) => return Err(SendFault { sent }),
             Ok(count) => sent += count,
-            Err(error) => {
-                if error.kind() != ErrorKind::Interrupted {
-                    return Err(SendFault { sent });
-                }
+            Err(error) if error.kind() == ErrorKind::Interrupted && interruptions < MAX_RETRIES => {
                 interruptions += 1;
-                if interruptions == MAX_INTERRUPTIONS {
-                    return Err(SendFault { sent });
-                }
             }
+            Err(_) => return Err(SendFault { sent }),
         }
     }
     Ok(())

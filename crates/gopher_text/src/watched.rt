@@ -2,8 +2,8 @@
 
 ghost use Rattle.std.specs.Prelude.{◌≡◌};
 ghost use Rattle.std.specs.Io.{ReadsAtMost, WritesAtMost};
-ghost use Rattle.std.specs.Io.KnownBytes.{Keeps};
-ghost use Rattle.gopher_text.specs.Watched.{WatchedData, CountsFailure, CountsErrors, CountsWrite, ReadsInto, WritesFrom};
+ghost use Rattle.std.specs.Io.KnownBytes.{Keeps, ReadConsumes, WriteAppends};
+ghost use Rattle.gopher_text.specs.Watched.{WatchedData, CountsFailure, CountsErrors, CountsWrite};
 
 use std::io::{self, Read, Write};
 use std::marker::Model;
@@ -12,7 +12,7 @@ use std::marker::Model;
 ///
 /// A call failed if it returned an error, including an interruption, or if it was a write that took
 /// none of one or more bytes. The count stops at `u64::MAX`.
-#[derive(Debug, Drop)]
+#[derive(Drop)]
 pub struct Watched<D> {
     device: D,
     failures: u64,
@@ -31,10 +31,8 @@ impl<D> Watched<D> {
     pub fn new(device: D) -> Self
         ensures { result ≡ record { device = device; failures = 0 } }
     {
-        Watched {
-            device,
-            failures: 0,
-        }
+        let failures = 0;
+        Watched { device, failures }
     }
 
     /// Returns the reader or writer that was watched.
@@ -65,7 +63,8 @@ impl<D: Read> Read for Watched<D> {
 
     fn read(&mut self, buf: &mut [u8]) -> io::Result<usize>
         ensures bound { ReadsAtMost result buf.new }
-        ensures bytes { ReadsInto D.remaining self.old self.new buf.new result }
+        ensures bytes { ReadConsumes (D.remaining self.old.device) (D.remaining self.new.device)
+            result buf.new }
         ensures count { CountsErrors self.old.failures self.new.failures result }
     {
         let outcome = self.device.read(buf);
@@ -81,7 +80,8 @@ impl<D: Write> Write for Watched<D> {
 
     fn write(&mut self, buf: &[u8]) -> io::Result<usize>
         ensures bound { WritesAtMost result buf.now }
-        ensures bytes { WritesFrom D.contents self.old self.new buf.now result }
+        ensures bytes { WriteAppends (D.contents self.old.device) (D.contents self.new.device)
+            result buf.now }
         ensures count { CountsWrite self.old.failures self.new.failures buf.now result }
     {
         let answer = self.device.write(buf);

@@ -2,7 +2,8 @@
 
 ghost use Rattle.std.specs.Prelude.{◌≡◌, ◌++◌, OnOk, OnErr};
 ghost use Rattle.std.specs.Io.{StartsWith};
-ghost use Rattle.gopher_text.specs.Text.{HoldNoFeed, IsReadBack, begins_with_period, file_text_bytes, lines_in, text_bytes, text_line_bytes};
+ghost use Rattle.gopher_bytes.specs.Lines.{lines_of};
+ghost use Rattle.gopher_text.specs.Text.{HoldNoFeed, IsReadBack, begins_with_period, lines_in, text_bytes, text_line_bytes};
 
 use gopher_bytes::{NoMemory, first_line};
 use std::alloc::AllocError;
@@ -34,7 +35,7 @@ pub fn write_text(lines: &[Vec<u8>], out: &mut Vec<u8>) -> Result<(), NoMemory>
 /// Appends the text of the lines of `bytes`, the contents of a file, which a single period ends
 /// (RFC 1436, appendix: TextFile Entity).
 pub fn write_text_of(bytes: &[u8], out: &mut Vec<u8>) -> Result<(), NoMemory>
-    ensures written { OnOk result (out.new.items ≡ out.old.items ++ file_text_bytes bytes.now) }
+    ensures text { OnOk result (out.new.items ≡ out.old.items ++ text_bytes (lines_of bytes.now)) }
     ensures refused { OnErr result (out.new.items ≡ out.old.items) }
 {
     let length = out.len();
@@ -56,9 +57,11 @@ fn room_for_file(bytes: &[u8]) -> usize {
 
 // At least as many bytes as the text of the lines has.
 fn room_for(lines: &[Vec<u8>]) -> usize {
-    lines.iter().fold(MOST_MORE, |room, line| {
-        room.saturating_add(line.len()).saturating_add(MOST_MORE)
-    })
+    let mut room = MOST_MORE;
+    for line in lines {
+        room = room.saturating_add(line.len()).saturating_add(MOST_MORE);
+    }
+    room
 }
 
 // Appends the lines and the last line.
@@ -74,7 +77,7 @@ fn push_lines(lines: &[Vec<u8>], out: &mut Vec<u8>) -> Result<(), AllocError>
 
 // Appends the lines of `bytes` and the last line.
 fn push_lines_of(bytes: &[u8], out: &mut Vec<u8>) -> Result<(), AllocError>
-    ensures written { OnOk result (out.new.items ≡ out.old.items ++ file_text_bytes bytes.now) }
+    ensures text { OnOk result (out.new.items ≡ out.old.items ++ text_bytes (lines_of bytes.now)) }
     ensures kept { StartsWith out.new.items out.old.items }
 {
     let mut rest = bytes;

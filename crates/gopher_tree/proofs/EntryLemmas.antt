@@ -14,10 +14,11 @@ use Rattle.std.proofs.lemmas.Bool.{or_parts, eqb-true}
 use Rattle.std.proofs.lemmas.List.{length-append}
 use Rattle.std.proofs.lemmas.List.Folds.{find-append}
 use Rattle.std.proofs.lemmas.List.Sums.{fold-append}
+use Rattle.std.specs.Option.{option_flatten}
 use Rattle.gopher_tree.specs.Path.{folders_of, folders_within}
 use Rattle.gopher_tree.specs.Files.{File, has_path, is_file, is_folder, file_at, leads_through_file, is_path_among, add_path, nodes, total_bytes}
 use Rattle.gopher_tree.specs.Fault.{file_fault}
-use Rattle.gopher_tree.specs.Tree.{entry_at, number_of_entry, number_at, file_numbered, HoldsPaths, IsTree, SetsEntry, AddsFolders}
+use Rattle.gopher_tree.specs.Tree.{entry_at, number_at, file_numbered, HoldsPaths, IsTree, SetsEntry, AddsFolders}
 use Rattle.gopher_tree.proofs.NodeLemmas.{folders-slash, folders-other, nodes-push, is_among-add, node_is}
 use Rattle.gopher_tree.proofs.FaultLemmas.{IsGood, good_of, total_bytes-push, few_bytes}
 
@@ -89,11 +90,11 @@ adds_other old new n path some other added = subst (AddsFolders old new) (sym (f
 pub adds_new : {A : Type 0} (old new : BTreeMap (Vec ℕ A) (Option ℕ)) (folder : List ℕ) → 0 < length folder → is_some (entry_at old folder) ≡ false → SetsEntry old new folder None → AddsFolders old new (folder ∷ [])
 adds_new old new folder some absent set = record {
   paths = λ paths holds. holds_put paths folder old new None some set holds;
-  numbers = λ q. ap number_of_entry (set.entries q) ∙ by q (pointwise eqb q folder) refl;
+  numbers = λ q. ap option_flatten (set.entries q) ∙ by q (pointwise eqb q folder) refl;
 }
   where
-    by : (q : List ℕ) (t : Bool) → pointwise eqb q folder ≡ t → number_of_entry (cond t (Some None) (entry_at old q)) ≡ number_at old q
-    by q true e = sym (ap number_of_entry (none_of (entry_at old q) (ap (λ p. is_some (entry_at old p)) ((bytes_decides q folder).0 e) ∙ absent)))
+    by : (q : List ℕ) (t : Bool) → pointwise eqb q folder ≡ t → option_flatten (cond t (Some None) (entry_at old q)) ≡ number_at old q
+    by q true e = sym (ap option_flatten (none_of (entry_at old q) (ap (λ p. is_some (entry_at old p)) ((bytes_decides q folder).0 e) ∙ absent)))
     by q false e = refl
 
 -- ---- a tree after one more file
@@ -123,8 +124,8 @@ pub IsTree-push : {A : Type 0} (files : List File) (file : File) (old middle new
     → IsTree files old bytes → AddsFolders old middle (folders_of file.0) → SetsEntry middle new file.0 (Some (length files)) → IsTree (files ++ file ∷ []) new (bytes + length file.1)
 IsTree-push files file old middle new bytes none tree added set = record {
   paths = subst (λ paths. HoldsPaths paths new) (sym all) (holds_put _ file.0 middle new _ good.some set (added.paths (nodes files) tree.paths));
-  numbers = λ q. ap (λ e. file_numbered (files ++ file ∷ []) (number_of_entry e)) (set.entries q) ∙ number q (has_path q file) refl ∙ sym (find-append (has_path q) files (file ∷ []));
-  within = λ q. subst (λ e. IfSome (number_of_entry e) (λ n. n < length (files ++ file ∷ []))) (sym (set.entries q)) (low q (has_path q file));
+  numbers = λ q. ap (λ e. file_numbered (files ++ file ∷ []) (option_flatten e)) (set.entries q) ∙ number q (has_path q file) refl ∙ sym (find-append (has_path q) files (file ∷ []));
+  within = λ q. subst (λ e. IfSome (option_flatten e) (λ n. n < length (files ++ file ∷ []))) (sym (set.entries q)) (low q (has_path q file));
   bytes_is = bytes_is;
   few_bytes = omega (arith, few_bytes files file good.large, bytes_is);
 }
@@ -149,7 +150,7 @@ IsTree-push files file old middle new bytes none tree added set = record {
     or_none None = refl
     or_none (Some f) = refl
 
-    number : (q : List ℕ) (t : Bool) → has_path q file ≡ t → file_numbered (files ++ file ∷ []) (number_of_entry (cond t (Some (Some (length files))) (entry_at middle q))) ≡ option_or (file_at files q) (cond t (Some file) None)
+    number : (q : List ℕ) (t : Bool) → has_path q file ≡ t → file_numbered (files ++ file ∷ []) (option_flatten (cond t (Some (Some (length files))) (entry_at middle q))) ≡ option_or (file_at files q) (cond t (Some file) None)
     number q true e =
         get_last files file
         ∙ ap (λ found. option_or found (Some file)) (sym (none_of (file_at files q) (found_is_file files q ∙ ap (is_file files) ((bytes_decides q file.0).0 e) ∙ fresh)))
@@ -159,7 +160,7 @@ IsTree-push files file old middle new bytes none tree added set = record {
     further None low = tt
     further (Some n) low = omega (arith, low, length-append files (file ∷ []))
 
-    low : (q : List ℕ) (t : Bool) → IfSome (number_of_entry (cond t (Some (Some (length files))) (entry_at middle q))) (λ n. n < length (files ++ file ∷ []))
+    low : (q : List ℕ) (t : Bool) → IfSome (option_flatten (cond t (Some (Some (length files))) (entry_at middle q))) (λ n. n < length (files ++ file ∷ []))
     low q true = omega (arith, length-append files (file ∷ []))
     low q false = subst (λ n. IfSome n (λ k. k < length (files ++ file ∷ []))) (sym (added.numbers q)) (further (number_at old q) (tree.within q))
 

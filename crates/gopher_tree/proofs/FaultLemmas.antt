@@ -1,16 +1,17 @@
 -- A file without a fault, and the tree after it was added.
 use Rattle.std.proofs.Common.{◌≡◌, ℕ, ◌+◌, ◌<◌, ◌≤◌, Bool, true, false, cond, ◌||◌, ltb, List, [], ◌∷◌, ◌++◌, length, sum_by, Option, None, Some, Ok, Err, ◌⊎◌, inl, inr, refl, sym, ap, ◌∙◌, append_assoc, arith}
+use Rattle.std.specs.Option.{option_or}
 use Rattle.std.proofs.lemmas.Bool.{or_parts, ltb-false}
 use Rattle.std.proofs.lemmas.List.Sums.{sum_by-append}
 use Rattle.gopher_tree.specs.Path.{names_of, first_name, is_search_name, has_bad_name}
 use Rattle.gopher_tree.specs.Files.{File, total_bytes}
-use Rattle.gopher_tree.specs.Fault.{path_fault, is_too_big, is_twice, menu_fault, or_fault, file_fault, fault_after, files_fault, first_fault, AddsFile, MakesTree}
+use Rattle.gopher_tree.specs.Fault.{path_fault, is_too_big, is_twice, menu_fault, file_fault, fault_after, files_fault, first_fault, AddsFile, MakesTree}
 use Rattle.gopher_tree.specs.declared.fault.TreeFault.{TreeFault}
 use Rattle.gopher_tree.specs.declared.fault.TreeFault.TheVariants.{NoMemory}
 
-pub or_fault-none : (a b : Option TreeFault) → or_fault a b ≡ None → (a ≡ None) × (b ≡ None)
-or_fault-none None b h = (refl, h)
-or_fault-none (Some fault) b h = absurd cc
+pub option_or-none : (a b : Option TreeFault) → option_or a b ≡ None → (a ≡ None) × (b ≡ None)
+option_or-none None b h = (refl, h)
+option_or-none (Some fault) b h = absurd cc
 
 cond-none : (t : Bool) (fault : TreeFault) (rest : Option TreeFault) → cond t (Some fault) rest ≡ None → (t ≡ false) × (rest ≡ None)
 cond-none true fault rest h = absurd cc
@@ -37,9 +38,9 @@ pub record IsGood (files : List File) (file : File) : Type 0 where
 
 pub good_of : (files : List File) (file : File) → file_fault files file ≡ None → IsGood files file
 good_of files file h =
-    let path = or_fault-none (path_fault (length files) file.0) _ h in
+    let path = option_or-none (path_fault (length files) file.0) _ h in
     let big = cond-none (is_too_big files file) _ _ path.1 in
-    let menu = or_fault-none (menu_fault (length files) file) _ big.1 in
+    let menu = option_or-none (menu_fault (length files) file) _ big.1 in
     let twice = cond-none (is_twice files file.0) _ _ menu.1 in
     let lengths = path_fault-none (length files) file.0 path.0 in
     record { some = lengths.0; short = lengths.1; large = big.0; once = twice.0 }
@@ -71,7 +72,7 @@ pub makes_refused : {T : Type 0} (done rest : List File) (file : File) (files : 
 makes_refused done rest file files tree fault is all first adds = by (adds_refused (file_fault done file) tree fault adds)
   where
     by : (file_fault done file ≡ Some fault) ⊎ ((file_fault done file ≡ None) × (fault ≡ NoMemory)) → (files_fault files ≡ Some fault) ⊎ ((fault ≡ NoMemory) × (first_fault files ≡ None))
-    by (inl due) = inl (sym is ∙ ap (λ f. or_fault f (fault_after (done ++ file ∷ []) rest)) due)
+    by (inl due) = inl (sym is ∙ ap (λ f. option_or f (fault_after (done ++ file ∷ []) rest)) due)
     by (inr memory) = inr (memory.1, ap first_fault (sym all) ∙ first_none done rest file first memory.0)
 
 -- the next file has no fault
@@ -80,7 +81,7 @@ pub makes_on : (done rest : List File) (file : File) (all : Option TreeFault) (t
     → (fault_after tree rest ≡ all) × (first_fault tree ≡ None) × (tree ++ rest ≡ done ++ file ∷ rest)
 makes_on done rest file all tree is first adds =
     let one = adds_one (file_fault done file) (done ++ file ∷ []) tree adds in (
-      ap (λ l. fault_after l rest) one.1 ∙ sym (ap (λ f. or_fault f (fault_after (done ++ file ∷ []) rest)) one.0) ∙ is,
+      ap (λ l. fault_after l rest) one.1 ∙ sym (ap (λ f. option_or f (fault_after (done ++ file ∷ []) rest)) one.0) ∙ is,
       ap first_fault one.1 ∙ first_none done [] file first one.0,
       ap (λ l. l ++ rest) one.1 ∙ append_assoc done (file ∷ []) rest,
     )

@@ -5,8 +5,9 @@ use Rattle.std.specs.List.{list_any, filter_map, cons_option}
 use Rattle.std.specs.Ordering.{is_eq, eq_by_cmp}
 use Rattle.std.specs.Cmp.{eq_by_cmp_equiv}
 use Rattle.std.specs.Cmp.Lexicographic.{pointwise, nat_list_cmp_total, texts_ties, bytes_decides}
-use Rattle.std.specs.Map.{keys_of}
-use Rattle.std.proofs.Math.Bool.{or-false}
+use Rattle.std.specs.BTreeMap.{is_at}
+use Rattle.std.proofs.lemmas.Map.Made.{is_some-lookup}
+use Rattle.std.proofs.Math.Bool.{and-false, and-true, or-false}
 use Rattle.std.proofs.lemmas.Map.Views.{list_any-from_Contains, Contains-from_any}
 use Rattle.gopher_tree.specs.Path.{names_of, first_name, menu_name, is_menu_name, rest_below}
 use Rattle.gopher_tree.specs.Kind.{kind_of}
@@ -22,14 +23,6 @@ listings_ascend files folder = names_ascend [] (filter_map (child_below folder) 
 
 abbrev is_named : List ℕ → Child → Bool
 is_named name child = is_eq (order name child.0)
-
-some_key : (name : List ℕ) (names : List Child) → is_some (at_name name names) ≡ list_any (eq_by_cmp order name) (keys_of names)
-some_key name [] = refl
-some_key name (c ∷ names) = by (is_eq (order name c.0)) (some_key name names)
-  where
-    by : (t : Bool) → is_some (at_name name names) ≡ list_any (eq_by_cmp order name) (keys_of names) → is_some (cond t (Some c.1) (at_name name names)) ≡ (t || list_any (eq_by_cmp order name) (keys_of names))
-    by true h = refl
-    by false h = h
 
 some_put : (name : List ℕ) (names put : List Child) → is_some (at_name name (fold add_child names put)) ≡ (is_some (at_name name names) || list_any (is_named name) put)
 some_put name names [] = sym (or-false (is_some (at_name name names)))
@@ -64,22 +57,10 @@ child_is : (kind : ℕ) (name rest n : List ℕ) (more : List (List ℕ)) → na
 child_is kind name rest n [] names =
     by (is_menu_name n) ∙ ap (λ l. pointwise nat_eq name n && not (is_menu_name l)) (sym (names_of-one rest n names))
   where
-    both : (t : Bool) → t ≡ (t && true)
-    both true = refl
-    both false = refl
-
-    neither : (t : Bool) → false ≡ (t && false)
-    neither true = refl
-    neither false = refl
-
     by : (t : Bool) → is_child name (cond {A = Option Child} t None (Some (n, kind))) ≡ (pointwise nat_eq name n && not t)
-    by true = neither (pointwise nat_eq name n)
-    by false = same_test name n ∙ both (pointwise nat_eq name n)
-child_is kind name rest n (y ∷ ys) names = same_test name n ∙ both (pointwise nat_eq name n) ∙ ap (λ t. pointwise nat_eq name n && t) (sym (no_menu rest n y ys names))
-  where
-    both : (t : Bool) → t ≡ (t && true)
-    both true = refl
-    both false = refl
+    by true = sym (and-false (pointwise nat_eq name n))
+    by false = same_test name n ∙ sym (and-true (pointwise nat_eq name n))
+child_is kind name rest n (y ∷ ys) names = same_test name n ∙ sym (and-true (pointwise nat_eq name n)) ∙ ap (λ t. pointwise nat_eq name n && t) (sym (no_menu rest n y ys names))
 
 child_leads : (folder name : List ℕ) (file : File) → is_child name (child_below folder file) ≡ leads_to_name folder name file.0
 child_leads folder name file = by (rest_below folder file.0)
@@ -104,7 +85,7 @@ any_child folder name (file ∷ files) =
 
 listed : (files : List File) (folder name : List ℕ) → list_any (eq_by_cmp order name) (listed_names files folder) ≡ list_any (λ file. leads_to_name folder name file.0) files
 listed files folder name =
-    sym (some_key name (children files folder)) ∙ some_put name [] (filter_map (child_below folder) files) ∙ any_child folder name files
+    sym (is_some-lookup (is_at (order name)) (children files folder)) ∙ some_put name [] (filter_map (child_below folder) files) ∙ any_child folder name files
 
 pub listings_are_whole : ListingsAreWhole
 listings_are_whole files folder name = (

@@ -8,7 +8,9 @@ use Rattle.std.specs.List.{AllByRecursion}
 use Rattle.std.specs.List.Sorted.{IsStrictlySortedBy}
 use Rattle.std.specs.BTreeMap.{insert_entry, is_at}
 use Rattle.std.specs.Map.{lookup, keys_of}
+use Rattle.std.specs.Cmp.{eq_by_cmp_equiv}
 use Rattle.std.proofs.lemmas.Map.Lookups.{exact_bytes}
+use Rattle.std.proofs.lemmas.Map.Views.{tells_apart}
 use Rattle.gopher_tree.specs.Files.{Child, add_child}
 
 abbrev pub order : List ℕ → List ℕ → Ordering
@@ -18,21 +20,8 @@ order = slice_cmp nat_cmp
 abbrev pub at_name : List ℕ → List Child → Option ℕ
 at_name name children = lookup (is_at (order name)) children
 
-order_self : (name : List ℕ) → order name name ≡ Equal
-order_self name = by (order name name) refl (nat_list_cmp_total.antisymm name name)
-  where
-    by : (o : Ordering) → order name name ≡ o → order name name ≡ ordering_reverse (order name name) → o ≡ Equal
-    by Less e h = absurd (let turned : Less ≡ Greater = sym e ∙ h ∙ ap ordering_reverse e in cc)
-    by Equal e h = refl
-    by Greater e h = absurd (let turned : Greater ≡ Less = sym e ∙ h ∙ ap ordering_reverse e in cc)
-
 pub same_name : (a b : List ℕ) → is_eq (order a b) ≡ true → a ≡ b
-same_name a b h = by (order a b) refl h
-  where
-    by : (o : Ordering) → order a b ≡ o → is_eq o ≡ true → a ≡ b
-    by Less e h = absurd cc
-    by Equal e h = exact_bytes a b e
-    by Greater e h = absurd cc
+same_name a b h = tells_apart exact_bytes a b h
 
 -- looking up a name after one was inserted or replaced
 pub at_name-insert : (children : List Child) (name : List ℕ) (kind : ℕ) (q : List ℕ)
@@ -63,8 +52,8 @@ at_name-insert (e ∷ es) name kind q = by (order name e.0) refl (at_name-insert
         apart : is_eq (order q e.0) ≡ true → is_eq (order q name) ≡ true → ⊥
         apart h k =
             let same : name ≡ e.0 = sym (same_name q name k) ∙ same_name q e.0 h in
-            let equal : order name e.0 ≡ Equal = ap (order name) (sym same) ∙ order_self name in
-            let both : Equal ≡ Greater = sym equal ∙ is in cc
+            let equal : is_eq (order name e.0) ≡ true = ap (λ n. is_eq (order name n)) (sym same) ∙ (eq_by_cmp_equiv nat_list_cmp_total).refl name in
+            let both : true ≡ false = sym equal ∙ ap is_eq is in cc
 
 -- ---- the names ascend
 

@@ -5,32 +5,33 @@ use Rattle.std.specs.Option.{option_map}
 use Rattle.std.specs.declared.io.traits.Take.{Take}
 use Rattle.std.specs.Io.Take.{take_limit, take_inner, take_remaining}
 use Rattle.gopher_tree.specs.Files.{File, total_bytes}
-use Rattle.gopher_tree.specs.Fault.{or_fault, file_fault, fault_after, files_fault, AddsFile}
+use Rattle.std.specs.Option.{option_or}
+use Rattle.gopher_tree.specs.Fault.{file_fault, fault_after, files_fault, AddsFile}
 use Rattle.gopher_tree.specs.Load.{StopsAt, StopsAtFolder, Lists, ListsFile, WalksTo, Loads, LoadsTo, IsUnreadable, Refuses}
 use Rattle.gopher_tree.specs.declared.fault.TreeFault.{TreeFault}
 use Rattle.gopher_tree.specs.declared.fault.TreeFault.TheVariants.{NoMemory}
 use Rattle.gopher_tree.specs.declared.load.trail.Trail.{Trail}
-use Rattle.gopher_tree.proofs.FaultLemmas.{or_fault-none, adds_refused}
+use Rattle.gopher_tree.proofs.FaultLemmas.{option_or-none, adds_refused}
 
-or_fault-both : (a b : Option TreeFault) → a ≡ None → b ≡ None → or_fault a b ≡ None
-or_fault-both a b h k = ap (λ t. or_fault t b) h ∙ k
+option_or-both : (a b : Option TreeFault) → a ≡ None → b ≡ None → option_or a b ≡ None
+option_or-both a b h k = ap (λ t. option_or t b) h ∙ k
 
-or_fault-some : (a b : Option TreeFault) (fault : TreeFault) → a ≡ Some fault → or_fault a b ≡ Some fault
-or_fault-some a b fault h = ap (λ t. or_fault t b) h
+option_or-some : (a b : Option TreeFault) (fault : TreeFault) → a ≡ Some fault → option_or a b ≡ Some fault
+option_or-some a b fault h = ap (λ t. option_or t b) h
 
 -- if neither a list nor the files after it have a fault, both together have none
 pub fault_after-append : (done files more : List File) → fault_after done files ≡ None → fault_after (done ++ files) more ≡ None → fault_after done (files ++ more) ≡ None
 fault_after-append done [] more first later = ap (λ l. fault_after l more) (sym (append-nil done)) ∙ later
 fault_after-append done (file ∷ files) more first later =
-    let both = or_fault-none (file_fault done file) (fault_after (done ++ file ∷ []) files) first in
-    or_fault-both (file_fault done file) (fault_after (done ++ file ∷ []) (files ++ more)) both.0
+    let both = option_or-none (file_fault done file) (fault_after (done ++ file ∷ []) files) first in
+    option_or-both (file_fault done file) (fault_after (done ++ file ∷ []) (files ++ more)) both.0
     (fault_after-append (done ++ file ∷ []) files more both.1 (ap (λ l. fault_after l more) (append_assoc done (file ∷ []) files) ∙ later))
 
 pub lists_none : (files : List File) → Lists files files
 lists_none files = ([], sym (append-nil files), refl)
 
 pub lists_one : (files : List File) (file : File) (after : List File) → file_fault files file ≡ None → after ≡ files ++ file ∷ [] → Lists files after
-lists_one files file after none is = (file ∷ [], is, or_fault-both (file_fault files file) None none refl)
+lists_one files file after none is = (file ∷ [], is, option_or-both (file_fault files file) None none refl)
 
 pub lists_more : (first between last : List File) → Lists first between → Lists between last → Lists first last
 lists_more first between last (added, is, none) (more, is_more, none_more) = (

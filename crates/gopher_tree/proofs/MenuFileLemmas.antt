@@ -1,18 +1,8 @@
 -- Fields that don't make a line of a menu file, and one more line.
-use Rattle.std.proofs.Common.{◌≡◌, ℕ, ◌<◌, Bool, true, false, eqb, List, [], ◌∷◌, length, None, refl, ap, ◌∙◌, arith}
-use Rattle.std.specs.List.{onto_first}
-use Rattle.std.proofs.lemmas.List.Splits.{slice_split-cons_yes, slice_split-cons_no}
+use Rattle.std.proofs.Common.{◌≡◌, ℕ, ◌<◌, eqb, List, [], ◌∷◌, length, None, refl, ap, ◌∙◌, arith}
+use Rattle.gopher_bytes.proofs.Splits.{some_part}
 use Rattle.gopher_item.specs.Menu.{fields_of}
 use Rattle.gopher_tree.specs.MenuFile.{line_of_fields}
-
--- a line has a first field
-pub fields_of-some : (line : List ℕ) → (field : List ℕ) × (more : List (List ℕ)) × (fields_of line ≡ field ∷ more)
-fields_of-some [] = ([], [], refl)
-fields_of-some (b ∷ line) = by (eqb b 9) refl (fields_of-some line)
-  where
-    by : (t : Bool) → eqb b 9 ≡ t → (field : List ℕ) × (more : List (List ℕ)) × (fields_of line ≡ field ∷ more) → (field : List ℕ) × (more : List (List ℕ)) × (fields_of (b ∷ line) ≡ field ∷ more)
-    by true e rest = ([], fields_of line, slice_split-cons_yes (λ b. eqb b 9) b line e)
-    by false e rest = (b ∷ rest.0, rest.1, slice_split-cons_no (λ b. eqb b 9) b line e ∙ ap (onto_first b) rest.2)
 
 untyped : (field : List ℕ) (more : List (List ℕ)) → line_of_fields ([] ∷ field ∷ more) ≡ None
 untyped field [] = refl
@@ -22,7 +12,7 @@ untyped field (b ∷ c ∷ d ∷ more) = refl
 
 -- several fields whose first is empty
 pub line_of_fields-untyped : (first rest : List ℕ) → length first < 1 → line_of_fields (first ∷ fields_of rest) ≡ None
-line_of_fields-untyped [] rest short = let some = fields_of-some rest in ap (λ fields. line_of_fields ([] ∷ fields)) some.2 ∙ untyped some.0 some.1
+line_of_fields-untyped [] rest short = let some = some_part (λ b. eqb b 9) rest in ap (λ fields. line_of_fields ([] ∷ fields)) some.2 ∙ untyped some.0 some.1
 line_of_fields-untyped (b ∷ first) rest short = absurd (omega arith)
 
 many : (first selector host port more : List ℕ) (rest : List (List ℕ)) → line_of_fields (first ∷ selector ∷ host ∷ port ∷ more ∷ rest) ≡ None
@@ -31,4 +21,4 @@ many (b ∷ first) selector host port more rest = refl
 
 -- more than four fields
 pub line_of_fields-many : (first selector host port rest : List ℕ) → line_of_fields (first ∷ selector ∷ host ∷ port ∷ fields_of rest) ≡ None
-line_of_fields-many first selector host port rest = let some = fields_of-some rest in ap (λ fields. line_of_fields (first ∷ selector ∷ host ∷ port ∷ fields)) some.2 ∙ many first selector host port some.0 some.1
+line_of_fields-many first selector host port rest = let some = some_part (λ b. eqb b 9) rest in ap (λ fields. line_of_fields (first ∷ selector ∷ host ∷ port ∷ fields)) some.2 ∙ many first selector host port some.0 some.1

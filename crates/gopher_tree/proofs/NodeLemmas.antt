@@ -33,16 +33,16 @@ is_among-fold known [] q = sym (or-false (is_path_among known q))
 is_among-fold known (path ∷ paths) q =
     is_among-fold (add_path known path) paths q ∙ ap (λ t. t || is_path_among paths q) (is_among-add known path q) ∙ or_assoc (is_path_among known q) (pointwise eqb q path) (is_path_among paths q)
 
+pub is_root : (path : List ℕ) → pointwise eqb path [] ≡ eqb (length path) 0
+is_root [] = refl
+is_root (c ∷ path) = sym (eqb-suc-zero (length path))
+
 -- a node is a file or a folder
 pub node_is : (files : List File) (q : List ℕ) → is_path_among (nodes files) q ≡ (is_file files q || is_folder files q)
 node_is files q =
     is_among-fold ([] ∷ []) (flat_map (λ f. paths_of f.0) files) q ∙ each files
-    ∙ ap (λ t. is_file files q || (t || list_any (λ f. is_path_among (folders_of f.0) q) files)) (root q)
+    ∙ ap (λ t. is_file files q || (t || list_any (λ f. is_path_among (folders_of f.0) q) files)) (is_root q)
   where
-    root : (p : List ℕ) → pointwise eqb p [] ≡ eqb (length p) 0
-    root [] = refl
-    root (c ∷ p) = sym (eqb-suc-zero (length p))
-
     turn : (r folder same rest file below : Bool) → ((r || false) || rest) ≡ (file || (r || below)) → ((r || false) || ((r || (folder || (same || false))) || rest)) ≡ ((same || file) || (r || (folder || below)))
     turn true folder same rest file below h = sym (or-true (same || file))
     turn false true same rest file below h = sym (or-true (same || file))

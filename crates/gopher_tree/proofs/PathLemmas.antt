@@ -2,17 +2,13 @@
 use Rattle.std.proofs.Common.{◌≡◌, ℕ, Bool, true, false, ◌||◌, eqb, List, [], ◌∷◌, Some, refl, sym, ap, ◌∙◌}
 use Rattle.std.specs.List.{onto_first}
 use Rattle.std.proofs.lemmas.List.Splits.{slice_split-cons_yes, slice_split-cons_no}
+use Rattle.gopher_bytes.proofs.Splits.{some_part}
 use Rattle.gopher_tree.specs.Path.{names_of, last_name, is_bad_name, has_bad_name}
 use Rattle.gopher_tree.specs.Files.{child_of}
 
 -- a path has a first name
 pub names_of-some : (path : List ℕ) → (name : List ℕ) × (more : List (List ℕ)) × (names_of path ≡ name ∷ more)
-names_of-some [] = ([], [], refl)
-names_of-some (b ∷ path) = by (eqb b 47) refl (names_of-some path)
-  where
-    by : (t : Bool) → eqb b 47 ≡ t → (name : List ℕ) × (more : List (List ℕ)) × (names_of path ≡ name ∷ more) → (name : List ℕ) × (more : List (List ℕ)) × (names_of (b ∷ path) ≡ name ∷ more)
-    by true e rest = ([], names_of path, slice_split-cons_yes (λ b. eqb b 47) b path e)
-    by false e rest = (b ∷ rest.0, rest.1, slice_split-cons_no (λ b. eqb b 47) b path e ∙ ap (onto_first b) rest.2)
+names_of-some path = some_part (λ b. eqb b 47) path
 
 pub last_name-more : (name after : List ℕ) → last_name (name ∷ names_of after) ≡ last_name (names_of after)
 last_name-more name after =

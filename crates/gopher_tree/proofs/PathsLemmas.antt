@@ -1,6 +1,6 @@
 -- The paths of a tree in byte order.
-use Rattle.std.proofs.Common.{◌≡◌, ℕ, Option, Bool, true, false, cond, ◌||◌, eqb, List, [], ◌∷◌, length, map, None, Some, is_some, Result, Ok, Err, IfOk, refl, sym, ap, subst, ◌∙◌}
-use Rattle.std.specs.List.{AllByRecursion}
+use Rattle.std.proofs.Common.{◌≡◌, ℕ, Option, cond, ◌||◌, eqb, List, [], ◌∷◌, map, None, Some, is_some, Result, Ok, Err, IfOk, refl, sym, ap, subst, ◌∙◌}
+use Rattle.std.specs.List.{AllByRecursion, list_any}
 use Rattle.std.specs.List.Sorted.{IsStrictlySortedBy}
 use Rattle.std.specs.declared.cmp.Ordering.{Ordering}
 use Rattle.std.specs.declared.cmp.Ordering.TheVariants.{Less}
@@ -9,9 +9,10 @@ use Rattle.std.specs.Cmp.Lexicographic.{pointwise, slice_cmp, texts_ties}
 use Rattle.std.specs.BTreeMap.{BTreeMap, keys}
 use Rattle.std.specs.Map.{keys_of, lookup}
 use Rattle.std.specs.declared.vec.Vec.{Vec}
-use Rattle.std.proofs.Math.Dec.{eqb-suc-zero}
+use Rattle.std.proofs.lemmas.Map.Made.{is_some-lookup}
 use Rattle.gopher_tree.specs.Files.{File, is_path_among, nodes, AreNodes}
 use Rattle.gopher_tree.specs.Tree.{entry_at, HoldsPaths, ArePathsOf}
+use Rattle.gopher_tree.proofs.NodeLemmas.{is_root}
 
 below_map : {A B : Type 0} (c : B → B → Ordering) (f : A → B) (x : A) (xs : List A) → AllByRecursion (λ y. c (f x) (f y) ≡ Less) xs → AllByRecursion (λ y. c (f x) y ≡ Less) (map f xs)
 below_map c f x [] h = tt
@@ -35,13 +36,11 @@ root_below (e ∷ entries) none = by e.0.items none (root_below entries)
 
 among_keys : {A X : Type 0} (path : List ℕ) (entries : List (Vec ℕ A × X))
     → is_path_among (map (λ key. key.items) (keys_of entries)) path ≡ is_some (lookup (λ key. is_eq (slice_cmp nat_cmp path key.items)) entries)
-among_keys path [] = refl
-among_keys path (e ∷ entries) = ap (λ t. t || is_path_among (map (λ key. key.items) (keys_of entries)) path) (texts_ties path e.0.items) ∙ by (is_eq (slice_cmp nat_cmp path e.0.items)) (among_keys path entries)
+among_keys path entries = same (keys_of entries) ∙ sym (is_some-lookup (λ key. is_eq (slice_cmp nat_cmp path key.items)) entries)
   where
-    by : (t : Bool) → is_path_among (map (λ key. key.items) (keys_of entries)) path ≡ is_some (lookup (λ key. is_eq (slice_cmp nat_cmp path key.items)) entries)
-        → (t || is_path_among (map (λ key. key.items) (keys_of entries)) path) ≡ is_some (cond t (Some e.1) (lookup (λ key. is_eq (slice_cmp nat_cmp path key.items)) entries))
-    by true h = refl
-    by false h = h
+    same : {A : Type 0} (held : List (Vec ℕ A)) → is_path_among (map (λ key. key.items) held) path ≡ list_any (λ key. is_eq (slice_cmp nat_cmp path key.items)) held
+    same [] = refl
+    same (key ∷ held) = ap (λ t. t || is_path_among (map (λ k. k.items) held) path) (texts_ties path key.items) ∙ ap (λ t. is_eq (slice_cmp nat_cmp path key.items) || t) (same held)
 
 sorted_with_root : (paths : List (List ℕ)) → AllByRecursion (λ path. slice_cmp nat_cmp [] path ≡ Less) paths → IsStrictlySortedBy (slice_cmp nat_cmp) paths → IsStrictlySortedBy (slice_cmp nat_cmp) ([] ∷ paths)
 unfolding IsStrictlySortedBy
@@ -52,12 +51,8 @@ nodes_are files held paths holds are = record {
   order = subst (IsStrictlySortedBy (slice_cmp nat_cmp)) (sym are.all) (sorted_with_root _ (root_below held.entries holds.root) (sorted_map (slice_cmp nat_cmp) (λ key. key.items) (keys held) are.order));
   whole = λ path.
       ap (λ l. is_path_among l path) are.all ∙ ap (λ t. pointwise eqb path [] || t) (among_keys path held.entries)
-      ∙ ap (λ t. t || is_some (entry_at held path)) (root path) ∙ sym (holds.known path);
+      ∙ ap (λ t. t || is_some (entry_at held path)) (is_root path) ∙ sym (holds.known path);
 }
-  where
-    root : (path : List ℕ) → pointwise eqb path [] ≡ eqb (length path) 0
-    root [] = refl
-    root (c ∷ path) = sym (eqb-suc-zero (length path))
 
 pub nodes_if_ok : {A E P : Type 0} (shown : P → List (List ℕ)) (files seen : List File) (held : BTreeMap (Vec ℕ A) (Option ℕ)) (result : Result P E)
     → files ≡ seen → HoldsPaths (nodes files) held → IfOk result (λ paths. ArePathsOf held (shown paths)) → IfOk result (λ paths. AreNodes seen (shown paths))

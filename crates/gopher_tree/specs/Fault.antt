@@ -1,5 +1,6 @@
 -- The faults of lists of files.
 use Rattle.std.specs.Prelude.{◌≡◌, ℕ, Bool, ◌||◌, nat_lt, List, [], ◌∷◌, ◌++◌, length, Option, None, Some, Result, Ok, Err, ◌⊎◌, if◌then◌else◌}
+use Rattle.std.specs.Option.{option_map, option_or}
 use Rattle.gopher_tree.specs.Path.{names_of, first_name, is_search_name, has_bad_name, is_menu_path}
 use Rattle.gopher_tree.specs.MenuFile.{bad_line}
 use Rattle.gopher_tree.specs.Files.{File, is_file, is_folder, leads_through_file, nodes, total_bytes}
@@ -33,45 +34,33 @@ is_too_big files file =
 abbrev pub is_twice : List File → List ℕ → Bool
 is_twice files path = is_file files path || is_folder files path || leads_through_file files path
 
-abbrev pub line_fault : ℕ → Option ℕ → Option TreeFault
-line_fault number None = None
-line_fault number (Some line) = Some (BadMenuLine number line)
-
 abbrev pub menu_fault : ℕ → File → Option TreeFault
-menu_fault number file = if is_menu_path file.0 then line_fault number (bad_line file.1) else None
-
-abbrev pub twice_fault : List File → List ℕ → Option TreeFault
-twice_fault files path = if is_twice files path then Some (Twice (length files)) else None
-
-abbrev pub or_fault : Option TreeFault → Option TreeFault → Option TreeFault
-or_fault None later = later
-or_fault (Some fault) later = Some fault
+menu_fault number file =
+    if is_menu_path file.0 then option_map (BadMenuLine number) (bad_line file.1) else None
 
 -- the first fault of a file after these files
 abbrev pub file_fault : List File → File → Option TreeFault
 file_fault files file =
-    or_fault (path_fault (length files) file.0)
+    option_or (path_fault (length files) file.0)
     (if is_too_big files file then Some (TooBig (length files))
-    else or_fault (menu_fault (length files) file) (twice_fault files file.0))
+    else option_or (menu_fault (length files) file)
+    (if is_twice files file.0 then Some (Twice (length files)) else None))
 
 -- the fault of the first file that has one, after the files `done`
 abbrev pub fault_after : List File → List File → Option TreeFault
 fault_after done [] = None
 fault_after done (file ∷ files) =
-    or_fault (file_fault done file) (fault_after (done ++ file ∷ []) files)
+    option_or (file_fault done file) (fault_after (done ++ file ∷ []) files)
 
 abbrev pub files_fault : List File → Option TreeFault
 files_fault files = fault_after [] files
 
--- adding a file fails with the file's fault, returns the tree with it, or is out of memory
+-- adding a file with this fault, or with none, fails with it, returns the tree with the file, or is
+-- out of memory
 abbrev pub AddsFile : {T : Type 0} → Option TreeFault → T → Result T TreeFault → Type 0
 AddsFile (Some fault) files result = result ≡ Err fault
 AddsFile None files (Ok tree) = tree ≡ files
 AddsFile None files (Err fault) = fault ≡ NoMemory
-
--- adding a file to these files
-abbrev pub AddsFileTo : List File → File → Result (List File) TreeFault → Type 0
-AddsFileTo files file result = AddsFile (file_fault files file) (files ++ file ∷ []) result
 
 -- the fault of the first file
 abbrev pub first_fault : List File → Option TreeFault

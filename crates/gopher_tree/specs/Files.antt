@@ -2,6 +2,7 @@
 use Rattle.std.specs.Prelude.{◌≡◌, ℕ, Bool, ◌||◌, not, nat_eq, ◌==◌, List, [], ◌∷◌, ◌++◌, length, filter, fold, find, Option, None, Some, sum_by, if◌then◌else◌}
 use Rattle.std.specs.List.{list_any, filter_map, flat_map}
 use Rattle.std.specs.List.Sorted.{IsStrictlySortedBy}
+use Rattle.std.specs.Option.{option_and_then, option_map_or}
 use Rattle.std.specs.Ordering.{nat_cmp}
 use Rattle.std.specs.Cmp.Lexicographic.{pointwise, slice_cmp}
 use Rattle.std.specs.BTreeMap.{insert_entry}
@@ -51,8 +52,7 @@ child_of kind (name ∷ []) = if is_menu_name name then None else Some (name, ki
 child_of kind (name ∷ more) = Some (name, 49)
 
 abbrev pub child_of_rest : ℕ → Option (List ℕ) → Option Child
-child_of_rest kind None = None
-child_of_rest kind (Some rest) = child_of kind (names_of rest)
+child_of_rest kind rest = option_and_then (λ path. child_of kind (names_of path)) rest
 
 abbrev pub child_below : List ℕ → File → Option Child
 child_below folder file = child_of_rest (kind_of file.0 file.1) (rest_below folder file.0)
@@ -62,8 +62,7 @@ abbrev pub add_child : List Child → Child → List Child
 add_child children child = insert_entry (slice_cmp nat_cmp) children child.0 child.1
 
 abbrev pub with_child : List Child → Option Child → List Child
-with_child children None = children
-with_child children (Some child) = add_child children child
+with_child children child = option_map_or (add_child children) child children
 
 abbrev pub children : List File → List ℕ → List Child
 children files folder = fold add_child [] (filter_map (child_below folder) files)

@@ -17,8 +17,11 @@ abbrev pub lent_file : Bor (List ℕ) × Bor (List ℕ) → File
 lent_file file = (file.0.now, file.1.now)
 
 -- a child whose name is lent
+abbrev pub lent_child : Bor (List ℕ) × ℕ → Child
+lent_child child = (child.0.now, child.1)
+
 abbrev pub child_data : Option (Bor (List ℕ) × ℕ) → Option Child
-child_data child = option_map (λ c. (c.0.now, c.1)) child
+child_data child = option_map lent_child child
 
 -- the node is the file or the folder that a selector names
 abbrev pub Shows : Option Named → Option Node → Type 0

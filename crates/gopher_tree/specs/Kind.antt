@@ -11,9 +11,6 @@ has_ending ending name =
     pointwise nat_eq (map to_ascii_lowercase (drop (length name - length ending) name))
     (map to_ascii_lowercase ending)
 
-abbrev pub is_gif : List ℕ → Bool
-is_gif name = has_ending (codes ".gif") name
-
 abbrev pub is_image : List ℕ → Bool
 is_image name =
     has_ending (codes ".png") name || has_ending (codes ".jpg") name
@@ -22,5 +19,5 @@ is_image name =
 -- the type of a file by its name and bytes: `g`, `I`, `9` or `0`
 abbrev pub kind_of : List ℕ → List ℕ → ℕ
 kind_of name bytes =
-    if is_gif name then 103
+    if has_ending (codes ".gif") name then 103
     else (if is_image name then 73 else (if list_any (λ byte. byte == 0) bytes then 57 else 48))

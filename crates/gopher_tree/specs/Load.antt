@@ -1,8 +1,6 @@
 -- A walk through a folder: the files that it lists, and why it stops.
 use Rattle.std.specs.Prelude.{◌≡◌, ℕ, ◌+◌, ◌<◌, ◌≤◌, Bool, true, false, not, ◌==◌, ◌||◌, nat_le, nat_lt, List, [], ◌∷◌, ◌++◌, length, map, take, String, string_bytes, Option, None, Some, IfSome, Result, Ok, Err, IfOk, ◌⊎◌, if◌then◌else◌}
 use Rattle.std.specs.List.{All}
-use Rattle.std.specs.Fs.{IsDir, IsFile, file_type}
-use Rattle.std.specs.declared.fs.attrs.Metadata.{Metadata}
 use Rattle.std.specs.declared.vec.Vec.{Vec}
 use Rattle.gopher_tree.specs.Path.{is_menu_name}
 use Rattle.gopher_tree.specs.Files.{File, total_bytes}
@@ -23,14 +21,6 @@ with_shown names name = if is_shown name then names ++ name ∷ [] else names
 -- all these names are listed
 abbrev pub AreShown : {A : Type 0} → List (String A) → Type 0
 AreShown names = All (λ name. is_shown (string_bytes name) ≡ true) names
-
--- the metadata is that of a folder
-abbrev pub IsOfFolder : Metadata → Type 0
-IsOfFolder found = IsDir (file_type found)
-
--- the metadata is that of a regular file
-abbrev pub IsOfFile : Metadata → Type 0
-IsOfFile found = IsFile (file_type found)
 
 -- the number of hidden names after a name was seen; it stays at its last value
 abbrev pub CountsHidden : ℕ → ℕ → List ℕ → Type 0

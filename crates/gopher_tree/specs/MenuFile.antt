@@ -1,10 +1,11 @@
 -- A `.menu` file: the menu of its folder. The format is this profile's.
 use Rattle.std.specs.Prelude.{ℕ, ◌+◌, Bool, not, List, [], ◌∷◌, codes, map, Option, None, Some, is_some, if◌then◌else◌}
 use Rattle.std.specs.List.{filter_map}
+use Rattle.std.specs.Option.{option_and_then}
 use Rattle.gopher_bytes.specs.Lines.{lines_of}
 use Rattle.gopher_item.specs.Menu.{fields_of}
 use Rattle.gopher_bytes.specs.Trim.{trim_spaces}
-use Rattle.gopher_item.specs.MenuLine.{MenuLineData, menu_line_fault}
+use Rattle.gopher_item.specs.MenuLine.{MenuLineData, menu_line_fault, menu_line_of}
 use Rattle.gopher_bytes.specs.Number.{number_of}
 use Rattle.gopher_item.specs.Place.{HomeData, is_host}
 
@@ -25,25 +26,22 @@ written_item kind display selector server =
     then Some (record { kind = kind; display = display; selector = selector; server = server })
     else None
 
+-- the server of a host and a port, if the host is valid
+abbrev pub server_at : List ℕ → ℕ → Option HomeData
+server_at host port = if is_host host then Some (record { host = host; port = port }) else None
+
 -- the server of a host and a port, after spaces at their ends are dropped
-abbrev pub server_of_port : List ℕ → Option ℕ → Option HomeData
-server_of_port host None = None
-server_of_port host (Some port) =
-    if is_host host then Some (record { host = host; port = port }) else None
-
 abbrev pub server_of : List ℕ → List ℕ → Option HomeData
-server_of host port = server_of_port (trim_spaces host) (number_of 65535 (trim_spaces port))
-
-abbrev pub item_at : ℕ → List ℕ → List ℕ → Option HomeData → Option WrittenLineData
-item_at kind display selector None = None
-item_at kind display selector (Some server) = written_item kind display selector (Some server)
+server_of host port =
+    option_and_then (server_at (trim_spaces host)) (number_of 65535 (trim_spaces port))
 
 -- a text alone is an `i` line; of several fields, the first is the type and the display string
 abbrev pub line_of_fields : List (List ℕ) → Option WrittenLineData
 line_of_fields (text ∷ []) = written_item 105 text [] None
 line_of_fields ((kind ∷ display) ∷ selector ∷ []) = written_item kind display selector None
 line_of_fields ((kind ∷ display) ∷ selector ∷ host ∷ port ∷ []) =
-    item_at kind display selector (server_of host port)
+    option_and_then (λ server. written_item kind display selector (Some server))
+    (server_of host port)
 line_of_fields _ = None
 
 abbrev pub written_line : List ℕ → Option WrittenLineData
@@ -63,22 +61,9 @@ abbrev pub sent_line : HomeData → WrittenLineData → MenuLineData
 sent_line home line = at line.server
   where
     at : Option HomeData → MenuLineData
-    at None =
-        record {
-          kind = line.kind;
-          display = line.display;
-          selector = line.selector;
-          host = home.host;
-          port = home.port;
-        }
+    at None = menu_line_of line.kind line.display line.selector home.host home.port
     at (Some server) =
-        record {
-          kind = line.kind;
-          display = line.display;
-          selector = line.selector;
-          host = server.host;
-          port = server.port;
-        }
+        menu_line_of line.kind line.display line.selector server.host server.port
 
 abbrev pub written_menu : HomeData → List ℕ → List MenuLineData
 written_menu home bytes = map (sent_line home) (filter_map written_line (lines_of bytes))

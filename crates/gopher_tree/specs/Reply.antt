@@ -1,10 +1,10 @@
 -- The reply of a tree to a selector (RFC 1436, section 2; folders as menus are this profile's).
 use Rattle.std.specs.Prelude.{◌≡◌, ℕ, length, ◌==◌, List, [], ◌∷◌, ◌++◌, codes, map, Option, None, Some, Result, OnOk, if◌then◌else◌}
 use Rattle.std.specs.List.{flat_map}
-use Rattle.std.specs.Option.{option_map}
+use Rattle.std.specs.Option.{option_and_then, option_map}
 use Rattle.std.specs.declared.vec.Vec.{Vec}
 use Rattle.gopher_bytes.specs.Lines.{lines_of}
-use Rattle.gopher_item.specs.MenuLine.{MenuLineData, menu_line_bytes, menu_bytes}
+use Rattle.gopher_item.specs.MenuLine.{MenuLineData, menu_line_bytes, menu_line_of, menu_bytes}
 use Rattle.gopher_item.specs.Place.{HomeData}
 use Rattle.gopher_text.specs.Text.{text_bytes}
 use Rattle.gopher_tree.specs.Path.{is_menu_path, prefix_of, path_of, menu_path}
@@ -34,36 +34,19 @@ named_by files path (Some file) =
 named_by files path None = if is_folder files path then Some (NamedFolder path) else None
 
 abbrev pub named_at : List File → Option (List ℕ) → Option Named
-named_at files None = None
-named_at files (Some path) = named_by files path (file_at files path)
+named_at files path = option_and_then (λ p. named_by files p (file_at files p)) path
 
 abbrev pub named : List File → List ℕ → Option Named
 named files selector = named_at files (path_of selector)
 
--- the bytes before a name in its selector
-abbrev pub front_of : List ℕ → List ℕ
-front_of folder = 47 ∷ prefix_of folder
-
+-- the line of a name in a folder; `front` comes before the name in its selector
 abbrev pub child_line : HomeData → List ℕ → Child → MenuLineData
 child_line home front child =
-    record {
-      kind = child.1;
-      display = child.0;
-      selector = front ++ child.0;
-      host = home.host;
-      port = home.port;
-    }
+    menu_line_of child.1 child.0 (front ++ child.0) home.host home.port
 
 -- the line of the search, of type `7` (55; RFC 1436, section 3.8)
 abbrev pub search_line : HomeData → MenuLineData
-search_line home =
-    record {
-      kind = 55;
-      display = codes "Search";
-      selector = codes "/search";
-      host = home.host;
-      port = home.port;
-    }
+search_line home = menu_line_of 55 (codes "Search") (codes "/search") home.host home.port
 
 -- the root's menu begins with the search line
 abbrev pub head_lines : HomeData → List ℕ → List MenuLineData
@@ -71,13 +54,7 @@ head_lines home folder = if length folder == 0 then search_line home ∷ [] else
 
 abbrev pub listing_of : HomeData → List ℕ → List Child → List MenuLineData
 listing_of home folder names =
-    head_lines home folder ++ map (child_line home (front_of folder)) names
-
-abbrev pub listing_bytes : HomeData → List ℕ → List Child → List ℕ
-listing_bytes home folder names = menu_bytes (listing_of home folder names)
-
-abbrev pub listing : List File → HomeData → List ℕ → List MenuLineData
-listing files home folder = listing_of home folder (children files folder)
+    head_lines home folder ++ map (child_line home (47 ∷ prefix_of folder)) names
 
 -- the bytes of a folder's own menu file, if it has one
 abbrev pub menu_file : List File → List ℕ → Option (List ℕ)
@@ -86,7 +63,7 @@ menu_file files folder = option_map (λ file. file.1) (file_at files (menu_path 
 -- the menu of a folder: its menu file or, without one, its listing
 abbrev pub folder_menu : List File → HomeData → List ℕ → Option (List ℕ) → List MenuLineData
 folder_menu files home folder (Some written) = written_menu home written
-folder_menu files home folder None = listing files home folder
+folder_menu files home folder None = listing_of home folder (children files folder)
 
 abbrev pub folder_reply : List File → HomeData → List ℕ → List ℕ
 folder_reply files home folder = menu_bytes (folder_menu files home folder (menu_file files folder))
@@ -97,8 +74,7 @@ file_reply kind bytes = if kind == 48 then text_bytes (lines_of bytes) else byte
 
 -- a line of type `3` (51; RFC 1436, section 3.8), whose text a client shows as an error
 abbrev pub error_line : List ℕ → HomeData → MenuLineData
-error_line text home =
-    record { kind = 51; display = text; selector = []; host = home.host; port = home.port }
+error_line text home = menu_line_of 51 text [] home.host home.port
 
 abbrev pub error_bytes : List ℕ → HomeData → List ℕ
 error_bytes text home = menu_bytes (error_line text home ∷ [])

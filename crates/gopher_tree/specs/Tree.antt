@@ -1,28 +1,24 @@
 -- The invariant of a tree.
 use Rattle.std.specs.Prelude.{◌≡◌, ℕ, ◌+◌, ◌<◌, ◌≤◌, ◌||◌, nat_eq, ◌==◌, List, [], ◌∷◌, length, map, fold, slice_get, Option, None, Some, is_some, IfSome, if◌then◌else◌}
 use Rattle.std.specs.List.Sorted.{IsStrictlySortedBy}
+use Rattle.std.specs.Option.{option_and_then, option_flatten}
 use Rattle.std.specs.Ordering.{nat_cmp}
 use Rattle.std.specs.Cmp.Lexicographic.{pointwise, slice_cmp}
 use Rattle.std.specs.BTreeMap.{BTreeMap, keys, get_by, btree_map_len}
 use Rattle.std.specs.declared.vec.Vec.{Vec}
-use Rattle.gopher_tree.specs.Files.{File, file_at, is_path_among, add_path, paths_of, nodes, total_bytes}
+use Rattle.gopher_tree.specs.Files.{File, file_at, is_path_among, add_path, nodes, total_bytes}
 
 -- the entry at a path: the number of a file, or a folder
 abbrev pub entry_at : {A : Type 0} → BTreeMap (Vec ℕ A) (Option ℕ) → List ℕ → Option (Option ℕ)
 entry_at held path = get_by (λ key. slice_cmp nat_cmp path key.items) held
 
 -- the number of the file at a path
-abbrev pub number_of_entry : Option (Option ℕ) → Option ℕ
-number_of_entry (Some entry) = entry
-number_of_entry None = None
-
 abbrev pub number_at : {A : Type 0} → BTreeMap (Vec ℕ A) (Option ℕ) → List ℕ → Option ℕ
-number_at held path = number_of_entry (entry_at held path)
+number_at held path = option_flatten (entry_at held path)
 
 -- the file with this number, if there is one
 abbrev pub file_numbered : List File → Option ℕ → Option File
-file_numbered files (Some number) = slice_get files number
-file_numbered files None = None
+file_numbered files number = option_and_then (slice_get files) number
 
 -- a map contains these paths, except the root
 pub record HoldsPaths {A : Type 0} (paths : List (List ℕ))
@@ -64,8 +60,3 @@ pub record ArePathsOf {A : Type 0} (held : BTreeMap (Vec ℕ A) (Option ℕ))
     (paths : List (List ℕ)) : Type 0 where
   pub all : paths ≡ [] ∷ map (λ key. key.items) (keys held)
   pub order : IsStrictlySortedBy (λ x y. slice_cmp nat_cmp x.items y.items) (keys held)
-
--- a path adds this many nodes to those of the files
-abbrev pub AddsNodes : List File → List ℕ → ℕ → Type 0
-AddsNodes files path count =
-    length (fold add_path (nodes files) (paths_of path)) ≡ length (nodes files) + count

@@ -3,7 +3,7 @@ use Rattle.std.specs.Prelude.{◌≡◌, ℕ, List, Option}
 use Rattle.std.specs.Option.{option_map}
 use Rattle.std.specs.Borrow.{Bor}
 use Rattle.gopher_item.specs.Place.{HomeData}
-use Rattle.gopher_tree.specs.MenuFile.{WrittenLineData, written_item}
+use Rattle.gopher_tree.specs.MenuFile.{WrittenLineData}
 use Rattle.gopher_tree.specs.declared.menu_file.WrittenLine.{WrittenLine}
 
 abbrev pub server_data : Option (Bor (List ℕ) × ℕ) → Option HomeData
@@ -21,9 +21,3 @@ line_data line =
 -- both are the same line, or neither is a line
 abbrev pub IsWrittenLine : Option WrittenLineData → Option WrittenLine → Type 0
 IsWrittenLine wanted line = option_map line_data line ≡ wanted
-
--- it is the line of these parts, or there is none because they aren't valid
-abbrev pub IsWrittenItem : ℕ → List ℕ → List ℕ → Option (Bor (List ℕ) × ℕ)
-    → Option WrittenLine → Type 0
-IsWrittenItem kind display selector server line =
-    IsWrittenLine (written_item kind display selector (server_data server)) line

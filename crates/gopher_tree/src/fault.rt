@@ -3,8 +3,6 @@
 ghost use Rattle.std.specs.Prelude.{◌≡◌};
 ghost use Rattle.gopher_tree.specs.Fault.{tree_fault_code};
 
-use gopher_item::NoMemory;
-use std::alloc::{AllocError, AllocFailed};
 use thiserror::Error;
 
 /// Why files don't make a tree. `file` is the index of the file in the list, from 0; in a walk

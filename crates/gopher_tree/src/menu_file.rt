@@ -2,8 +2,8 @@
 
 ghost use Rattle.std.specs.Prelude.{◌≡◌, ◌∷◌};
 ghost use Rattle.gopher_item.specs.Menu.{fields_of};
-ghost use Rattle.gopher_tree.specs.MenuFile.{is_item, line_of_fields, server_of, written_line, bad_line, written_menu, sent_line};
-ghost use Rattle.gopher_tree.specs.WrittenLine.{line_data, server_data, IsWrittenItem, IsWrittenLine};
+ghost use Rattle.gopher_tree.specs.MenuFile.{is_item, line_of_fields, server_of, written_item, written_line, bad_line, written_menu, sent_line};
+ghost use Rattle.gopher_tree.specs.WrittenLine.{line_data, server_data, IsWrittenLine};
 ghost use Rattle.gopher_tree.specs.Reply.{PutsLine, PutsLines};
 
 use gopher_item::{
@@ -40,7 +40,8 @@ fn written_item<'a>(
     selector: &'a [u8],
     server: Option<(&'a [u8], u16)>,
 ) -> Option<WrittenLine<'a>>
-    ensures { IsWrittenItem kind display.now selector.now server.entry result }
+    ensures { IsWrittenLine (written_item kind display.now selector.now
+        (server_data server.entry)) result }
 {
     if !is_item(kind, display, selector) {
         return None;
@@ -59,11 +60,7 @@ fn server_of<'a>(host: &'a [u8], port: &[u8]) -> Option<(&'a [u8], u16)>
 {
     let host = trim_spaces(host);
     let port = read_number(65535, trim_spaces(port))?;
-    if is_host(host) {
-        Some((host, port as u16))
-    } else {
-        None
-    }
+    is_host(host).then_some((host, port as u16))
 }
 
 // The line of a first field and the bytes after its TAB.
@@ -114,10 +111,7 @@ pub(crate) fn bad_line(bytes: &[u8]) -> Option<usize>
 fn push_written(line: WrittenLine, home: &Home, out: &mut Vec<u8>) -> Result<(), NoMemory>
     ensures written { PutsLine (sent_line home.now (line_data line.entry)) out.old out.new result }
 {
-    let (host, port) = match line.server {
-        Some(server) => server,
-        None => (home.host(), home.port()),
-    };
+    let (host, port) = line.server.unwrap_or((home.host(), home.port()));
     push_menu_line(line.kind, line.display, line.selector, host, port, out)
 }
 

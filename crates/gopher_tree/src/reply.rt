@@ -3,20 +3,19 @@
 ghost use Rattle.std.specs.Prelude.{◌≡◌, false, map, IfOk};
 ghost use Rattle.gopher_item.specs.Special.{has_special};
 ghost use Rattle.gopher_item.specs.MenuLine.{menu_bytes};
+ghost use Rattle.gopher_tree.specs.Found.{lent_child};
 ghost use Rattle.gopher_tree.specs.MenuFile.{written_menu};
-ghost use Rattle.gopher_tree.specs.Reply.{PutsLine, PutsLines, child_line, head_lines, listing_bytes, file_reply, error_bytes, not_found_bytes};
+ghost use Rattle.gopher_tree.specs.Reply.{PutsLine, PutsLines, child_line, head_lines, listing_of, file_reply, error_bytes, not_found_bytes};
 
 use crate::menu_file::push_written_lines;
 use crate::tree::path::push_prefix;
-use gopher_item::{
-    ByteString, Home, NoMemory, push_front, push_last_line, push_menu_line, push_server,
-};
+use gopher_item::{Home, NoMemory, push_front, push_last_line, push_menu_line, push_server};
 use gopher_text::write_text_of;
 use std::alloc::Global;
 use std::collections::BTreeMap;
 
 // The distinct names in a folder in byte order, with their types.
-pub(crate) type Children = BTreeMap<ByteString, u8>;
+pub(crate) type Children<'a> = BTreeMap<&'a [u8], u8>;
 
 /// Makes an error reply: a menu with one line of type `3` (RFC 1436, section 3.8) that displays
 /// `text`.
@@ -55,10 +54,9 @@ pub(crate) fn file_reply(alloc: Global, kind: u8, bytes: &[u8]) -> Result<Vec<u8
 fn push_head(folder: &[u8], home: &Home, out: &mut Vec<u8>) -> Result<(), NoMemory>
     ensures { PutsLines (head_lines home.now folder.now) out.old out.new result }
 {
-    if !folder.is_empty() {
-        return Ok(());
+    if folder.is_empty() {
+        push_menu_line(b'7', b"Search", b"/search", home.host(), home.port(), out)?;
     }
-    push_menu_line(b'7', b"Search", b"/search", home.host(), home.port(), out)?;
     Ok(())
 }
 
@@ -81,16 +79,16 @@ fn push_child_line(
 
 // Appends a line for each name.
 fn push_names(
-    children: &Children,
+    children: &Children<'_>,
     front: &[u8],
     home: &Home,
     out: &mut Vec<u8>,
 ) -> Result<(), NoMemory>
-    ensures { PutsLines (map (child_line home.now front.now) children.now.entries)
+    ensures { PutsLines (map (child_line home.now front.now) (map lent_child children.now.entries))
         out.old out.new result }
 {
     for (name, kind) in children {
-        push_child_line(*kind, name.as_slice(), front, home, out)?;
+        push_child_line(*kind, name, front, home, out)?;
     }
     Ok(())
 }
@@ -99,11 +97,11 @@ fn push_names(
 pub(crate) fn listing_reply(
     alloc: Global,
     folder: &[u8],
-    children: &Children,
+    children: &Children<'_>,
     home: &Home,
 ) -> Result<Vec<u8>, NoMemory>
     ensures { IfOk result (λ bytes. bytes.items
-        ≡ listing_bytes home.now folder.now children.now.entries) }
+        ≡ menu_bytes (listing_of home.now folder.now (map lent_child children.now.entries))) }
 {
     let mut front = Vec::from_slice(alloc, b"/")?;
     push_prefix(folder, &mut front)?;

@@ -1,11 +1,10 @@
 //! `Tree`: its limits, its numbers, and how a file is added.
 
-ghost use Rattle.std.specs.Prelude.{◌≡◌, ◌||◌, ◌&&◌, ◌==◌, ◌≤◌, ◌<◌, ◌++◌, ◌∷◌, [], None, length, take, slice_index, map, count_by, if◌then◌else◌, IfOk};
+ghost use Rattle.std.specs.Prelude.{◌≡◌, ◌||◌, ◌&&◌, ◌==◌, ◌+◌, ◌≤◌, ◌<◌, ◌++◌, ◌∷◌, [], None, length, take, fold, slice_index, map, count_by, if◌then◌else◌, IfOk};
 ghost use Rattle.std.specs.Option.{option_copied};
 ghost use Rattle.gopher_tree.specs.Path.{is_menu_path};
-ghost use Rattle.gopher_tree.specs.Files.{is_file, is_folder, file_at, is_missing, menu_files, leads_through_file, nodes, is_path_among, AreNodes, total_bytes};
-ghost use Rattle.gopher_tree.specs.Fault.{is_too_big, is_twice, menu_fault, file_fault, AddsFileTo, MakesTree};
-ghost use Rattle.gopher_tree.specs.Tree.{AddsNodes};
+ghost use Rattle.gopher_tree.specs.Files.{is_file, is_folder, file_at, is_missing, menu_files, leads_through_file, nodes, is_path_among, add_path, paths_of, AreNodes, total_bytes};
+ghost use Rattle.gopher_tree.specs.Fault.{is_too_big, is_twice, menu_fault, file_fault, AddsFile, MakesTree};
 ghost use Rattle.gopher_tree.specs.Found.{file_data, lent_file};
 
 pub(crate) mod file;
@@ -36,7 +35,7 @@ pub const MAX_NODES: usize = 4_096;
 /// Files and the folders that their paths lead through, as a server sends them.
 ///
 /// Contracts see a tree as the list of its files, each a path and its bytes.
-#[derive(Debug, Drop)]
+#[derive(Drop)]
 pub struct Tree {
     files: Vec<File>,
     nodes: Nodes,
@@ -55,7 +54,7 @@ impl Model for Tree {
 }
 
 /// The node that a selector names.
-#[derive(Clone, Copy, Debug)]
+#[derive(Clone, Copy)]
 pub enum Node<'a> {
     /// A file: its type (RFC 1436, section 3.8) and its bytes.
     File(u8, &'a [u8]),
@@ -86,10 +85,8 @@ impl Tree {
     pub fn number_of_menus(&self) -> usize
         ensures { result ≡ count_by (λ file. is_menu_path file.0) self.now }
     {
-        self.files
-            .iter()
-            .filter(|file| is_menu_path(file.path()))
-            .count()
+        let files = self.files.iter();
+        files.filter(|file| is_menu_path(file.path())).count()
     }
 
     /// Returns the path and the bytes of each menu file, in the order of the files.
@@ -179,41 +176,30 @@ impl Tree {
             && is_missing self.now (take place path.now) then 1 else 0) }
         ensures bound { result ≤ 1 }
     {
-        if path[place] == b'/' && !self.has_node(&path[..place]) {
-            1
-        } else {
-            0
-        }
+        usize::from(path[place] == b'/' && !self.has_node(&path[..place]))
     }
 
     // How many nodes a path adds.
     fn new_nodes(&self, path: &[u8]) -> usize
         requires { 0 < length path.now }
-        ensures count { AddsNodes self.now path.now result }
+        ensures count { length (fold add_path (nodes self.now) (paths_of path.now))
+            ≡ length (nodes self.now) + result }
         ensures bound { result ≤ length path.now }
     {
         let mut count = 0;
         for place in 1..path.len() {
             count += self.new_folder_at(path, place);
         }
-        if self.has_node(path) {
-            count
-        } else {
-            count + 1
-        }
+        count + usize::from(!self.has_node(path))
     }
 
     fn is_too_big(&self, path: &[u8], bytes: &[u8]) -> bool
         requires { 0 < length path.now }
         ensures { result ≡ is_too_big self.now (path.now, bytes.now) }
     {
-        if bytes.len() > MAX_FILE {
-            return true;
-        }
-        if self.bytes + bytes.len() > MAX_BYTES {
-            return true;
-        }
-        self.nodes.len() + 1 + self.new_nodes(path) > MAX_NODES
+        bytes.len() > MAX_FILE
+            || self.bytes + bytes.len() > MAX_BYTES
+            || self.nodes.len() + 1 + self.new_nodes(path) > MAX_NODES
     }
 
     // The first fault of a file after these files.
@@ -230,10 +216,8 @@ impl Tree {
         if let Some(fault) = menu_fault(number, path, bytes) {
             return Some(fault);
         }
-        if self.is_twice(path) {
-            return Some(TreeFault::Twice { file: number });
-        }
-        None
+        self.is_twice(path)
+            .then_some(TreeFault::Twice { file: number })
     }
 
     // Adds a file without a fault.
@@ -256,15 +240,13 @@ impl Tree {
         path: Vec<u8>,
         bytes: Vec<u8>,
     ) -> Result<Tree, TreeFault>
-        ensures { AddsFileTo self (path.items, bytes.items) result }
+        ensures { AddsFile (file_fault self (path.items, bytes.items))
+            (self ++ (path.items, bytes.items) ∷ []) result }
     {
         if let Some(fault) = self.file_fault(&path, &bytes) {
             return Err(fault);
         }
-        match self.add(alloc, path, bytes) {
-            Ok(tree) => Ok(tree),
-            Err(_) => Err(TreeFault::NoMemory),
-        }
+        self.add(alloc, path, bytes).or(Err(TreeFault::NoMemory))
     }
 
     /// Makes the tree of a list of files. Each is a path, names joined by slashes, and its bytes.
@@ -297,8 +279,6 @@ fn menu_fault(number: usize, path: &[u8], bytes: &[u8]) -> Option<TreeFault>
     if !is_menu_path(path) {
         return None;
     }
-    match bad_line(bytes) {
-        Some(line) => Some(TreeFault::BadMenuLine { file: number, line }),
-        None => None,
-    }
+    let line = bad_line(bytes)?;
+    Some(TreeFault::BadMenuLine { file: number, line })
 }

@@ -5,10 +5,10 @@
 
 ghost use Rattle.std.specs.Prelude.{◌≡◌, ◌≢◌, [], IfErr, IfOk, None, OnOk, Some, map, string_bytes, string_cmp};
 ghost use Rattle.std.specs.List.Sorted.{IsSorted};
-ghost use Rattle.std.specs.Fs.{metadata_len};
+ghost use Rattle.std.specs.Fs.{IsDir, IsFile, file_type, metadata_len};
 ghost use Rattle.std.specs.IoError.{error_kind};
 ghost use Rattle.std.specs.declared.io.ErrorKind.TheVariants.{OutOfMemory};
-ghost use Rattle.gopher_tree.specs.Load.{is_shown, with_shown, AreShown, CountsHidden, HasSize, IsOfFolder, IsOfFile, IsUnreadable, most_read, ReadsMost};
+ghost use Rattle.gopher_tree.specs.Load.{is_shown, with_shown, AreShown, CountsHidden, HasSize, IsUnreadable, most_read, ReadsMost};
 
 use crate::fault::TreeFault;
 use crate::tree::MAX_FILE;
@@ -129,9 +129,7 @@ pub(crate) fn names_in<R: Files>(
         Err(error) if !is_root && is_missing(error.kind()) => Vec::new(alloc),
         Err(error) => return Err(read_fault(error, number)),
     };
-    let Ok(()) = names.sort() else {
-        return Err(TreeFault::NoMemory);
-    };
+    names.sort().or(Err(TreeFault::NoMemory))?;
     Ok(names)
 }
 
@@ -153,9 +151,10 @@ pub(crate) fn target_of<R: Files>(
 
 // The target by its metadata.
 fn target_found(found: fs::Metadata) -> Target
-    ensures folder { IsOfFolder found → result ≡ Target.Folder }
-    ensures file { IsOfFile found → result ≡ Target.File }
-    ensures neither { (IsOfFolder found → ⊥) → (IsOfFile found → ⊥) → result ≡ Target.Neither }
+    ensures folder { IsDir (file_type found) → result ≡ Target.Folder }
+    ensures file { IsFile (file_type found) → result ≡ Target.File }
+    ensures neither { (IsDir (file_type found) → ⊥) → (IsFile (file_type found) → ⊥)
+        → result ≡ Target.Neither }
 {
     if found.is_dir() {
         Target::Folder
@@ -185,18 +184,14 @@ pub(crate) fn without_links<R: Files>(
 // How many bytes of an open file are read: at most its length, and one over the largest file;
 // `None` if it isn't a regular file.
 fn most_read(found: &fs::Metadata) -> Option<u64>
-    ensures file { IsOfFile found.now → result ≡ Some (most_read (metadata_len found.now)) }
-    ensures other { (IsOfFile found.now → ⊥) → result ≡ None }
+    ensures file { IsFile (file_type found.now)
+        → result ≡ Some (most_read (metadata_len found.now)) }
+    ensures other { (IsFile (file_type found.now) → ⊥) → result ≡ None }
 {
     if !found.is_file() {
         return None;
     }
-    let length = found.len();
-    if length < MAX_READ {
-        Some(length)
-    } else {
-        Some(MAX_READ)
-    }
+    Some(found.len().min(MAX_READ))
 }
 
 // The bytes of a file; `None` if it has vanished, or its path leads to no regular file by now.
@@ -233,14 +228,12 @@ fn read_open<F: Read + OpenFile + Drop>(
         Ok(found) => found,
         Err(error) => return Err(read_fault(error, number)),
     };
-    match most_read(&found) {
-        Some(most) => {
-            let bytes = read_most(alloc, file, most, number)?;
-            *size = bytes.len().max(found.len() as usize);
-            Ok(Some(bytes))
-        }
-        None => Ok(None),
-    }
+    let Some(most) = most_read(&found) else {
+        return Ok(None);
+    };
+    let bytes = read_most(alloc, file, most, number)?;
+    *size = bytes.len().max(found.len() as usize);
+    Ok(Some(bytes))
 }
 
 // An empty vector. It has room for the bytes, and for one more that shows that no others follow, if
@@ -249,10 +242,7 @@ fn room_for(alloc: Global, bytes: u64) -> Vec<u8>
     ensures { result.items ≡ [] }
 {
     let room = bytes.saturating_add(1) as usize;
-    match Vec::with_capacity(alloc, room) {
-        Ok(vector) => vector,
-        Err(_refused) => Vec::new(alloc),
-    }
+    Vec::with_capacity(alloc, room).unwrap_or(Vec::new(alloc))
 }
 
 // The first `most` bytes of a reader, or all bytes if there are fewer.

@@ -13,7 +13,7 @@ use std::alloc::Global;
 const MAX_BELOW: usize = MAX_NODES - 1;
 
 /// What a walk through a folder of the file system has met, beside the files that it listed.
-#[derive(Debug, Drop)]
+#[derive(Drop)]
 pub struct Trail {
     /// The path of the file or folder that the walk reached last, from the root and without a
     /// leading slash; empty for the root itself.
@@ -76,10 +76,7 @@ impl Trail {
         if self.leaves_no_room(number) {
             return Err(TreeFault::TooBig { file: number });
         }
-        let Ok(()) = note(alloc, &self.path, &mut self.folders) else {
-            return Err(TreeFault::NoMemory);
-        };
-        Ok(())
+        note(alloc, &self.path, &mut self.folders).or(Err(TreeFault::NoMemory))
     }
 }
 

@@ -27,8 +27,7 @@ fn is_bad_name(name: &[u8]) -> bool
     ensures { result ≡ is_bad_name name.now }
 {
     match name {
-        [] => true,
-        [b'.', ..] => true,
+        [] | [b'.', ..] => true,
         _ => has_special(name),
     }
 }

@@ -1,18 +1,18 @@
 //! `Tree::find` and `Tree::reply`: the node and the reply at a selector.
 
-ghost use Rattle.std.specs.Prelude.{◌≡◌, IfOk, OnOk};
+ghost use Rattle.std.specs.Prelude.{◌≡◌, map, IfOk, OnOk};
 ghost use Rattle.std.specs.Option.{option_copied};
 ghost use Rattle.gopher_tree.specs.Kind.{kind_of};
 ghost use Rattle.gopher_tree.specs.Path.{rest_after};
 ghost use Rattle.gopher_tree.specs.Files.{file_at, child_of_rest, with_child, children};
 ghost use Rattle.gopher_tree.specs.Reply.{named_by, named, menu_file, folder_reply, tree_reply};
-ghost use Rattle.gopher_tree.specs.Found.{Shows, child_data};
+ghost use Rattle.gopher_tree.specs.Found.{Shows, child_data, lent_child};
 
 use crate::reply::{Children, file_reply, listing_reply, not_found, written_reply};
 use crate::tree::file::File;
 use crate::tree::path::{is_menu_name, is_menu_path, menu_path, path_of, prefix_of};
 use crate::tree::{Node, Tree};
-use gopher_item::{ByteString, Home, NoMemory, split_once};
+use gopher_item::{Home, NoMemory, split_once};
 use std::alloc::Global;
 use std::collections::BTreeMap;
 
@@ -30,29 +30,26 @@ fn child_after<'a>(prefix: &[u8], file: &'a File) -> Option<(&'a [u8], u8)>
 }
 
 // Adds a child, if there is one.
-fn add_child(
-    alloc: Global,
-    child: Option<(&[u8], u8)>,
-    children: &mut Children,
-) -> Result<(), NoMemory>
-    ensures { OnOk result (children.new.entries
-        ≡ with_child children.old.entries (child_data child.entry)) }
+fn add_child<'a>(child: Option<(&'a [u8], u8)>, children: &mut Children<'a>) -> Result<(), NoMemory>
+    ensures { OnOk result (map lent_child children.new.entries
+        ≡ with_child (map lent_child children.old.entries) (child_data child.entry)) }
 {
     if let Some((name, kind)) = child {
-        children.insert(ByteString::from_slice(alloc, name)?, kind)?;
+        children.insert(name, kind)?;
     }
     Ok(())
 }
 
 impl Tree {
     // The names in a folder.
-    fn children(&self, alloc: Global, folder: &[u8]) -> Result<Children, NoMemory>
-        ensures { IfOk result (λ names. names.entries ≡ children self.now folder.now) }
+    fn children(&self, alloc: Global, folder: &[u8]) -> Result<Children<'_>, NoMemory>
+        ensures { IfOk result (λ names. map lent_child names.entries
+            ≡ children self.now folder.now) }
     {
         let prefix = prefix_of(alloc, folder)?;
         let mut children = BTreeMap::new(alloc);
         for file in &self.files {
-            add_child(alloc, child_after(&prefix, file), &mut children)?;
+            add_child(child_after(&prefix, file), &mut children)?;
         }
         Ok(children)
     }

@@ -21,10 +21,10 @@ no_other bytes end none k low below here = none k low below (among (eqb (get_or 
 
 pub returns-in_default : goal.returns-in_default
 returns-in_default c =
-    let bytes = c.args.bytes.now in record {
-      fields = slice_split_nowhere 9 bytes (no_tab bytes (length bytes) c.in_default.ensures);
-      plain = list_any_nowhere is_other bytes (no_other bytes (length bytes) c.in_default.ensures);
-    }
+    let bytes = c.args.bytes.now in (
+      slice_split_nowhere 9 bytes (no_tab bytes (length bytes) c.in_default.ensures),
+      list_any_nowhere is_other bytes (no_other bytes (length bytes) c.in_default.ensures),
+    )
 
 pub returns-then-bytes-end-eq-TAB : goal.returns-then-bytes-end-eq-TAB
 returns-then-bytes-end-eq-TAB c =

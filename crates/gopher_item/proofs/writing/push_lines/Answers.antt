@@ -1,7 +1,5 @@
-use Rattle.std.proofs.Common.{◌≡◌, ◌++◌, List, ℕ, length, take, refl, ap, subst, ◌∙◌, append_assoc, OnOk, Result, Ok, Err, arith}
-use Rattle.std.specs.Io.{StartsWith}
-use Rattle.std.proofs.KnownBytes.{starts_with_rest}
-use Rattle.std.proofs.lemmas.List.{take_at, take_all}
+use Rattle.std.proofs.Common.{◌≡◌, take, OnOk, Result, Ok, Err, arith}
+use Rattle.std.proofs.lemmas.List.{take_all}
 use Rattle.std.proofs.lemmas.List.Elements.{All-more}
 use Rattle.std.proofs.lemmas.Grind.{common_steps}
 use Rattle.gopher_item.specs.MenuLine.{IsMenuLine}

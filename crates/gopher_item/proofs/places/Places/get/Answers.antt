@@ -1,7 +1,6 @@
 use Rattle.std.proofs.Common.{◌<◌, length, slice_get, refl, sym, ap, ◌∙◌, arith, subst}
 use Rattle.std.proofs.lemmas.Option.{slice_get_read}
-use Rattle.gopher_item.specs.Places.{HasHost}
-use Rattle.gopher_item.proofs.PackedPlaces.{length-unpacked, host_at, place_at}
+use Rattle.gopher_item.proofs.PackedPlaces.{HasHost, length-unpacked, host_at, place_at}
 use Rattle.gopher_item.proofs.places.Places.get.Goals as goal
 
 pub index-row-requires : goal.index-row-requires

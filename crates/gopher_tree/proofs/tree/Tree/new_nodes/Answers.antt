@@ -1,4 +1,4 @@
-use Rattle.std.proofs.Common.{◌≡◌, true, false, length, fold, sym, ap, ◌∙◌, arith}
+use Rattle.std.proofs.Common.{◌≡◌, length, fold, sym, ap, ◌∙◌, arith}
 use Rattle.gopher_tree.specs.Path.{folders_within}
 use Rattle.gopher_tree.specs.Files.{nodes, add_path}
 use Rattle.gopher_tree.proofs.NodeLemmas.{count_step, count_all}
@@ -14,18 +14,10 @@ loop-place-preserved c =
       counted = omega (arith, inv.counted, step, c.new_folder_at-count.ensures.count);
     }
 
-pub returns-then-has_node-clause-count : goal.returns-then-has_node-clause-count
-returns-then-has_node-clause-count c =
+pub returns-clause-count : goal.returns-clause-count
+returns-clause-count c =
     let files = c.args.self.now in
     let path = c.args.path.now in
     let end : length path ≡ c.loop-place.place = omega (arith, c.loop-place.invariant.within) in
-    let all = count_all files path true c.loop-place.count (sym c.has_node.ensures.among ∙ c.if-has_node.true) (ap (λ n. length (fold add_path (nodes files) (folders_within n path))) end ∙ c.loop-place.invariant.counted) in
-    omega (arith, all)
-
-pub returns-else-has_node-clause-count : goal.returns-else-has_node-clause-count
-returns-else-has_node-clause-count c =
-    let files = c.args.self.now in
-    let path = c.args.path.now in
-    let end : length path ≡ c.loop-place.place = omega (arith, c.loop-place.invariant.within) in
-    let all = count_all files path false c.loop-place.count (sym c.has_node.ensures.among ∙ c.if-has_node.false) (ap (λ n. length (fold add_path (nodes files) (folders_within n path))) end ∙ c.loop-place.invariant.counted) in
-    omega (arith, all)
+    let all = count_all files path c.has_node.result c.loop-place.count (sym c.has_node.ensures.among) (ap (λ n. length (fold add_path (nodes files) (folders_within n path))) end ∙ c.loop-place.invariant.counted) in
+    grind (arith, all)

@@ -3,7 +3,7 @@ use Rattle.gopher_bytes.specs.Lines.{any_last_line, lines_of}
 use Rattle.gopher_bytes.proofs.Splits.{any_last_line-line}
 use Rattle.gopher_item.specs.Menu.{entries_of}
 use Rattle.gopher_item.proofs.MenuLemmas.{entries_of-line, entries_of-empty, stands_in_rest, still_left}
-use Rattle.gopher_item.proofs.menu.read_menu.Goals as goal
+use Rattle.gopher_item.proofs.menu.push_entries.Goals as goal
 
 pub loop-line-preserved-in_ok-push : goal.loop-line-preserved-in_ok-push
 loop-line-preserved-in_ok-push c =
@@ -32,7 +32,7 @@ loop-line-preserved c =
     )
 
 pub loop-line-init : goal.loop-line-init
-loop-line-init c = (rw c.in_ok-entries.ensures.items refl, refl, ([], refl))
+loop-line-init c = (ap (λ e. e ++ entries_of (lines_of c.as_slice-bytes.result.now)) c.requires, refl, ([], refl))
 
 pub overflow_sub-start : goal.overflow_sub-start
 overflow_sub-start c =
@@ -42,5 +42,5 @@ overflow_sub-start c =
 pub entry_of-requires-clause-stands : goal.entry_of-requires-clause-stands
 entry_of-requires-clause-stands c =
     let left = c.loop-line.invariant.2 in
-    stands_in_rest _ c.args.bytes.now left.0 c.loop-line.rest.now c.in-Some.line.now c.in-Some.after.now
-    (c.in_ok-text.ensures.ok ∙ c.in_ok-from_slice.ensures) left.1 c.in-Some.ensures.whole
+    stands_in_rest _ c.as_slice-bytes.result.now left.0 c.loop-line.rest.now c.in-Some.line.now c.in-Some.after.now
+    (sym (c.as_slice-bytes.ensures ∙ c.deref.ensures)) left.1 c.in-Some.ensures.whole

@@ -2,7 +2,7 @@ use Rattle.std.proofs.Common.{◌∷◌, ◌+◌, drop, ap, sym, ◌∙◌}
 use Rattle.std.specs.ControlFlow.{continue_value}
 use Rattle.gopher_item.specs.Places.{places_lent}
 use Rattle.gopher_item.proofs.PackedPlaces.{drop_at}
-use Rattle.gopher_item.proofs.each_place.EachPlaceIterator.next.Goals as goal
+use Rattle.gopher_item.proofs.places.EachPlaceIterator.next.Goals as goal
 
 pub returns-clause-steps : goal.returns-clause-steps
 returns-clause-steps c =

@@ -1,7 +1,7 @@
 use Rattle.std.proofs.Common.{◌≡◌, ℕ, List, ◌++◌, length}
 use Rattle.gopher_bytes.specs.Lines.{any_last_line, lines_of}
 use Rattle.gopher_item.specs.Menu.{entries_of}
-use Rattle.gopher_item.proofs.menu.read_menu.Given as goal
+use Rattle.gopher_item.proofs.menu.push_entries.Given as goal
 
 abbrev pub invariant-loop-line : goal.invariant-loop-line
 invariant-loop-line l =
