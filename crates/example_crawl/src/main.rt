@@ -43,16 +43,15 @@ const WORKERS: u32 = 2;
 
 // The whole host may be visited.
 fn scope(alloc: Global) -> Result<Scope, Failed> {
-    let mut allow = Vec::new(alloc);
-    allow.push(Rule::new(alloc, burrow::HOST, burrow::PORT, b"")?)?;
+    let rule = Rule::new(alloc, burrow::HOST, burrow::PORT, b"")?;
+    let allow = vec![in alloc; rule]?;
     Ok(Scope::new(allow, Vec::new(alloc)))
 }
 
 // The crawl begins in the root of the host.
 fn catalogue(alloc: Global) -> Result<Catalogue, Failed> {
-    let mut seeds = Vec::new(alloc);
     let root = Place::new(alloc, b'1', b"", burrow::HOST, burrow::PORT)?;
-    seeds.push(root)?;
+    let seeds = vec![in alloc; root]?;
     let scope = scope(alloc)?;
     match Catalogue::open(alloc, scope, seeds, PLACES, TRIES) {
         Ok(catalogue) => Ok(catalogue),
@@ -112,11 +111,14 @@ fn search_and_close<C: Crew, R: Wait + Drop>(
     ensures first_begins { IfOk result (λ it. IsPrefix first.new.seen it.catalogue) }
     ensures second_begins { IfOk result (λ it. IsPrefix second.new.seen it.catalogue) }
 {
-    let (Ok(found), Ok(found_too)) = (first.search(query), second.search(query)) else {
-        return Err(Failed::Refused);
-    };
     let mut shares = shares;
     let Some(mut share) = shares.pop() else {
+        return Err(Failed::Refused);
+    };
+    let Ok(found) = first.search(query) else {
+        return Err(Failed::Refused);
+    };
+    let Ok(found_too) = second.search(query) else {
         return Err(Failed::Refused);
     };
     first.tell(&mut share);
@@ -144,18 +146,18 @@ fn print_hits<R: Print>(rt: &R, answer: &Answer) -> Result<(), Failed> {
 fn closed<C: Crew + Send + Sync, R: Print + AllocGlobal + Threads + Wait + Sync>(
     rt: &R,
     desk: Desk<C, &R>,
-    passes: Vec<Pass<C>>,
+    passes: &mut [Pass<C>],
     shares: Vec<Share<C>>,
+    query: &Query,
 ) -> Result<Catalogue, Failed> {
+    let Some((first, others)) = passes.split_first_mut() else {
+        return Err(Failed::Refused);
+    };
+    let Some(second) = others.first_mut() else {
+        return Err(Failed::Refused);
+    };
     let shares = crawled(rt, &desk, shares)?;
-    let mut passes = passes;
-    let (Some(mut first), Some(mut second)) = (passes.pop(), passes.pop()) else {
-        return Err(Failed::Refused);
-    };
-    let Ok(query) = Query::read(rt.alloc(), b"moon") else {
-        return Err(Failed::Refused);
-    };
-    let end = search_and_close(desk, shares, &mut first, &mut second, &query)?;
+    let end = search_and_close(desk, shares, first, second, query)?;
     print_hits(rt, &end.first)?;
     println!(rt; "{} in both answers", end.second.hits.len())?;
     Ok(end.catalogue)
@@ -169,9 +171,12 @@ fn opened<C: Crew + Send + Sync, R: Print + AllocGlobal + Threads + Wait + Sync>
     requires blank { IsBlankOf C.name C.parts C.history blank }
     requires begun { blank.begun ≡ [] }
 {
+    let Ok(query) = Query::read(rt.alloc(), b"moon") else {
+        return Err(Failed::Refused);
+    };
     let catalogue = catalogue(rt.alloc())?;
     match Desk::<C, &R>::open(rt, rt.alloc(), catalogue, PASSES, WORKERS, blank) {
-        Ok((desk, passes, shares)) => closed(rt, desk, passes, shares),
+        Ok((desk, mut passes, shares)) => closed(rt, desk, &mut passes, shares, &query),
         Err(_refused) => Err(Failed::Refused),
     }
 }

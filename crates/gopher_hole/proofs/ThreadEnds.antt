@@ -2,7 +2,7 @@
 use Rattle.std.proofs.Common.{◌≡◌, ◌+◌, List, [], ◌∷◌, ◌++◌, length, refl}
 use Rattle.std.proofs.lemmas.List.{length-append}
 use Rattle.gopher_hole.specs.Ending.{after_thread, after_threads}
-use Rattle.gopher_server.specs.declared.thread_end.ThreadEnd.{ThreadEnd}
+use Rattle.gopher_server.specs.declared.server.ThreadEnd.{ThreadEnd}
 use Rattle.gopher_hole.specs.declared.starting.ThreadsEnd.{ThreadsEnd}
 
 pub after_threads-more : (end : ThreadsEnd) (ends : List ThreadEnd) (last : ThreadEnd) → after_threads end (ends ++ last ∷ []) ≡ after_thread (after_threads end ends) last

@@ -14,8 +14,8 @@ use Rattle.gopher_catalogue.specs.Step.{opened_record}
 use Rattle.gopher_catalogue.specs.declared.event.EventData.{EventData}
 use Rattle.gopher_crew.specs.Kept.{IsStatusAfter}
 use Rattle.gopher_script.specs.Answer.{status_line}
-use Rattle.gopher_server.specs.declared.thread_end.ThreadEnd.{ThreadEnd}
-use Rattle.gopher_server.specs.declared.thread_end.ThreadEnd.TheVariants as thread
+use Rattle.gopher_server.specs.declared.server.ThreadEnd.{ThreadEnd}
+use Rattle.gopher_server.specs.declared.server.ThreadEnd.TheVariants as thread
 use Rattle.gopher_hole.specs.Sending.{HasSent}
 use Rattle.gopher_hole.specs.declared.starting.Started.{Started}
 use Rattle.gopher_hole.specs.declared.starting.ThreadsEnd.{ThreadsEnd}

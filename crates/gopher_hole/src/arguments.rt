@@ -151,20 +151,14 @@ fn shown(alloc: Global, error: &Error) -> Result<Text, NoMemory> {
 // The address that an argument names, with port 0 if it names no port.
 fn address_of(argument: &str) -> Option<SocketAddr> {
     if let Ok(address) = argument.parse::<SocketAddr>() {
-        return if address.port() == 0 {
-            None
-        } else {
-            Some(address)
-        };
+        return (address.port() != 0).then_some(address);
     }
     if let Ok(address) = argument.parse::<IpAddr>() {
         return Some(SocketAddr::new(address, 0));
     }
     let inside = argument.strip_prefix('[')?.strip_suffix(']')?;
-    match inside.parse::<Ipv6Addr>() {
-        Ok(address) => Some(SocketAddr::new(IpAddr::V6(address), 0)),
-        Err(_) => None,
-    }
+    let address = inside.parse::<Ipv6Addr>().ok()?;
+    Some(SocketAddr::new(IpAddr::V6(address), 0))
 }
 
 /// The address, with this port if it has port 0.
@@ -187,10 +181,7 @@ fn bytes_of(argument: &str) -> Option<u64> {
     } else {
         (argument, 1)
     };
-    match digits.parse::<u64>() {
-        Ok(number) => number.checked_mul(unit),
-        Err(_) => None,
-    }
+    digits.parse::<u64>().ok()?.checked_mul(unit)
 }
 
 // The text about a bad value of an option of a command.

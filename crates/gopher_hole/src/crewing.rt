@@ -8,18 +8,18 @@ ghost use Rattle.gopher_crew.specs.Kept.{IsStatusAfter};
 
 use crate::announcing::{tell_listening, tell_status};
 use crate::arguments::Serving;
-use crate::crawl_fetch::CrawlFetch;
 use crate::failures::Failures;
 use crate::fault::ProgramFault;
+use crate::fetching::CrawlFetch;
 use crate::listening::listen;
 use crate::opening::{Opened, open, read_settings};
-use crate::progress::{crawl_and_tell, tell_limit};
+use crate::progress::crawl_and_tell;
 use crate::starting::{AnyEnd, Started, ThreadsEnd, join_all, start_threads};
 use gopher_catalogue::Status;
-use gopher_crew::{Blank, Crew, Desk, Pass, Share, WorkEnd, crawl};
+use gopher_crew::{Blank, Crew, Desk, Pass, Share, WorkEnd};
 use gopher_item::{Home, NoMemory};
 use gopher_serve::Replies;
-use gopher_server::{Log, LogQueue, OpenLog, ThreadEnd, max_connections, set_up, start_log};
+use gopher_server::{OpenLog, ServerSetup, ThreadEnd, end_log, max_connections, set_up, start_log};
 use gopher_text::Watched;
 use mio::net::TcpListener;
 use std::alloc::Global;
@@ -31,56 +31,29 @@ use std::sync::{Arc, Wait};
 use std::thread::{Promise, Threads};
 use std::time::Clock;
 
+/// What a server thread and its log ask of a runtime.
+pub trait Threaded: OpenLog + Threads + Wait + Clock + Eprint + Clone {}
+
+impl<R: OpenLog + Threads + Wait + Clock + Eprint + Clone> Threaded for R {}
+
 /// What a server asks of its runtime, beside files and sockets.
-pub trait System: OpenLog
-    + Threads
-    + Wait
-    + Clock
-    + Env
-    + Eprint
-    + AllocGlobal
-    + Clone
-    + Send
-    + Sync
-    + Drop
-    + 'static {}
+pub trait System: Threaded + Env + AllocGlobal + Send + Sync + Drop + 'static {}
 
-impl<
-    R: OpenLog
-        + Threads
-        + Wait
-        + Clock
-        + Env
-        + Eprint
-        + AllocGlobal
-        + Clone
-        + Send
-        + Sync
-        + Drop
-        + 'static,
-> System for R {}
-
-// What the workers of a crawl work with.
-#[derive(Drop)]
-struct Crawling<'a, C: Crew> {
-    pairs: Vec<(CrawlFetch<'a>, Share<C>)>,
-    // Where failed fetches are added, if the progress is printed.
-    failures: Option<&'a Failures>,
-}
+impl<R: Threaded + Env + AllocGlobal + Send + Sync + Drop + 'static> System for R {}
 
 // Pairs each share with a fetcher of its own.
-fn crawling_of<'a, C: Crew>(
+fn pairs_of<'a, C: Crew>(
     alloc: Global,
     shares: Vec<Share<C>>,
-    failures: Option<&'a Failures>,
-) -> Result<Crawling<'a, C>, NoMemory>
-    ensures { IfOk result (λ crawling. vec_len crawling.pairs ≡ vec_len shares) }
+    failures: &'a Failures,
+) -> Result<Vec<(CrawlFetch<'a>, Share<C>)>, NoMemory>
+    ensures { IfOk result (λ pairs. vec_len pairs ≡ vec_len shares) }
 {
     let mut pairs = Vec::with_capacity(alloc, shares.len())?;
     for share in shares {
         pairs.push((CrawlFetch::new(failures), share))?;
     }
-    Ok(Crawling { pairs, failures })
+    Ok(pairs)
 }
 
 // The fault of a server by how its threads and its crawl ended, if there is one.
@@ -119,44 +92,19 @@ fn wait_for_all<P: Promise<ThreadEnd>, T: Drop, E: Drop, R: Threads>(
     }
 }
 
-// What the server threads serve.
-#[derive(Drop)]
-struct Service {
-    listeners: Vec<TcpListener>,
-    replies: Replies,
-    requests: Option<u64>,
-    // How many connections the threads hold at once.
-    places: u64,
-    log: Option<Arc<LogQueue>>,
-    // Whether threads print on the error stream what fails.
-    tells: bool,
-}
-
 // Starts a server thread for each pass.
-fn start<
-    C: Crew + Send + Sync + 'static,
-    R: Net + Threads + Wait + Clock + Eprint + Clone + Send + Drop + 'static,
->(
+fn start<C: Crew + Send + Sync + 'static, R: System + Net>(
     rt: &R,
     alloc: Global,
-    service: Service,
+    server: ServerSetup,
+    replies: Replies,
     passes: Vec<Pass<C>>,
 ) -> Result<Started<AnyEnd>, ProgramFault>
     ensures { IfOk result (λ started. StartsAll passes started) }
 {
-    let (requests, places, tells) = (service.requests, service.places, service.tells);
-    let (listeners, threads) = (service.listeners, passes.len());
-    let setups = set_up(
-        rt,
-        alloc,
-        listeners,
-        requests,
-        threads,
-        places,
-        &service.log,
-        tells,
-    )?;
-    let Ok(replies) = Arc::new(alloc, service.replies) else {
+    let tells = server.tells;
+    let setups = set_up(rt, alloc, server, passes.len())?;
+    let Ok(replies) = Arc::new(alloc, replies) else {
         return Err(ProgramFault::NoMemory);
     };
     let started = start_threads(rt, alloc, &replies, setups, passes, tells);
@@ -166,29 +114,21 @@ fn start<
     Ok(started)
 }
 
-// Starts the server threads, crawls, and waits until all of them ended.
-fn serve_and_crawl<
+// Crawls beside the server threads that were started, and waits until all of them ended.
+fn crawl_to_end<
     'a,
     C: Crew + Send + Sync + 'static,
     R: System + Net<Listener = NetListener, Stream = TcpStream>,
 >(
     rt: &R,
     alloc: Global,
-    service: Service,
+    started: Result<Started<AnyEnd>, ProgramFault>,
     desk: &Desk<C, &R>,
-    passes: Vec<Pass<C>>,
-    crawling: Crawling<'a, C>,
+    pairs: Vec<(CrawlFetch<'a>, Share<C>)>,
+    failures: &Failures,
 ) -> Result<Vec<WorkEnd<CrawlFetch<'a>, C>>, ProgramFault> {
-    let started = start(rt, alloc, service, passes)?;
-    let Crawling { pairs, failures } = crawling;
-    let crawled = match failures {
-        Some(failures) => crawl_and_tell(rt, alloc, desk, pairs, failures),
-        None => {
-            let crawled = crawl(rt, alloc, desk, pairs);
-            tell_limit(rt, desk);
-            crawled
-        }
-    };
+    let started = started?;
+    let crawled = crawl_and_tell(rt, alloc, desk, pairs, failures);
     wait_for_all(rt, started, crawled)
 }
 
@@ -215,30 +155,6 @@ fn close<C: Crew, R: Wait + Drop>(
     match desk.close(shares_of(alloc, ends)?) {
         Ok(catalogue) => Ok(catalogue.status()),
         Err(_refused) => Err(ProgramFault::StrangeShare),
-    }
-}
-
-// Starts the log, if requests are logged.
-fn start_log_at<R: OpenLog + Threads + Wait + Clock + Eprint + Clone + Send + Drop + 'static>(
-    rt: &R,
-    alloc: Global,
-    path: Option<&str>,
-) -> Option<Log> {
-    start_log(rt, alloc, path?)
-}
-
-// The queue to which server threads hand on the lines of a log, if requests are logged.
-fn queue_of(log: &Option<Log>) -> Option<Arc<LogQueue>> {
-    match log {
-        Some(log) => log.queue(),
-        None => None,
-    }
-}
-
-// Ends the log, if there is one.
-fn end_log<R: Threads + Wait>(rt: &R, alloc: Global, log: Option<Log>) {
-    if let Some(log) = log {
-        log.end(rt, alloc);
     }
 }
 
@@ -279,30 +195,31 @@ fn listen_and_serve<
     desk: &Desk<C, &R>,
     replies: Replies,
     passes: Vec<Pass<C>>,
-    crawling: Crawling<'a, C>,
+    pairs: Vec<(CrawlFetch<'a>, Share<C>)>,
+    failures: &Failures,
     output: &mut Watched<W>,
 ) -> Result<Vec<WorkEnd<CrawlFetch<'a>, C>>, ProgramFault>
     ensures { OnOk result (HasSent W.contents output.old output.new (listening_line replies.home)) }
 {
     let alloc = rt.alloc();
     let workers = if desk.status(rt).waiting > 0 {
-        crawling.pairs.len()
+        pairs.len()
     } else {
         0
     };
     let threads = passes.len();
     let home = replies.home();
     let (listeners, places) = open_listeners(rt, alloc, home, serving, threads, workers, output)?;
-    let log = start_log_at(rt, alloc, serving.log);
-    let service = Service {
+    let log = start_log(rt, alloc, serving.log);
+    let server = ServerSetup {
         listeners,
-        replies,
         requests: serving.requests,
         places,
-        log: queue_of(&log),
+        log: log.as_ref().and_then(|log| log.queue()),
         tells: serving.progress,
     };
-    let ended = serve_and_crawl(rt, alloc, service, desk, passes, crawling);
+    let started = start(rt, alloc, server, replies, passes);
+    let ended = crawl_to_end(rt, alloc, started, desk, pairs, failures);
     end_log(rt, alloc, log);
     ended
 }
@@ -332,20 +249,21 @@ pub fn serve<
 {
     let alloc = rt.alloc();
     let settings = read_settings(rt, alloc, serving.settings)?;
+    let failures = Failures::new(alloc, settings.tries, serving.progress);
     let opened = open::<C, R>(rt, alloc, settings, blank)?;
     let Opened {
         replies,
         desk,
         passes,
         shares,
-        tries,
     } = opened;
     if let Some(bytes) = serving.crawl_memory {
         desk.limit_memory(bytes);
     }
-    let failures = Failures::new(alloc, tries);
-    let crawling = crawling_of(alloc, shares, serving.progress.then_some(&failures))?;
-    let ends = listen_and_serve(rt, serving, &desk, replies, passes, crawling, output)?;
+    let pairs = pairs_of(alloc, shares, &failures)?;
+    let ends = listen_and_serve(
+        rt, serving, &desk, replies, passes, pairs, &failures, output,
+    )?;
     let status = close(alloc, desk, ends)?;
     tell_status(alloc, status, output)
 }

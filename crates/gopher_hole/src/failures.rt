@@ -17,6 +17,8 @@ const MAX_PRINTED: u64 = 1_000;
 /// How many places a crawl failed to fetch. Its workers share it.
 #[derive(Drop)]
 pub struct Failures {
+    /// Whether they are printed.
+    pub are_told: bool,
     // How often a place is tried.
     tries: u32,
     // How often the places failed that may be tried again.
@@ -60,9 +62,11 @@ fn print_failure(rt: &impl Eprint, place: &Place, why: Why) {
 }
 
 impl Failures {
-    /// No failures yet, of a crawl that tries each place `tries` times.
-    pub fn new(alloc: Global, tries: u32) -> Failures {
+    /// No failures yet, of a crawl that tries each place `tries` times. Unless `are_told`, none is
+    /// counted or printed.
+    pub fn new(alloc: Global, tries: u32, are_told: bool) -> Failures {
         Failures {
+            are_told,
             tries,
             tried: Mutex::new(IndexMap::new(alloc)),
             failed: AtomicU64::new(0),
@@ -89,9 +93,13 @@ impl Failures {
         false
     }
 
-    /// Adds a failed fetch of a place. If the place isn't tried again, counts it, and prints it
-    /// with the reason on the error stream, unless 1,000 places were printed before.
+    /// Adds a failed fetch of a place, if failures are printed. If the place isn't tried again,
+    /// counts it, and prints it with the reason on the error stream, unless 1,000 places were
+    /// printed before.
     pub fn add<R: Wait + Eprint>(&self, rt: &R, place: &Place, why: Why) {
+        if !self.are_told {
+            return;
+        }
         let is_last = is_last_try(0, self.tries) || self.count_try(rt, place);
         if is_last && self.failed.fetch_add(1, Ordering::SeqCst) < MAX_PRINTED {
             print_failure(rt, place, why);

@@ -1,15 +1,18 @@
-//! Fetching over connections.
+//! Fetching over connections, and for a crawl whose failures are printed.
 
 ghost use Rattle.std.specs.Prelude.{◌≡◌};
 
+use crate::failures::Failures;
 use gopher_catalogue::Why;
 use gopher_crew::{Calls, Fetch};
 use gopher_item::Place;
 use gopher_site::fetch_over;
 use gopher_text::Watched;
 use std::alloc::Global;
+use std::io::Eprint;
 use std::net::{Net, TcpListener, TcpStream};
 use std::str;
+use std::sync::Wait;
 
 /// Fetches the replies of places, each over a connection of its own to the place's host and port.
 #[derive(Drop)]
@@ -57,5 +60,49 @@ impl<R: Net<Listener = TcpListener, Stream = TcpStream>> Fetch<R> for TcpFetch {
             Some(stream) => fetch_over(alloc, &mut Watched::new(stream), place, limit),
             None => Err(Why::Connect),
         }
+    }
+}
+
+/// Fetches as a `TcpFetch` does, and adds each failed fetch to the failures of the crawl.
+#[derive(Drop)]
+pub struct CrawlFetch<'a> {
+    fetcher: TcpFetch,
+    failures: &'a Failures,
+}
+
+impl<'a> CrawlFetch<'a> {
+    /// Makes a fetcher that has fetched nothing yet.
+    pub fn new(failures: &'a Failures) -> CrawlFetch<'a>
+        ensures { result.fetcher.calls ≡ 0 }
+    {
+        CrawlFetch {
+            fetcher: TcpFetch::new(),
+            failures,
+        }
+    }
+}
+
+impl<'a> Calls for CrawlFetch<'a> {
+    ghost called = { λ fetcher. fetcher.fetcher.calls };
+
+    fn calls(&self) -> u64 {
+        self.fetcher.calls
+    }
+}
+
+impl<'a, R: Net<Listener = TcpListener, Stream = TcpStream> + Wait + Eprint> Fetch<R>
+    for CrawlFetch<'a> {
+    fn fetch(
+        &mut self,
+        rt: &R,
+        alloc: Global,
+        place: &Place,
+        limit: usize,
+    ) -> Result<Vec<u8>, Why> {
+        let fetched = self.fetcher.fetch(rt, alloc, place, limit);
+        if let Err(why) = &fetched {
+            self.failures.add(rt, place, *why);
+        }
+        fetched
     }
 }

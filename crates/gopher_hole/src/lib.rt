@@ -16,7 +16,6 @@ mod address_check;
 mod announcing;
 mod arguments;
 mod checking;
-mod crawl_fetch;
 mod crewing;
 mod failures;
 mod fault;

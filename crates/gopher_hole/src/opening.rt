@@ -1,7 +1,6 @@
 //! Opening a server: its settings, its folder and its desk.
 
 ghost use Rattle.std.specs.Prelude.{◌≡◌, [], IfOk};
-ghost use mathlib.Core.List.{IsPrefix};
 ghost use Rattle.gopher_catalogue.specs.Step.{IsOpenedRecord};
 ghost use Rattle.gopher_crew.specs.Desk.{IsBlankOf, AllHaveSeen, shares_at};
 ghost use Rattle.gopher_hole.specs.Ending.{AreSettings, opening_record};
@@ -22,9 +21,6 @@ use std::sync::Wait;
 // The most bytes of a settings file.
 const MAX_SETTINGS: usize = 1_048_576;
 
-// A desk, with a pass for each server thread and a share for each worker.
-type DeskParts<C, R> = (Desk<C, R>, Vec<Pass<C>>, Vec<Share<C>>);
-
 /// A server with its desk, before it listens.
 #[derive(Drop)]
 pub struct Opened<C: Crew, R: Wait + Drop> {
@@ -36,8 +32,6 @@ pub struct Opened<C: Crew, R: Wait + Drop> {
     pub passes: Vec<Pass<C>>,
     /// A share for each worker.
     pub shares: Vec<Share<C>>,
-    /// How often a place is tried.
-    pub tries: u32,
 }
 
 /// Reads the text of a settings file.
@@ -113,27 +107,6 @@ fn open_catalogue(
     }
 }
 
-// Opens the desk of a catalogue.
-fn open_desk<'r, C: Crew, R: Wait>(
-    rt: &'r R,
-    alloc: Global,
-    catalogue: Catalogue,
-    threads: u32,
-    workers: u32,
-    blank: Blank,
-) -> Result<DeskParts<C, &'r R>, ProgramFault>
-    requires blank { IsBlankOf C.name C.parts C.history blank }
-    requires begun { IsPrefix blank.begun catalogue }
-    ensures desk { IfOk result (λ parts. parts.0 ≡ catalogue) }
-    ensures passes { IfOk result (λ parts. AllHaveSeen catalogue threads parts.1.items) }
-    ensures shares { IfOk result (λ parts. parts.2.items ≡ shares_at catalogue workers) }
-{
-    match Desk::<C, &'r R>::open(rt, alloc, catalogue, threads, workers, blank) {
-        Ok(opened) => Ok(opened),
-        Err(refused) => Err(ProgramFault::Desk(refused.fault)),
-    }
-}
-
 /// Loads the folder and opens the desk of the crawl, with one pass for each server thread and one
 /// share for each worker. The desk is at the opening of the crawl, with the settings' scope, seeds,
 /// `places` and `tries`, and all of them have seen it.
@@ -160,28 +133,18 @@ pub fn open<'r, C: Crew, R: Files + Wait>(
         AllHaveSeen (opening_record settings) settings.threads opened.passes.items) }
     ensures shares { IfOk result (λ opened.
         opened.shares.items ≡ shares_at (opening_record settings) settings.workers) }
-    ensures tries { IfOk result (λ opened. opened.tries ≡ settings.tries) }
 {
-    let Settings {
-        home,
-        root,
-        seeds,
-        scope,
-        places,
-        workers,
-        threads,
-        tries,
-    } = settings;
-    let replies = open_replies(rt, alloc, root.as_str(), home)?;
-    let catalogue = open_catalogue(alloc, scope, seeds, places, tries)?;
-    match open_desk(rt, alloc, catalogue, threads, workers, blank) {
+    let (home, threads, workers) = (settings.home, settings.threads, settings.workers);
+    let (places, tries) = (settings.places, settings.tries);
+    let replies = open_replies(rt, alloc, settings.root.as_str(), home)?;
+    let catalogue = open_catalogue(alloc, settings.scope, settings.seeds, places, tries)?;
+    match Desk::<C, &'r R>::open(rt, alloc, catalogue, threads, workers, blank) {
         Ok((desk, passes, shares)) => Ok(Opened {
             replies,
             desk,
             passes,
             shares,
-            tries,
         }),
-        Err(fault) => Err(fault),
+        Err(refused) => Err(ProgramFault::Desk(refused.fault)),
     }
 }

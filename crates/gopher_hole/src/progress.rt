@@ -1,7 +1,7 @@
 //! The sizes of a crawl, printed as it goes on.
 
-use crate::crawl_fetch::CrawlFetch;
 use crate::failures::Failures;
+use crate::fetching::CrawlFetch;
 use gopher_catalogue::Status;
 use gopher_crew::{CrawlRefused, Crew, Desk, Share, WorkEnd, crawl};
 use std::alloc::Global;
@@ -33,9 +33,9 @@ fn tell(rt: &impl Eprint, status: Status, failed: u64) {
     );
 }
 
-/// Prints on the error stream that the crawl reached its limit of memory, if it did, and returns
-/// whether it did.
-pub fn tell_limit<C: Crew, R: Wait + Drop>(rt: &impl Eprint, desk: &Desk<C, R>) -> bool {
+// Prints on the error stream that the crawl reached its limit of memory, if it did, and returns
+// whether it did.
+fn tell_limit<C: Crew, R: Wait + Drop>(rt: &impl Eprint, desk: &Desk<C, R>) -> bool {
     let is_reached = desk.pages_past_limit() > 0;
     if is_reached {
         let _ = rt.eprintln("hole: the crawl reached --crawl-memory: it leaves pages out");
@@ -102,8 +102,9 @@ fn tell_until_over<C: Crew, R: Wait + Drop, W: Wait + Clock + Eprint>(
     unreachable!()
 }
 
-/// Crawls as `gopher_crew::crawl` does. Prints the sizes of the crawl, with the number of failed
-/// places, on the error stream every ten seconds if they have changed, and at its end. If the
+/// Crawls as `gopher_crew::crawl` does, and prints on the error stream that the crawl reached its
+/// limit of memory, if it did. If failures are printed, also prints the sizes of the crawl, with
+/// the number of failed places, every ten seconds if they have changed, and at its end. If the
 /// system refuses a thread for that, prints them only at the end.
 pub fn crawl_and_tell<
     'a,
@@ -117,6 +118,11 @@ pub fn crawl_and_tell<
     pairs: Vec<(CrawlFetch<'a>, Share<C>)>,
     failures: &Failures,
 ) -> Result<Vec<WorkEnd<CrawlFetch<'a>, C>>, CrawlRefused<CrawlFetch<'a>, C>> {
+    if !failures.are_told {
+        let crawled = crawl(rt, alloc, desk, pairs);
+        tell_limit(rt, desk);
+        return crawled;
+    }
     let over = AtomicBool::new(false);
     let is_over = &over;
     let (_told, crawled) = thread::join(

@@ -3,15 +3,14 @@
 ghost use Rattle.std.specs.Prelude.{◌≡◌};
 ghost use Rattle.gopher_hole.specs.Ending.{EndAs, StartsAll, after_thread};
 
+use crate::crewing::System;
 use gopher_crew::{Crew, Pass};
 use gopher_serve::Replies;
 use gopher_server::{ThreadEnd, ThreadSetup, serve};
 use gopher_site::Site;
 use std::alloc::Global;
-use std::io::Eprint;
-use std::sync::{Arc, Wait};
+use std::sync::Arc;
 use std::thread::{self, Promise, PromisedHandle, Threads};
-use std::time::Clock;
 
 /// The promise of a thread that may end in any way.
 #[derive(Clone, Copy, Drop)]
@@ -42,10 +41,7 @@ pub struct ThreadsEnd {
 }
 
 // Starts a server thread. Returns `None` if the system refuses it or memory runs out.
-fn start_one<
-    C: Crew + Send + Sync + 'static,
-    R: Threads + Wait + Clock + Eprint + Clone + Send + Drop + 'static,
->(
+fn start_one<C: Crew + Send + Sync + 'static, R: System>(
     rt: &R,
     alloc: Global,
     replies: &Arc<Replies>,
@@ -62,10 +58,7 @@ fn start_one<
 
 /// Starts a server thread for each pass, with one of the setups. If a thread can't be started and
 /// `tells`, prints that once on the error stream of `rt`.
-pub fn start_threads<
-    C: Crew + Send + Sync + 'static,
-    R: Threads + Wait + Clock + Eprint + Clone + Send + Drop + 'static,
->(
+pub fn start_threads<C: Crew + Send + Sync + 'static, R: System>(
     rt: &R,
     alloc: Global,
     replies: &Arc<Replies>,

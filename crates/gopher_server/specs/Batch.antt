@@ -29,6 +29,10 @@ abbrev pub with_line : BatchData → RequestData → BatchData
 with_line batch request =
     record { written = batch.written ++ logged_bytes request; dropped = batch.dropped }
 
+-- a batch that is full takes no line
+abbrev pub with_request : BatchData → RequestData → BatchData
+with_request batch request = if is_full batch then batch else with_line batch request
+
 -- the line of a request was added to a batch that isn't full, or the request was counted as dropped
 abbrev pub AddsRequestTo : RequestData → BatchData → BatchData → Type 0
 AddsRequestTo request before after =

@@ -1,5 +1,5 @@
 -- The connections that a server thread holds, and what each is doing.
-use Rattle.std.specs.Prelude.{◌≡◌, ℕ, ◌+◌, ◌-◌, ◌^◌, ◌≤◌, ◌==◌, length, min, nat_eq, nat_le, Bool, not, ◌&&◌, if◌then◌else◌, List, [], ◌∷◌, ◌++◌, Option, None, Some}
+use Rattle.std.specs.Prelude.{◌≡◌, ℕ, ◌+◌, ◌-◌, ◌^◌, ◌≤◌, ◌==◌, length, min, nat_eq, nat_le, Bool, false, not, ◌&&◌, if◌then◌else◌, List, [], ◌∷◌, ◌++◌, Option, None, Some}
 use Rattle.std.specs.Borrow.{Fml, LendsIf, MutBor, RattleType}
 use Rattle.std.specs.List.{filter, list_any}
 use Rattle.std.specs.Option.{is_some}
@@ -21,6 +21,11 @@ without_key key keys = filter (λ other. not (other == key)) keys
 -- whether a key is among these
 abbrev pub has_key : ℕ → List ℕ → Bool
 has_key key keys = list_any (λ other. other == key) keys
+
+-- whether other keys are before this one
+abbrev pub is_behind : ℕ → List ℕ → Bool
+is_behind key [] = false
+is_behind key (first ∷ keys) = not (first == key)
 
 -- how many times a key is among these
 abbrev pub occurs : ℕ → List ℕ → ℕ
@@ -60,6 +65,28 @@ IsSound held =
 abbrev pub added : {T : Type 0} → List (ℕ × T) → ℕ → List ℕ → List ℕ
 added held key keys =
     if is_some (lookup (nat_eq key) held) && not (has_key key keys) then keys ++ key ∷ [] else keys
+
+-- the queue of searches, with this key once if its connection is held
+abbrev pub queued : {T : Type 0} → Held T → ℕ → List ℕ
+queued held key = added (held_entries held) key (queue held)
+
+-- the keys of those that have a larger queue, with this one once if its connection is held
+abbrev pub enlarged : {T : Type 0} → Held T → ℕ → List ℕ
+enlarged held key = added (held_entries held) key (large_of held)
+
+-- a search that goes on keeps its turn; another leaves the queue
+abbrev pub queue_after : Bool → ℕ → List ℕ → List ℕ
+queue_after goes_on key keys = if goes_on then keys else without_key key keys
+
+-- a connection was taken in at the next key, and is the most recently used
+abbrev pub PutsHeld : {T : Type 0} → Held T → Held T → T → Type 0
+PutsHeld old new taken =
+    held_entries new ≡ put_entries nat_eq old.connections old.next_key taken
+
+-- the deadline of a key was set, 16 s later and after all others
+abbrev pub Lingers : {T : Type 0} → Held T → Held T → ℕ → ℕ → Type 0
+Lingers old new key now =
+    deadlines new ≡ deadlines old ++ (key, min (now + 16_000) (2 ^ 64 - 1)) ∷ []
 
 -- after an event a connection that is held can go on; while a search makes its reply it waits for
 -- its turn, or is done if its client is gone

@@ -1,17 +1,25 @@
 -- The lines of a server thread, until it hands them on.
-use Rattle.std.specs.Prelude.{◌≡◌, ◌⊎◌, ℕ, ◌+◌, ◌-◌, ◌/◌, ◌^◌, min, nat_le, Bool, false, IfSome, List, Option, None, Some, if◌then◌else◌}
+use Rattle.std.specs.Prelude.{◌≡◌, ◌⊎◌, ℕ, ◌+◌, ◌-◌, ◌/◌, ◌^◌, ◌<◌, min, nat_le, pos, Bool, false, IfSome, MatchOption, List, Option, None, Some, if◌then◌else◌}
 use Rattle.std.specs.Duration.{as_nanos}
 use Rattle.std.specs.Time.{instant_nanos}
 use Rattle.std.specs.declared.time.Duration.{Duration}
 use Rattle.std.specs.declared.time.Instant.{Instant}
 use Rattle.std.specs.Net.Text.{ip_text}
 use Rattle.std.specs.declared.net.ip_addr.IpAddr.{IpAddr}
+use Rattle.jiff_core.specs.DateTime.{civil_nanos}
+use Rattle.jiff_core.specs.declared.civil.datetime.DateTime.{DateTime}
 use Rattle.gopher_server.specs.RequestLine.{RequestData}
 use Rattle.gopher_server.specs.Batch.{AddsRequestTo, BatchData, is_empty, no_lines}
 
 -- the whole microseconds of a time, at most 2^64 - 1
 abbrev pub micros_of : Duration → ℕ
 micros_of time = min (as_nanos time / 1_000) (2 ^ 64 - 1)
+
+-- the moment at a time after the beginning of 1970, if that is before the year 10000
+abbrev pub IsMomentAt : Duration → Option DateTime → Type 0
+IsMomentAt since moment =
+    let nanos = as_nanos since in
+    MatchOption moment (253_402_300_799_999_999_999 < nanos) (λ at. civil_nanos at ≡ pos nanos)
 
 -- lines are kept since the time at which the first of them was added
 abbrev pub since_with : Option Instant → Instant → Option Instant

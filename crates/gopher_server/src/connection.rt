@@ -1,6 +1,7 @@
 //! One connection with a client.
 
-ghost use Rattle.std.specs.Prelude.{◌≡◌, ◌&&◌, length, nat_lt, not, true};
+ghost use Rattle.std.specs.Prelude.{◌≡◌, ◌&&◌, ◌||◌, length, nat_lt, not, true};
+ghost use Rattle.gopher_serve.specs.declared.advancing.Progress.TheVariants.{Done, Paused};
 ghost use Rattle.gopher_server.specs.RequestLine.{search_of};
 
 use crate::logging::{Accepted, ThreadLog, search_of};
@@ -50,6 +51,8 @@ pub(crate) struct Connection<'a> {
     accepted: Option<Accepted>,
     // Whether its reply is sent, and it reads what the client still sends until a deadline.
     lingers: bool,
+    // Whether it has that deadline.
+    has_deadline: bool,
     // What the poll reports of it; nothing so far if `None`.
     reported: Option<Interest>,
     /// Whether the system queues more for its client than for others.
@@ -83,6 +86,7 @@ impl<'a> Connection<'a> {
             conversation: Conversation::new(alloc),
             accepted,
             lingers: false,
+            has_deadline: false,
             reported: None,
             is_large: false,
         }
@@ -206,21 +210,25 @@ impl<'a> Connection<'a> {
     // Ends the sending side: the client sees the end of the reply. It may have sent more than its
     // line, and a connection that is closed over unread bytes is reset, which takes from the client
     // what it hasn't read of the reply. So after a large reply it lingers.
-    fn end_reply(&mut self) -> Progress {
+    fn end_reply(&mut self) -> Progress
+        ensures lingers { result ≡ Paused → self.new.lingers ≡ true }
+        ensures ends { result ≡ Done → self.new.lingers ≡ self.old.lingers }
+    {
         let ended = self.stream.shutdown(Shutdown::Write);
         if lingers_after(ended.is_ok(), self.conversation.sent_len()) {
+            self.lingers = true;
             Progress::Paused
         } else {
             Progress::Done
         }
     }
 
-    /// Has it read from now on what the client still sends. Returns false if it did before.
-    pub(crate) fn begin_lingering(&mut self) -> bool
-        ensures lingers { self.new.lingers ≡ true }
-        ensures first { result ≡ not self.old.lingers }
+    /// Returns whether it lingers and has no deadline yet, and records that it gets one then.
+    pub(crate) fn needs_deadline(&mut self) -> bool
+        ensures first { result ≡ (self.old.lingers && not self.old.has_deadline) }
+        ensures later { self.new.has_deadline ≡ (self.old.lingers || self.old.has_deadline) }
     {
-        !replace(&mut self.lingers, true)
+        self.lingers && !replace(&mut self.has_deadline, true)
     }
 
     // Reads what the client still sends.

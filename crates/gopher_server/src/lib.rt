@@ -20,12 +20,10 @@ mod send_buffer;
 mod server;
 mod setup;
 mod thread_clock;
-mod thread_end;
 mod waiting;
 
 pub use acceptor::MAX_LISTENERS;
-pub use logging::{Log, LogQueue, OpenLog, start_log};
+pub use logging::{Log, LogQueue, OpenLog, end_log, start_log};
 pub use send_buffer::limit_send_buffers;
-pub use server::serve;
-pub use setup::{ThreadSetup, max_connections, set_up};
-pub use thread_end::ThreadEnd;
+pub use server::{ThreadEnd, serve};
+pub use setup::{ServerSetup, ThreadSetup, max_connections, set_up};

@@ -26,4 +26,4 @@ mod writer;
 pub use queue::LogQueue;
 pub use request_line::search_of;
 pub use thread_log::{Accepted, ThreadLog};
-pub use writer::{Log, OpenLog, start_log};
+pub use writer::{Log, OpenLog, end_log, start_log};

@@ -5,7 +5,7 @@ ghost use Rattle.gopher_server.specs.Accepting.{has_ended};
 ghost use Rattle.gopher_server.specs.Held.{held_entries};
 ghost use Rattle.gopher_server.specs.Waits.{IsLongestWait};
 ghost use Rattle.gopher_server.specs.declared.decisions.accepting.Accepting.TheVariants.{Ended};
-ghost use Rattle.gopher_server.specs.declared.thread_end.ThreadEnd.TheVariants.{Failed};
+ghost use Rattle.gopher_server.specs.declared.server.ThreadEnd.TheVariants.{Failed};
 
 use crate::acceptor::Acceptor;
 use crate::connection::{Answering, BUFFER_BYTES, Connection};
@@ -15,7 +15,6 @@ use crate::decisions::{
 use crate::logging::ThreadLog;
 use crate::setup::ThreadSetup;
 use crate::thread_clock::ThreadClock;
-use crate::thread_end::ThreadEnd;
 use gopher_serve::{Answers, Progress};
 use mio::net::TcpStream;
 use mio::{Events, Poll};
@@ -31,6 +30,17 @@ const MAX_ACCEPTS: u32 = 64;
 
 // After this many reports in a row of one connection each, a thread looks whether more wait.
 const MAX_SINGLE: u32 = 4;
+
+/// How a server thread ended.
+#[derive(Clone, Copy)]
+pub enum ThreadEnd {
+    /// All connections of the quota were accepted, and all of its connections have ended.
+    Served,
+    /// A listener is broken, or the system refused to wait.
+    Failed,
+    /// Out of memory before anything was accepted.
+    LacksMemory,
+}
 
 /// A server thread.
 #[derive(Drop)]

@@ -23,6 +23,21 @@ const SIZES: usize = 64;
 
 const BLOCKS: usize = 3;
 
+/// What the threads of a server have in common.
+#[derive(Drop)]
+pub struct ServerSetup {
+    /// Where they accept connections.
+    pub listeners: Vec<TcpListener>,
+    /// How many connections they accept together; any number if `None`.
+    pub requests: Option<u64>,
+    /// How many connections they hold at once at most (`max_connections`).
+    pub places: u64,
+    /// Where they hand on the lines of the log, if requests are logged.
+    pub log: Option<Arc<LogQueue>>,
+    /// Whether they print on the error stream why they fail.
+    pub tells: bool,
+}
+
 /// The system resources of a server thread.
 #[derive(Drop)]
 pub struct ThreadSetup {
@@ -111,11 +126,8 @@ fn setup_with(
     })
 }
 
-/// Sets up `threads` server threads, or fewer if the system refuses resources. Starts no thread.
-///
-/// The threads accept `requests` connections together, or any number, at all listeners, and hold at
-/// most `places` of them at once (`max_connections`). They hand
-/// the lines of their log to `log`. If `tells`, they print on the error stream why they fail.
+/// Sets up `threads` threads of a server, or fewer if the system refuses resources. Starts no
+/// thread.
 ///
 /// # Errors
 ///
@@ -123,20 +135,16 @@ fn setup_with(
 pub fn set_up<R: Net>(
     rt: &R,
     alloc: Global,
-    listeners: Vec<TcpListener>,
-    requests: Option<u64>,
+    server: ServerSetup,
     threads: usize,
-    places: u64,
-    log: &Option<Arc<LogQueue>>,
-    tells: bool,
 ) -> Result<Vec<ThreadSetup>, NoMemory> {
     let (polls, wakers) = polls_and_wakers(rt, alloc, threads)?;
-    let listeners = Arc::new(alloc, listeners)?;
-    let places = Places::new(places, requests);
+    let listeners = Arc::new(alloc, server.listeners)?;
+    let places = Places::new(server.places, server.requests);
     let shared = Arc::new(alloc, ServerShared { places, wakers })?;
     let mut setups = Vec::with_capacity(alloc, threads)?;
     for poll in polls {
-        let setup = setup_with(alloc, poll, &listeners, &shared, log, tells)?;
+        let setup = setup_with(alloc, poll, &listeners, &shared, &server.log, server.tells)?;
         if watch(&setup.poll, &listeners) {
             setups.push(setup)?;
         }

@@ -98,12 +98,12 @@ impl<'a, A: Answers<'a> + Drop> Server<'a, A> {
         }
     }
 
-    // Has the connection at a key, whose reply is sent, logged, and closed in time.
+    // Has the connection at a key logged, and closed in time, if its reply is sent.
     fn linger<R: Wait + Clock>(&mut self, rt: &R, key: usize) {
         let Some(connection) = self.connections.get_mut(key) else {
             return;
         };
-        if connection.begin_lingering() {
+        if connection.needs_deadline() {
             connection.log_request(rt, self.answering.alloc, &mut self.log);
             let now = self.clock.now(rt);
             if self.connections.linger(key, now).is_err() {
@@ -130,7 +130,7 @@ impl<'a, A: Answers<'a> + Drop> Server<'a, A> {
     fn queue_search<R: Wait + Clock>(&mut self, rt: &R, key: usize) {
         if self.connections.queue_search(key).is_err() {
             self.close(rt, key);
-        } else if self.connections.next_search() != Some(key) {
+        } else if self.connections.waits_for_turn(key) {
             if let Some(connection) = self.connections.get_mut(key) {
                 connection.conversation.put_back();
             }

@@ -11,19 +11,19 @@ use Rattle.example_crawl.proofs.search_and_close.Goals as goal
 -- pass told it: the record of that pass's search
 pub returns-clause-first_begins : goal.returns-clause-first_begins
 returns-clause-first_begins g c =
-    let record_ = c.in-Ok.catalogue in
+    let record_ = c.in-Ok-close.catalogue in
     let shown : IsPrefix c.tell-2.new.share.seen record_ =
     last_has_seen record_ c.pop.new.self.items c.tell-2.new.share
-    (subst (λ (shares : List ShareData). HasAllSeen record_ shares) c.push_reserved.ensures.items c.in-Ok.ensures.closed.seen) in
-    subst (λ (told : List EventData). IsPrefix told record_) c.in-Ok-Ok.ensures.none_told
+    (subst (λ (shares : List ShareData). HasAllSeen record_ shares) c.push_reserved.ensures.items c.in-Ok-close.ensures.closed.seen) in
+    subst (λ (told : List EventData). IsPrefix told record_) c.in-Ok.ensures.none_told
     (prefix_trans c.search.new.self.told c.tell.new.share.seen record_ c.tell.ensures.told
     (prefix_trans c.tell.new.share.seen c.tell-2.new.share.seen record_ c.tell-2.ensures.seen shown))
 
 pub returns-clause-second_begins : goal.returns-clause-second_begins
 returns-clause-second_begins g c =
-    let record_ = c.in-Ok.catalogue in
+    let record_ = c.in-Ok-close.catalogue in
     let shown : IsPrefix c.tell-2.new.share.seen record_ =
     last_has_seen record_ c.pop.new.self.items c.tell-2.new.share
-    (subst (λ (shares : List ShareData). HasAllSeen record_ shares) c.push_reserved.ensures.items c.in-Ok.ensures.closed.seen) in
-    subst (λ (told : List EventData). IsPrefix told record_) c.in-Ok-Ok.ensures'.none_told
+    (subst (λ (shares : List ShareData). HasAllSeen record_ shares) c.push_reserved.ensures.items c.in-Ok-close.ensures.closed.seen) in
+    subst (λ (told : List EventData). IsPrefix told record_) c.in-Ok-search.ensures.none_told
     (prefix_trans c.search-2.new.self.told c.tell-2.new.share.seen record_ c.tell-2.ensures.told shown)

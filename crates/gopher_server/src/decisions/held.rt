@@ -1,11 +1,11 @@
 //! The connections that a server thread holds, and what each is doing.
 
-ghost use Rattle.std.specs.Prelude.{◌≡◌, ◌+◌, ◌-◌, ◌^◌, [], ◌∷◌, ◌++◌, length, min, nat_eq, nat_lt, Some, IfOk, IfErr, OnOk, OnErr, if◌then◌else◌};
+ghost use Rattle.std.specs.Prelude.{◌≡◌, ◌+◌, ◌-◌, ◌^◌, [], length, min, nat_eq, nat_lt, Some, IfOk, IfErr, OnOk, OnErr};
 ghost use Rattle.std.specs.Option.{option_map, option_copied_mut};
 ghost use Rattle.std.specs.Borrow.{sem};
 ghost use Rattle.std.specs.Map.{remove_entry};
-ghost use Rattle.lru.specs.LruCache.{last_entry, promoted, put_entries};
-ghost use Rattle.gopher_server.specs.Held.{IsSound, LendsHeld, added, connection, deadlines, due_at, foremost, held_entries, large_of, queue, step_at, without_key};
+ghost use Rattle.lru.specs.LruCache.{last_entry, promoted};
+ghost use Rattle.gopher_server.specs.Held.{IsSound, LendsHeld, Lingers, PutsHeld, added, connection, deadlines, due_at, enlarged, foremost, held_entries, is_behind, large_of, queue, queue_after, queued, step_at, without_key};
 
 use gopher_serve::Progress;
 use lru::LruCache;
@@ -92,8 +92,7 @@ impl<T: Drop> Held<T> {
     pub fn take_in(&mut self, taken: T) -> Result<usize, T>
         ensures key { IfOk result (λ key. key ≡ self.old.next_key) }
         ensures named { IfOk result (λ key. connection self.new key ≡ Some taken) }
-        ensures others { OnOk result (held_entries self.new
-            ≡ put_entries nat_eq self.old.connections self.old.next_key taken) }
+        ensures others { OnOk result (PutsHeld self.old self.new taken) }
         ensures next { OnOk result (self.new.next_key ≡ min (self.old.next_key + 1) (2 ^ 64 - 1)) }
         ensures returned { IfErr result (λ refused. refused ≡ taken) }
         ensures kept { OnErr result (self.new ≡ self.old) }
@@ -174,8 +173,7 @@ impl<T: Drop> Held<T> {
     /// Puts a connection whose reply a search makes behind the others in the queue, unless it is in
     /// the queue.
     pub fn queue_search(&mut self, key: usize) -> Result<(), AllocError>
-        ensures queue { OnOk result (queue self.new
-            ≡ added (held_entries self.old) key (queue self.old)) }
+        ensures queue { OnOk result (queue self.new ≡ queued self.old key) }
         ensures refused { OnErr result (queue self.new ≡ queue self.old) }
         ensures others { held_entries self.new ≡ held_entries self.old }
         ensures large { large_of self.new ≡ large_of self.old }
@@ -191,12 +189,19 @@ impl<T: Drop> Held<T> {
         self.searching.front().copied()
     }
 
+    /// Returns whether the connection at a key waits for its turn to search: others are before it
+    /// in the queue. Its search begins when it is the first.
+    pub fn waits_for_turn(&self, key: usize) -> bool
+        ensures { result ≡ is_behind key (queue self.now) }
+    {
+        self.searching.front().is_some_and(|first| *first != key)
+    }
+
     /// Ends a turn of the search of the connection at a key, which is then the most recently used.
     /// If the search goes on, it keeps its place in the queue, otherwise it leaves the queue.
     pub fn end_turn(&mut self, key: usize, goes_on: bool)
         ensures first { held_entries self.new ≡ promoted (nat_eq key) (held_entries self.old) }
-        ensures queue { queue self.new
-            ≡ (if goes_on then queue self.old else without_key key (queue self.old)) }
+        ensures queue { queue self.new ≡ queue_after goes_on key (queue self.old) }
         ensures large { large_of self.new ≡ large_of self.old }
         ensures sound { IsSound self.old → IsSound self.new }
     {
@@ -211,8 +216,7 @@ impl<T: Drop> Held<T> {
     /// Has the connection at a key linger for 16 s (`LINGER`) from `now`. Times are milliseconds by
     /// one clock.
     pub fn linger(&mut self, key: usize, now: u64) -> Result<(), AllocError>
-        ensures set { OnOk result (deadlines self.new
-            ≡ deadlines self.old ++ (key, min (now + 16_000) (2 ^ 64 - 1)) ∷ []) }
+        ensures set { OnOk result (Lingers self.old self.new key now) }
         ensures others { held_entries self.new ≡ held_entries self.old }
         ensures queue { queue self.new ≡ queue self.old }
         ensures large { large_of self.new ≡ large_of self.old }
@@ -251,8 +255,7 @@ impl<T: Drop> Held<T> {
 
     /// Records that the connection at a key has a larger queue.
     pub fn mark_large(&mut self, key: usize) -> Result<(), AllocError>
-        ensures large { OnOk result (large_of self.new
-            ≡ added (held_entries self.old) key (large_of self.old)) }
+        ensures large { OnOk result (large_of self.new ≡ enlarged self.old key) }
         ensures refused { OnErr result (large_of self.new ≡ large_of self.old) }
         ensures others { held_entries self.new ≡ held_entries self.old }
         ensures queue { queue self.new ≡ queue self.old }

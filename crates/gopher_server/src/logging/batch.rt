@@ -1,7 +1,7 @@
 //! Lines of the log, gathered before they are written, and what a write leaves of them (`Batch`).
 
-ghost use Rattle.std.specs.Prelude.{◌≡◌, OnOk, OnErr};
-ghost use Rattle.gopher_server.specs.Batch.{AddsRequestTo, WritesFirst, is_empty, is_full, no_lines, with_told};
+ghost use Rattle.std.specs.Prelude.{◌≡◌, not, IfOk, OnOk, OnErr};
+ghost use Rattle.gopher_server.specs.Batch.{WritesFirst, is_empty, is_full, no_lines, with_dropped, with_request, with_told};
 
 use crate::logging::request_line::{RequestLine, push_number, push_request};
 use gopher_item::NoMemory;
@@ -56,18 +56,30 @@ impl Batch {
         self.written.is_empty() && self.dropped == 0
     }
 
-    /// Appends the line of a request. If it is full or memory runs out, counts the request as
-    /// dropped instead.
-    pub fn add(&mut self, request: &RequestLine<'_>)
-        ensures { AddsRequestTo request.now self.old self.new }
+    /// Appends the line of a request, unless it is full. Returns whether it did.
+    ///
+    /// # Errors
+    ///
+    /// `NoMemory` (90).
+    pub fn add(&mut self, request: &RequestLine<'_>) -> Result<bool, NoMemory>
+        ensures added { OnOk result (self.new ≡ with_request self.old request.now) }
+        ensures room { IfOk result (λ added. added ≡ not (is_full self.old)) }
+        ensures refused { OnErr result (self.new ≡ self.old) }
     {
-        self.line.clear();
-        if self.is_full()
-            || push_request(&mut self.line, request).is_err()
-            || self.written.extend_from_slice(&self.line).is_err()
-        {
-            self.dropped = self.dropped.saturating_add(1);
+        if self.is_full() {
+            return Ok(false);
         }
+        self.line.clear();
+        push_request(&mut self.line, request)?;
+        self.written.extend_from_slice(&self.line)?;
+        Ok(true)
+    }
+
+    /// Counts a request that was dropped.
+    pub fn drop_one(&mut self)
+        ensures { self.new ≡ with_dropped self.old }
+    {
+        self.dropped = self.dropped.saturating_add(1);
     }
 
     /// Appends a line with the number of dropped requests, if there are any, and sets the number to

@@ -1,10 +1,8 @@
 //! A server thread's part of the log: adding lines, and handing on batches.
 
-ghost use Rattle.std.specs.Prelude.{◌≡◌, ◌<◌, false, pos, None, Some, IfSome, MatchOption, if◌then◌else◌};
-ghost use Rattle.std.specs.Duration.{as_nanos};
-ghost use Rattle.jiff_core.specs.DateTime.{civil_nanos};
+ghost use Rattle.std.specs.Prelude.{◌≡◌, false, None, Some, IfSome, if◌then◌else◌};
 ghost use Rattle.gopher_server.specs.Batch.{AddsRequestTo, is_empty, is_full, no_lines};
-ghost use Rattle.gopher_server.specs.ThreadLog.{AddsLine, IsHandedOn, KeepsSince, is_due, poll_timeout, since_with};
+ghost use Rattle.gopher_server.specs.ThreadLog.{AddsLine, IsHandedOn, IsMomentAt, KeepsSince, is_due, poll_timeout, since_with};
 
 use crate::logging::batch::Batch;
 use crate::logging::queue::LogQueue;
@@ -35,8 +33,7 @@ pub struct Accepted {
 
 // Returns the moment at a time after the beginning of 1970, or `None` after the year 9999.
 fn moment_at(since: Duration) -> Option<DateTime>
-    ensures { MatchOption result (253_402_300_799_999_999_999 < as_nanos since)
-        (λ moment. civil_nanos moment ≡ pos (as_nanos since)) }
+    ensures { IsMomentAt since result }
 {
     let nanos = i128::try_from(since.as_nanos()).ok()?;
     DateTime::from_nanosecond(nanos).ok()
@@ -131,7 +128,9 @@ impl ThreadLog {
         ensures lines { AddsRequestTo request.now self.old.batch self.new.batch }
         ensures since { self.new.since ≡ since_with self.old.since now }
     {
-        self.batch.add(request);
+        if !self.batch.add(request).unwrap_or(false) {
+            self.batch.drop_one();
+        }
         self.since = self.since.or(Some(now));
     }
 

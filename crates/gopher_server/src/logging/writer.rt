@@ -210,14 +210,14 @@ fn spawn_writer<R: OpenLog + Threads + Wait + Clock + Eprint + Clone + Send + Dr
     Some(Log { queue, thread })
 }
 
-/// Starts the thread that writes the log at `path`. If it can't be started, prints that on the
-/// error stream and returns `None`; then nothing is logged.
+/// Starts the thread that writes the log at `path`, if there is one. If it can't be started, prints
+/// that on the error stream and returns `None`; then nothing is logged.
 pub fn start_log<R: OpenLog + Threads + Wait + Clock + Eprint + Clone + Send + Drop + 'static>(
     rt: &R,
     alloc: Global,
-    path: &str,
+    path: Option<&str>,
 ) -> Option<Log> {
-    let log = spawn_writer(rt, alloc, path);
+    let log = spawn_writer(rt, alloc, path?);
     if log.is_none() {
         let _ = rt.eprintln("hole: the log can't be written: its thread can't be started");
     }
@@ -229,10 +229,12 @@ impl Log {
     pub fn queue(&self) -> Option<Arc<LogQueue>> {
         Arc::try_clone(&self.queue).ok()
     }
+}
 
-    /// Ends the log: writes the batches that wait, as far as the file takes them.
-    pub fn end<R: Threads + Wait>(self, rt: &R, alloc: Global) {
-        self.queue.close(rt, alloc);
-        self.thread.join(rt);
+/// Ends the log, if there is one: writes the batches that wait, as far as the file takes them.
+pub fn end_log<R: Threads + Wait>(rt: &R, alloc: Global, log: Option<Log>) {
+    if let Some(log) = log {
+        log.queue.close(rt, alloc);
+        log.thread.join(rt);
     }
 }

@@ -2,7 +2,7 @@ use Rattle.std.specs.Prelude.{◌≡◌, ℕ, ◌+◌, ◌<◌, List, length, fa
 use Rattle.std.specs.Vec.Iter.{into_iter_items, into_iter_len}
 use Rattle.std.specs.PromisedHandle.{KeepsAt}
 use Rattle.gopher_hole.specs.Ending.{after_threads}
-use Rattle.gopher_server.specs.declared.thread_end.ThreadEnd.{ThreadEnd}
+use Rattle.gopher_server.specs.declared.server.ThreadEnd.{ThreadEnd}
 use Rattle.gopher_hole.proofs.starting.join_all.Given as goal
 
 -- the ends of the threads that were joined, in order

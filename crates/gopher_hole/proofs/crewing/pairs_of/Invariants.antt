@@ -1,6 +1,6 @@
 use Rattle.std.specs.Prelude.{◌≡◌, ◌+◌, vec_len}
 use Rattle.std.specs.Vec.Iter.{into_iter_len}
-use Rattle.gopher_hole.proofs.crewing.crawling_of.Given as goal
+use Rattle.gopher_hole.proofs.crewing.pairs_of.Given as goal
 
 -- each share so far has its pair
 abbrev pub invariant-loop-share : goal.invariant-loop-share
