@@ -23,7 +23,7 @@ fn lower_case(byte: u8) -> u8
 }
 
 /// An owned string of bytes.
-#[derive(Debug, Drop)]
+#[derive(Drop)]
 pub struct ByteString {
     held: Vec<u8>,
 }

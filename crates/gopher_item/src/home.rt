@@ -11,7 +11,7 @@ use std::alloc::Global;
 use std::marker::Model;
 
 /// The host and the port that a server writes into the menu lines of its own items.
-#[derive(Debug, Drop)]
+#[derive(Drop)]
 pub struct Home {
     host: ByteString,
     port: u16,
