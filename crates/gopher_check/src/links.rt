@@ -3,8 +3,7 @@
 ghost use Rattle.std.specs.Prelude.{◌≡◌, ◌++◌, map, IfOk, OnOk};
 ghost use Rattle.gopher_tree.specs.Files.{menu_files};
 ghost use Rattle.gopher_tree.specs.Found.{lent_file};
-ghost use Rattle.gopher_tree.specs.MenuFile.{written_line};
-ghost use Rattle.gopher_tree.specs.WrittenLine.{line_data, server_data};
+ghost use Rattle.gopher_tree.specs.MenuFile.{written_line, line_data, server_data};
 ghost use Rattle.gopher_check.specs.Links.{is_asked, is_own, is_dead, place_words, dead_line, offers, menu_offers, offers_search, line_warning, menu_warnings, dead_lines};
 
 use crate::lines::{push_count, push_shown, push_words};

@@ -8,8 +8,7 @@ use Rattle.std.specs.Prelude.{Option, None, Some, IfSome, nat_lt}
 use Rattle.gopher_page.specs.Page.{PageData}
 use Rattle.gopher_page.specs.Query.{TermData, count_of_term, joined, matches, score}
 use Rattle.gopher_page.specs.declared.query.Operator.TheVariants.{And}
-use Rattle.gopher_segment.specs.PostingList.{IsPostingListOf}
-use Rattle.gopher_segment.specs.Postings.{run_of}
+use Rattle.gopher_segment.specs.Postings.{IsPostingListOf, run_of}
 use Rattle.gopher_segment.specs.Segment.{SegmentData, meant_counts}
 use Rattle.gopher_segment.specs.declared.postings.Postings.{Postings}
 use Rattle.gopher_index.specs.ByPostings.{IsListOf}

@@ -5,8 +5,7 @@ use Rattle.std.proofs.lemmas.Bool.{lt-ltb, le-ltb}
 use Rattle.gopher_page.specs.Page.{PageData}
 use Rattle.std.proofs.lemmas.List.{length-map}
 use Rattle.gopher_page.specs.Query.{count_of_term}
-use Rattle.gopher_segment.specs.Postings.{AreWithin, count_in, run_of}
-use Rattle.gopher_segment.specs.PostingList.{IsPostingListOf}
+use Rattle.gopher_segment.specs.Postings.{AreWithin, count_in, run_of, IsPostingListOf}
 use Rattle.gopher_segment.proofs.Pieces.{count_in-run, run_within}
 use Rattle.gopher_segment.specs.Segment.{meant_counts}
 use Rattle.gopher_segment.specs.declared.postings.Postings.{Postings}

@@ -1,5 +1,4 @@
 pub mod Large
-pub mod PostingList
 pub mod Postings
 pub mod Rows
 pub mod Segment

@@ -1,7 +1,10 @@
 -- Postings of a word: pairs of a page's number and a count.
-use Rattle.std.specs.Prelude.{◌≡◌, ℕ, zero, suc, ◌+◌, ◌-◌, ◌*◌, ◌/◌, ◌^◌, ◌<◌, ◌≤◌, List, [], ◌∷◌, ◌++◌, length, replicate, slice_index, ◌==◌, if◌then◌else◌}
-use Rattle.std.specs.List.{AllByRecursion, flat_map}
+use Rattle.std.specs.Prelude.{◌≡◌, ℕ, zero, suc, ◌+◌, ◌-◌, ◌*◌, ◌/◌, ◌^◌, ◌<◌, ◌≤◌, List, [], ◌∷◌, ◌++◌, length, replicate, slice_index, ◌==◌, if◌then◌else◌, false}
+use Rattle.std.specs.List.{AllByRecursion, flat_map, zip}
 use Rattle.gopher_bytes.specs.Parts.{AreEnds}
+use Rattle.gopher_page.specs.Page.{PageData}
+use Rattle.gopher_segment.specs.Segment.{meant_counts}
+use Rattle.gopher_segment.specs.declared.postings.Postings.{Postings}
 
 -- the count of a page, which may have several postings
 abbrev pub count_in : ℕ → List (ℕ × ℕ) → ℕ
@@ -50,3 +53,9 @@ HaveRoom first cells count =
 abbrev pub AreRaised : ℕ → List ℕ → List ℕ → (ℕ → ℕ) → Type 0
 AreRaised first old new count =
     (k : ℕ) → k < length old → slice_index new k ≡ slice_index old k + count (first + k)
+
+-- the postings are those of a word in pages, the first of which has their number `first`
+abbrev pub IsPostingListOf : List ℕ → List PageData → Postings → Type 0
+IsPostingListOf word pages postings =
+    zip postings.numbers.now postings.counts.now
+    ≡ run_of postings.first (meant_counts false word pages)

@@ -4,7 +4,7 @@ ghost use Rattle.std.specs.Prelude.{None, ◌≡◌, ◌<◌, ◌+◌, ◌≤◌
 ghost use Rattle.std.specs.Arc.{arc_value};
 ghost use Rattle.std.specs.List.{All};
 ghost use Rattle.gopher_segment.specs.Large.{large_from, pages_in_table};
-ghost use Rattle.gopher_segment.specs.PostingList.{IsPostingListOf};
+ghost use Rattle.gopher_segment.specs.Postings.{IsPostingListOf};
 ghost use Rattle.gopher_segment.specs.Ranks.{AreRanks};
 ghost use Rattle.gopher_segment.specs.Segment.{pages_of, meant_counts};
 ghost use Rattle.gopher_segment.specs.SegmentRows.{AreSmall, AreRowsOf, AreConsecutive, AreSegmentTables};

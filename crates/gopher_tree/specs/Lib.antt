@@ -1,7 +1,6 @@
 pub mod Path
 pub mod Kind
 pub mod MenuFile
-pub mod WrittenLine
 pub mod Files
 pub mod Tree
 pub mod Fault

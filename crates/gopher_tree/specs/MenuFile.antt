@@ -1,13 +1,15 @@
 -- A `.menu` file: the menu of its folder. The format is this profile's.
-use Rattle.std.specs.Prelude.{ℕ, ◌+◌, Bool, not, List, [], ◌∷◌, codes, map, Option, None, Some, is_some, if◌then◌else◌}
+use Rattle.std.specs.Prelude.{ℕ, ◌+◌, Bool, not, List, [], ◌∷◌, codes, map, Option, None, Some, is_some, if◌then◌else◌, ◌≡◌}
 use Rattle.std.specs.List.{filter_map}
-use Rattle.std.specs.Option.{option_and_then}
+use Rattle.std.specs.Option.{option_and_then, option_map}
 use Rattle.gopher_bytes.specs.Lines.{lines_of}
 use Rattle.gopher_item.specs.Menu.{fields_of}
 use Rattle.gopher_bytes.specs.Trim.{trim_spaces}
 use Rattle.gopher_item.specs.MenuLine.{MenuLineData, menu_line_fault, menu_line_of}
 use Rattle.gopher_bytes.specs.Number.{number_of}
 use Rattle.gopher_item.specs.Place.{HomeData, is_host}
+use Rattle.std.specs.Borrow.{Bor}
+use Rattle.gopher_tree.specs.declared.menu_file.WrittenLine.{WrittenLine}
 
 -- a line of the file; a line without a server is of the server that sends the file
 pub record WrittenLineData : Type 0 where
@@ -67,3 +69,19 @@ sent_line home line = at line.server
 
 abbrev pub written_menu : HomeData → List ℕ → List MenuLineData
 written_menu home bytes = map (sent_line home) (filter_map written_line (lines_of bytes))
+
+abbrev pub server_data : Option (Bor (List ℕ) × ℕ) → Option HomeData
+server_data server = option_map (λ s. record { host = s.0.now; port = s.1 }) server
+
+abbrev pub line_data : WrittenLine → WrittenLineData
+line_data line =
+    record {
+      kind = line.kind;
+      display = line.display.now;
+      selector = line.selector.now;
+      server = server_data line.server;
+    }
+
+-- both are the same line, or neither is a line
+abbrev pub IsWrittenLine : Option WrittenLineData → Option WrittenLine → Type 0
+IsWrittenLine wanted line = option_map line_data line ≡ wanted

@@ -2,8 +2,7 @@
 
 ghost use Rattle.std.specs.Prelude.{◌≡◌, ◌∷◌};
 ghost use Rattle.gopher_item.specs.Menu.{fields_of};
-ghost use Rattle.gopher_tree.specs.MenuFile.{is_item, line_of_fields, server_of, written_item, written_line, bad_line, written_menu, sent_line};
-ghost use Rattle.gopher_tree.specs.WrittenLine.{line_data, server_data, IsWrittenLine};
+ghost use Rattle.gopher_tree.specs.MenuFile.{is_item, line_of_fields, server_of, written_item, written_line, bad_line, written_menu, sent_line, line_data, server_data, IsWrittenLine};
 ghost use Rattle.gopher_tree.specs.Reply.{PutsLine, PutsLines};
 
 use gopher_item::{
