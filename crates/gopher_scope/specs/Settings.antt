@@ -78,14 +78,6 @@ pub record AreValuesIn (table : Members) (settings : SettingsData) : Type 0 wher
   pub threads : IsNumberAt table (codes "threads") 2 settings.threads
   pub tries : IsNumberAt table (codes "tries") 1 settings.tries
 
-abbrev pub settings_fault_code : SettingsFault → ℕ
-settings_fault_code fault.NotToml = 30
-settings_fault_code (fault.Missing key) = 31
-settings_fault_code (fault.WrongKind key) = 32
-settings_fault_code (fault.OutOfRange key) = 33
-settings_fault_code fault.UnknownKey = 34
-settings_fault_code fault.NoMemory = 90
-
 -- the fault of settings with this problem at a key
 abbrev pub fault_at : Key → Problem → SettingsFault
 fault_at key problem.Missing = fault.Missing key

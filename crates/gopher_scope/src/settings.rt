@@ -12,14 +12,14 @@ mod tables;
 mod unknown;
 
 use crate::fault::SettingsFault;
-pub use check::key_fault;
+pub(crate) use check::key_fault;
 use check::settings_fault;
 use gopher_item::{Home, ItemFault, NoMemory, Place, Scope};
 use items::{rules, seeds};
 pub use key::Key;
 use std::alloc::Global;
 use toml::Table;
-pub use unknown::{UnknownKey, unknown_keys};
+pub(crate) use unknown::{UnknownKey, unknown_keys};
 
 /// The settings of a server and its crawl.
 #[derive(Drop)]

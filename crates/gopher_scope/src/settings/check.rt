@@ -12,7 +12,7 @@ use toml::Table;
 
 /// Returns the first fault of a key's value, or of a missing value (31, 32, 33).
 #[tactic(auto, unfolding(crate::specs::Settings::key_fault))]
-pub fn key_fault(table: &Table, key: Key) -> Option<SettingsFault>
+pub(crate) fn key_fault(table: &Table, key: Key) -> Option<SettingsFault>
     ensures { result ≡ key_fault (table_view table.now) key }
 {
     let problem = key.row().problem(table)?;

@@ -13,11 +13,11 @@ use toml::{Table, Value};
 
 /// An unknown key of settings.
 #[derive(Clone, Copy)]
-pub struct UnknownKey<'a> {
+pub(crate) struct UnknownKey<'a> {
     /// The key of the array with the table that has it; `None` for one of the settings' own.
-    pub array: Option<Key>,
+    pub(crate) array: Option<Key>,
     /// Its name.
-    pub name: &'a str,
+    pub(crate) name: &'a str,
 }
 
 // Whether one of these keys of the settings has this name.
@@ -141,7 +141,7 @@ fn push_arrays<'a>(
 
 /// Returns all unknown keys of settings: their own by their bytes, then those of the tables in each
 /// array, in the order of `Key`.
-pub fn unknown_keys(alloc: Global, table: &Table) -> Result<Vec<UnknownKey<'_>>, NoMemory>
+pub(crate) fn unknown_keys(alloc: Global, table: &Table) -> Result<Vec<UnknownKey<'_>>, NoMemory>
     ensures { IfOk result (AreUnknown (unknown_keys (table_view table.now))) }
 {
     let mut keys = Vec::new(alloc);
