@@ -51,68 +51,53 @@ obstacle_of kind.NotADirectory = obstacle.NotFolder
 obstacle_of kind.FilesystemLoop = obstacle.Loop
 obstacle_of _ = obstacle.Other
 
-abbrev pub obstacle_cause : Obstacle → List ℕ
-obstacle_cause obstacle.NotUtf8 = codes "a name in this folder isn't UTF-8"
-obstacle_cause obstacle.Denied = codes "permission to read this is missing"
-obstacle_cause obstacle.Missing = codes "no file or folder exists at this path"
-obstacle_cause obstacle.NotFolder = codes "this isn't a folder"
-obstacle_cause obstacle.Loop = codes "symbolic links form a loop"
-obstacle_cause obstacle.Other = codes "the system couldn't read this"
-obstacle_cause (obstacle.LargeFile size) = codes "this file has over 16777216 bytes"
-obstacle_cause (obstacle.LargeSite size) =
-    codes "the files up to this one have over 67108864 bytes together"
-obstacle_cause (obstacle.ManyNodes size) =
-    codes "there are over 4096 files and folders up to this one, with the root"
+-- the cause of a fault, and its remedy
+abbrev pub because : List ℕ → List ℕ → List ℕ × List ℕ
+because cause remedy = (cause, remedy)
 
-abbrev pub obstacle_remedy : Obstacle → List ℕ
-obstacle_remedy obstacle.NotUtf8 = codes "rename it; ls -b shows its bytes"
-obstacle_remedy obstacle.Denied =
-    codes "give the server's user permission to read it, and to enter the folders above it"
-obstacle_remedy obstacle.Missing = codes "create the folder, or correct root in the settings"
-obstacle_remedy obstacle.NotFolder = codes "correct root in the settings"
-obstacle_remedy obstacle.Loop = codes "remove the link"
-obstacle_remedy obstacle.Other = codes "read it as the server's user to see the reason"
-obstacle_remedy (obstacle.LargeFile size) = codes "make it smaller, or remove it"
-obstacle_remedy (obstacle.LargeSite size) = codes "serve fewer or smaller files"
-obstacle_remedy (obstacle.ManyNodes size) =
-    codes "serve fewer files, or remove a symbolic link that points to a folder above it"
+abbrev pub obstacle_explained : Obstacle → List ℕ × List ℕ
+obstacle_explained obstacle.NotUtf8 =
+    because (codes "a name in this folder isn't UTF-8") (codes "rename it; ls -b shows its bytes")
+obstacle_explained obstacle.Denied =
+    because (codes "permission to read this is missing")
+    (codes "give the server's user permission to read it, and to enter the folders above it")
+obstacle_explained obstacle.Missing =
+    because (codes "no file or folder exists at this path")
+    (codes "create the folder, or correct root in the settings")
+obstacle_explained obstacle.NotFolder =
+    because (codes "this isn't a folder") (codes "correct root in the settings")
+obstacle_explained obstacle.Loop = because (codes "symbolic links form a loop") (codes "remove the link")
+obstacle_explained obstacle.Other =
+    because (codes "the system couldn't read this")
+    (codes "read it as the server's user to see the reason")
+obstacle_explained (obstacle.LargeFile size) =
+    because (codes "this file has over 16777216 bytes") (codes "make it smaller, or remove it")
+obstacle_explained (obstacle.LargeSite size) =
+    because (codes "the files up to this one have over 67108864 bytes together")
+    (codes "serve fewer or smaller files")
+obstacle_explained (obstacle.ManyNodes size) =
+    because (codes "there are over 4096 files and folders up to this one, with the root")
+    (codes "serve fewer files, or remove a symbolic link that points to a folder above it")
 
-abbrev pub tree_cause : TreeFault → Obstacle → List ℕ
-tree_cause (tree_fault.BadName file) how =
-    codes "a name in this path contains a TAB, CR or LF, or a folder is named .menu"
-tree_cause (tree_fault.Reserved file) how =
-    codes "the name search is reserved in the root, because /search is the server's search"
-tree_cause (tree_fault.LongSelector file) how = codes "the path from the root has over 254 bytes"
-tree_cause (tree_fault.TooBig file) how = obstacle_cause how
-tree_cause (tree_fault.BadMenuLine file line) how = codes "this isn't a valid line of a menu file"
-tree_cause (tree_fault.Twice file) how = codes "another file has the same path"
-tree_cause (tree_fault.Unreadable file) how = obstacle_cause how
-tree_cause tree_fault.NoMemory how = codes "out of memory"
-
-abbrev pub tree_remedy : TreeFault → Obstacle → List ℕ
-tree_remedy (tree_fault.BadName file) how = codes "rename the file or folder"
-tree_remedy (tree_fault.Reserved file) how = codes "rename the file or folder"
-tree_remedy (tree_fault.LongSelector file) how =
-    codes "use shorter names, or remove a symbolic link that points to a folder above it"
-tree_remedy (tree_fault.TooBig file) how = obstacle_remedy how
-tree_remedy (tree_fault.BadMenuLine file line) how =
-    codes "write text without TABs, or type and name, TAB, selector, and for another server TAB, host, TAB, port"
-tree_remedy (tree_fault.Twice file) how = codes "remove one of the two"
-tree_remedy (tree_fault.Unreadable file) how = obstacle_remedy how
-tree_remedy tree_fault.NoMemory how =
-    codes "give the program more memory, or serve fewer or smaller files"
-
-abbrev pub settings_cause : SettingsFault → List ℕ
-settings_cause settings_fault.NotToml = codes "the settings aren't valid TOML"
-settings_cause (settings_fault.Missing key) =
-    codes "this key is missing, or one of its tables lacks a required key"
-settings_cause (settings_fault.WrongKind key) =
-    codes "this key's value has the wrong type, or a value in one of its tables has"
-settings_cause (settings_fault.OutOfRange key) =
-    codes "this key's value is out of range, or a value in one of its tables is"
-settings_cause settings_fault.UnknownKey =
-    codes "this key is unknown, or a key in one of its tables is"
-settings_cause settings_fault.NoMemory = codes "out of memory"
+abbrev pub tree_explained : TreeFault → Obstacle → List ℕ × List ℕ
+tree_explained (tree_fault.BadName file) how =
+    because (codes "a name in this path contains a TAB, CR or LF, or a folder is named .menu")
+    (codes "rename the file or folder")
+tree_explained (tree_fault.Reserved file) how =
+    because (codes "the name search is reserved in the root, because /search is the server's search")
+    (codes "rename the file or folder")
+tree_explained (tree_fault.LongSelector file) how =
+    because (codes "the path from the root has over 254 bytes")
+    (codes "use shorter names, or remove a symbolic link that points to a folder above it")
+tree_explained (tree_fault.TooBig file) how = obstacle_explained how
+tree_explained (tree_fault.BadMenuLine file line) how =
+    because (codes "this isn't a valid line of a menu file")
+    (codes "write text without TABs, or type and name, TAB, selector, and for another server TAB, host, TAB, port")
+tree_explained (tree_fault.Twice file) how =
+    because (codes "another file has the same path") (codes "remove one of the two")
+tree_explained (tree_fault.Unreadable file) how = obstacle_explained how
+tree_explained tree_fault.NoMemory how =
+    because (codes "out of memory") (codes "give the program more memory, or serve fewer or smaller files")
 
 -- what the value of a key may be
 abbrev pub range_remedy : Key → List ℕ
@@ -131,15 +116,24 @@ range_remedy key.Workers = codes "use a number from 1 to 16"
 range_remedy key.Threads = codes "use a number from 1 to 8"
 range_remedy key.Tries = codes "use a number from 1 to 5"
 
-abbrev pub settings_remedy : SettingsFault → List ℕ
-settings_remedy settings_fault.NotToml = codes "correct this line; strings need quotation marks"
-settings_remedy (settings_fault.Missing key) = codes "add it; hole.toml(5) describes the keys"
-settings_remedy (settings_fault.WrongKind key) =
-    codes "put strings in quotation marks, write integers without, and begin tables with [[seeds]], [[allow]] or [[deny]]"
-settings_remedy (settings_fault.OutOfRange key) = range_remedy key
-settings_remedy settings_fault.UnknownKey =
-    codes "correct its spelling; the server's own keys come before the first [["
-settings_remedy settings_fault.NoMemory = codes "give the program more memory"
+abbrev pub settings_explained : SettingsFault → List ℕ × List ℕ
+settings_explained settings_fault.NotToml =
+    because (codes "the settings aren't valid TOML")
+    (codes "correct this line; strings need quotation marks")
+settings_explained (settings_fault.Missing key) =
+    because (codes "this key is missing, or one of its tables lacks a required key")
+    (codes "add it; hole.toml(5) describes the keys")
+settings_explained (settings_fault.WrongKind key) =
+    because (codes "this key's value has the wrong type, or a value in one of its tables has")
+    (codes "put strings in quotation marks, write integers without, and begin tables with [[seeds]], [[allow]] or [[deny]]")
+settings_explained (settings_fault.OutOfRange key) =
+    because (codes "this key's value is out of range, or a value in one of its tables is")
+    (range_remedy key)
+settings_explained settings_fault.UnknownKey =
+    because (codes "this key is unknown, or a key in one of its tables is")
+    (codes "correct its spelling; the server's own keys come before the first [[")
+settings_explained settings_fault.NoMemory =
+    because (codes "out of memory") (codes "give the program more memory")
 
 -- the reason why a walk stops at the end of its trail, as far as values decide it
 abbrev pub IsReason : TreeFault → Trail → Obstacle → Type 0
@@ -147,20 +141,14 @@ IsReason (tree_fault.TooBig number) trail how = how ≡ excess number trail
 IsReason (tree_fault.Unreadable number) trail how = Unit {0}
 IsReason why trail how = how ≡ obstacle.Other
 
--- the cause in words
-abbrev pub cause : SiteFault → List ℕ
-cause (fault.Settings why) = settings_cause why
-cause (fault.Tree why how) = tree_cause why how
-cause (fault.SeedOutOfScope seed) = codes "no allow rule covers this seed, or a deny rule does"
-cause fault.SettingsUnreadable =
-    codes "the settings can't be read, have over 1048576 bytes, or aren't UTF-8"
-cause fault.KeyTwice = codes "this line repeats an earlier key or table"
-
--- the remedy in words
-abbrev pub remedy : SiteFault → List ℕ
-remedy (fault.Settings why) = settings_remedy why
-remedy (fault.Tree why how) = tree_remedy why how
-remedy (fault.SeedOutOfScope seed) =
-    codes "add an allow rule with its host, its port and a prefix of its selector, change the deny rule, or remove the seed"
-remedy fault.SettingsUnreadable = codes "correct the path, the permissions or the text"
-remedy fault.KeyTwice = codes "remove one of the two lines"
+abbrev pub explained : SiteFault → List ℕ × List ℕ
+explained (fault.Settings why) = settings_explained why
+explained (fault.Tree why how) = tree_explained why how
+explained (fault.SeedOutOfScope seed) =
+    because (codes "no allow rule covers this seed, or a deny rule does")
+    (codes "add an allow rule with its host, its port and a prefix of its selector, change the deny rule, or remove the seed")
+explained fault.SettingsUnreadable =
+    because (codes "the settings can't be read, have over 1048576 bytes, or aren't UTF-8")
+    (codes "correct the path, the permissions or the text")
+explained fault.KeyTwice =
+    because (codes "this line repeats an earlier key or table") (codes "remove one of the two lines")

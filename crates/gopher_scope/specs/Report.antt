@@ -1,33 +1,59 @@
--- The reports of a check: the words of each, and the one that a text of settings gets.
-use Rattle.std.specs.Prelude.{ℕ, Bool, true, List, [], ◌∷◌, ◌++◌, codes, length, count_by, Option, None, Some, ◌==◌, ◌&&◌, if◌then◌else◌, ◌≡◌, ◌⊎◌, Ok, Err}
-use Rattle.std.specs.List.{flat_map}
-use Rattle.toml.specs.Data.{Members}
+-- The reports of a check: the words of each, and the one that a text of settings gets, with the place
+-- in the text that it names.
+use Rattle.std.specs.Prelude.{◌≡◌, ◌≢◌, ℕ, ◌+◌, ◌-◌, ◌==◌, List, [], take, drop, count_by, None, zero, Bool, true, ◌∷◌, ◌++◌, codes, length, Option, Some, if◌then◌else◌, ◌⊎◌, Ok, Err}
+use Rattle.toml.specs.Errors.{IsMemory, IsWithin, span_start, span_end}
 use Rattle.toml.specs.Parse.{parse_document}
 use Rattle.toml.specs.declared.de.error.Error.{Error}
+use Rattle.gopher_bytes.specs.Lines.{cut_at}
+use Rattle.gopher_bytes.specs.Trim.{trim_spaces}
+use Rattle.gopher_item.specs.Menu.{first_field}
+use Rattle.std.specs.List.{flat_map}
+use Rattle.toml.specs.Data.{Members}
 use Rattle.gopher_item.specs.Place.{PlaceData, HomeData}
 use Rattle.gopher_item.specs.Rule.{RuleData}
 use Rattle.gopher_item.specs.Scope.{first_outside}
-use Rattle.gopher_scope.specs.Rows.{key_name, all_keys}
+use Rattle.gopher_scope.specs.Rows.{key_name, all_keys, Unknown, unknown_keys}
 use Rattle.gopher_scope.specs.Settings.{SettingsData, key_fault, settings_of}
 use Rattle.gopher_scope.specs.declared.fault.SettingsFault.{SettingsFault}
 use Rattle.gopher_scope.specs.declared.fault.SettingsFault.TheVariants as settings_fault
 use Rattle.gopher_scope.specs.declared.settings.key.Key.{Key}
-use Rattle.gopher_scope.specs.Unknown.{Unknown, unknown_keys}
 use Rattle.gopher_tree.specs.Files.{File, is_missing, total_bytes}
 use Rattle.gopher_tree.specs.Path.{is_menu_path}
 use Rattle.gopher_tree.specs.declared.load.trail.Trail.{Trail}
 use Rattle.gopher_tree.specs.declared.fault.TreeFault.{TreeFault}
 use Rattle.gopher_tree.specs.declared.fault.TreeFault.TheVariants as tree_fault
 use Rattle.gopher_tree.specs.Load.{LoadsTo}
-use Rattle.gopher_scope.specs.Fault.{site_fault_code, cause, remedy, IsReason}
-use Rattle.gopher_scope.specs.Lines.{words_line, count_words, number_line, server_words, place_rest}
-use Rattle.gopher_scope.specs.Links.{dead_lines, offers_search}
+use Rattle.gopher_scope.specs.Fault.{site_fault_code, explained, IsReason}
+use Rattle.gopher_scope.specs.Lines.{words_line, count_words, number_line, server_words, place_rest, dead_lines, offers_search}
 use Rattle.gopher_scope.specs.declared.report.obstacle.Obstacle.{Obstacle}
 use Rattle.gopher_scope.specs.declared.report.obstacle.Obstacle.TheVariants as obstacle
 use Rattle.gopher_scope.specs.declared.fault.SiteFault.{SiteFault}
 use Rattle.gopher_scope.specs.declared.fault.SiteFault.TheVariants as fault
-use Rattle.gopher_scope.specs.Text.{toml_fault_line, IsTomlFault, IsKeyOf}
 use Rattle.gopher_scope.specs.declared.report.fault_report.Report.{Report}
+
+-- the number of the line, from 1, that has the byte at an offset
+abbrev pub line_at : List ℕ → ℕ → ℕ
+line_at text offset = count_by (λ byte. byte == 10) (take offset text) + 1
+
+-- the key of a piece of TOML: without spaces around it, before the first `=`
+abbrev pub key_of : List ℕ → List ℕ
+key_of piece = trim_spaces (first_field (cut_at 61 piece))
+
+-- the text isn't TOML, and this fault of the parser says where: its span is within the text; a
+-- fault because memory ran out says nothing of a text
+abbrev pub IsTomlFault : List ℕ → Error → Type 0
+IsTomlFault text fault =
+    (parse_document text ≡ None) × (¬ IsMemory fault) × IsWithin text fault
+
+-- the number of the line, from 1, at which the parser's fault begins
+abbrev pub toml_fault_line : List ℕ → Error → ℕ
+toml_fault_line text fault = line_at text (span_start fault)
+
+-- the key of the piece of the text that is the parser's fault; it isn't empty
+abbrev pub IsKeyOf : List ℕ → Error → List ℕ → Type 0
+IsKeyOf text fault key =
+    (key ≢ [])
+    × (key ≡ key_of (take (span_end fault - span_start fault) (drop (span_start fault) text)))
 
 -- the line of a name, unless it is empty
 abbrev pub named_line : List ℕ → List ℕ → List ℕ
@@ -67,7 +93,8 @@ abbrev pub fault_report : SiteFault → List ℕ → Option ℕ → Option Key �
 fault_report why path line array unknown =
     number_line (codes "fault: ") (site_fault_code why) ++ words_line (codes "path: ") path
     ++ line_detail line ++ detail why array unknown
-    ++ words_line (codes "cause: ") (cause why) ++ words_line (codes "remedy: ") (remedy why)
+    ++ words_line (codes "cause: ") (explained why).0
+    ++ words_line (codes "remedy: ") (explained why).1
 
 -- the line of a menu file that a fault names
 abbrev pub line_of_fault : TreeFault → Option ℕ
@@ -86,9 +113,6 @@ folder_report why how root below =
     fault_report (fault.Tree why how) (root ++ 47 ∷ below) (line_of_fault why) None []
     ++ hint_line root how
 
-abbrev pub leaves_nothing_out : ℕ → ℕ → ℕ → Bool
-leaves_nothing_out empty nowhere hidden = (empty == 0) && (nowhere == 0) && (hidden == 0)
-
 -- the line that counts what isn't in the tree
 abbrev pub counts_line : ℕ → ℕ → ℕ → List ℕ
 counts_line empty nowhere hidden =
@@ -97,8 +121,8 @@ counts_line empty nowhere hidden =
     ++ number_line (codes ", hidden names ") hidden
 
 abbrev pub left_line : ℕ → ℕ → ℕ → List ℕ
-left_line empty nowhere hidden =
-    if leaves_nothing_out empty nowhere hidden then [] else counts_line empty nowhere hidden
+left_line zero zero zero = []
+left_line empty nowhere hidden = counts_line empty nowhere hidden
 
 abbrev pub left_out : List File → Trail → List ℕ
 left_out files trail =
@@ -196,18 +220,24 @@ IsReportOnBroken path text broken report =
     ⊎ ((key : List ℕ) × IsKeyOf text broken key
     × IsReportOf fault.KeyTwice path (Some (toml_fault_line text broken)) key report)
 
--- the report is the one on all faults of a table, with the first of them
+-- the report is that of memory that ran out
+abbrev pub IsReportOnMemory : List ℕ → Report → Type 0
+IsReportOnMemory path = IsReportOf (fault.Settings settings_fault.NoMemory) path None []
+
+-- the report is the one on a table of settings: on the site that they describe, or on all faults of
+-- the table with the first of them, or of memory that ran out
 abbrev pub IsReportOnTable : List ℕ → Members → Report → Type 0
 IsReportOnTable path table report =
-    (why : SettingsFault) × (settings_of (Some table) ≡ Err why)
-    × IsReport (Some (fault.Settings why)) (table_report path table) report
+    ((settings : SettingsData) × (settings_of (Some table) ≡ Ok settings)
+    × IsReportOnSite path settings report)
+    ⊎ (((why : SettingsFault) × (settings_of (Some table) ≡ Err why)
+    × IsReport (Some (fault.Settings why)) (table_report path table) report)
+    ⊎ IsReportOnMemory path report)
 
--- the report is the one on a text of settings: on the site that they describe, or on a text that
--- isn't TOML, or on a table with a fault, or of memory that ran out
+-- the report is the one on a text of settings: on their table, or on a text that isn't TOML, or of
+-- memory that ran out
 abbrev pub IsReportOnText : List ℕ → List ℕ → Report → Type 0
 IsReportOnText path text report =
-    ((settings : SettingsData) × (settings_of (parse_document text) ≡ Ok settings)
-    × IsReportOnSite path settings report)
+    ((table : Members) × (parse_document text ≡ Some table) × IsReportOnTable path table report)
     ⊎ (((broken : Error) × IsTomlFault text broken × IsReportOnBroken path text broken report)
-    ⊎ (((table : Members) × (parse_document text ≡ Some table) × IsReportOnTable path table report)
-    ⊎ IsReportOf (fault.Settings settings_fault.NoMemory) path None [] report))
+    ⊎ IsReportOnMemory path report)

@@ -2,14 +2,17 @@
 //! number, the cause and the remedy of each.
 
 ghost use Rattle.std.specs.Prelude.{◌≡◌};
-ghost use Rattle.gopher_scope.specs.Fault.{settings_fault_code, site_fault_code, cause, range_remedy, remedy};
-ghost use Rattle.gopher_scope.specs.Fault.{tree_cause, tree_remedy, settings_cause, settings_remedy};
+ghost use Rattle.gopher_scope.specs.Fault.{settings_fault_code, site_fault_code, explained, range_remedy, settings_explained, tree_explained};
 
 use crate::report::Obstacle;
 use crate::settings::Key;
 use gopher_item::NoMemory;
 use gopher_tree::TreeFault;
+use std::alloc::AllocError;
 use thiserror::Error;
+
+/// The result of appending to a list or a report.
+pub(crate) type Pushed = Result<(), AllocError>;
 
 /// Why a text isn't valid settings.
 #[derive(Clone, Copy, Debug, PartialEq, Eq, Error)]
@@ -76,8 +79,7 @@ pub enum SiteFault {
 }
 
 fn explain_tree(fault: TreeFault, obstacle: Obstacle) -> (&'static str, &'static str)
-    ensures cause { result.0.now ≡ tree_cause fault obstacle }
-    ensures remedy { result.1.now ≡ tree_remedy fault obstacle }
+    ensures { (result.0.now, result.1.now) ≡ tree_explained fault obstacle }
 {
     match fault {
         TreeFault::BadName { .. } => (
@@ -126,8 +128,7 @@ fn range_remedy(key: Key) -> &'static str
 }
 
 fn explain_settings(fault: SettingsFault) -> (&'static str, &'static str)
-    ensures cause { result.0.now ≡ settings_cause fault }
-    ensures remedy { result.1.now ≡ settings_remedy fault }
+    ensures { (result.0.now, result.1.now) ≡ settings_explained fault }
 {
     match fault {
         SettingsFault::NotToml => (
@@ -170,8 +171,7 @@ impl SiteFault {
 
     /// Returns the cause of the fault and its remedy: one line each, without its LF.
     pub fn explain(self) -> (&'static str, &'static str)
-        ensures cause { result.0.now ≡ cause self }
-        ensures remedy { result.1.now ≡ remedy self }
+        ensures { (result.0.now, result.1.now) ≡ explained self }
     {
         match self {
             SiteFault::Settings(fault) => explain_settings(fault),

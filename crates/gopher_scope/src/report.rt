@@ -1,13 +1,12 @@
 //! The report of `hole check`: on settings, their folder and their seeds; and which line or key it
 //! names.
 
-ghost use Rattle.std.specs.Prelude.{◌≡◌, ◌≢◌, ◌++◌, [], None, Some, IfOk, IfSome, OnOk};
+ghost use Rattle.std.specs.Prelude.{◌≡◌, ◌++◌, [], None, Some, IfOk, IfSome, OnOk};
+ghost use Rattle.toml.specs.View.{table_view};
 ghost use Rattle.gopher_item.specs.Scope.{first_outside};
-ghost use Rattle.gopher_scope.specs.Settings.{settings_data, IsFaultOf};
-ghost use Rattle.gopher_scope.specs.declared.fault.SettingsFault.TheVariants as settings_fault;
+ghost use Rattle.gopher_scope.specs.Settings.{settings_data};
 ghost use Rattle.gopher_scope.specs.declared.fault.SiteFault.TheVariants.{SettingsUnreadable};
-ghost use Rattle.gopher_scope.specs.Report.{hint_line, line_of_fault, IsReportOf, IsReportOnFolder, IsReportOnSite, IsReportOnText};
-ghost use Rattle.gopher_scope.specs.Text.{key_of, toml_fault_line, IsKeyOf, IsTomlFault};
+ghost use Rattle.gopher_scope.specs.Report.{hint_line, line_of_fault, IsReportOf, IsReportOnFolder, IsReportOnBroken, IsReportOnMemory, IsReportOnSite, IsReportOnTable, IsReportOnText, key_of, toml_fault_line, IsKeyOf, IsTomlFault};
 
 mod fault_report;
 mod lines;
@@ -16,7 +15,7 @@ mod obstacle;
 mod site_report;
 mod table_report;
 
-use crate::fault::{SettingsFault, SiteFault};
+use crate::fault::{Pushed, SettingsFault, SiteFault};
 use crate::settings::Settings;
 pub use fault_report::Report;
 use fault_report::report_fault;
@@ -25,9 +24,10 @@ use gopher_tree::{Trail, Tree, TreeFault};
 pub use obstacle::Obstacle;
 use obstacle::reason;
 use site_report::site_report;
-use std::alloc::{AllocError, Global};
+use std::alloc::Global;
 use std::fs::Files;
 use table_report::table_report;
+use toml::Table;
 use toml::de::Error as TomlFault;
 
 // The message of the TOML parser for a key that is given twice.
@@ -59,7 +59,7 @@ fn line_of_fault(fault: TreeFault) -> Option<usize>
 }
 
 // Appends the line that says why a root that begins with `~` isn't there.
-fn push_hint(root: &str, how: Obstacle, out: &mut Vec<u8>) -> Result<(), AllocError>
+fn push_hint(root: &str, how: Obstacle, out: &mut Vec<u8>) -> Pushed
     ensures { OnOk result (out.new.items ≡ out.old.items ++ hint_line root.now how) }
 {
     match (root.as_bytes(), how) {
@@ -110,16 +110,6 @@ fn settings_report<R: Files>(
     }
 }
 
-// The fault with which the TOML parser refuses a text.
-fn toml_fault(alloc: Global, text: &str) -> Result<TomlFault, NoMemory>
-    ensures { IfOk result (IsTomlFault text.now) }
-{
-    match toml::table_from_str(alloc, text) {
-        Err(fault) if !fault.is_memory() => Ok(fault),
-        _ => Err(NoMemory),
-    }
-}
-
 // The line, from 1, at which a fault of the TOML parser begins.
 fn broken_line(text: &str, fault: &TomlFault) -> Option<usize>
     requires { IsTomlFault text.now fault.now }
@@ -157,12 +147,17 @@ fn key_twice<'a>(text: &'a str, fault: &TomlFault) -> Option<&'a [u8]>
 
 // The report of settings that aren't TOML, or give a key twice, with the line of the parser's
 // fault.
-fn not_toml_report(alloc: Global, path: &[u8], text: &str) -> Result<Report, NoMemory>
-    ensures { IfOk result (IsReportOnText path.now text.now) }
+fn broken_report(
+    alloc: Global,
+    path: &[u8],
+    text: &str,
+    broken: &TomlFault,
+) -> Result<Report, NoMemory>
+    requires { IsTomlFault text.now broken.now }
+    ensures { IfOk result (IsReportOnBroken path.now text.now broken.now) }
 {
-    let broken = toml_fault(alloc, text)?;
-    let line = broken_line(text, &broken);
-    match key_twice(text, &broken) {
+    let line = broken_line(text, broken);
+    match key_twice(text, broken) {
         Some(key) => report_fault(alloc, SiteFault::KeyTwice, path, line, key),
         None => {
             let fault = SiteFault::Settings(SettingsFault::NotToml);
@@ -171,24 +166,31 @@ fn not_toml_report(alloc: Global, path: &[u8], text: &str) -> Result<Report, NoM
     }
 }
 
-// The report of a table of settings with a fault.
-fn refused_report(
+// The report of settings whose check ran out of memory.
+fn memory_report(alloc: Global, path: &[u8]) -> Result<Report, NoMemory>
+    ensures { IfOk result (IsReportOnMemory path.now) }
+{
+    let fault = SiteFault::Settings(SettingsFault::NoMemory);
+    report_fault(alloc, fault, path, None, b"")
+}
+
+// The report on a table of settings: on its site, or on all faults of the table.
+fn checked_table<R: Files>(
+    rt: &R,
     alloc: Global,
     path: &[u8],
-    text: &str,
-    refused: SettingsFault,
+    table: &Table,
 ) -> Result<Report, NoMemory>
-    requires fault { IsFaultOf text.now refused }
-    requires table { refused ≢ settings_fault.NoMemory }
-    ensures { IfOk result (IsReportOnText path.now text.now) }
+    ensures { IfOk result (IsReportOnTable path.now (table_view table.now)) }
 {
-    let Ok(table) = toml::table_from_str(alloc, text) else {
-        return Err(NoMemory);
-    };
-    Ok(Report {
-        words: table_report(alloc, path, &table)?,
-        fault: Some(SiteFault::Settings(refused)),
-    })
+    match Settings::of_table(alloc, table) {
+        Ok(settings) => settings_report(rt, alloc, path, settings),
+        Err(SettingsFault::NoMemory) => memory_report(alloc, path),
+        Err(refused) => Ok(Report {
+            words: table_report(alloc, path, table)?,
+            fault: Some(SiteFault::Settings(refused)),
+        }),
+    }
 }
 
 /// Checks the settings in `text`, the folder that they name, and their seeds. `path` is the path of
@@ -203,13 +205,9 @@ pub fn check<R: Files>(rt: &R, alloc: Global, path: &str, text: &str) -> Result<
     ensures { IfOk result (IsReportOnText path.now text.now) }
 {
     let path = path.as_bytes();
-    match Settings::read(alloc, text) {
-        Ok(settings) => settings_report(rt, alloc, path, settings),
-        Err(SettingsFault::NotToml) => not_toml_report(alloc, path, text),
-        Err(SettingsFault::NoMemory) => {
-            let fault = SiteFault::Settings(SettingsFault::NoMemory);
-            report_fault(alloc, fault, path, None, b"")
-        }
-        Err(refused) => refused_report(alloc, path, text, refused),
+    match toml::table_from_str(alloc, text) {
+        Ok(table) => checked_table(rt, alloc, path, &table),
+        Err(broken) if broken.is_memory() => memory_report(alloc, path),
+        Err(broken) => broken_report(alloc, path, text, &broken),
     }
 }

@@ -5,10 +5,10 @@ ghost use Rattle.gopher_scope.specs.Report.{named_line, unknown_detail, detail, 
 
 use super::lines::{push_number, push_words};
 use super::obstacle::Obstacle;
-use crate::fault::{SettingsFault, SiteFault};
+use crate::fault::{Pushed, SettingsFault, SiteFault};
 use crate::settings::Key;
 use gopher_item::NoMemory;
-use std::alloc::{AllocError, Global};
+use std::alloc::Global;
 
 /// The report of a check.
 #[derive(Drop)]
@@ -20,7 +20,7 @@ pub struct Report {
 }
 
 // Appends the line of a name, unless it is empty.
-fn push_name(front: &[u8], name: &[u8], out: &mut Vec<u8>) -> Result<(), AllocError>
+fn push_name(front: &[u8], name: &[u8], out: &mut Vec<u8>) -> Pushed
     ensures { OnOk result (out.new.items ≡ out.old.items ++ named_line front.now name.now) }
 {
     match name {
@@ -30,7 +30,7 @@ fn push_name(front: &[u8], name: &[u8], out: &mut Vec<u8>) -> Result<(), AllocEr
 }
 
 // Appends an unknown key, after the key of its array if it is in one.
-fn push_unknown(array: Option<Key>, key: &[u8], out: &mut Vec<u8>) -> Result<(), AllocError>
+fn push_unknown(array: Option<Key>, key: &[u8], out: &mut Vec<u8>) -> Pushed
     ensures { OnOk result (out.new.items ≡ out.old.items ++ unknown_detail array key.now) }
 {
     match array {
@@ -43,12 +43,7 @@ fn push_unknown(array: Option<Key>, key: &[u8], out: &mut Vec<u8>) -> Result<(),
 }
 
 // Appends the key, the seed or the number that a fault names.
-fn push_detail(
-    fault: SiteFault,
-    array: Option<Key>,
-    key: &[u8],
-    out: &mut Vec<u8>,
-) -> Result<(), AllocError>
+fn push_detail(fault: SiteFault, array: Option<Key>, key: &[u8], out: &mut Vec<u8>) -> Pushed
     ensures { OnOk result (out.new.items ≡ out.old.items ++ detail fault array key.now) }
 {
     match fault {
@@ -70,7 +65,7 @@ fn push_detail(
 }
 
 // Appends the number of a line, if there is one.
-fn push_line(line: Option<usize>, out: &mut Vec<u8>) -> Result<(), AllocError>
+fn push_line(line: Option<usize>, out: &mut Vec<u8>) -> Pushed
     ensures { OnOk result (out.new.items ≡ out.old.items ++ line_detail line) }
 {
     match line {
@@ -90,7 +85,7 @@ pub(crate) fn push_fault(
     array: Option<Key>,
     key: &[u8],
     out: &mut Vec<u8>,
-) -> Result<(), AllocError>
+) -> Pushed
     ensures { OnOk result (out.new.items
         ≡ out.old.items ++ fault_report fault path.now line array key.now) }
 {

@@ -5,12 +5,13 @@ ghost use Rattle.gopher_tree.specs.Files.{menu_files};
 ghost use Rattle.gopher_tree.specs.Found.{lent_file};
 ghost use Rattle.gopher_tree.specs.MenuFile.{written_line};
 ghost use Rattle.gopher_tree.specs.WrittenLine.{line_data, server_data};
-ghost use Rattle.gopher_scope.specs.Links.{is_asked, is_own, is_dead, place_words, dead_line, offers, menu_offers, offers_search, line_warning, menu_warnings, dead_lines};
+ghost use Rattle.gopher_scope.specs.Lines.{is_asked, is_own, is_dead, place_words, dead_line, offers, menu_offers, offers_search, line_warning, menu_warnings, dead_lines};
 
 use super::lines::{push_count, push_shown, push_words};
+use crate::fault::Pushed;
 use gopher_item::{Home, NoMemory, first_line};
 use gopher_tree::{Tree, WrittenLine, written_line};
-use std::alloc::{AllocError, Global};
+use std::alloc::Global;
 
 // The selector of the search.
 const SEARCH: &[u8] = b"/search";
@@ -52,7 +53,7 @@ fn is_dead(site: &Site<'_>, line: WrittenLine<'_>) -> bool
 }
 
 // Appends the path of a menu file.
-fn push_place(root: &str, path: &[u8], out: &mut Vec<u8>) -> Result<(), AllocError>
+fn push_place(root: &str, path: &[u8], out: &mut Vec<u8>) -> Pushed
     ensures { OnOk result (out.new.items ≡ out.old.items ++ place_words root.now path.now) }
 {
     push_shown(root.as_bytes(), out)?;
@@ -61,13 +62,7 @@ fn push_place(root: &str, path: &[u8], out: &mut Vec<u8>) -> Result<(), AllocErr
 }
 
 // Appends the warning of a line that leads nowhere.
-fn push_dead(
-    root: &str,
-    path: &[u8],
-    number: usize,
-    selector: &[u8],
-    out: &mut Vec<u8>,
-) -> Result<(), AllocError>
+fn push_dead(root: &str, path: &[u8], number: usize, selector: &[u8], out: &mut Vec<u8>) -> Pushed
     ensures { OnOk result (out.new.items
         ≡ out.old.items ++ dead_line root.now path.now number selector.now) }
 {
@@ -78,13 +73,7 @@ fn push_dead(
 }
 
 // Appends the warning of a line of the menu file at a path, if it leads nowhere.
-fn push_line(
-    site: &Site<'_>,
-    path: &[u8],
-    number: usize,
-    line: &[u8],
-    out: &mut Vec<u8>,
-) -> Result<(), AllocError>
+fn push_line(site: &Site<'_>, path: &[u8], number: usize, line: &[u8], out: &mut Vec<u8>) -> Pushed
     ensures { OnOk result (out.new.items ≡ out.old.items
         ++ line_warning site.now.home.now site.now.root.now site.now.tree.now
         path.now number (written_line line.now)) }
@@ -98,7 +87,7 @@ fn push_line(
 }
 
 // Appends the warnings of the menu file at a path.
-fn push_menu(site: &Site<'_>, path: &[u8], menu: &[u8], out: &mut Vec<u8>) -> Result<(), AllocError>
+fn push_menu(site: &Site<'_>, path: &[u8], menu: &[u8], out: &mut Vec<u8>) -> Pushed
     ensures { OnOk result (out.new.items ≡ out.old.items
         ++ menu_warnings site.now.home.now site.now.root.now site.now.tree.now
         (path.now, menu.now)) }
@@ -118,7 +107,7 @@ pub(crate) fn push_dead_lines(
     site: &Site<'_>,
     menus: &[(&[u8], &[u8])],
     out: &mut Vec<u8>,
-) -> Result<(), AllocError>
+) -> Pushed
     requires { map lent_file menus.now ≡ menu_files site.now.tree.now }
     ensures { OnOk result (out.new.items ≡ out.old.items
         ++ dead_lines site.now.home.now site.now.root.now site.now.tree.now) }

@@ -2,7 +2,7 @@
 
 ghost use Rattle.std.specs.Prelude.{◌≡◌, IfErr, IfOk};
 ghost use Rattle.std.specs.IoError.{error_kind};
-ghost use Rattle.gopher_scope.specs.Fault.{excess, obstacle_cause, obstacle_of, obstacle_remedy, IsReason};
+ghost use Rattle.gopher_scope.specs.Fault.{excess, obstacle_explained, obstacle_of, IsReason};
 
 use gopher_tree::{MAX_BYTES, MAX_FILE, Trail, TreeFault};
 use std::alloc::{AllocGlobal, Global};
@@ -37,8 +37,7 @@ pub enum Obstacle {
 impl Obstacle {
     /// Returns the cause and the remedy in words.
     pub fn explain(self) -> (&'static str, &'static str)
-        ensures cause { result.0.now ≡ obstacle_cause self }
-        ensures remedy { result.1.now ≡ obstacle_remedy self }
+        ensures { (result.0.now, result.1.now) ≡ obstacle_explained self }
     {
         match self {
             Obstacle::NotUtf8 => (

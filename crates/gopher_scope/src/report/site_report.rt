@@ -3,18 +3,19 @@
 ghost use Rattle.std.specs.Prelude.{◌≡◌, ◌++◌, None, IfOk, OnOk};
 ghost use Rattle.std.specs.List.{flat_map};
 ghost use Rattle.gopher_scope.specs.Settings.{settings_data};
-ghost use Rattle.gopher_scope.specs.Report.{address_lines, size_lines, seed_line, rule_lines, seeds_warning, leaves_nothing_out, counts_line, left_out, warnings, site_report, IsReport};
+ghost use Rattle.gopher_scope.specs.Report.{address_lines, size_lines, seed_line, rule_lines, seeds_warning, counts_line, left_out, warnings, site_report, IsReport};
 
 use super::fault_report::Report;
 use super::lines::{push_address, push_count, push_number, push_server, push_words};
 use super::links::{Site, offers_search, push_dead_lines};
+use crate::fault::Pushed;
 use crate::settings::Settings;
 use gopher_item::{Home, NoMemory, Place, Rule};
 use gopher_tree::{Trail, Tree};
-use std::alloc::{AllocError, Global};
+use std::alloc::Global;
 
 // Appends the server's address and the folder.
-fn push_home(home: &Home, root: &str, out: &mut Vec<u8>) -> Result<(), AllocError>
+fn push_home(home: &Home, root: &str, out: &mut Vec<u8>) -> Pushed
     ensures { OnOk result (out.new.items ≡ out.old.items ++ address_lines home.now root.now) }
 {
     out.extend_from_slice(b"address: ")?;
@@ -23,7 +24,7 @@ fn push_home(home: &Home, root: &str, out: &mut Vec<u8>) -> Result<(), AllocErro
 }
 
 // Appends the numbers of files, menu files and bytes.
-fn push_sizes(tree: &Tree, out: &mut Vec<u8>) -> Result<(), AllocError>
+fn push_sizes(tree: &Tree, out: &mut Vec<u8>) -> Pushed
     ensures { OnOk result (out.new.items ≡ out.old.items ++ size_lines tree.now) }
 {
     push_number(b"files: ", tree.number_of_files(), out)?;
@@ -31,7 +32,7 @@ fn push_sizes(tree: &Tree, out: &mut Vec<u8>) -> Result<(), AllocError>
     push_number(b"bytes: ", tree.number_of_bytes(), out)
 }
 
-fn push_seeds(seeds: &[Place], out: &mut Vec<u8>) -> Result<(), AllocError>
+fn push_seeds(seeds: &[Place], out: &mut Vec<u8>) -> Pushed
     ensures { OnOk result (out.new.items ≡ out.old.items ++ flat_map seed_line seeds.now) }
 {
     for seed in seeds {
@@ -43,7 +44,7 @@ fn push_seeds(seeds: &[Place], out: &mut Vec<u8>) -> Result<(), AllocError>
     Ok(())
 }
 
-fn push_rules(front: &[u8], rules: &[Rule], out: &mut Vec<u8>) -> Result<(), AllocError>
+fn push_rules(front: &[u8], rules: &[Rule], out: &mut Vec<u8>) -> Pushed
     ensures { OnOk result (out.new.items ≡ out.old.items ++ rule_lines front.now rules.now) }
 {
     for rule in rules {
@@ -55,7 +56,7 @@ fn push_rules(front: &[u8], rules: &[Rule], out: &mut Vec<u8>) -> Result<(), All
 
 // Appends the line that says that searches find nothing, if there are no seeds and a menu offers a
 // search.
-fn push_seeds_warning(seeds: &[Place], offered: bool, out: &mut Vec<u8>) -> Result<(), AllocError>
+fn push_seeds_warning(seeds: &[Place], offered: bool, out: &mut Vec<u8>) -> Pushed
     ensures { OnOk result (out.new.items ≡ out.old.items ++ seeds_warning seeds.now offered) }
 {
     if seeds.is_empty() && offered {
@@ -66,20 +67,8 @@ fn push_seeds_warning(seeds: &[Place], offered: bool, out: &mut Vec<u8>) -> Resu
     Ok(())
 }
 
-// Whether nothing was left out.
-fn leaves_nothing_out(empty: usize, nowhere: usize, hidden: usize) -> bool
-    ensures { result ≡ leaves_nothing_out empty nowhere hidden }
-{
-    empty == 0 && nowhere == 0 && hidden == 0
-}
-
 // Appends the line with these numbers.
-fn push_counts(
-    empty: usize,
-    nowhere: usize,
-    hidden: usize,
-    out: &mut Vec<u8>,
-) -> Result<(), AllocError>
+fn push_counts(empty: usize, nowhere: usize, hidden: usize, out: &mut Vec<u8>) -> Pushed
     ensures { OnOk result (out.new.items ≡ out.old.items ++ counts_line empty nowhere hidden) }
 {
     push_count(b"warning: not served: empty folders ", empty, out)?;
@@ -89,14 +78,17 @@ fn push_counts(
 }
 
 // Appends the line that counts what isn't served, if there is something.
-fn push_left_out(tree: &Tree, trail: &Trail, out: &mut Vec<u8>) -> Result<(), AllocError>
+fn push_left_out(tree: &Tree, trail: &Trail, out: &mut Vec<u8>) -> Pushed
     ensures { OnOk result (out.new.items ≡ out.old.items ++ left_out tree.now trail.now) }
 {
-    let empty = tree.number_of_missing(&trail.folders);
-    if leaves_nothing_out(empty, trail.nowhere, trail.hidden) {
-        return Ok(());
+    match (
+        tree.number_of_missing(&trail.folders),
+        trail.nowhere,
+        trail.hidden,
+    ) {
+        (0, 0, 0) => Ok(()),
+        (empty, nowhere, hidden) => push_counts(empty, nowhere, hidden, out),
     }
-    push_counts(empty, trail.nowhere, trail.hidden, out)
 }
 
 // Appends the warnings of a site.

@@ -3,19 +3,19 @@
 ghost use Rattle.std.specs.Prelude.{◌≡◌, ◌++◌, map, IfOk, OnOk};
 ghost use Rattle.std.specs.List.{flat_map};
 ghost use Rattle.toml.specs.View.{table_view};
-ghost use Rattle.gopher_scope.specs.Unknown.{unknown_data};
+ghost use Rattle.gopher_scope.specs.Rows.{unknown_data};
 ghost use Rattle.gopher_scope.specs.Settings.{key_fault};
 ghost use Rattle.gopher_scope.specs.Report.{unknown_report, key_report, table_report};
 
 use super::fault_report::push_fault;
-use crate::fault::{SettingsFault, SiteFault};
+use crate::fault::{Pushed, SettingsFault, SiteFault};
 use crate::settings::{Key, UnknownKey, key_fault, unknown_keys};
 use gopher_item::NoMemory;
-use std::alloc::{AllocError, Global};
+use std::alloc::Global;
 use toml::Table;
 
 // Appends the report of an unknown key.
-fn push_unknown(path: &[u8], key: &UnknownKey<'_>, out: &mut Vec<u8>) -> Result<(), AllocError>
+fn push_unknown(path: &[u8], key: &UnknownKey<'_>, out: &mut Vec<u8>) -> Pushed
     ensures { OnOk result (out.new.items
         ≡ out.old.items ++ unknown_report path.now (unknown_data key.now)) }
 {
@@ -24,11 +24,7 @@ fn push_unknown(path: &[u8], key: &UnknownKey<'_>, out: &mut Vec<u8>) -> Result<
 }
 
 // Appends the report of each of these unknown keys.
-fn push_all_unknown(
-    path: &[u8],
-    keys: &[UnknownKey<'_>],
-    out: &mut Vec<u8>,
-) -> Result<(), AllocError>
+fn push_all_unknown(path: &[u8], keys: &[UnknownKey<'_>], out: &mut Vec<u8>) -> Pushed
     ensures { OnOk result (out.new.items
         ≡ out.old.items ++ flat_map (unknown_report path.now) (map unknown_data keys.now)) }
 {
@@ -39,7 +35,7 @@ fn push_all_unknown(
 }
 
 // Appends the report of the fault of each of these keys that has one.
-fn push_keys(path: &[u8], table: &Table, keys: &[Key], out: &mut Vec<u8>) -> Result<(), AllocError>
+fn push_keys(path: &[u8], table: &Table, keys: &[Key], out: &mut Vec<u8>) -> Pushed
     ensures { OnOk result (out.new.items ≡ out.old.items
         ++ flat_map (λ key. key_report path.now (key_fault (table_view table.now) key)) keys.now) }
 {

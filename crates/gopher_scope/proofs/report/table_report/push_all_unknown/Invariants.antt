@@ -1,6 +1,6 @@
 use Rattle.std.proofs.Common.{◌≡◌, ◌++◌, map, take}
 use Rattle.std.specs.List.{flat_map}
-use Rattle.gopher_scope.specs.Unknown.{unknown_data}
+use Rattle.gopher_scope.specs.Rows.{unknown_data}
 use Rattle.gopher_scope.specs.Report.{unknown_report}
 use Rattle.gopher_scope.proofs.report.table_report.push_all_unknown.Given as goal
 

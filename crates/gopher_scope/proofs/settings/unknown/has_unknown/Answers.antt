@@ -1,5 +1,5 @@
 use Rattle.gopher_scope.proofs.Elements.{has_unknown-view}
-use Rattle.gopher_scope.specs.Unknown.{is_known_in}
+use Rattle.gopher_scope.specs.Rows.{is_known_in}
 use Rattle.gopher_scope.proofs.settings.unknown.has_unknown.Goals as goal
 
 pub loop-name-init : goal.loop-name-init
