@@ -1,5 +1,5 @@
--- The lines of a report: one value for each, whatever bytes names contain; and the warnings on lines
--- of menu files that lead to their own server, to nothing or to its search.
+-- The lines of a report: one value for each, whatever bytes names contain; and the warnings on
+-- lines of menu files that lead to their own server, to nothing or to its search.
 use Rattle.std.specs.Prelude.{ℕ, ◌==◌, List, [], ◌∷◌, ◌++◌, codes, if◌then◌else◌, ◌+◌, Bool, true, false, ◌&&◌, ◌||◌, not, nat_eq, map, Option, None, Some, is_some}
 use Rattle.std.specs.List.{flat_map, list_any, starts_with}
 use Rattle.std.specs.Fmt.{decimal}

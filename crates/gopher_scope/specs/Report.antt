@@ -1,5 +1,5 @@
--- The reports of a check: the words of each, and the one that a text of settings gets, with the place
--- in the text that it names.
+-- The reports of a check: the words of each, and the one that a text of settings gets, with the
+-- place in the text that it names.
 use Rattle.std.specs.Prelude.{◌≡◌, ◌≢◌, ℕ, ◌+◌, ◌-◌, ◌==◌, List, [], take, drop, count_by, None, zero, Bool, true, ◌∷◌, ◌++◌, codes, length, Option, Some, if◌then◌else◌, ◌⊎◌, Ok, Err}
 use Rattle.toml.specs.Errors.{IsMemory, IsWithin, span_start, span_end}
 use Rattle.toml.specs.Parse.{parse_document}
