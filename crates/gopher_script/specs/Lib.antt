@@ -2,7 +2,6 @@ pub mod Answer
 pub mod Command
 pub mod Draft
 pub mod Fault
-pub mod Fields
 pub mod Parts
 pub mod Replay
 pub mod Script

@@ -136,7 +136,7 @@ impl<'a> Script<'a> {
             return Ok(None);
         };
         let number = self.lines_read + 1;
-        let command = read_command(line);
+        let command = read_command(alloc, line)?;
         let block = block_after(alloc, &command, number, rest)?;
         self.lines_read = block.lines_read;
         self.rest = block.rest;
