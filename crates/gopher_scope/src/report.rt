@@ -18,7 +18,7 @@ mod table_report;
 use crate::fault::{Pushed, SettingsFault, SiteFault};
 use crate::settings::Settings;
 pub use fault_report::Report;
-use fault_report::report_fault;
+use fault_report::{Reported, report_fault};
 use gopher_item::{NoMemory, Place, Scope, split_once, trim_spaces};
 use gopher_tree::{Trail, Tree, TreeFault};
 pub use obstacle::Obstacle;
@@ -77,7 +77,7 @@ fn folder_report<R: Files>(
     root: &str,
     fault: TreeFault,
     trail: &Trail,
-) -> Result<Report, NoMemory>
+) -> Reported
     ensures { IfOk result (IsReportOnFolder fault root.now trail.now) }
 {
     let mut place = Vec::from_slice(alloc, root.as_bytes())?;
@@ -91,12 +91,7 @@ fn folder_report<R: Files>(
 }
 
 // The report on settings and their folder.
-fn settings_report<R: Files>(
-    rt: &R,
-    alloc: Global,
-    path: &[u8],
-    settings: Settings,
-) -> Result<Report, NoMemory>
+fn settings_report<R: Files>(rt: &R, alloc: Global, path: &[u8], settings: Settings) -> Reported
     ensures { IfOk result (IsReportOnSite path.now (settings_data settings)) }
 {
     let mut trail = Trail::new(alloc);
@@ -147,12 +142,7 @@ fn key_twice<'a>(text: &'a str, fault: &TomlFault) -> Option<&'a [u8]>
 
 // The report of settings that aren't TOML, or give a key twice, with the line of the parser's
 // fault.
-fn broken_report(
-    alloc: Global,
-    path: &[u8],
-    text: &str,
-    broken: &TomlFault,
-) -> Result<Report, NoMemory>
+fn broken_report(alloc: Global, path: &[u8], text: &str, broken: &TomlFault) -> Reported
     requires { IsTomlFault text.now broken.now }
     ensures { IfOk result (IsReportOnBroken path.now text.now broken.now) }
 {
@@ -167,7 +157,7 @@ fn broken_report(
 }
 
 // The report of settings whose check ran out of memory.
-fn memory_report(alloc: Global, path: &[u8]) -> Result<Report, NoMemory>
+fn memory_report(alloc: Global, path: &[u8]) -> Reported
     ensures { IfOk result (IsReportOnMemory path.now) }
 {
     let fault = SiteFault::Settings(SettingsFault::NoMemory);
@@ -175,12 +165,7 @@ fn memory_report(alloc: Global, path: &[u8]) -> Result<Report, NoMemory>
 }
 
 // The report on a table of settings: on its site, or on all faults of the table.
-fn checked_table<R: Files>(
-    rt: &R,
-    alloc: Global,
-    path: &[u8],
-    table: &Table,
-) -> Result<Report, NoMemory>
+fn checked_table<R: Files>(rt: &R, alloc: Global, path: &[u8], table: &Table) -> Reported
     ensures { IfOk result (IsReportOnTable path.now (table_view table.now)) }
 {
     match Settings::of_table(alloc, table) {

@@ -10,6 +10,9 @@ use crate::settings::Key;
 use gopher_item::NoMemory;
 use std::alloc::Global;
 
+/// The report of a check, unless memory ran out.
+pub type Reported = Result<Report, NoMemory>;
+
 /// The report of a check.
 #[derive(Drop)]
 pub struct Report {
@@ -78,7 +81,7 @@ fn push_line(line: Option<usize>, out: &mut Vec<u8>) -> Pushed
 /// fault's number, the path, the line, the key, seed or number, the cause and the remedy, each on
 /// its own line. `key` is a key that isn't known, or is given twice, or empty; `array` is the key
 /// of the array that it is in.
-pub(crate) fn push_fault(
+pub fn push_fault(
     fault: SiteFault,
     path: &[u8],
     line: Option<usize>,
@@ -99,13 +102,13 @@ pub(crate) fn push_fault(
 }
 
 /// Reports a fault that names no key in an array.
-pub(crate) fn report_fault(
+pub fn report_fault(
     alloc: Global,
     fault: SiteFault,
     path: &[u8],
     line: Option<usize>,
     key: &[u8],
-) -> Result<Report, NoMemory>
+) -> Reported
     ensures { IfOk result (IsReportOf fault path.now line key.now) }
 {
     let mut words = Vec::new(alloc);

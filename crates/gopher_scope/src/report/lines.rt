@@ -23,7 +23,7 @@ fn push_byte(byte: u8, out: &mut Vec<u8>) -> Pushed
 
 /// Appends bytes in their shown form: a TAB, LF, CR and backslash as `\t`, `\n`, `\r` and `\\`, any
 /// other control byte as `\?`.
-pub(crate) fn push_shown(bytes: &[u8], out: &mut Vec<u8>) -> Pushed
+pub fn push_shown(bytes: &[u8], out: &mut Vec<u8>) -> Pushed
     ensures { OnOk result (out.new.items ≡ out.old.items ++ shown bytes.now) }
 {
     for byte in bytes {
@@ -33,7 +33,7 @@ pub(crate) fn push_shown(bytes: &[u8], out: &mut Vec<u8>) -> Pushed
 }
 
 /// Appends a line: the name of a value, and its text.
-pub(crate) fn push_words(front: &[u8], words: &[u8], out: &mut Vec<u8>) -> Pushed
+pub fn push_words(front: &[u8], words: &[u8], out: &mut Vec<u8>) -> Pushed
     ensures { OnOk result (out.new.items ≡ out.old.items ++ words_line front.now words.now) }
 {
     out.extend_from_slice(front)?;
@@ -42,7 +42,7 @@ pub(crate) fn push_words(front: &[u8], words: &[u8], out: &mut Vec<u8>) -> Pushe
 }
 
 /// Appends a text and a number.
-pub(crate) fn push_count(front: &[u8], number: usize, out: &mut Vec<u8>) -> Pushed
+pub fn push_count(front: &[u8], number: usize, out: &mut Vec<u8>) -> Pushed
     ensures { OnOk result (out.new.items ≡ out.old.items ++ count_words front.now number) }
 {
     let mut digits = Buffer::new();
@@ -51,7 +51,7 @@ pub(crate) fn push_count(front: &[u8], number: usize, out: &mut Vec<u8>) -> Push
 }
 
 /// Appends a line: the name of a value, and its number.
-pub(crate) fn push_number(front: &[u8], number: usize, out: &mut Vec<u8>) -> Pushed
+pub fn push_number(front: &[u8], number: usize, out: &mut Vec<u8>) -> Pushed
     ensures { OnOk result (out.new.items ≡ out.old.items ++ number_line front.now number) }
 {
     push_count(front, number, out)?;
@@ -59,7 +59,7 @@ pub(crate) fn push_number(front: &[u8], number: usize, out: &mut Vec<u8>) -> Pus
 }
 
 /// Appends a host and a port.
-pub(crate) fn push_server(host: &[u8], port: u16, out: &mut Vec<u8>) -> Pushed
+pub fn push_server(host: &[u8], port: u16, out: &mut Vec<u8>) -> Pushed
     ensures { OnOk result (out.new.items ≡ out.old.items ++ server_words host.now port) }
 {
     push_shown(host, out)?;
@@ -68,7 +68,7 @@ pub(crate) fn push_server(host: &[u8], port: u16, out: &mut Vec<u8>) -> Pushed
 }
 
 /// Appends the rest of a line: a host, a port, and a selector or a prefix of selectors.
-pub(crate) fn push_address(host: &[u8], port: u16, selector: &[u8], out: &mut Vec<u8>) -> Pushed
+pub fn push_address(host: &[u8], port: u16, selector: &[u8], out: &mut Vec<u8>) -> Pushed
     ensures { OnOk result (out.new.items ≡ out.old.items ++ place_rest host.now port selector.now) }
 {
     push_server(host, port, out)?;

@@ -18,10 +18,10 @@ const SEARCH: &[u8] = b"/search";
 
 /// The server's address, the root as the settings spell it, and the tree of its files.
 #[derive(Clone, Copy)]
-pub(crate) struct Site<'a> {
-    pub(crate) home: &'a Home,
-    pub(crate) root: &'a str,
-    pub(crate) tree: &'a Tree,
+pub struct Site<'a> {
+    pub home: &'a Home,
+    pub root: &'a str,
+    pub tree: &'a Tree,
 }
 
 // Whether a line is of the server with this address.
@@ -103,11 +103,7 @@ fn push_menu(site: &Site<'_>, path: &[u8], menu: &[u8], out: &mut Vec<u8>) -> Pu
 }
 
 /// Appends a warning for each line of the site's menu files that leads to nothing on its server.
-pub(crate) fn push_dead_lines(
-    site: &Site<'_>,
-    menus: &[(&[u8], &[u8])],
-    out: &mut Vec<u8>,
-) -> Pushed
+pub fn push_dead_lines(site: &Site<'_>, menus: &[(&[u8], &[u8])], out: &mut Vec<u8>) -> Pushed
     requires { map lent_file menus.now ≡ menu_files site.now.tree.now }
     ensures { OnOk result (out.new.items ≡ out.old.items
         ++ dead_lines site.now.home.now site.now.root.now site.now.tree.now) }
@@ -143,7 +139,7 @@ fn menu_offers(home: &Home, menu: &[u8]) -> bool
 }
 
 /// Returns whether a menu of the site offers a search; `menus` are its menu files.
-pub(crate) fn offers_search(
+pub fn offers_search(
     alloc: Global,
     site: &Site<'_>,
     menus: &[(&[u8], &[u8])],

@@ -141,7 +141,7 @@ fn excess(number: usize, trail: &Trail) -> Obstacle
 
 /// Returns why a walk stopped with a fault at the end of its trail, at `place`. If something
 /// couldn't be read, it is read once more.
-pub(crate) fn reason<R: Files>(
+pub fn reason<R: Files>(
     rt: &R,
     alloc: Global,
     fault: TreeFault,

@@ -5,7 +5,7 @@ ghost use Rattle.std.specs.List.{flat_map};
 ghost use Rattle.gopher_scope.specs.Settings.{settings_data};
 ghost use Rattle.gopher_scope.specs.Report.{address_lines, size_lines, seed_line, rule_lines, seeds_warning, counts_line, left_out, warnings, site_report, IsReport};
 
-use super::fault_report::Report;
+use super::fault_report::{Report, Reported};
 use super::lines::{push_address, push_count, push_number, push_server, push_words};
 use super::links::{Site, offers_search, push_dead_lines};
 use crate::fault::Pushed;
@@ -114,37 +114,27 @@ fn push_warnings(
 /// the numbers of files, menu files and bytes, the seeds and the rules of its crawl, each on its
 /// own line, and warnings: lines of menus that lead nowhere, what isn't served, and a search
 /// without seeds.
-pub(crate) fn site_report(
+pub fn site_report(
     alloc: Global,
     path: &[u8],
     settings: Settings,
     tree: &Tree,
     trail: &Trail,
-) -> Result<Report, NoMemory>
+) -> Reported
     ensures { IfOk result
         (IsReport None (site_report path.now (settings_data settings) tree.now trail.now)) }
 {
-    let Settings {
-        home,
-        root,
-        seeds,
-        scope,
-        ..
-    } = settings;
-    let (allow, deny) = scope.into_rules();
+    let (allow, deny) = settings.scope.into_rules();
+    let (home, root) = (&settings.home, settings.root.as_str());
     let mut words = Vec::new(alloc);
     push_words(b"settings: ", path, &mut words)?;
-    push_home(&home, root.as_str(), &mut words)?;
+    push_home(home, root, &mut words)?;
     push_sizes(tree, &mut words)?;
-    push_seeds(&seeds, &mut words)?;
+    push_seeds(&settings.seeds, &mut words)?;
     push_rules(b"may visit: ", &allow, &mut words)?;
     push_rules(b"may not visit: ", &deny, &mut words)?;
-    let site = Site {
-        home: &home,
-        root: root.as_str(),
-        tree,
-    };
-    push_warnings(alloc, &site, &seeds, trail, &mut words)?;
+    let site = Site { home, root, tree };
+    push_warnings(alloc, &site, &settings.seeds, trail, &mut words)?;
     words.extend_from_slice(b"sound\n")?;
     Ok(Report { words, fault: None })
 }

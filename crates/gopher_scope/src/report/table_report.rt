@@ -49,7 +49,7 @@ fn push_keys(path: &[u8], table: &Table, keys: &[Key], out: &mut Vec<u8>) -> Pus
 
 /// Makes the reports of all faults of a table of settings: of each unknown key, and of each key
 /// with a fault, in the order in which a server checks them.
-pub(crate) fn table_report(alloc: Global, path: &[u8], table: &Table) -> Result<Vec<u8>, NoMemory>
+pub fn table_report(alloc: Global, path: &[u8], table: &Table) -> Result<Vec<u8>, NoMemory>
     ensures { IfOk result (λ words. words.items ≡ table_report path.now (table_view table.now)) }
 {
     let mut report = Vec::new(alloc);

@@ -89,11 +89,9 @@ fn push_table<'a>(table: &'a Table, array: Option<Key>, out: &mut Vec<UnknownKey
     ensures { AddsUnknown out.old out.new (unknown_in array (table_view table.now)) result }
 {
     for name in table.keys() {
-        if !is_known_in(array, name.as_str()) {
-            out.push(UnknownKey {
-                array,
-                name: name.as_str(),
-            })?;
+        let name = name.as_str();
+        if !is_known_in(array, name) {
+            out.push(UnknownKey { array, name })?;
         }
     }
     Ok(())
