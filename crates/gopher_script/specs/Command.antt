@@ -130,3 +130,9 @@ is_idle_line (byte ∷ bytes) = byte == 35
 -- the command of a line, if it is one: TABs separate its fields
 abbrev pub command_of : List ℕ → Option Command
 command_of line = if is_idle_line line then Some Nothing else command_in (fields_of line)
+
+-- a statement: the number of its line from 1, the line's command, if it is one, and the reply of its block
+pub record StatementData : Type 0 where
+  pub number : ℕ
+  pub command : Option Command
+  pub reply : List ℕ

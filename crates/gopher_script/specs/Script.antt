@@ -3,8 +3,7 @@ use Rattle.std.specs.Prelude.{ℕ, ◌+◌, Bool, true, false, ◌&&◌, List, [
 use Rattle.std.specs.List.{flat_map}
 use Rattle.std.specs.Option.{option_map_or, option_and_then}
 use Rattle.gopher_bytes.specs.Lines.{lines_of}
-use Rattle.gopher_script.specs.Command.{command_of}
-use Rattle.gopher_script.specs.Statement.{StatementData}
+use Rattle.gopher_script.specs.Command.{command_of, StatementData}
 use Rattle.gopher_script.specs.Stage.{command_answer, after}
 use Rattle.gopher_script.specs.declared.command.Command.{Command}
 use Rattle.gopher_script.specs.declared.command.Command.TheVariants.{Found}

@@ -1,7 +1,7 @@
 //! The rules and seeds of a script before its crawl starts.
 
 ghost use Rattle.std.specs.Prelude.{◌≡◌, []};
-ghost use Rattle.gopher_script.specs.Draft.{DraftData};
+ghost use Rattle.gopher_script.specs.Parts.{DraftData};
 ghost use Rattle.gopher_script.specs.Stage.{TakesRule, TakesSeed};
 
 use crate::command::{PlaceParts, RuleParts};
@@ -19,11 +19,12 @@ pub struct Draft {
 }
 
 impl Model for Draft {
-    ghost use Rattle.gopher_script.specs.Draft.{DraftData, draft_with};
+    ghost use Rattle.gopher_script.specs.Parts.{DraftData};
 
     ghost Value = { DraftData };
 
-    ghost view = { λ d. draft_with d.allow.items d.deny.items d.seeds.items };
+    ghost view = { λ d.
+        record { allow = d.allow.items; deny = d.deny.items; seeds = d.seeds.items } };
 }
 
 impl Draft {

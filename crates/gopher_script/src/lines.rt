@@ -50,8 +50,7 @@ pub fn take_line(alloc: Global, number: u32, place: &Place) -> Result<Vec<u8>, N
 pub fn added_line(alloc: Global, added: Added) -> Result<Vec<u8>, NoMemory>
     ensures { IfOk result (λ line. line.items ≡ added_line added) }
 {
-    let fresh = added.fresh;
-    let dropped = added.dropped;
+    let Added { fresh, dropped } = added;
     Ok(format!(in alloc; "added {fresh} {dropped}\n")?.into_bytes())
 }
 

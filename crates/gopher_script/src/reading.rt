@@ -175,10 +175,7 @@ fn command_in<'a>(fields: &[&'a [u8]]) -> Option<Command<'a>>
 fn is_idle_line(line: &[u8]) -> bool
     ensures { result ≡ is_idle_line line.now }
 {
-    match line {
-        [] => true,
-        [first, ..] => *first == b'#',
-    }
+    matches!(line, [] | [b'#', ..])
 }
 
 // The fields of a line, which TABs separate.

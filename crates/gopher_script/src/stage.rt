@@ -55,24 +55,18 @@ fn start(alloc: Global, draft: Draft, places: u32, tries: u32) -> Result<Perform
 /// Performs a command before the crawl. Returns `None` for a command that needs a crawl.
 fn perform_before(
     alloc: Global,
-    draft: Draft,
+    mut draft: Draft,
     command: Command<'_>,
 ) -> Result<Option<Performed>, NoMemory>
     ensures { IfOk result (Performs (Stage.Gathering draft) command.entry []) }
 {
-    let mut draft = draft;
     let answer = match command {
         Command::Nothing => Vec::new(alloc),
         Command::Allow(rule) => add_rule(alloc, &mut draft.allow, &rule)?,
         Command::Deny(rule) => add_rule(alloc, &mut draft.deny, &rule)?,
         Command::Seed(place) => add_seed(alloc, &mut draft.seeds, &place)?,
         Command::Start(places, tries) => return Ok(Some(start(alloc, draft, places, tries)?)),
-        Command::Claim
-        | Command::Found(..)
-        | Command::Fail(..)
-        | Command::Search(_)
-        | Command::Occurs(_)
-        | Command::Status => return Ok(None),
+        _ => return Ok(None),
     };
     let stage = Stage::Gathering(draft);
     Ok(Some(Performed { stage, answer }))
@@ -97,9 +91,7 @@ fn answer_in(
         Command::Search(text) => search(alloc, catalogue, &text)?,
         Command::Occurs(word) => occurs(alloc, catalogue, word.bytes)?,
         Command::Status => status_line(alloc, catalogue.status())?,
-        Command::Allow(_) | Command::Deny(_) | Command::Seed(_) | Command::Start(..) => return Ok(
-            None,
-        ),
+        _ => return Ok(None),
     };
     Ok(Some(answer))
 }
