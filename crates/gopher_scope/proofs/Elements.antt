@@ -1,5 +1,5 @@
 -- Arrays and tables of TOML as lists, and the first result of a list.
-use Rattle.std.proofs.Common.{◌≡◌, ℕ, zero, suc, ◌<◌, Bool, not, ◌||◌, List, [], ◌∷◌, length, nat_le, if◌then◌else◌, map, get_or, Option, Some, None, String, Global, string_bytes, refl, ap, sym, subst, arith}
+use Rattle.std.proofs.Common.{◌≡◌, ℕ, zero, suc, ◌<◌, List, [], ◌∷◌, length, nat_le, if◌then◌else◌, map, get_or, Option, Some, None, String, Global, string_bytes, refl, ap, sym, subst, arith}
 use Rattle.std.specs.Option.{option_or}
 use Rattle.std.specs.Map.{keys_of}
 use Rattle.std.proofs.lemmas.List.{length-map}

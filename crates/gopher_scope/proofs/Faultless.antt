@@ -77,17 +77,8 @@ text-in_range Selector None none = refl
 text-in_range kind (Some value) none = text_problem-none kind (as_str value) none
 
 -- an address and a place of parts in range have no fault
-address_none : (is_good : Bool) (port : ℕ) → is_good ≡ true → 1 ≤ port → (if not is_good then Some BadHost else (if port == 0 then Some BadPort else None)) ≡ None
-address_none true port good_host good_port = grind (arith, nat_tests)
-address_none false port good_host good_port = absurd (cc)
-
 pub address_fault-none : (host : List ℕ) (port : ℕ) → is_host host ≡ true → 1 ≤ port → address_fault host port ≡ None
-address_fault-none host port good_host good_port = address_none (is_host host) port good_host good_port
-
-place_none : (kind_is_good selector_is_good : Bool) (address : Option ItemFault) → kind_is_good ≡ true → selector_is_good ≡ true → address ≡ None → (if not kind_is_good then Some BadKind else (if not selector_is_good then Some BadSelector else address)) ≡ None
-place_none true true address good_kind good_selector good_address = good_address
-place_none true false address good_kind good_selector good_address = absurd (cc)
-place_none false selector_is_good address good_kind good_selector good_address = absurd (cc)
+address_fault-none host port good_host good_port = rw good_host (grind (arith, nat_tests))
 
 kind_is_good : (is_file : Bool) → is_place_kind (if is_file then 48 else 49) ≡ true
 kind_is_good true = refl
@@ -102,7 +93,7 @@ seed_fault-none table none =
     let good_port = (integer_in_range 70 65535 (value_at table (field_row field.Port)) (omega arith, omega arith) port).0 in
     let good_selector = text-in_range Selector (value_at table (field_row field.Selector)) selector in
     let good_address = address_fault-none (text_read table (field_row field.Host)) (integer_read table (field_row field.Port)) good_host good_port in
-    place_none _ _ _ (kind_is_good (pointwise nat_eq (text_read table (field_row field.Kind)) (codes "0"))) good_selector good_address
+    rw (kind_is_good (pointwise nat_eq (text_read table (field_row field.Kind)) (codes "0")), good_selector) good_address
 
 -- the elements of an array without a fault have none
 array_values-none : (element : Element) (items : Option Items) → array_problem element items ≡ None → first_of (element_problem element) (option_map_or elements items []) ≡ None

@@ -60,10 +60,8 @@ fn home(alloc: Global, table: &Table) -> Result<Home, NoMemory>
     let host = Key::Host.row().text(table).as_bytes();
     match Home::new(alloc, host, integer_at(table, Key::Port) as u16) {
         Ok(home) => Ok(home),
-        Err(fault) => match fault {
-            ItemFault::NoMemory => Err(NoMemory),
-            _ => unreachable!(),
-        },
+        Err(ItemFault::NoMemory) => Err(NoMemory),
+        Err(_) => unreachable!(),
     }
 }
 

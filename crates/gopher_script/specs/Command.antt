@@ -131,7 +131,7 @@ is_idle_line (byte ∷ bytes) = byte == 35
 abbrev pub command_of : List ℕ → Option Command
 command_of line = if is_idle_line line then Some Nothing else command_in (fields_of line)
 
--- a statement: the number of its line from 1, the line's command, if it is one, and the reply of its block
+-- a statement: its line's number from 1 and command, if it is one, and the reply of its block
 pub record StatementData : Type 0 where
   pub number : ℕ
   pub command : Option Command

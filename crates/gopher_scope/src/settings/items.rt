@@ -35,10 +35,8 @@ fn seed(alloc: Global, table: &Table) -> Result<Place, NoMemory>
     let host = Field::Host.row().text(table).as_bytes();
     match Place::new(alloc, kind(table), selector, host, port(table)) {
         Ok(seed) => Ok(seed),
-        Err(fault) => match fault {
-            ItemFault::NoMemory => Err(NoMemory),
-            _ => unreachable!(),
-        },
+        Err(ItemFault::NoMemory) => Err(NoMemory),
+        Err(_) => unreachable!(),
     }
 }
 
@@ -50,10 +48,8 @@ fn rule(alloc: Global, table: &Table) -> Result<Rule, NoMemory>
     let prefix = Field::Prefix.row().text(table).as_bytes();
     match Rule::new(alloc, host, port(table), prefix) {
         Ok(rule) => Ok(rule),
-        Err(fault) => match fault {
-            ItemFault::NoMemory => Err(NoMemory),
-            _ => unreachable!(),
-        },
+        Err(ItemFault::NoMemory) => Err(NoMemory),
+        Err(_) => unreachable!(),
     }
 }
 

@@ -1,6 +1,7 @@
-use Rattle.std.proofs.Common.{◌≡◌, None, arith}
+use Rattle.std.proofs.Common.{◌≡◌, ◌≢◌, None, rules, arith}
 use Rattle.toml.specs.View.{table_view}
 use Rattle.gopher_item.specs.Place.{HomeData, address_fault}
+use Rattle.gopher_item.specs.declared.fault.ItemFault.TheVariants.{NoMemory}
 use Rattle.gopher_scope.proofs.Faultless.{form_problem-none, home_fault-none, integer_in_range, Makes-none}
 use Rattle.gopher_scope.specs.Rows.{integer_read, key_row, key_value}
 use Rattle.gopher_scope.specs.Settings.{IsUpTo}
@@ -19,4 +20,5 @@ unreachable-requires c =
     let none : address_fault host c.integer_at.result ≡ None =
     rw (c.as_bytes-host.ensures.value, c.text.ensures, c.row.ensures, c.integer_at.ensures) (home_fault-none (table_view c.args.table.now) c.requires) in
     let home : HomeData = record { host = host; port = c.integer_at.result } in
-    c.in_default.not-NoMemory (Makes-none (address_fault host c.integer_at.result) home c.in-Err.fault none (rw c.in-Err.is at c.new.ensures))
+    let other : c.in-Err.field-0 ≢ NoMemory = search rules in
+    other (Makes-none (address_fault host c.integer_at.result) home c.in-Err.field-0 none (rw c.in-Err.is at c.new.ensures))
