@@ -1,5 +1,5 @@
 -- The value of each key of a table without a fault.
-use Rattle.std.proofs.Common.{◌≡◌, ◌≢◌, ℕ, ℤ, pos, negsuc, ◌<◌, ◌≤◌, ◌==◌, Bool, true, false, not, List, [], ◌∷◌, length, get_or, Option, Some, None, Result, Ok, Err, IfOk, refl, sym, subst, arith}
+use Rattle.std.proofs.Common.{◌≡◌, ◌≢◌, ℕ, ℤ, pos, negsuc, ◌<◌, ◌≤◌, Bool, true, false, List, [], ◌∷◌, length, get_or, Option, Some, None, Result, Ok, Err, IfOk, refl, sym, subst, arith}
 use Rattle.std.specs.Prelude.{unwrap_or, nat_eq, codes, IsSomeAnd, MatchOption, IfSome}
 use Rattle.std.specs.Cmp.Lexicographic.{pointwise}
 use Rattle.std.specs.Option.{option_map, option_map_or}
@@ -10,7 +10,7 @@ use Rattle.toml.specs.Data.{Data, Items, Members, as_array, as_integer, as_str}
 use Rattle.gopher_scope.proofs.Elements.{first_of-none}
 use Rattle.gopher_item.specs.Place.{is_host, is_place_kind, address_fault, place_fault}
 use Rattle.gopher_item.specs.declared.fault.ItemFault.{ItemFault}
-use Rattle.gopher_item.specs.declared.fault.ItemFault.TheVariants.{BadKind, BadSelector, BadHost, BadPort, NoMemory}
+use Rattle.gopher_item.specs.declared.fault.ItemFault.TheVariants.{NoMemory}
 use Rattle.gopher_item.specs.Fault.{Makes}
 use Rattle.gopher_scope.specs.Rows.{integer_read, text_read, all_keys, key_row, element_fields, field_row, absent_text, is_in_range, elements, first_of, value_at, key_value, field_problem, integer_problem, number_read, text_problem, scalar_problem, table_problem, integer_in, text_in, element_problem, array_problem, values_read, form_problem, have_unknown}
 use Rattle.gopher_scope.specs.Settings.{key_fault, settings_fault, settings_read, settings_data, settings_of, read_or, kind_read, Answers, ReadsTable, IsUpTo, AreInRange, AreValuesIn, SettingsData}

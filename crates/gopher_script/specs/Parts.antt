@@ -1,5 +1,5 @@
 -- Rules and places made of the parts that a script contains, and those before its crawl starts.
-use Rattle.std.specs.Prelude.{ℕ, List, Option}
+use Rattle.std.specs.Prelude.{List, Option}
 use Rattle.gopher_item.specs.Place.{PlaceData, place_fault, place_of}
 use Rattle.gopher_item.specs.declared.fault.ItemFault.{ItemFault}
 use Rattle.gopher_item.specs.Rule.{RuleData, rule_fault, rule_of}
