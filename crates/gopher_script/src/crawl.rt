@@ -6,11 +6,11 @@ ghost use Rattle.gopher_script.specs.Answer.{ReturnsBytes};
 ghost use Rattle.gopher_script.specs.Stage.{turn_line, page_line, page_in, after_page, after_found, found_line, fail_line, after_fail, search_lines, occurs_lines};
 
 use crate::command::{PlaceParts, QueryText};
-use crate::lines::{added_line, refusal, refused_line, take_line};
+use crate::lines::{added_line, refused_line, take_line};
 use crate::listing::{hits_lines, places_lines};
-use gopher_catalogue::{Catalogue, FoundFault, Turn, Why};
+use gopher_catalogue::{Catalogue, Turn, Why};
 use gopher_item::{NoMemory, Place};
-use gopher_page::{Page, Query, QueryFault};
+use gopher_page::{Page, Query};
 use gopher_text::MAX_REPLY;
 use std::alloc::Global;
 
@@ -41,7 +41,7 @@ pub fn found(
 {
     match parts.make(alloc) {
         Ok(place) => found_at(alloc, catalogue, number, &place, reply),
-        Err(fault) => refusal(alloc, fault),
+        Err(fault) => refused_line(alloc, fault.code()),
     }
 }
 
@@ -67,10 +67,7 @@ fn found_at(
             catalogue.settle();
             added_line(alloc, added)
         }
-        Err(refused) => match refused.fault {
-            FoundFault::NoMemory => Err(NoMemory),
-            fault => refused_line(alloc, fault.code()),
-        },
+        Err(refused) => refused_line(alloc, refused.fault.code()),
     }
 }
 
@@ -100,8 +97,7 @@ pub fn search(
 {
     match Query::read(alloc, text.as_slice()) {
         Ok(query) => hits_lines(alloc, &catalogue.search(&query)?),
-        Err(QueryFault::NoMemory) => Err(NoMemory),
-        Err(fault) => refused_line(alloc, fault.code()),
+        Err(why) => refused_line(alloc, why.code()),
     }
 }
 

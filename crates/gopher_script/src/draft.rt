@@ -5,7 +5,7 @@ ghost use Rattle.gopher_script.specs.Parts.{DraftData};
 ghost use Rattle.gopher_script.specs.Stage.{TakesRule, TakesSeed};
 
 use crate::command::{PlaceParts, RuleParts};
-use crate::lines::refusal;
+use crate::lines::refused_line;
 use gopher_item::{NoMemory, Place, Rule, Scope};
 use std::alloc::Global;
 use std::marker::Model;
@@ -53,7 +53,7 @@ pub fn add_rule(
             rules.push(rule)?;
             Ok(Vec::new(alloc))
         }
-        Err(fault) => refusal(alloc, fault),
+        Err(fault) => refused_line(alloc, fault.code()),
     }
 }
 
@@ -70,6 +70,6 @@ pub fn add_seed(
             seeds.push(seed)?;
             Ok(Vec::new(alloc))
         }
-        Err(fault) => refusal(alloc, fault),
+        Err(fault) => refused_line(alloc, fault.code()),
     }
 }

@@ -7,7 +7,7 @@ use crate::command::Command;
 use crate::crawl::{claim, fail, found, occurs, search};
 use crate::draft::{Draft, add_rule, add_seed};
 use crate::lines::{refused_line, status_line};
-use gopher_catalogue::{Catalogue, OpenFault};
+use gopher_catalogue::Catalogue;
 use gopher_item::{NoMemory, Scope};
 use std::alloc::Global;
 
@@ -41,7 +41,6 @@ fn start(alloc: Global, draft: Draft, places: u32, tries: u32) -> Result<Perform
             stage: Stage::Crawling(catalogue),
             answer: Vec::from_slice(alloc, b"ok\n")?,
         }),
-        Err(refused) if refused.fault == OpenFault::NoMemory => Err(NoMemory),
         Err(refused) => {
             let answer = refused_line(alloc, refused.fault.code())?;
             let (allow, deny) = refused.scope.into_rules();
