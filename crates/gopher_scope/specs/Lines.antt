@@ -12,6 +12,8 @@ use Rattle.gopher_tree.specs.Files.{File, menu_files}
 use Rattle.gopher_tree.specs.MenuFile.{WrittenLineData, written_line}
 use Rattle.gopher_tree.specs.Reply.{menu_file, named}
 
+-- ---- lines
+
 -- the shown form of a byte: a TAB, LF, CR and backslash as `\t`, `\n`, `\r` and `\\`, any other
 -- control byte as `\?`
 abbrev pub shown_byte : ℕ → List ℕ
@@ -44,6 +46,8 @@ server_words host port = shown host ++ count_words (codes " ") port
 -- the rest of a line: a host, a port, and a selector or a prefix of selectors
 abbrev pub place_rest : List ℕ → ℕ → List ℕ → List ℕ
 place_rest host port selector = server_words host port ++ words_line (codes " ") selector
+
+-- ---- lines of menu files
 
 -- a client asks a Gopher server for items of this type; not for texts (`i`), errors (`3`), and
 -- sessions of other protocols (`2`, `8`, `T`: RFC 1436, section 3.8)

@@ -31,6 +31,8 @@ use Rattle.gopher_scope.specs.declared.fault.SiteFault.{SiteFault}
 use Rattle.gopher_scope.specs.declared.fault.SiteFault.TheVariants as fault
 use Rattle.gopher_scope.specs.declared.report.fault_report.Report.{Report}
 
+-- ---- places in the text
+
 -- the number of the line, from 1, that has the byte at an offset
 abbrev pub line_at : List ℕ → ℕ → ℕ
 line_at text offset = count_by (λ byte. byte == 10) (take offset text) + 1
@@ -54,6 +56,8 @@ abbrev pub IsKeyOf : List ℕ → Error → List ℕ → Type 0
 IsKeyOf text fault key =
     (key ≢ [])
     × (key ≡ key_of (take (span_end fault - span_start fault) (drop (span_start fault) text)))
+
+-- ---- reports
 
 -- the line of a name, unless it is empty
 abbrev pub named_line : List ℕ → List ℕ → List ℕ

@@ -24,6 +24,8 @@ use Rattle.std.specs.Global.{Vec}
 use Rattle.std.specs.List.{flat_map, list_any}
 use Rattle.gopher_scope.specs.declared.settings.unknown.UnknownKey.{UnknownKey}
 
+-- ---- rows
+
 -- the keys of the settings, in the order in which they are checked
 abbrev pub all_keys : List Key
 all_keys =
@@ -77,6 +79,8 @@ is_in_range Host text = is_host text
 is_in_range Path text = not (length text == 0)
 is_in_range PlaceKind text = pointwise nat_eq text (codes "0") || pointwise nat_eq text (codes "1")
 is_in_range Selector text = is_selector text
+
+-- ---- faults and values
 
 -- the first result, if there is one
 abbrev pub first_of : {A B : Type 0} → (A → Option B) → List A → Option B
@@ -169,6 +173,8 @@ text_read table row = text_in row.1 (value_at table row)
 abbrev pub values_read : Option Data → List Data
 values_read None = []
 values_read (Some value) = option_map_or elements (as_array value) []
+
+-- ---- unknown keys
 
 -- an unknown key: the key of the array with its table, or nothing for one of the settings' own; and
 -- its name
