@@ -42,7 +42,7 @@ class Manual(unittest.TestCase):
             kinds = {"Text": "A string, required", "Tables": r"rrays? of at most 256 tables(?: each)?; empty if absent"}
             self.assertRegex(SETTINGS[key], kinds.get(form, f"An integer, 1 to {most}; {absent} if absent"), key)
             if form == "Integer":
-                self.assertIn(f'Key::{key.title().replace("_", "")} => "use a number from 1 to {most}"', sources("gopher_check"))
+                self.assertIn(f'Key::{key.title().replace("_", "")} => "use a number from 1 to {most}"', sources("gopher_scope"))
 
     def test_example_settings_have_keys_of_the_manual(self):
         for file in (ROOT / "examples/hole.toml", ROOT / "packaging/debian/hole.toml"):
@@ -53,7 +53,7 @@ class Manual(unittest.TestCase):
 
     def test_causes_and_remedies_are_those_that_a_check_prints(self):
         told = " ".join(text for _, text in HOLE)
-        code = re.sub(r"(?s)fn range_remedy.*?\n}", "", sources("gopher_check"))
+        code = re.sub(r"(?s)fn range_remedy.*?\n}", "", sources("gopher_scope"))
         printed = {words for words in re.findall(r'(?:=>\s*[{(]?|,)\s*"([^"]+)"', code) if " " in words}
         self.assertGreater(len(printed), 30)
         self.assertEqual({words for words in printed if words not in told}, set())

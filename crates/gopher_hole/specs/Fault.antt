@@ -2,11 +2,11 @@
 use Rattle.std.specs.Prelude.{ℕ, List, [], ◌++◌, codes}
 use Rattle.std.specs.Fmt.{decimal}
 use Rattle.gopher_scope.specs.Rows.{key_name}
+use Rattle.gopher_scope.specs.Fault.{site_fault_code}
 use Rattle.gopher_scope.specs.declared.fault.SettingsFault.TheVariants as settings_fault
+use Rattle.gopher_scope.specs.declared.fault.SiteFault.TheVariants as site
 use Rattle.gopher_tree.specs.declared.fault.TreeFault.{TreeFault}
 use Rattle.gopher_tree.specs.declared.fault.TreeFault.TheVariants as tree_fault
-use Rattle.gopher_check.specs.Fault.{site_fault_code}
-use Rattle.gopher_check.specs.declared.fault.SiteFault.TheVariants as site
 use Rattle.gopher_catalogue.specs.Fault.{open_fault_code}
 use Rattle.gopher_catalogue.specs.declared.fault.OpenFault.TheVariants as open_fault
 use Rattle.gopher_crew.specs.Fault.{desk_fault_code}

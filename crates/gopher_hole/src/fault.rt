@@ -4,10 +4,9 @@ ghost use Rattle.std.specs.Prelude.{◌≡◌};
 ghost use Rattle.gopher_hole.specs.Fault.{program_fault_code, details_of, tree_details};
 
 use gopher_catalogue::OpenFault;
-use gopher_check::SiteFault;
 use gopher_crew::DeskFault;
 use gopher_item::NoMemory;
-use gopher_scope::{Key, SettingsFault};
+use gopher_scope::{Key, SettingsFault, SiteFault};
 use gopher_script::ReplayFault;
 use gopher_tree::TreeFault;
 

@@ -7,10 +7,9 @@ ghost use Rattle.gopher_hole.specs.Ending.{AreSettings, opening_record};
 
 use crate::fault::ProgramFault;
 use gopher_catalogue::Catalogue;
-use gopher_check::{Obstacle, SiteFault};
 use gopher_crew::{Blank, Crew, Desk, Pass, Share};
 use gopher_item::{Home, Place};
-use gopher_scope::{Scope, Settings, SettingsFault};
+use gopher_scope::{Obstacle, Scope, Settings, SettingsFault, SiteFault};
 use gopher_serve::Replies;
 use gopher_text::{ReplyFault, Watched, read_reply};
 use gopher_tree::Tree;

@@ -1,6 +1,5 @@
 -- Arrays and tables of TOML as lists, and the first result of a list.
-use Rattle.std.proofs.Common.{◌≡◌, ℕ, zero, suc, ◌<◌, Bool, not, ◌||◌, List, [], ◌∷◌, length, nat_le, if◌then◌else◌, map, get_or, Option, Some, None, String, Global, string_bytes, refl, ap, sym, subst, arith}
-use Rattle.std.specs.List.{list_any}
+use Rattle.std.proofs.Common.{◌≡◌, ℕ, zero, suc, ◌<◌, List, [], ◌∷◌, length, nat_le, if◌then◌else◌, map, get_or, Option, Some, None, String, Global, string_bytes, refl, ap, sym, subst, arith}
 use Rattle.std.specs.Option.{option_or}
 use Rattle.std.specs.Map.{keys_of}
 use Rattle.std.proofs.lemmas.List.{length-map}
@@ -8,8 +7,7 @@ use Rattle.std.proofs.Math.ListN.{get_or-map}
 use Rattle.toml.specs.Data.{Data, Members, as_array, as_table}
 use Rattle.toml.specs.View.{view, items_of, items_view, members_view}
 use Rattle.toml.specs.declared.value.Value.{Value}
-use Rattle.gopher_scope.specs.Reading.{elements, first_of, array_problem, element_problem, table_problem, values_read}
-use Rattle.gopher_scope.specs.Unknown.{table_names}
+use Rattle.gopher_scope.specs.Rows.{elements, first_of, array_problem, element_problem, table_problem, values_read, table_names}
 use Rattle.gopher_scope.specs.declared.settings.tables.Element.{Element}
 use Rattle.gopher_scope.specs.declared.settings.row.Problem.TheVariants.{OutOfRange}
 
@@ -17,11 +15,6 @@ use Rattle.gopher_scope.specs.declared.settings.row.Problem.TheVariants.{OutOfRa
 pub elements-items_of : (values : List Data) → elements (items_of values) ≡ values
 elements-items_of [] = refl
 elements-items_of (value ∷ values) = ap (λ more. value ∷ more) (elements-items_of values)
-
--- a table has an unknown key exactly if one of its map's keys is unknown
-pub has_unknown-view : (is_known : List ℕ → Bool) (entries : List (String Global × Value)) → list_any (λ name. not (is_known name)) (table_names (members_view entries)) ≡ list_any (λ name. not (is_known (string_bytes name))) (keys_of entries)
-has_unknown-view is_known [] = refl
-has_unknown-view is_known (entry ∷ entries) = ap (λ more. not (is_known (string_bytes entry.0)) || more) (has_unknown-view is_known entries)
 
 -- the names of a table are those of its map's keys
 pub table_names-view : (entries : List (String Global × Value)) → table_names (members_view entries) ≡ map (λ name. string_bytes name) (keys_of entries)

@@ -1,5 +1,5 @@
 -- The value of each key of a table without a fault.
-use Rattle.std.proofs.Common.{◌≡◌, ℕ, ℤ, pos, negsuc, ◌<◌, ◌≤◌, ◌==◌, Bool, true, false, not, List, [], ◌∷◌, length, get_or, Option, Some, None, Result, Ok, Err, IfOk, refl, sym, subst, arith}
+use Rattle.std.proofs.Common.{◌≡◌, ◌≢◌, ℕ, ℤ, pos, negsuc, ◌<◌, ◌≤◌, Bool, true, false, List, [], ◌∷◌, length, get_or, Option, Some, None, Result, Ok, Err, IfOk, refl, sym, subst, arith}
 use Rattle.std.specs.Prelude.{unwrap_or, nat_eq, codes, IsSomeAnd, MatchOption, IfSome}
 use Rattle.std.specs.Cmp.Lexicographic.{pointwise}
 use Rattle.std.specs.Option.{option_map, option_map_or}
@@ -10,14 +10,13 @@ use Rattle.toml.specs.Data.{Data, Items, Members, as_array, as_integer, as_str}
 use Rattle.gopher_scope.proofs.Elements.{first_of-none}
 use Rattle.gopher_item.specs.Place.{is_host, is_place_kind, address_fault, place_fault}
 use Rattle.gopher_item.specs.declared.fault.ItemFault.{ItemFault}
-use Rattle.gopher_item.specs.declared.fault.ItemFault.TheVariants.{BadKind, BadSelector, BadHost, BadPort, NoMemory}
+use Rattle.gopher_item.specs.declared.fault.ItemFault.TheVariants.{NoMemory}
 use Rattle.gopher_item.specs.Fault.{Makes}
-use Rattle.gopher_scope.specs.Rows.{all_keys, key_row, element_fields, field_row, absent_text, is_in_range}
-use Rattle.gopher_scope.specs.Reading.{elements, first_of, value_at, key_value, field_problem, integer_problem, number_read, text_problem, scalar_problem, table_problem, integer_in, text_in, element_problem, array_problem, values_read, form_problem}
-use Rattle.gopher_scope.specs.Unknown.{have_unknown}
-use Rattle.gopher_scope.specs.Settings.{key_fault, settings_fault, settings_read, settings_data, integer_at, text_at, field_integer, field_text, kind_read, Answers, ReadsTable, IsUpTo, AreInRange, AreValuesIn, SettingsData}
+use Rattle.gopher_scope.specs.Rows.{integer_read, text_read, all_keys, key_row, element_fields, field_row, absent_text, is_in_range, elements, first_of, value_at, key_value, field_problem, integer_problem, number_read, text_problem, scalar_problem, table_problem, integer_in, text_in, element_problem, array_problem, values_read, form_problem, have_unknown}
+use Rattle.gopher_scope.specs.Settings.{key_fault, settings_fault, settings_read, settings_data, settings_of, read_or, kind_read, Answers, ReadsTable, IsUpTo, AreInRange, AreValuesIn, SettingsData}
 use Rattle.gopher_scope.specs.declared.settings.Settings.{Settings}
 use Rattle.gopher_scope.specs.declared.fault.SettingsFault.{SettingsFault}
+use Rattle.gopher_scope.specs.declared.fault.SettingsFault.TheVariants.{NoMemory as NoMemoryLeft}
 use Rattle.gopher_scope.specs.declared.settings.row.Form.{Form}
 use Rattle.gopher_scope.specs.declared.settings.row.Form.TheVariants.{Integer, Text, Tables}
 use Rattle.gopher_scope.specs.declared.settings.key.Key.{Key}
@@ -78,23 +77,14 @@ text-in_range Selector None none = refl
 text-in_range kind (Some value) none = text_problem-none kind (as_str value) none
 
 -- an address and a place of parts in range have no fault
-address_none : (is_good : Bool) (port : ℕ) → is_good ≡ true → 1 ≤ port → (if not is_good then Some BadHost else (if port == 0 then Some BadPort else None)) ≡ None
-address_none true port good_host good_port = grind (arith, nat_tests)
-address_none false port good_host good_port = absurd (cc)
-
 pub address_fault-none : (host : List ℕ) (port : ℕ) → is_host host ≡ true → 1 ≤ port → address_fault host port ≡ None
-address_fault-none host port good_host good_port = address_none (is_host host) port good_host good_port
-
-place_none : (kind_is_good selector_is_good : Bool) (address : Option ItemFault) → kind_is_good ≡ true → selector_is_good ≡ true → address ≡ None → (if not kind_is_good then Some BadKind else (if not selector_is_good then Some BadSelector else address)) ≡ None
-place_none true true address good_kind good_selector good_address = good_address
-place_none true false address good_kind good_selector good_address = absurd (cc)
-place_none false selector_is_good address good_kind good_selector good_address = absurd (cc)
+address_fault-none host port good_host good_port = rw good_host (grind (arith, nat_tests))
 
 kind_is_good : (is_file : Bool) → is_place_kind (if is_file then 48 else 49) ≡ true
 kind_is_good true = refl
 kind_is_good false = refl
 
-pub seed_fault-none : (table : Members) → table_problem element.Seed (Some table) ≡ None → place_fault (kind_read (field_text table field.Kind)) (field_text table field.Selector) (field_text table field.Host) (field_integer table field.Port) ≡ None
+pub seed_fault-none : (table : Members) → table_problem element.Seed (Some table) ≡ None → place_fault (kind_read (text_read table (field_row field.Kind))) (text_read table (field_row field.Selector)) (text_read table (field_row field.Host)) (integer_read table (field_row field.Port)) ≡ None
 seed_fault-none table none =
     let host = first_of-none (field_problem table) (element_fields element.Seed) 1 field.Host none (omega arith) in
     let port = first_of-none (field_problem table) (element_fields element.Seed) 2 field.Host none (omega arith) in
@@ -102,8 +92,8 @@ seed_fault-none table none =
     let good_host = text-in_range Host (value_at table (field_row field.Host)) host in
     let good_port = (integer_in_range 70 65535 (value_at table (field_row field.Port)) (omega arith, omega arith) port).0 in
     let good_selector = text-in_range Selector (value_at table (field_row field.Selector)) selector in
-    let good_address = address_fault-none (field_text table field.Host) (field_integer table field.Port) good_host good_port in
-    place_none _ _ _ (kind_is_good (pointwise nat_eq (field_text table field.Kind) (codes "0"))) good_selector good_address
+    let good_address = address_fault-none (text_read table (field_row field.Host)) (integer_read table (field_row field.Port)) good_host good_port in
+    rw (kind_is_good (pointwise nat_eq (text_read table (field_row field.Kind)) (codes "0")), good_selector) good_address
 
 -- the elements of an array without a fault have none
 array_values-none : (element : Element) (items : Option Items) → array_problem element items ≡ None → first_of (element_problem element) (option_map_or elements items []) ≡ None
@@ -146,11 +136,11 @@ pub Makes-none : {T : Type 0} (fault : Option ItemFault) (value : T) (found : It
 Makes-none None value found none made = made
 Makes-none (Some first) value found none made = absurd (cc)
 
-pub home_fault-none : (table : Members) → settings_fault table ≡ None → address_fault (text_at table key.Host) (integer_at table key.Port) ≡ None
+pub home_fault-none : (table : Members) → settings_fault table ≡ None → address_fault (text_read table (key_row key.Host)) (integer_read table (key_row key.Port)) ≡ None
 home_fault-none table none =
     let good_host = text-in_range Host (key_value table key.Host) (form_problem-none table key.Host none) in
     let good_port = integer_in_range 70 65535 (key_value table key.Port) (omega arith, omega arith) (form_problem-none table key.Port none) in
-    address_fault-none (text_at table key.Host) (integer_at table key.Port) good_host good_port.0
+    address_fault-none (text_read table (key_row key.Host)) (integer_read table (key_row key.Port)) good_host good_port.0
 
 not_empty : (text : List ℕ) → is_in_range Path text ≡ true → 0 < length text
 not_empty [] good = absurd cc
@@ -160,7 +150,7 @@ not_empty (byte ∷ text) good = omega arith
 pub settings_in_range : (table : Members) → settings_fault table ≡ None → AreInRange (settings_read table)
 settings_in_range table none = record {
   port = integer_in_range 70 65535 (key_value table key.Port) (omega arith, omega arith) (form_problem-none table key.Port none);
-  root = not_empty (text_at table key.Root) (text-in_range Path (key_value table key.Root) (form_problem-none table key.Root none));
+  root = not_empty (text_read table (key_row key.Root)) (text-in_range Path (key_value table key.Root) (form_problem-none table key.Root none));
   places = integer_in_range 4096 65536 (key_value table key.Places) (omega arith, omega arith) (form_problem-none table key.Places none);
   workers = integer_in_range 4 16 (key_value table key.Workers) (omega arith, omega arith) (form_problem-none table key.Workers none);
   threads = integer_in_range 2 8 (key_value table key.Threads) (omega arith, omega arith) (form_problem-none table key.Threads none);
@@ -205,3 +195,11 @@ pub answers_stand : (text : Option Members) (table : Members) (result : Result S
 answers_stand text table result is answers =
     subst (λ t. IfOk result (λ settings. IfSome t (λ read. AreValuesIn read (settings_data settings)))) (sym is)
     (answers_with (AreValuesIn table) table result (settings_stand table) answers)
+
+-- a call that fails for another reason than memory fails with the fault of the table
+pub settings_of-refused : (table : Members) (found : SettingsFault) → ReadsTable table (Err found) → found ≢ NoMemoryLeft → settings_of (Some table) ≡ Err found
+settings_of-refused table found answers other = by (settings_fault table) answers
+  where
+    by : (fault : Option SettingsFault) → Answers fault (settings_read table) (Err found) → read_or fault (settings_read table) ≡ Err found
+    by (Some fault) same = cc
+    by None memory = absurd (other memory)

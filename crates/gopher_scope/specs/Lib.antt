@@ -1,4 +1,5 @@
 pub mod Rows
-pub mod Reading
 pub mod Settings
-pub mod Unknown
+pub mod Fault
+pub mod Lines
+pub mod Report

@@ -8,15 +8,12 @@ use Rattle.toml.specs.Parse.{parse_document}
 use Rattle.gopher_item.specs.Place.{PlaceData, HomeData, place_of}
 use Rattle.gopher_item.specs.Rule.{RuleData, rule_of}
 use Rattle.gopher_item.specs.Scope.{ScopeData}
-use Rattle.gopher_scope.specs.Rows.{all_keys, key_row, field_row}
-use Rattle.gopher_scope.specs.Reading.{first_of, form_problem, key_value, integer_read, text_read}
-use Rattle.gopher_scope.specs.Unknown.{elements_at, have_unknown}
+use Rattle.gopher_scope.specs.Rows.{all_keys, key_row, field_row, first_of, form_problem, key_value, integer_read, text_read, elements_at, have_unknown}
 use Rattle.gopher_scope.specs.declared.fault.SettingsFault.{SettingsFault}
 use Rattle.gopher_scope.specs.declared.fault.SettingsFault.TheVariants as fault
 use Rattle.gopher_scope.specs.declared.settings.Settings.{Settings}
 use Rattle.gopher_scope.specs.declared.settings.key.Key.{Key}
 use Rattle.gopher_scope.specs.declared.settings.key.Key.TheVariants as key
-use Rattle.gopher_scope.specs.declared.settings.tables.Field.{Field}
 use Rattle.gopher_scope.specs.declared.settings.tables.Field.TheVariants as field
 use Rattle.gopher_scope.specs.declared.settings.row.Problem.{Problem}
 use Rattle.gopher_scope.specs.declared.settings.row.Problem.TheVariants as problem
@@ -78,14 +75,6 @@ pub record AreValuesIn (table : Members) (settings : SettingsData) : Type 0 wher
   pub threads : IsNumberAt table (codes "threads") 2 settings.threads
   pub tries : IsNumberAt table (codes "tries") 1 settings.tries
 
-abbrev pub settings_fault_code : SettingsFault → ℕ
-settings_fault_code fault.NotToml = 30
-settings_fault_code (fault.Missing key) = 31
-settings_fault_code (fault.WrongKind key) = 32
-settings_fault_code (fault.OutOfRange key) = 33
-settings_fault_code fault.UnknownKey = 34
-settings_fault_code fault.NoMemory = 90
-
 -- the fault of settings with this problem at a key
 abbrev pub fault_at : Key → Problem → SettingsFault
 fault_at key problem.Missing = fault.Missing key
@@ -104,18 +93,6 @@ settings_fault table =
     if have_unknown table then Some fault.UnknownKey
     else first_of (key_fault table) all_keys
 
-abbrev pub integer_at : Members → Key → ℕ
-integer_at table key = integer_read table (key_row key)
-
-abbrev pub text_at : Members → Key → List ℕ
-text_at table key = text_read table (key_row key)
-
-abbrev pub field_integer : Members → Field → ℕ
-field_integer table field = integer_read table (field_row field)
-
-abbrev pub field_text : Members → Field → List ℕ
-field_text table field = text_read table (field_row field)
-
 -- the type of a place: `0` is a file (48), `1` a directory (49)
 abbrev pub kind_read : List ℕ → ℕ
 kind_read text = if pointwise nat_eq text (codes "0") then 48 else 49
@@ -123,14 +100,15 @@ kind_read text = if pointwise nat_eq text (codes "0") then 48 else 49
 -- the place of a table of `seeds`
 abbrev pub seed_read : Members → PlaceData
 seed_read table =
-    place_of (kind_read (field_text table field.Kind)) (field_text table field.Selector)
-    (field_text table field.Host) (field_integer table field.Port)
+    place_of (kind_read (text_read table (field_row field.Kind)))
+    (text_read table (field_row field.Selector)) (text_read table (field_row field.Host))
+    (integer_read table (field_row field.Port))
 
 -- the rule of a table of `allow` or `deny`
 abbrev pub rule_read : Members → RuleData
 rule_read table =
-    rule_of (field_text table field.Host) (field_integer table field.Port)
-    (field_text table field.Prefix)
+    rule_of (text_read table (field_row field.Host)) (integer_read table (field_row field.Port))
+    (text_read table (field_row field.Prefix))
 
 -- the places of the tables among these values
 abbrev pub seeds_read : List Data → List PlaceData
@@ -140,10 +118,6 @@ seeds_read values = map seed_read (filter_map as_table values)
 abbrev pub rules_read : List Data → List RuleData
 rules_read values = map rule_read (filter_map as_table values)
 
--- the places of `seeds`
-abbrev pub seeds_at : Members → List PlaceData
-seeds_at table = seeds_read (elements_at table key.Seeds)
-
 -- the rules of `allow` or `deny`
 abbrev pub rules_at : Members → Key → List RuleData
 rules_at table key = rules_read (elements_at table key)
@@ -151,14 +125,17 @@ rules_at table key = rules_read (elements_at table key)
 -- the settings of a table without a fault
 abbrev pub settings_read : Members → SettingsData
 settings_read table = record {
-  home = record { host = text_at table key.Host; port = integer_at table key.Port };
-  root = text_at table key.Root;
-  seeds = seeds_at table;
+  home = record {
+    host = text_read table (key_row key.Host);
+    port = integer_read table (key_row key.Port);
+  };
+  root = text_read table (key_row key.Root);
+  seeds = seeds_read (elements_at table key.Seeds);
   scope = record { allow = rules_at table key.Allow; deny = rules_at table key.Deny };
-  places = integer_at table key.Places;
-  workers = integer_at table key.Workers;
-  threads = integer_at table key.Threads;
-  tries = integer_at table key.Tries;
+  places = integer_read table (key_row key.Places);
+  workers = integer_read table (key_row key.Workers);
+  threads = integer_read table (key_row key.Threads);
+  tries = integer_read table (key_row key.Tries);
 }
 
 -- the settings of a table, or its fault

@@ -1,18 +1,25 @@
-//! The settings of a server, read from a text in TOML.
+//! The settings of a server, read from a text in TOML, and the report of `hole check` on settings
+//! and their folder.
 //!
-//! The crates above use this contract: `Settings::read` reads a text as `settings_of` defines
-//! (`specs/Settings.antt`).
+//! The crates above use two contracts:
+//!
+//! - `Settings::read` reads a text as `settings_of` defines (`specs/Settings.antt`).
+//! - `check` reports the first fault of the settings, the folder or the seeds, or a site without a
+//!   fault, as `IsReportOnText` defines (`specs/Report.antt`).
 //!
 //! Rules, scopes and the limits of a crawl are those of gopher_item.
 //!
-//! Error 90 (`NoMemory`) means out of memory. Calls that can't fail with it allocate nothing.
+//! Error 90 (`NoMemory`) means out of memory; no argument has changed. Calls that can't fail with
+//! it allocate nothing.
 //!
-//! RFC 1436 doesn't define settings: this profile does.
+//! RFC 1436 doesn't define settings or reports: this profile does.
 #![tactic(auto)]
 
 mod fault;
+mod report;
 mod settings;
 
-pub use fault::SettingsFault;
+pub use fault::{SettingsFault, SiteFault};
 pub use gopher_item::{MAX_PLACES, MAX_TRIES, Rule, Scope};
-pub use settings::{Key, Settings, UnknownKey, key_fault, unknown_keys};
+pub use report::{Obstacle, Report, check, unreadable};
+pub use settings::{Key, Settings};

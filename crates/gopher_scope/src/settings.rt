@@ -2,7 +2,8 @@
 
 ghost use Rattle.std.specs.Prelude.{◌≡◌, None, IfOk, IfErr};
 ghost use Rattle.toml.specs.View.{table_view};
-ghost use Rattle.gopher_scope.specs.Settings.{settings_data, settings_fault, integer_at, text_at, rules_at, ReadsTable, AreReadFrom, AreSettingsOf, AreInRange, AreValuesInText, IsFaultOf};
+ghost use Rattle.gopher_scope.specs.Rows.{integer_read, key_row, text_read};
+ghost use Rattle.gopher_scope.specs.Settings.{settings_data, settings_fault, rules_at, ReadsTable, AreReadFrom, AreSettingsOf, AreInRange, AreValuesInText, IsFaultOf};
 
 mod check;
 mod items;
@@ -12,14 +13,14 @@ mod tables;
 mod unknown;
 
 use crate::fault::SettingsFault;
-pub use check::key_fault;
+pub(crate) use check::key_fault;
 use check::settings_fault;
 use gopher_item::{Home, ItemFault, NoMemory, Place, Scope};
 use items::{rules, seeds};
 pub use key::Key;
 use std::alloc::Global;
 use toml::Table;
-pub use unknown::{UnknownKey, unknown_keys};
+pub(crate) use unknown::{UnknownKey, unknown_keys};
 
 /// The settings of a server and its crawl.
 #[derive(Drop)]
@@ -44,23 +45,23 @@ pub struct Settings {
 
 fn integer_at(table: &Table, key: Key) -> u32
     requires { settings_fault (table_view table.now) ≡ None }
-    ensures { result ≡ integer_at (table_view table.now) key }
+    ensures { result ≡ integer_read (table_view table.now) (key_row key) }
 {
     key.row().integer(table)
 }
 
 fn home(alloc: Global, table: &Table) -> Result<Home, NoMemory>
     requires { settings_fault (table_view table.now) ≡ None }
-    ensures host { IfOk result (λ home. home.host ≡ text_at (table_view table.now) Key.Host) }
-    ensures port { IfOk result (λ home. home.port ≡ integer_at (table_view table.now) Key.Port) }
+    ensures host { IfOk result
+        (λ home. home.host ≡ text_read (table_view table.now) (key_row Key.Host)) }
+    ensures port { IfOk result
+        (λ home. home.port ≡ integer_read (table_view table.now) (key_row Key.Port)) }
 {
     let host = Key::Host.row().text(table).as_bytes();
     match Home::new(alloc, host, integer_at(table, Key::Port) as u16) {
         Ok(home) => Ok(home),
-        Err(fault) => match fault {
-            ItemFault::NoMemory => Err(NoMemory),
-            _ => unreachable!(),
-        },
+        Err(ItemFault::NoMemory) => Err(NoMemory),
+        Err(_) => unreachable!(),
     }
 }
 

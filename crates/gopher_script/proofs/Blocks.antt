@@ -1,9 +1,8 @@
 -- Reading the lines of a block one by one.
 use Rattle.std.proofs.Common.{◌≡◌, ℕ, ◌+◌, true, false, List, [], ◌∷◌, ◌++◌, Option, refl, sym, ap, subst, ◌∙◌, append_assoc}
 use Rattle.std.proofs.lemmas.List.Sums.{take_while-cons}
-use Rattle.gopher_script.specs.Statement.{StatementData}
+use Rattle.gopher_script.specs.Command.{StatementData, command_of}
 use Rattle.gopher_bytes.specs.Lines.{lines_of}
-use Rattle.gopher_script.specs.Command.{command_of}
 use Rattle.gopher_script.specs.declared.command.Command.{Command}
 use Rattle.gopher_script.specs.Script.{is_block_line, begins_block, block_of, block_reply, reply_after, takes_block, statements_of}
 

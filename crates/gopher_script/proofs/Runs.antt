@@ -4,7 +4,7 @@ use Rattle.std.specs.Option.{option_map_or}
 use Rattle.std.specs.Io.KnownBytes.{Appends}
 use Rattle.std.proofs.KnownBytes.{Appends-nil, Appends-trans}
 use Rattle.gopher_text.specs.Watched.{HasFailed}
-use Rattle.gopher_script.specs.Statement.{StatementData}
+use Rattle.gopher_script.specs.Command.{StatementData}
 use Rattle.gopher_script.specs.Script.{RunData, run_statements, prepend, answer_at, after_at, ended_at, ended_well}
 use Rattle.gopher_script.specs.Replay.{RunEnds, StatementEnds}
 use Rattle.gopher_script.specs.declared.stage.Stage.{Stage}

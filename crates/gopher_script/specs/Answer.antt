@@ -8,15 +8,6 @@ use Rattle.gopher_catalogue.specs.declared.frontier.sizes.Added.{Added}
 use Rattle.gopher_catalogue.specs.declared.frontier.sizes.Status.{Status}
 use Rattle.gopher_index.specs.declared.hit.Hit.{Hit}
 
-abbrev pub ok_line : List ℕ
-ok_line = codes "ok\n"
-
-abbrev pub idle_line : List ℕ
-idle_line = codes "idle\n"
-
-abbrev pub finished_line : List ℕ
-finished_line = codes "finished\n"
-
 abbrev pub refused_line : ℕ → List ℕ
 refused_line code = codes "refused " ++ decimal code ++ 10 ∷ []
 

@@ -1,5 +1,6 @@
 -- The commands of a script, read from its lines.
-use Rattle.std.specs.Prelude.{ℕ, Bool, true, List, [], ◌∷◌, length, codes, nat_eq, Option, None, Some, ◌==◌, nat_le, if◌then◌else◌}
+use Rattle.std.specs.Prelude.{ℕ, Bool, true, List, [], ◌∷◌, length, codes, map, nat_eq, Option, None, Some, ◌==◌, nat_le, if◌then◌else◌}
+use Rattle.std.specs.Borrow.{Bor}
 use Rattle.std.specs.Option.{option_map, option_and_then}
 use Rattle.std.specs.Cmp.Lexicographic.{pointwise}
 use Rattle.gopher_item.specs.Menu.{fields_of}
@@ -48,6 +49,10 @@ why_in field = None
 
 -- ---- the fields after a command's name
 
+-- the bytes of fields
+abbrev pub bytes_of : List (Bor (List ℕ)) → List (List ℕ)
+bytes_of fields = map (λ field. field.now) fields
+
 -- a host, a port and a prefix
 abbrev pub rule_in : List (List ℕ) → Option RuleData
 rule_in (host ∷ port ∷ prefix ∷ []) =
@@ -82,21 +87,15 @@ fail_in (number ∷ why ∷ []) =
     option_and_then (λ n. option_map (λ w. Fail n w) (why_in why)) (number_in number)
 fail_in fields = None
 
--- the only field
-abbrev pub last_field : List (List ℕ) → Option (List ℕ)
-last_field (field ∷ []) = Some field
-last_field fields = None
-
 -- a query's text, of at most 1,024 bytes (`MAX_LINE`)
-abbrev pub query_text : List ℕ → Option Command
-query_text text = if nat_le (length text) MAX_LINE then Some (Search text) else None
-
 abbrev pub search_in : List (List ℕ) → Option Command
-search_in fields = option_and_then query_text (last_field fields)
+search_in (text ∷ []) = if nat_le (length text) MAX_LINE then Some (Search text) else None
+search_in fields = None
 
 -- a word
 abbrev pub occurs_in : List (List ℕ) → Option Command
-occurs_in fields = option_map Occurs (last_field fields)
+occurs_in (word ∷ []) = Some (Occurs word)
+occurs_in fields = None
 
 -- a command without fields after its name
 abbrev pub alone : Command → List (List ℕ) → Option Command
@@ -109,8 +108,9 @@ abbrev pub is_name : List ℕ → List ℕ → Bool
 is_name field name = pointwise nat_eq field name
 
 -- the command with this name and these further fields, if they make one
-abbrev pub command_named : List ℕ → List (List ℕ) → Option Command
-command_named name fields =
+abbrev pub command_in : List (List ℕ) → Option Command
+command_in [] = None
+command_in (name ∷ fields) =
     if is_name name (codes "allow") then option_map Allow (rule_in fields)
     else if is_name name (codes "deny") then option_map Deny (rule_in fields)
     else if is_name name (codes "seed") then option_map Seed (place_in fields)
@@ -122,10 +122,6 @@ command_named name fields =
     else if is_name name (codes "occurs") then occurs_in fields
     else if is_name name (codes "status") then alone Status fields else None
 
-abbrev pub command_in : List (List ℕ) → Option Command
-command_in [] = None
-command_in (name ∷ fields) = command_named name fields
-
 -- an empty line or a comment, which begins with `#`, does nothing
 abbrev pub is_idle_line : List ℕ → Bool
 is_idle_line [] = true
@@ -134,3 +130,9 @@ is_idle_line (byte ∷ bytes) = byte == 35
 -- the command of a line, if it is one: TABs separate its fields
 abbrev pub command_of : List ℕ → Option Command
 command_of line = if is_idle_line line then Some Nothing else command_in (fields_of line)
+
+-- a statement: its line's number from 1 and command, if it is one, and the reply of its block
+pub record StatementData : Type 0 where
+  pub number : ℕ
+  pub command : Option Command
+  pub reply : List ℕ

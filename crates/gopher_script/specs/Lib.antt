@@ -1,11 +1,8 @@
 pub mod Answer
 pub mod Command
-pub mod Draft
 pub mod Fault
-pub mod Fields
 pub mod Parts
 pub mod Replay
 pub mod Script
 pub mod Stage
 pub mod Reading
-pub mod Statement

@@ -1,5 +1,5 @@
--- Rules and places made of the parts that a script contains.
-use Rattle.std.specs.Prelude.{ℕ, List, Option}
+-- Rules and places made of the parts that a script contains, and those before its crawl starts.
+use Rattle.std.specs.Prelude.{List, Option}
 use Rattle.gopher_item.specs.Place.{PlaceData, place_fault, place_of}
 use Rattle.gopher_item.specs.declared.fault.ItemFault.{ItemFault}
 use Rattle.gopher_item.specs.Rule.{RuleData, rule_fault, rule_of}
@@ -16,6 +16,8 @@ fault_of_place place = place_fault place.kind place.selector place.host place.po
 abbrev pub made_place : PlaceData → PlaceData
 made_place place = place_of place.kind place.selector place.host place.port
 
-abbrev pub place_with : ℕ → List ℕ → ℕ → List ℕ → PlaceData
-place_with kind host port selector =
-    record { host = host; port = port; selector = selector; kind = kind }
+-- the rules and seeds so far
+pub record DraftData : Type 0 where
+  pub allow : List RuleData
+  pub deny : List RuleData
+  pub seeds : List PlaceData

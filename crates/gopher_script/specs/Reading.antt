@@ -2,7 +2,7 @@
 use Rattle.std.specs.Prelude.{◌≡◌, ℕ, ◌+◌, ◌≤◌, Bool, false, List, [], ◌∷◌, length, Option, MatchOption}
 use Rattle.std.specs.Borrow.{Bor}
 use Rattle.gopher_bytes.specs.Lines.{lines_of}
-use Rattle.gopher_script.specs.Statement.{StatementData}
+use Rattle.gopher_script.specs.Command.{StatementData}
 use Rattle.gopher_script.specs.Script.{begins_block, statements_of, statements_after}
 use Rattle.gopher_script.specs.declared.script.Block.{Block}
 
@@ -21,13 +21,13 @@ HasReply reply block = block.reply.items ≡ reply
 -- lines; `in_block` says whether the statement before them takes a block
 abbrev pub LeavesStatements : ℕ → Bool → List ℕ → Block → Type 0
 LeavesStatements before in_block bytes block =
-    statements_after block.lines_read block.rest.now
+    statements_after block.lines block.rest.now
     ≡ statements_of (before + 1) in_block (lines_of bytes)
 
 -- the number of lines read up to the end of a block and the number of bytes after it are together
 -- no more than `before` and the number of bytes at its start
 abbrev pub HasFewLines : ℕ → List ℕ → Block → Type 0
-HasFewLines before bytes block = block.lines_read + length block.rest.now ≤ before + length bytes
+HasFewLines before bytes block = block.lines + length block.rest.now ≤ before + length bytes
 
 -- the next statement, if there is one: the statements before it is taken, and those after
 abbrev pub TakesStatement : List StatementData → List StatementData → Option StatementData → Type 0

@@ -4,7 +4,7 @@ use Rattle.std.specs.Io.KnownBytes.{Appends, Consumes, IsAtEnd, Keeps}
 use Rattle.gopher_text.specs.Reply.{SpendsTurns}
 use Rattle.gopher_text.specs.Watched.{WatchedData, HasFailed}
 use Rattle.gopher_text.specs.declared.reply_reader.TheConstants.{MAX_REPLY}
-use Rattle.gopher_script.specs.Statement.{StatementData}
+use Rattle.gopher_script.specs.Command.{StatementData}
 use Rattle.gopher_script.specs.Script.{RunData, script_output, answer_at, after_at}
 use Rattle.gopher_script.specs.declared.stage.Stage.{Stage}
 use Rattle.gopher_script.specs.declared.fault.ReplayFault.{ReplayFault}

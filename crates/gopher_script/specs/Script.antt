@@ -3,8 +3,7 @@ use Rattle.std.specs.Prelude.{ℕ, ◌+◌, Bool, true, false, ◌&&◌, List, [
 use Rattle.std.specs.List.{flat_map}
 use Rattle.std.specs.Option.{option_map_or, option_and_then}
 use Rattle.gopher_bytes.specs.Lines.{lines_of}
-use Rattle.gopher_script.specs.Command.{command_of}
-use Rattle.gopher_script.specs.Statement.{StatementData}
+use Rattle.gopher_script.specs.Command.{command_of, StatementData}
 use Rattle.gopher_script.specs.Stage.{command_answer, after}
 use Rattle.gopher_script.specs.declared.command.Command.{Command}
 use Rattle.gopher_script.specs.declared.command.Command.TheVariants.{Found}
@@ -84,10 +83,6 @@ run_statements stage (statement ∷ statements) =
     option_map_or (λ answer. prepend answer (run_statements (after_at stage statement) statements))
     (answer_at stage statement) (ended_at statement.number)
 
--- a script begins without rules and seeds
-abbrev pub first_stage : Stage
-first_stage = Gathering (record { allow = []; deny = []; seeds = [] })
-
 -- the statements of the bytes after this many lines, which don't begin inside a block
 abbrev pub statements_after : ℕ → List ℕ → List StatementData
 statements_after lines_read bytes = statements_of (lines_read + 1) false (lines_of bytes)
@@ -95,5 +90,7 @@ statements_after lines_read bytes = statements_of (lines_read + 1) false (lines_
 abbrev pub statements_in : List ℕ → List StatementData
 statements_in bytes = statements_of 1 false (lines_of bytes)
 
+-- a script begins without rules and seeds
 abbrev pub script_output : List ℕ → RunData
-script_output bytes = run_statements first_stage (statements_in bytes)
+script_output bytes =
+    run_statements (Gathering (record { allow = []; deny = []; seeds = [] })) (statements_in bytes)

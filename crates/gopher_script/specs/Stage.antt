@@ -1,5 +1,5 @@
 -- The effects and answers of a script's commands, if memory suffices.
-use Rattle.std.specs.Prelude.{◌≡◌, ℕ, List, [], ◌∷◌, ◌++◌, Option, None, Some, Result, IfOk, OnOk, is_some, if◌then◌else◌}
+use Rattle.std.specs.Prelude.{◌≡◌, ℕ, List, [], ◌∷◌, ◌++◌, codes, Option, None, Some, Result, IfOk, is_some, if◌then◌else◌}
 use Rattle.std.specs.Global.{Vec}
 use Rattle.std.specs.Option.{option_map_or}
 use Rattle.gopher_item.specs.Fault.{item_fault_code}
@@ -17,9 +17,8 @@ use Rattle.gopher_catalogue.specs.Fault.{open_fault_code, found_fault_code}
 use Rattle.gopher_catalogue.specs.Step.{TurnData, Take, Idle, Finished, open_fault, opened_record, turn_of, after_turn, is_out_in, found_fault, added_by, status_of}
 use Rattle.gopher_catalogue.specs.declared.event.Why.{Why}
 use Rattle.gopher_catalogue.specs.declared.fault.OpenFault.{OpenFault}
-use Rattle.gopher_script.specs.Answer.{ok_line, idle_line, finished_line, refused_line, take_line, added_line, status_line, hits_lines, places_lines}
-use Rattle.gopher_script.specs.Draft.{DraftData}
-use Rattle.gopher_script.specs.Parts.{fault_of_rule, made_rule, fault_of_place, made_place}
+use Rattle.gopher_script.specs.Answer.{refused_line, take_line, added_line, status_line, hits_lines, places_lines}
+use Rattle.gopher_script.specs.Parts.{DraftData, fault_of_rule, made_rule, fault_of_place, made_place}
 use Rattle.gopher_script.specs.declared.command.Command.{Command}
 use Rattle.gopher_script.specs.declared.command.Command.TheVariants.{Nothing, Allow, Deny, Seed, Start, Claim, Found, Fail, Search, Occurs, Status}
 use Rattle.gopher_script.specs.declared.stage.Performed.{Performed}
@@ -59,7 +58,7 @@ abbrev pub fault_of_start : DraftData → ℕ → ℕ → Option OpenFault
 fault_of_start draft places tries = open_fault (scope_of_draft draft) draft.seeds places tries
 
 abbrev pub start_line : Option OpenFault → List ℕ
-start_line None = ok_line
+start_line None = codes "ok\n"
 start_line (Some fault) = refused_line (open_fault_code fault)
 
 -- after a failed start the rules and seeds are unchanged
@@ -88,12 +87,8 @@ after_before draft command = Gathering draft
 
 abbrev pub turn_line : TurnData → List ℕ
 turn_line (Take number place) = take_line number place
-turn_line Idle = idle_line
-turn_line Finished = finished_line
-
--- a call leaves the record with the next place claimed, unless it fails
-abbrev pub RecordsClaim : {V E : Type 0} → List EventData → List EventData → Result V E → Type 0
-RecordsClaim old new result = OnOk result (new ≡ after_turn old (turn_of old))
+turn_line Idle = codes "idle\n"
+turn_line Finished = codes "finished\n"
 
 -- the scope of a record
 abbrev pub scope_in : List EventData → ScopeData
@@ -111,41 +106,22 @@ after_page events number page =
     if is_some (found_fault events number page.place) then events
     else events ++ FoundEvent number page ∷ []
 
--- the answer to the page of a reply for a number, if its place is valid
-abbrev pub reply_line : List EventData → ℕ → PlaceData → List ℕ → List ℕ
-reply_line events number place reply =
-    page_line events number (page_of (scope_in events) place reply)
-
--- a call leaves the record with the page of a reply for a number, unless it fails: the record
--- before, the number, the valid place, the reply, and the record after
-abbrev pub RecordsPage : {V E : Type 0} → List EventData → ℕ → PlaceData → List ℕ
-    → List EventData → Result V E → Type 0
-RecordsPage old number place reply new result =
-    OnOk result (new ≡ after_page old number (page_of (scope_in old) place reply))
-
 -- the page of a reply, in the scope of the record
 abbrev pub page_in : List EventData → PlaceData → List ℕ → PageData
-page_in events place reply = page_of (scope_in events) (made_place place) reply
+page_in events place reply = page_of (scope_in events) place reply
 
 abbrev pub found_line : List EventData → ℕ → PlaceData → List ℕ → List ℕ
 found_line events number place reply =
     option_map_or (λ fault. refused_line (item_fault_code fault)) (fault_of_place place)
-    (page_line events number (page_in events place reply))
+    (page_line events number (page_in events (made_place place) reply))
 
 abbrev pub after_found : List EventData → ℕ → PlaceData → List ℕ → List EventData
 after_found events number place reply =
     if is_some (fault_of_place place) then events
-    else after_page events number (page_in events place reply)
-
--- a call leaves the record with the page of a reply for a number, if its place is valid, unless it
--- fails: the record before, the number, the place, the reply, and the record after
-abbrev pub RecordsReply : {V E : Type 0} → List EventData → ℕ → PlaceData → List ℕ
-    → List EventData → Result V E → Type 0
-RecordsReply old number place reply new result =
-    OnOk result (new ≡ after_found old number place reply)
+    else after_page events number (page_in events (made_place place) reply)
 
 abbrev pub fail_line : List EventData → ℕ → List ℕ
-fail_line events number = if is_out_in events number then ok_line else refused_line 52
+fail_line events number = if is_out_in events number then codes "ok\n" else refused_line 52
 
 abbrev pub after_fail : List EventData → ℕ → Why → List EventData
 after_fail events number why =

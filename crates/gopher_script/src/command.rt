@@ -72,11 +72,11 @@ pub struct PlaceParts<'a> {
 
 impl<'a> Model for PlaceParts<'a> {
     ghost use Rattle.gopher_item.specs.Place.{PlaceData};
-    ghost use Rattle.gopher_script.specs.Parts.{place_with};
 
     ghost Value = { PlaceData };
 
-    ghost view = { λ p. place_with p.kind p.host.now p.port p.selector.now };
+    ghost view = { λ p.
+        record { host = p.host.now; port = p.port; selector = p.selector.now; kind = p.kind } };
 }
 
 impl<'a> PlaceParts<'a> {

@@ -1,23 +1,24 @@
 //! The commands of a script during its crawl. Each function returns the bytes of the answer.
 
 ghost use Rattle.std.specs.Prelude.{◌≡◌, OnOk};
-ghost use Rattle.gopher_catalogue.specs.Step.{turn_of};
+ghost use Rattle.gopher_catalogue.specs.Step.{after_turn, turn_of};
 ghost use Rattle.gopher_script.specs.Answer.{ReturnsBytes};
-ghost use Rattle.gopher_script.specs.Stage.{turn_line, RecordsClaim, reply_line, RecordsPage, found_line, RecordsReply, fail_line, after_fail, search_lines, occurs_lines};
+ghost use Rattle.gopher_script.specs.Stage.{turn_line, page_line, page_in, after_page, after_found, found_line, fail_line, after_fail, search_lines, occurs_lines};
 
 use crate::command::{PlaceParts, QueryText};
-use crate::lines::{added_line, refusal, refused_line, take_line};
+use crate::lines::{added_line, refused_line, take_line};
 use crate::listing::{hits_lines, places_lines};
-use gopher_catalogue::{Catalogue, FoundFault, Turn, Why};
+use gopher_catalogue::{Catalogue, Turn, Why};
 use gopher_item::{NoMemory, Place};
-use gopher_page::{Page, Query, QueryFault};
+use gopher_page::{Page, Query};
 use gopher_text::MAX_REPLY;
 use std::alloc::Global;
 
 /// Claims the next place.
 pub fn claim(alloc: Global, catalogue: &mut Catalogue) -> Result<Vec<u8>, NoMemory>
     ensures answer { ReturnsBytes result (turn_line (turn_of catalogue.old)) }
-    ensures record { RecordsClaim catalogue.old catalogue.new result }
+    ensures record { OnOk result
+        (catalogue.new ≡ after_turn catalogue.old (turn_of catalogue.old)) }
 {
     match catalogue.claim()? {
         Turn::Take(claim) => take_line(alloc, claim.number, &claim.place),
@@ -35,11 +36,12 @@ pub fn found(
     reply: &[u8],
 ) -> Result<Vec<u8>, NoMemory>
     ensures answer { ReturnsBytes result (found_line catalogue.old number parts.now reply.now) }
-    ensures record { RecordsReply catalogue.old number parts.now reply.now catalogue.new result }
+    ensures record { OnOk result
+        (catalogue.new ≡ after_found catalogue.old number parts.now reply.now) }
 {
     match parts.make(alloc) {
         Ok(place) => found_at(alloc, catalogue, number, &place, reply),
-        Err(fault) => refusal(alloc, fault),
+        Err(fault) => refused_line(alloc, fault.code()),
     }
 }
 
@@ -50,8 +52,10 @@ fn found_at(
     place: &Place,
     reply: &[u8],
 ) -> Result<Vec<u8>, NoMemory>
-    ensures answer { ReturnsBytes result (reply_line catalogue.old number place.now reply.now) }
-    ensures record { RecordsPage catalogue.old number place.now reply.now catalogue.new result }
+    ensures answer { ReturnsBytes result
+        (page_line catalogue.old number (page_in catalogue.old place.now reply.now)) }
+    ensures record { OnOk result
+        (catalogue.new ≡ after_page catalogue.old number (page_in catalogue.old place.now reply.now)) }
 {
     // For the prover: a block is no longer than its script.
     if reply.len() > MAX_REPLY {
@@ -63,13 +67,7 @@ fn found_at(
             catalogue.settle();
             added_line(alloc, added)
         }
-        Err(refused) => {
-            let fault = refused.fault;
-            if fault == FoundFault::NoMemory {
-                return Err(NoMemory);
-            }
-            refused_line(alloc, fault.code())
-        }
+        Err(refused) => refused_line(alloc, refused.fault.code()),
     }
 }
 
@@ -99,8 +97,7 @@ pub fn search(
 {
     match Query::read(alloc, text.as_slice()) {
         Ok(query) => hits_lines(alloc, &catalogue.search(&query)?),
-        Err(QueryFault::NoMemory) => Err(NoMemory),
-        Err(fault) => refused_line(alloc, fault.code()),
+        Err(why) => refused_line(alloc, why.code()),
     }
 }
 

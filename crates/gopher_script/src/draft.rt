@@ -1,11 +1,11 @@
 //! The rules and seeds of a script before its crawl starts.
 
 ghost use Rattle.std.specs.Prelude.{◌≡◌, []};
-ghost use Rattle.gopher_script.specs.Draft.{DraftData};
+ghost use Rattle.gopher_script.specs.Parts.{DraftData};
 ghost use Rattle.gopher_script.specs.Stage.{TakesRule, TakesSeed};
 
 use crate::command::{PlaceParts, RuleParts};
-use crate::lines::refusal;
+use crate::lines::refused_line;
 use gopher_item::{NoMemory, Place, Rule, Scope};
 use std::alloc::Global;
 use std::marker::Model;
@@ -19,11 +19,12 @@ pub struct Draft {
 }
 
 impl Model for Draft {
-    ghost use Rattle.gopher_script.specs.Draft.{DraftData, draft_with};
+    ghost use Rattle.gopher_script.specs.Parts.{DraftData};
 
     ghost Value = { DraftData };
 
-    ghost view = { λ d. draft_with d.allow.items d.deny.items d.seeds.items };
+    ghost view = { λ d.
+        record { allow = d.allow.items; deny = d.deny.items; seeds = d.seeds.items } };
 }
 
 impl Draft {
@@ -52,7 +53,7 @@ pub fn add_rule(
             rules.push(rule)?;
             Ok(Vec::new(alloc))
         }
-        Err(fault) => refusal(alloc, fault),
+        Err(fault) => refused_line(alloc, fault.code()),
     }
 }
 
@@ -69,6 +70,6 @@ pub fn add_seed(
             seeds.push(seed)?;
             Ok(Vec::new(alloc))
         }
-        Err(fault) => refusal(alloc, fault),
+        Err(fault) => refused_line(alloc, fault.code()),
     }
 }

@@ -11,7 +11,6 @@ mod command;
 mod crawl;
 mod draft;
 mod fault;
-mod fields;
 mod lines;
 mod listing;
 mod reading;

@@ -1,28 +1,21 @@
 //! The answers of commands that are one line, as bytes.
 
 ghost use Rattle.std.specs.Prelude.{◌≡◌, ◌≢◌, ◌++◌, IfOk, OnOk};
-ghost use Rattle.gopher_item.specs.Fault.{item_fault_code};
 ghost use Rattle.gopher_script.specs.Answer.{refused_line, place_fields, take_line, added_line, status_line};
 
 use gopher_catalogue::{Added, Status};
-use gopher_item::{ItemFault, NoMemory, Place};
+use gopher_item::{NoMemory, Place};
 use std::alloc::Global;
 
+/// Makes the answer to what is refused with this number. It fails if that is 90, out of memory.
 pub fn refused_line(alloc: Global, code: u8) -> Result<Vec<u8>, NoMemory>
-    ensures { IfOk result (λ line. line.items ≡ refused_line code) }
+    ensures cause { OnOk result (code ≢ 90) }
+    ensures line { IfOk result (λ line. line.items ≡ refused_line code) }
 {
-    Ok(format!(in alloc; "refused {code}\n")?.into_bytes())
-}
-
-/// Makes the answer to an invalid rule or place. It fails if the fault is out of memory.
-pub fn refusal(alloc: Global, fault: ItemFault) -> Result<Vec<u8>, NoMemory>
-    ensures cause { OnOk result (fault ≢ ItemFault.NoMemory) }
-    ensures line { IfOk result (λ line. line.items ≡ refused_line (item_fault_code fault)) }
-{
-    if fault == ItemFault::NoMemory {
+    if code == 90 {
         return Err(NoMemory);
     }
-    refused_line(alloc, fault.code())
+    Ok(format!(in alloc; "refused {code}\n")?.into_bytes())
 }
 
 /// Appends a place's type, host, port and selector.
@@ -50,8 +43,7 @@ pub fn take_line(alloc: Global, number: u32, place: &Place) -> Result<Vec<u8>, N
 pub fn added_line(alloc: Global, added: Added) -> Result<Vec<u8>, NoMemory>
     ensures { IfOk result (λ line. line.items ≡ added_line added) }
 {
-    let fresh = added.fresh;
-    let dropped = added.dropped;
+    let Added { fresh, dropped } = added;
     Ok(format!(in alloc; "added {fresh} {dropped}\n")?.into_bytes())
 }
 

@@ -1,13 +1,13 @@
 //! Reading the command of a line (`read_command`).
 
-ghost use Rattle.std.specs.Prelude.{◌≡◌};
-ghost use Rattle.std.specs.Option.{option_map};
-ghost use Rattle.gopher_script.specs.Command.{is_name, short_number, port_in, number_in, kind_in, why_in, rule_in, place_in, start_in, found_in, fail_in, last_field, search_in, occurs_in, alone, command_named, is_idle_line, command_of};
+ghost use Rattle.std.specs.Prelude.{◌≡◌, IfOk};
+ghost use Rattle.gopher_item.specs.Menu.{fields_of};
+ghost use Rattle.gopher_script.specs.Command.{is_name, short_number, port_in, number_in, kind_in, why_in, rule_in, place_in, start_in, found_in, fail_in, search_in, occurs_in, alone, bytes_of, command_in, is_idle_line, command_of};
 
 use crate::command::{Command, PlaceParts, QueryText, RuleParts, WordText};
-use crate::fields::Fields;
 use gopher_catalogue::Why;
-use gopher_item::{MAX_LINE, read_number};
+use gopher_item::{MAX_LINE, NoMemory, read_number, split_once};
+use std::alloc::Global;
 
 fn short_number(width: usize, limit: u32, digits: &[u8]) -> Option<u32>
     ensures { result ≡ short_number width limit digits.now }
@@ -54,31 +54,24 @@ fn why(field: &[u8]) -> Option<Why>
     }
 }
 
-fn rule_parts<'a>(mut fields: Fields<'a>) -> Option<RuleParts<'a>>
-    ensures { result ≡ rule_in fields.entry }
+fn rule_parts<'a>(fields: &[&'a [u8]]) -> Option<RuleParts<'a>>
+    ensures { result ≡ rule_in (bytes_of fields.now) }
 {
-    let host = fields.next()?;
-    let port_digits = fields.next()?;
-    let prefix = fields.next()?;
-    let None = fields.next() else {
+    let [host, digits, prefix] = fields else {
         return None;
     };
-    let port = port(port_digits)?;
+    let port = port(digits)?;
     Some(RuleParts { host, port, prefix })
 }
 
-fn place_parts<'a>(mut fields: Fields<'a>) -> Option<PlaceParts<'a>>
-    ensures { result ≡ place_in fields.entry }
+fn place_parts<'a>(fields: &[&'a [u8]]) -> Option<PlaceParts<'a>>
+    ensures { result ≡ place_in (bytes_of fields.now) }
 {
-    let kind_field = fields.next()?;
-    let host = fields.next()?;
-    let port_digits = fields.next()?;
-    let selector = fields.next()?;
-    let None = fields.next() else {
+    let [kind_field, host, digits, selector] = fields else {
         return None;
     };
     let kind = kind(kind_field)?;
-    let port = port(port_digits)?;
+    let port = port(digits)?;
     Some(PlaceParts {
         kind,
         host,
@@ -87,74 +80,59 @@ fn place_parts<'a>(mut fields: Fields<'a>) -> Option<PlaceParts<'a>>
     })
 }
 
-fn start<'a>(mut fields: Fields<'a>) -> Option<Command<'a>>
-    ensures { result ≡ start_in fields.entry }
+fn start<'a>(fields: &[&'a [u8]]) -> Option<Command<'a>>
+    ensures { result ≡ start_in (bytes_of fields.now) }
 {
-    let places = fields.next()?;
-    let Some(tries) = fields.next() else {
-        return Some(Command::Start(number(places)?, 1));
-    };
-    let None = fields.next() else {
-        return None;
-    };
-    Some(Command::Start(number(places)?, number(tries)?))
-}
-
-fn found<'a>(mut fields: Fields<'a>) -> Option<Command<'a>>
-    ensures { result ≡ found_in fields.entry }
-{
-    let digits = fields.next()?;
-    let number = number(digits)?;
-    Some(Command::Found(number, place_parts(fields)?))
-}
-
-fn fail<'a>(mut fields: Fields<'a>) -> Option<Command<'a>>
-    ensures { result ≡ fail_in fields.entry }
-{
-    let digits = fields.next()?;
-    let why_field = fields.next()?;
-    let None = fields.next() else {
-        return None;
-    };
-    Some(Command::Fail(number(digits)?, why(why_field)?))
-}
-
-// The next field, if it is the last one.
-fn last_field<'a>(mut fields: Fields<'a>) -> Option<&'a [u8]>
-    ensures { option_map (λ field. field.now) result ≡ last_field fields.entry }
-{
-    let field = fields.next()?;
-    let None = fields.next() else {
-        return None;
-    };
-    Some(field)
-}
-
-fn search<'a>(fields: Fields<'a>) -> Option<Command<'a>>
-    ensures { result ≡ search_in fields.entry }
-{
-    let bytes = last_field(fields)?;
-    if bytes.len() <= MAX_LINE {
-        Some(Command::Search(QueryText { bytes }))
-    } else {
-        None
+    match fields {
+        [places] => Some(Command::Start(number(places)?, 1)),
+        [places, tries] => Some(Command::Start(number(places)?, number(tries)?)),
+        _ => None,
     }
 }
 
-fn occurs<'a>(fields: Fields<'a>) -> Option<Command<'a>>
-    ensures { result ≡ occurs_in fields.entry }
+fn found<'a>(fields: &[&'a [u8]]) -> Option<Command<'a>>
+    ensures { result ≡ found_in (bytes_of fields.now) }
 {
-    let bytes = last_field(fields)?;
-    Some(Command::Occurs(WordText { bytes }))
-}
-
-fn alone<'a>(command: Command<'a>, mut fields: Fields<'a>) -> Option<Command<'a>>
-    ensures { result ≡ alone command.entry fields.entry }
-{
-    let None = fields.next() else {
+    let [digits, place @ ..] = fields else {
         return None;
     };
-    Some(command)
+    Some(Command::Found(number(digits)?, place_parts(place)?))
+}
+
+fn fail<'a>(fields: &[&'a [u8]]) -> Option<Command<'a>>
+    ensures { result ≡ fail_in (bytes_of fields.now) }
+{
+    let [digits, reason] = fields else {
+        return None;
+    };
+    Some(Command::Fail(number(digits)?, why(reason)?))
+}
+
+fn search<'a>(fields: &[&'a [u8]]) -> Option<Command<'a>>
+    ensures { result ≡ search_in (bytes_of fields.now) }
+{
+    match fields {
+        [bytes] if bytes.len() <= MAX_LINE => Some(Command::Search(QueryText { bytes })),
+        _ => None,
+    }
+}
+
+fn occurs<'a>(fields: &[&'a [u8]]) -> Option<Command<'a>>
+    ensures { result ≡ occurs_in (bytes_of fields.now) }
+{
+    match fields {
+        [bytes] => Some(Command::Occurs(WordText { bytes })),
+        _ => None,
+    }
+}
+
+fn alone<'a>(command: Command<'a>, fields: &[&'a [u8]]) -> Option<Command<'a>>
+    ensures { result ≡ alone command.entry (bytes_of fields.now) }
+{
+    match fields {
+        [] => Some(command),
+        _ => None,
+    }
 }
 
 fn is_name(field: &[u8], name: &[u8]) -> bool
@@ -163,9 +141,12 @@ fn is_name(field: &[u8], name: &[u8]) -> bool
     field == name
 }
 
-fn command_named<'a>(name: &[u8], fields: Fields<'a>) -> Option<Command<'a>>
-    ensures { result ≡ command_named name.now fields.entry }
+fn command_in<'a>(fields: &[&'a [u8]]) -> Option<Command<'a>>
+    ensures { result ≡ command_in (bytes_of fields.now) }
 {
+    let [name, fields @ ..] = fields else {
+        return None;
+    };
     if is_name(name, b"allow") {
         rule_parts(fields).map(Command::Allow)
     } else if is_name(name, b"deny") {
@@ -194,20 +175,30 @@ fn command_named<'a>(name: &[u8], fields: Fields<'a>) -> Option<Command<'a>>
 fn is_idle_line(line: &[u8]) -> bool
     ensures { result ≡ is_idle_line line.now }
 {
-    match line {
-        [] => true,
-        [first, ..] => *first == b'#',
+    matches!(line, [] | [b'#', ..])
+}
+
+// The fields of a line, which TABs separate.
+fn fields_of(alloc: Global, line: &[u8]) -> Result<Vec<&[u8]>, NoMemory>
+    ensures { IfOk result (λ fields. bytes_of fields.items ≡ fields_of line.now) }
+{
+    let mut fields = Vec::new(alloc);
+    let mut rest = line;
+    while let Some((field, after)) = split_once(b'\t', rest) {
+        fields.push(field)?;
+        rest = after;
     }
+    fields.push(rest)?;
+    Ok(fields)
 }
 
 /// Returns the command of a line, or `None` if the line is bad.
-pub fn read_command(line: &[u8]) -> Option<Command<'_>>
-    ensures { result ≡ command_of line.now }
+pub fn read_command(alloc: Global, line: &[u8]) -> Result<Option<Command<'_>>, NoMemory>
+    ensures { IfOk result (λ command. command ≡ command_of line.now) }
 {
     if is_idle_line(line) {
-        return Some(Command::Nothing);
+        return Ok(Some(Command::Nothing));
     }
-    let mut fields = Fields::of(line);
-    let name = fields.next()?;
-    command_named(name, fields)
+    let fields = fields_of(alloc, line)?;
+    Ok(command_in(&fields))
 }

@@ -42,10 +42,9 @@ fn run_statement<W: Write>(
     let Some(command) = command else {
         return Err(ReplayFault::BadScript(number));
     };
-    let Some(performed) = perform(alloc, stage, command, &reply)? else {
+    let Some(Performed { stage, answer }) = perform(alloc, stage, command, &reply)? else {
         return Err(ReplayFault::BadScript(number));
     };
-    let Performed { stage, answer } = performed;
     send_all(output, &answer)?;
     Ok(stage)
 }

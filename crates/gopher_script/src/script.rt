@@ -23,7 +23,7 @@ pub struct Statement<'a> {
 }
 
 impl<'a> Model for Statement<'a> {
-    ghost use Rattle.gopher_script.specs.Statement.{StatementData};
+    ghost use Rattle.gopher_script.specs.Command.{StatementData};
 
     ghost Value = { StatementData };
 
@@ -41,7 +41,7 @@ pub struct Script<'a> {
 
 impl<'a> Model for Script<'a> {
     ghost use Rattle.std.specs.Prelude.{◌+◌, ◌^◌, ◌<◌, List, length};
-    ghost use Rattle.gopher_script.specs.Statement.{StatementData};
+    ghost use Rattle.gopher_script.specs.Command.{StatementData};
     ghost use Rattle.gopher_script.specs.Script.{statements_after};
 
     ghost Value = { List StatementData };
@@ -56,7 +56,7 @@ impl<'a> Model for Script<'a> {
 struct Block<'a> {
     reply: Vec<u8>,
     // The number of lines read up to the end of the block.
-    lines_read: usize,
+    lines: usize,
     rest: &'a [u8],
 }
 
@@ -80,19 +80,15 @@ fn take_block<'a>(alloc: Global, before: usize, bytes: &'a [u8]) -> Result<Block
     ensures size { IfOk result (HasFewLines before bytes.now) }
 {
     let mut reply = Vec::new(alloc);
-    let mut lines_read = before;
+    let mut lines = before;
     let mut rest = bytes;
     while let Some((text, after)) = block_line(rest) {
         reply.extend_from_slice(text)?;
         reply.extend_from_slice(b"\r\n")?;
-        lines_read += 1;
+        lines += 1;
         rest = after;
     }
-    Ok(Block {
-        reply,
-        lines_read,
-        rest,
-    })
+    Ok(Block { reply, lines, rest })
 }
 
 /// Reads the block at the start of the bytes if the command takes one.
@@ -112,7 +108,7 @@ fn block_after<'a>(
     }
     Ok(Block {
         reply: Vec::new(alloc),
-        lines_read: before,
+        lines: before,
         rest: bytes,
     })
 }
@@ -136,9 +132,9 @@ impl<'a> Script<'a> {
             return Ok(None);
         };
         let number = self.lines_read + 1;
-        let command = read_command(line);
+        let command = read_command(alloc, line)?;
         let block = block_after(alloc, &command, number, rest)?;
-        self.lines_read = block.lines_read;
+        self.lines_read = block.lines;
         self.rest = block.rest;
         Ok(Some(Statement {
             number,

@@ -7,7 +7,7 @@ use crate::command::Command;
 use crate::crawl::{claim, fail, found, occurs, search};
 use crate::draft::{Draft, add_rule, add_seed};
 use crate::lines::{refused_line, status_line};
-use gopher_catalogue::{Catalogue, OpenFault};
+use gopher_catalogue::Catalogue;
 use gopher_item::{NoMemory, Scope};
 use std::alloc::Global;
 
@@ -41,7 +41,6 @@ fn start(alloc: Global, draft: Draft, places: u32, tries: u32) -> Result<Perform
             stage: Stage::Crawling(catalogue),
             answer: Vec::from_slice(alloc, b"ok\n")?,
         }),
-        Err(refused) if refused.fault == OpenFault::NoMemory => Err(NoMemory),
         Err(refused) => {
             let answer = refused_line(alloc, refused.fault.code())?;
             let (allow, deny) = refused.scope.into_rules();
@@ -55,24 +54,18 @@ fn start(alloc: Global, draft: Draft, places: u32, tries: u32) -> Result<Perform
 /// Performs a command before the crawl. Returns `None` for a command that needs a crawl.
 fn perform_before(
     alloc: Global,
-    draft: Draft,
+    mut draft: Draft,
     command: Command<'_>,
 ) -> Result<Option<Performed>, NoMemory>
     ensures { IfOk result (Performs (Stage.Gathering draft) command.entry []) }
 {
-    let mut draft = draft;
     let answer = match command {
         Command::Nothing => Vec::new(alloc),
         Command::Allow(rule) => add_rule(alloc, &mut draft.allow, &rule)?,
         Command::Deny(rule) => add_rule(alloc, &mut draft.deny, &rule)?,
         Command::Seed(place) => add_seed(alloc, &mut draft.seeds, &place)?,
         Command::Start(places, tries) => return Ok(Some(start(alloc, draft, places, tries)?)),
-        Command::Claim
-        | Command::Found(..)
-        | Command::Fail(..)
-        | Command::Search(_)
-        | Command::Occurs(_)
-        | Command::Status => return Ok(None),
+        _ => return Ok(None),
     };
     let stage = Stage::Gathering(draft);
     Ok(Some(Performed { stage, answer }))
@@ -97,9 +90,7 @@ fn answer_in(
         Command::Search(text) => search(alloc, catalogue, &text)?,
         Command::Occurs(word) => occurs(alloc, catalogue, word.bytes)?,
         Command::Status => status_line(alloc, catalogue.status())?,
-        Command::Allow(_) | Command::Deny(_) | Command::Seed(_) | Command::Start(..) => return Ok(
-            None,
-        ),
+        _ => return Ok(None),
     };
     Ok(Some(answer))
 }

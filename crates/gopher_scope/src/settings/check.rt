@@ -2,7 +2,7 @@
 
 ghost use Rattle.std.specs.Prelude.{◌≡◌};
 ghost use Rattle.toml.specs.View.{table_view};
-ghost use Rattle.gopher_scope.specs.Reading.{first_of};
+ghost use Rattle.gopher_scope.specs.Rows.{first_of};
 ghost use Rattle.gopher_scope.specs.Settings.{key_fault, settings_fault};
 
 use super::key::Key;
@@ -12,7 +12,7 @@ use toml::Table;
 
 /// Returns the first fault of a key's value, or of a missing value (31, 32, 33).
 #[tactic(auto, unfolding(crate::specs::Settings::key_fault))]
-pub fn key_fault(table: &Table, key: Key) -> Option<SettingsFault>
+pub(crate) fn key_fault(table: &Table, key: Key) -> Option<SettingsFault>
     ensures { result ≡ key_fault (table_view table.now) key }
 {
     let problem = key.row().problem(table)?;

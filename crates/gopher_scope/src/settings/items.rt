@@ -2,8 +2,8 @@
 
 ghost use Rattle.std.specs.Prelude.{◌≡◌, map, Some, None, IfOk};
 ghost use Rattle.toml.specs.View.{view, table_view};
-ghost use Rattle.gopher_scope.specs.Reading.{first_of, field_problem, table_problem, element_problem};
-ghost use Rattle.gopher_scope.specs.Settings.{field_integer, field_text, kind_read, seed_read, rule_read, seeds_read, rules_read};
+ghost use Rattle.gopher_scope.specs.Rows.{field_row, integer_read, text_read, first_of, field_problem, table_problem, element_problem};
+ghost use Rattle.gopher_scope.specs.Settings.{kind_read, seed_read, rule_read, seeds_read, rules_read};
 
 use super::tables::{Element, Field};
 use gopher_item::{ItemFault, NoMemory, Place, Rule};
@@ -12,13 +12,13 @@ use toml::{Table, Value};
 
 fn port(table: &Table) -> u16
     requires { field_problem (table_view table.now) Field.Port ≡ None }
-    ensures { result ≡ field_integer (table_view table.now) Field.Port }
+    ensures { result ≡ integer_read (table_view table.now) (field_row Field.Port) }
 {
     Field::Port.row().integer(table) as u16
 }
 
 fn kind(table: &Table) -> u8
-    ensures { result ≡ kind_read (field_text (table_view table.now) Field.Kind) }
+    ensures { result ≡ kind_read (text_read (table_view table.now) (field_row Field.Kind)) }
 {
     if Field::Kind.row().text(table) == "0" {
         b'0'
@@ -35,10 +35,8 @@ fn seed(alloc: Global, table: &Table) -> Result<Place, NoMemory>
     let host = Field::Host.row().text(table).as_bytes();
     match Place::new(alloc, kind(table), selector, host, port(table)) {
         Ok(seed) => Ok(seed),
-        Err(fault) => match fault {
-            ItemFault::NoMemory => Err(NoMemory),
-            _ => unreachable!(),
-        },
+        Err(ItemFault::NoMemory) => Err(NoMemory),
+        Err(_) => unreachable!(),
     }
 }
 
@@ -50,10 +48,8 @@ fn rule(alloc: Global, table: &Table) -> Result<Rule, NoMemory>
     let prefix = Field::Prefix.row().text(table).as_bytes();
     match Rule::new(alloc, host, port(table), prefix) {
         Ok(rule) => Ok(rule),
-        Err(fault) => match fault {
-            ItemFault::NoMemory => Err(NoMemory),
-            _ => unreachable!(),
-        },
+        Err(ItemFault::NoMemory) => Err(NoMemory),
+        Err(_) => unreachable!(),
     }
 }
 

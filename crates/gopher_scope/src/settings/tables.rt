@@ -2,14 +2,11 @@
 
 ghost use Rattle.std.specs.Prelude.{◌≡◌, map, Some};
 ghost use Rattle.toml.specs.Data.{as_array};
-ghost use Rattle.toml.specs.View.{view, array_view, table_view};
-ghost use Rattle.gopher_scope.specs.Rows.{element_fields, field_row};
-ghost use Rattle.gopher_scope.specs.Reading.{first_of, table_problem, element_problem, array_problem};
-ghost use Rattle.gopher_scope.specs.Unknown.{is_field_name};
+ghost use Rattle.toml.specs.View.{view, table_view};
+ghost use Rattle.gopher_scope.specs.Rows.{element_fields, field_row, first_of, table_problem, element_problem, array_problem, is_field_name};
 
 use super::row::{Form, Problem, Row, TextKind};
 use gopher_item::MAX_PORT;
-use toml::value::Array;
 use toml::{Table, Value};
 
 /// The most tables in an array.
@@ -98,28 +95,19 @@ impl Element {
         None
     }
 
-    fn array_problem(self, array: &Array) -> Option<Problem>
-        ensures { result ≡ array_problem self (Some (array_view array.now)) }
-    {
-        if array.len() <= MAX_TABLES {
-            self.elements_problem(array)
-        } else {
-            Some(Problem::OutOfRange)
-        }
-    }
-
     /// Returns the fault of a value that has to be an array of such tables, if it has one.
     pub(crate) fn problem(self, value: &Value) -> Option<Problem>
         ensures { result ≡ array_problem self (as_array (view value.now)) }
     {
         match value.as_array() {
             None => Some(Problem::WrongKind),
-            Some(array) => self.array_problem(array),
+            Some(array) if array.len() <= MAX_TABLES => self.elements_problem(array),
+            Some(_) => Some(Problem::OutOfRange),
         }
     }
 
     /// Returns whether such a table may have a key of this name.
-    #[tactic(auto, unfolding(crate::specs::Unknown::is_field_name))]
+    #[tactic(auto, unfolding(crate::specs::Rows::is_field_name))]
     pub(crate) fn is_field_name(self, name: &str) -> bool
         ensures { result ≡ is_field_name self name.now }
     {

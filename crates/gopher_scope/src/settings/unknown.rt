@@ -3,25 +3,26 @@
 ghost use Rattle.std.specs.Prelude.{◌≡◌, map, None, IfOk};
 ghost use Rattle.std.specs.List.{list_any};
 ghost use Rattle.toml.specs.View.{view, table_view};
-ghost use Rattle.gopher_scope.specs.Unknown.{is_key_name, is_known_in, has_unknown, elements_have_unknown, array_has_unknown, have_unknown, unknown_in, array_unknown, arrays_unknown, unknown_keys, AddsUnknown, AreUnknown};
+ghost use Rattle.gopher_scope.specs.Rows.{is_key_name, is_known_in, has_unknown, array_has_unknown, have_unknown, unknown_in, array_unknown, arrays_unknown, unknown_keys, AddsUnknown, AreUnknown};
 
 use super::key::Key;
 use super::row::Form;
+use crate::fault::Pushed;
 use gopher_item::NoMemory;
-use std::alloc::{AllocError, Global};
+use std::alloc::Global;
 use toml::{Table, Value};
 
 /// An unknown key of settings.
 #[derive(Clone, Copy)]
-pub struct UnknownKey<'a> {
+pub(crate) struct UnknownKey<'a> {
     /// The key of the array with the table that has it; `None` for one of the settings' own.
-    pub array: Option<Key>,
+    pub(crate) array: Option<Key>,
     /// Its name.
-    pub name: &'a str,
+    pub(crate) name: &'a str,
 }
 
 // Whether one of these keys of the settings has this name.
-#[tactic(auto, unfolding(crate::specs::Unknown::is_key_name))]
+#[tactic(auto, unfolding(crate::specs::Rows::is_key_name))]
 fn is_key_name(keys: &[Key], name: &str) -> bool
     ensures { result ≡ is_key_name keys.now name.now }
 {
@@ -53,10 +54,11 @@ fn has_unknown(table: &Table, array: Option<Key>) -> bool
     false
 }
 
-// Whether a table among the elements of the array of this key has an unknown key.
-fn elements_have_unknown(values: &[Value], array: Key) -> bool
-    ensures { result ≡ elements_have_unknown array (map view values.now) }
+// Whether a table in the array of this key has an unknown key.
+fn array_has_unknown(table: &Table, array: Key) -> bool
+    ensures { result ≡ array_has_unknown (table_view table.now) array }
 {
+    let values = array.row().values(table);
     for value in values {
         if let Some(table) = value.as_table()
             && has_unknown(table, Some(array))
@@ -67,13 +69,6 @@ fn elements_have_unknown(values: &[Value], array: Key) -> bool
     false
 }
 
-// Whether a table in the array of this key has an unknown key.
-fn array_has_unknown(table: &Table, array: Key) -> bool
-    ensures { result ≡ array_has_unknown (table_view table.now) array }
-{
-    elements_have_unknown(array.row().values(table), array)
-}
-
 // Whether a table in the arrays of these keys has an unknown key.
 fn arrays_have_unknown(table: &Table, keys: &[Key]) -> bool
     ensures { result ≡ list_any (array_has_unknown (table_view table.now)) keys.now }
@@ -82,7 +77,7 @@ fn arrays_have_unknown(table: &Table, keys: &[Key]) -> bool
 }
 
 /// Returns whether the settings, or a table in one of their arrays, have an unknown key.
-#[tactic(auto, unfolding(crate::specs::Unknown::have_unknown))]
+#[tactic(auto, unfolding(crate::specs::Rows::have_unknown))]
 pub(crate) fn have_unknown(table: &Table) -> bool
     ensures { result ≡ have_unknown (table_view table.now) }
 {
@@ -90,30 +85,20 @@ pub(crate) fn have_unknown(table: &Table) -> bool
 }
 
 // Appends the unknown keys of a table.
-fn push_table<'a>(
-    table: &'a Table,
-    array: Option<Key>,
-    out: &mut Vec<UnknownKey<'a>>,
-) -> Result<(), AllocError>
+fn push_table<'a>(table: &'a Table, array: Option<Key>, out: &mut Vec<UnknownKey<'a>>) -> Pushed
     ensures { AddsUnknown out.old out.new (unknown_in array (table_view table.now)) result }
 {
     for name in table.keys() {
-        if !is_known_in(array, name.as_str()) {
-            out.push(UnknownKey {
-                array,
-                name: name.as_str(),
-            })?;
+        let name = name.as_str();
+        if !is_known_in(array, name) {
+            out.push(UnknownKey { array, name })?;
         }
     }
     Ok(())
 }
 
 // Appends the unknown keys of the tables in an array.
-fn push_array<'a>(
-    table: &'a Table,
-    array: Key,
-    out: &mut Vec<UnknownKey<'a>>,
-) -> Result<(), AllocError>
+fn push_array<'a>(table: &'a Table, array: Key, out: &mut Vec<UnknownKey<'a>>) -> Pushed
     ensures { AddsUnknown out.old out.new (array_unknown (table_view table.now) array) result }
 {
     let values = array.row().values(table);
@@ -126,11 +111,7 @@ fn push_array<'a>(
 }
 
 // Appends the unknown keys of the tables in the arrays of these keys.
-fn push_arrays<'a>(
-    table: &'a Table,
-    keys: &[Key],
-    out: &mut Vec<UnknownKey<'a>>,
-) -> Result<(), AllocError>
+fn push_arrays<'a>(table: &'a Table, keys: &[Key], out: &mut Vec<UnknownKey<'a>>) -> Pushed
     ensures { AddsUnknown out.old out.new (arrays_unknown (table_view table.now) keys.now) result }
 {
     for key in keys {
@@ -141,7 +122,7 @@ fn push_arrays<'a>(
 
 /// Returns all unknown keys of settings: their own by their bytes, then those of the tables in each
 /// array, in the order of `Key`.
-pub fn unknown_keys(alloc: Global, table: &Table) -> Result<Vec<UnknownKey<'_>>, NoMemory>
+pub(crate) fn unknown_keys(alloc: Global, table: &Table) -> Result<Vec<UnknownKey<'_>>, NoMemory>
     ensures { IfOk result (AreUnknown (unknown_keys (table_view table.now))) }
 {
     let mut keys = Vec::new(alloc);

@@ -11,8 +11,8 @@ returns-in-Ok-clause-record c =
 
 pub returns-in-Err-clause-answer : goal.returns-in-Err-clause-answer
 returns-in-Err-clause-answer c =
-    refused_answer c.args.catalogue.now c.args.number c.args.parts.now c.args.reply.now c.in-Err.fault c.refusal.result (rw c.in-Err.is at c.make.ensures) c.refusal.ensures.cause c.refusal.ensures.line
+    refused_answer c.args.catalogue.now c.args.number c.args.parts.now c.args.reply.now c.in-Err.fault c.refused_line.result (rw c.in-Err.is at c.make.ensures) (rw c.code.ensures at c.refused_line.ensures.cause) (rw c.code.ensures at c.refused_line.ensures.line)
 
 pub returns-in-Err-clause-record : goal.returns-in-Err-clause-record
 returns-in-Err-clause-record c =
-    refused_record c.args.catalogue.now c.args.number c.args.parts.now c.args.reply.now c.in-Err.fault c.refusal.result (rw c.in-Err.is at c.make.ensures) c.refusal.ensures.cause
+    refused_record c.args.catalogue.now c.args.number c.args.parts.now c.args.reply.now c.in-Err.fault c.refused_line.result (rw c.in-Err.is at c.make.ensures) (rw c.code.ensures at c.refused_line.ensures.cause)

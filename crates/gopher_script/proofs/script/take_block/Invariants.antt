@@ -7,8 +7,8 @@ use Rattle.gopher_script.proofs.script.take_block.Given as goal
 abbrev pub invariant-loop-text : goal.invariant-loop-text
 invariant-loop-text l =
     (l.reply.items ++ block_reply (block_of (lines_of l.rest)) ≡ block_reply (block_of (lines_of l.bytes)))
-    × (statements_of (l.lines_read + 1) true (lines_of l.rest) ≡ statements_of (l.before + 1) true (lines_of l.bytes))
-    × (l.lines_read + length l.rest ≤ l.before + length l.bytes)
+    × (statements_of (l.lines + 1) true (lines_of l.rest) ≡ statements_of (l.before + 1) true (lines_of l.bytes))
+    × (l.lines + length l.rest ≤ l.before + length l.bytes)
 
 abbrev pub decreases-loop-text : goal.decreases-loop-text
 decreases-loop-text l = length l.rest

@@ -8,4 +8,4 @@ returns-in_default c = sym c.self.view_is ∙ statements-none _ _ c.in_default.e
 pub returns : goal.returns
 returns c =
     sym c.self.view_is
-    ∙ statements-next _ _ _ _ _ _ _ c.in-Some.ensures.line c.read_command-command.ensures c.in_ok-block.ensures.reply c.in_ok-block.ensures.rest
+    ∙ statements-next _ _ _ _ _ _ _ c.in-Some.ensures.line c.in_ok-command.ensures c.in_ok-block.ensures.reply c.in_ok-block.ensures.rest

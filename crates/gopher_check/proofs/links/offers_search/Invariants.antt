@@ -1,9 +1,0 @@
-use Rattle.std.proofs.Common.{◌≡◌, drop, map}
-use Rattle.std.specs.List.{list_any}
-use Rattle.gopher_tree.specs.Found.{lent_file}
-use Rattle.gopher_check.specs.Links.{menu_offers}
-use Rattle.gopher_check.proofs.links.offers_search.Given as goal
-
-abbrev pub invariant-loop-menu : goal.invariant-loop-menu
-invariant-loop-menu l =
-    list_any (λ menu. menu_offers l.site.home.now menu.1) (map lent_file (drop l.menu-index l.menus)) ≡ list_any (λ menu. menu_offers l.site.home.now menu.1) (map lent_file l.menus)

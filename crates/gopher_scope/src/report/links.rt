@@ -1,0 +1,158 @@
+//! Lines of menu files that lead to their own server: to nothing, or to its search.
+
+ghost use Rattle.std.specs.Prelude.{◌≡◌, ◌++◌, map, IfOk, OnOk};
+ghost use Rattle.gopher_tree.specs.Files.{menu_files};
+ghost use Rattle.gopher_tree.specs.Found.{lent_file};
+ghost use Rattle.gopher_tree.specs.MenuFile.{written_line, line_data, server_data};
+ghost use Rattle.gopher_scope.specs.Lines.{is_asked, is_own, is_dead, place_words, dead_line, offers, menu_offers, offers_search, line_warning, menu_warnings, dead_lines};
+
+use super::lines::{push_count, push_shown, push_words};
+use crate::fault::Pushed;
+use gopher_item::{Home, NoMemory, first_line};
+use gopher_tree::{Tree, WrittenLine, written_line};
+use std::alloc::Global;
+
+// The selector of the search.
+const SEARCH: &[u8] = b"/search";
+
+/// The server's address, the root as the settings spell it, and the tree of its files.
+#[derive(Clone, Copy)]
+pub struct Site<'a> {
+    pub home: &'a Home,
+    pub root: &'a str,
+    pub tree: &'a Tree,
+}
+
+// Whether a line is of the server with this address.
+fn is_own(home: &Home, server: Option<(&[u8], u16)>) -> bool
+    ensures { result ≡ is_own home.now (server_data server.entry) }
+{
+    match server {
+        None => true,
+        Some((host, port)) => port == home.port() && host.eq_ignore_ascii_case(home.host()),
+    }
+}
+
+// Whether a client asks a Gopher server for items of this type.
+fn is_asked(kind: u8) -> bool
+    ensures { result ≡ is_asked kind }
+{
+    !matches!(kind, b'i' | b'3' | b'2' | b'8' | b'T')
+}
+
+// Whether the server answers a line's selector with `Not found`.
+fn is_dead(site: &Site<'_>, line: WrittenLine<'_>) -> bool
+    ensures { result ≡ is_dead site.now.home.now site.now.tree.now (line_data line.entry) }
+{
+    is_asked(line.kind)
+        && is_own(site.home, line.server)
+        && !line.selector.starts_with(b"URL:")
+        && line.selector != SEARCH
+        && site.tree.find(line.selector).is_none()
+}
+
+// Appends the path of a menu file.
+fn push_place(root: &str, path: &[u8], out: &mut Vec<u8>) -> Pushed
+    ensures { OnOk result (out.new.items ≡ out.old.items ++ place_words root.now path.now) }
+{
+    push_shown(root.as_bytes(), out)?;
+    out.extend_from_slice(b"/")?;
+    push_shown(path, out)
+}
+
+// Appends the warning of a line that leads nowhere.
+fn push_dead(root: &str, path: &[u8], number: usize, selector: &[u8], out: &mut Vec<u8>) -> Pushed
+    ensures { OnOk result (out.new.items
+        ≡ out.old.items ++ dead_line root.now path.now number selector.now) }
+{
+    push_count(b"warning: line ", number, out)?;
+    out.extend_from_slice(b" of ")?;
+    push_place(root, path, out)?;
+    push_words(b" leads nowhere: ", selector, out)
+}
+
+// Appends the warning of a line of the menu file at a path, if it leads nowhere.
+fn push_line(site: &Site<'_>, path: &[u8], number: usize, line: &[u8], out: &mut Vec<u8>) -> Pushed
+    ensures { OnOk result (out.new.items ≡ out.old.items
+        ++ line_warning site.now.home.now site.now.root.now site.now.tree.now
+        path.now number (written_line line.now)) }
+{
+    match written_line(line) {
+        Some(line) if is_dead(site, line) => {
+            push_dead(site.root, path, number, line.selector, out)
+        }
+        _ => Ok(()),
+    }
+}
+
+// Appends the warnings of the menu file at a path.
+fn push_menu(site: &Site<'_>, path: &[u8], menu: &[u8], out: &mut Vec<u8>) -> Pushed
+    ensures { OnOk result (out.new.items ≡ out.old.items
+        ++ menu_warnings site.now.home.now site.now.root.now site.now.tree.now
+        (path.now, menu.now)) }
+{
+    let mut number = 0;
+    let mut rest = menu;
+    while let Some((line, after)) = first_line(rest) {
+        number += 1;
+        push_line(site, path, number, line, out)?;
+        rest = after;
+    }
+    Ok(())
+}
+
+/// Appends a warning for each line of the site's menu files that leads to nothing on its server.
+pub fn push_dead_lines(site: &Site<'_>, menus: &[(&[u8], &[u8])], out: &mut Vec<u8>) -> Pushed
+    requires { map lent_file menus.now ≡ menu_files site.now.tree.now }
+    ensures { OnOk result (out.new.items ≡ out.old.items
+        ++ dead_lines site.now.home.now site.now.root.now site.now.tree.now) }
+{
+    for menu in menus {
+        push_menu(site, menu.0, menu.1, out)?;
+    }
+    Ok(())
+}
+
+// Whether a line leads to the search of the server with this address.
+fn offers(home: &Home, line: &[u8]) -> bool
+    ensures { result ≡ offers home.now (written_line line.now) }
+{
+    match written_line(line) {
+        None => false,
+        Some(line) => line.kind == b'7' && is_own(home, line.server) && line.selector == SEARCH,
+    }
+}
+
+// Whether a line of a menu file leads to the search.
+fn menu_offers(home: &Home, menu: &[u8]) -> bool
+    ensures { result ≡ menu_offers home.now menu.now }
+{
+    let mut rest = menu;
+    while let Some((line, after)) = first_line(rest) {
+        if offers(home, line) {
+            return true;
+        }
+        rest = after;
+    }
+    false
+}
+
+/// Returns whether a menu of the site offers a search; `menus` are its menu files.
+pub fn offers_search(
+    alloc: Global,
+    site: &Site<'_>,
+    menus: &[(&[u8], &[u8])],
+) -> Result<bool, NoMemory>
+    requires { map lent_file menus.now ≡ menu_files site.now.tree.now }
+    ensures { IfOk result (λ offered. offered ≡ offers_search site.now.home.now site.now.tree.now) }
+{
+    if site.tree.menu_file(alloc, b"")?.is_none() {
+        return Ok(true);
+    }
+    for menu in menus {
+        if menu_offers(site.home, menu.1) {
+            return Ok(true);
+        }
+    }
+    Ok(false)
+}

@@ -1,0 +1,140 @@
+//! The report of a site without a fault: address, sizes, seeds, rules and warnings.
+
+ghost use Rattle.std.specs.Prelude.{◌≡◌, ◌++◌, None, IfOk, OnOk};
+ghost use Rattle.std.specs.List.{flat_map};
+ghost use Rattle.gopher_scope.specs.Settings.{settings_data};
+ghost use Rattle.gopher_scope.specs.Report.{address_lines, size_lines, seed_line, rule_lines, seeds_warning, counts_line, left_out, warnings, site_report, IsReport};
+
+use super::fault_report::{Report, Reported};
+use super::lines::{push_address, push_count, push_number, push_server, push_words};
+use super::links::{Site, offers_search, push_dead_lines};
+use crate::fault::Pushed;
+use crate::settings::Settings;
+use gopher_item::{Home, NoMemory, Place, Rule};
+use gopher_tree::{Trail, Tree};
+use std::alloc::Global;
+
+// Appends the server's address and the folder.
+fn push_home(home: &Home, root: &str, out: &mut Vec<u8>) -> Pushed
+    ensures { OnOk result (out.new.items ≡ out.old.items ++ address_lines home.now root.now) }
+{
+    out.extend_from_slice(b"address: ")?;
+    push_server(home.host(), home.port(), out)?;
+    push_words(b"\nroot: ", root.as_bytes(), out)
+}
+
+// Appends the numbers of files, menu files and bytes.
+fn push_sizes(tree: &Tree, out: &mut Vec<u8>) -> Pushed
+    ensures { OnOk result (out.new.items ≡ out.old.items ++ size_lines tree.now) }
+{
+    push_number(b"files: ", tree.number_of_files(), out)?;
+    push_number(b"menu files: ", tree.number_of_menus(), out)?;
+    push_number(b"bytes: ", tree.number_of_bytes(), out)
+}
+
+fn push_seeds(seeds: &[Place], out: &mut Vec<u8>) -> Pushed
+    ensures { OnOk result (out.new.items ≡ out.old.items ++ flat_map seed_line seeds.now) }
+{
+    for seed in seeds {
+        out.extend_from_slice(b"seed: ")?;
+        out.push(seed.kind())?;
+        out.push(b' ')?;
+        push_address(seed.host(), seed.port(), seed.selector(), out)?;
+    }
+    Ok(())
+}
+
+fn push_rules(front: &[u8], rules: &[Rule], out: &mut Vec<u8>) -> Pushed
+    ensures { OnOk result (out.new.items ≡ out.old.items ++ rule_lines front.now rules.now) }
+{
+    for rule in rules {
+        out.extend_from_slice(front)?;
+        push_address(rule.host(), rule.port(), rule.prefix(), out)?;
+    }
+    Ok(())
+}
+
+// Appends the line that says that searches find nothing, if there are no seeds and a menu offers a
+// search.
+fn push_seeds_warning(seeds: &[Place], offered: bool, out: &mut Vec<u8>) -> Pushed
+    ensures { OnOk result (out.new.items ≡ out.old.items ++ seeds_warning seeds.now offered) }
+{
+    if seeds.is_empty() && offered {
+        return out.extend_from_slice(
+            b"warning: searches find nothing, because the settings have no [[seeds]]\n",
+        );
+    }
+    Ok(())
+}
+
+// Appends the line with these numbers.
+fn push_counts(empty: usize, nowhere: usize, hidden: usize, out: &mut Vec<u8>) -> Pushed
+    ensures { OnOk result (out.new.items ≡ out.old.items ++ counts_line empty nowhere hidden) }
+{
+    push_count(b"warning: not served: empty folders ", empty, out)?;
+    push_count(b", links to nothing and devices ", nowhere, out)?;
+    push_number(b", hidden names ", hidden, out)?;
+    Ok(())
+}
+
+// Appends the line that counts what isn't served, if there is something.
+fn push_left_out(tree: &Tree, trail: &Trail, out: &mut Vec<u8>) -> Pushed
+    ensures { OnOk result (out.new.items ≡ out.old.items ++ left_out tree.now trail.now) }
+{
+    match (
+        tree.number_of_missing(&trail.folders),
+        trail.nowhere,
+        trail.hidden,
+    ) {
+        (0, 0, 0) => Ok(()),
+        (empty, nowhere, hidden) => push_counts(empty, nowhere, hidden, out),
+    }
+}
+
+// Appends the warnings of a site.
+fn push_warnings(
+    alloc: Global,
+    site: &Site<'_>,
+    seeds: &[Place],
+    trail: &Trail,
+    out: &mut Vec<u8>,
+) -> Result<(), NoMemory>
+    ensures { OnOk result (out.new.items ≡ out.old.items
+        ++ warnings site.now.home.now site.now.root.now site.now.tree.now seeds.now trail.now) }
+{
+    let menus = site.tree.menu_files(alloc)?;
+    let offered = offers_search(alloc, site, &menus)?;
+    push_dead_lines(site, &menus, out)?;
+    push_left_out(site.tree, trail, out)?;
+    push_seeds_warning(seeds, offered, out)?;
+    Ok(())
+}
+
+/// Makes the report of a site without a fault. It names the settings file, the address, the root,
+/// the numbers of files, menu files and bytes, the seeds and the rules of its crawl, each on its
+/// own line, and warnings: lines of menus that lead nowhere, what isn't served, and a search
+/// without seeds.
+pub fn site_report(
+    alloc: Global,
+    path: &[u8],
+    settings: Settings,
+    tree: &Tree,
+    trail: &Trail,
+) -> Reported
+    ensures { IfOk result
+        (IsReport None (site_report path.now (settings_data settings) tree.now trail.now)) }
+{
+    let (allow, deny) = settings.scope.into_rules();
+    let (home, root) = (&settings.home, settings.root.as_str());
+    let mut words = Vec::new(alloc);
+    push_words(b"settings: ", path, &mut words)?;
+    push_home(home, root, &mut words)?;
+    push_sizes(tree, &mut words)?;
+    push_seeds(&settings.seeds, &mut words)?;
+    push_rules(b"may visit: ", &allow, &mut words)?;
+    push_rules(b"may not visit: ", &deny, &mut words)?;
+    let site = Site { home, root, tree };
+    push_warnings(alloc, &site, &settings.seeds, trail, &mut words)?;
+    words.extend_from_slice(b"sound\n")?;
+    Ok(Report { words, fault: None })
+}
