@@ -1,9 +1,7 @@
 -- What a worker does.
 use Rattle.std.specs.Prelude.{ℕ, ◌≡◌, ◌+◌, ◌*◌, ◌≤◌, ◌⊎◌, min, List, Option, Some, None, Result, Ok, Err}
 use Rattle.std.specs.List.{sum_by}
-use Rattle.std.specs.Arc.{arc_value}
 use mathlib.Core.List.{IsPrefix}
-use Rattle.std.specs.declared.sync.Arc.{Arc}
 use Rattle.gopher_item.specs.Place.{PlaceData}
 use Rattle.gopher_item.specs.Scope.{ScopeData}
 use Rattle.gopher_page.specs.Page.{PageData, page_of}
@@ -89,9 +87,7 @@ WorksFrom called pair end =
 
 -- what a worker did that began with the fetcher and the share of this one
 abbrev pub WorksOn : {F C : Type 0} → (F → ℕ) → WorkEnd F C → WorkEnd F C → Type 0
-WorksOn called old new =
-    Works old.share (called old.fetcher) new.share (called new.fetcher) (new.found + new.failed)
-    new.stop
+WorksOn called old new = WorksFrom called (old.fetcher, old.share) new
 
 -- the worker has the fetcher and the share of this pair
 abbrev pub HasPair : {F C : Type 0} → F × ShareData → WorkEnd F C → Type 0
@@ -103,14 +99,9 @@ HaveAsManyParts pairs ends =
     sum_by (λ end. end.share.parts) ends ≡ sum_by (λ pair. pair.1.parts) pairs
 
 -- the bytes that were fetched of a place become its page, unless memory runs out
-abbrev pub SettlesBytes : ScopeData → PlaceData → List ℕ → Result PageData Why → Type 0
-SettlesBytes scope place bytes (Ok page) = page ≡ page_of scope place bytes
-SettlesBytes scope place bytes (Err why) = why ≡ NoMemory
-
--- the same of a place that is shared
-abbrev pub SettlesShared : {Z : Type 0} → ScopeData → Arc PlaceData Z → List ℕ
-    → Result PageData Why → Type 0
-SettlesShared scope place bytes result = SettlesBytes scope (arc_value place) bytes result
+abbrev pub Settles : ScopeData → PlaceData → List ℕ → Result PageData Why → Type 0
+Settles scope place bytes (Ok page) = page ≡ page_of scope place bytes
+Settles scope place bytes (Err why) = why ≡ NoMemory
 
 -- why nothing was fetched stays
 abbrev pub SettlesWhy : Why → Result PageData Why → Type 0

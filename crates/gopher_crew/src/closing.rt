@@ -1,13 +1,11 @@
 //! Closing a desk, with all its shares.
 
-ghost use Rattle.std.specs.Prelude.{◌≡◌, ◌≢◌, ◌+◌, ◌<◌, ◌^◌, [], vec_capacity, IfOk, IfErr, IfSome, IsOk};
+ghost use Rattle.std.specs.Prelude.{◌≡◌, ◌≢◌, ◌+◌, ◌<◌, ◌^◌, [], vec_capacity, IfOk, IfErr, IsOk};
 ghost use mathlib.Core.List.{IsPrefix};
 ghost use Rattle.gopher_crew.specs.Desk.{events_of, Closes, CountTheSame, HasAll, JoinsAll};
 
 use crate::crew::Crew;
 use crate::desk::Desk;
-use crate::kept::Kept;
-use crate::note::Note;
 use crate::refusals::CloseRefused;
 use crate::share::Share;
 use gopher_catalogue::Catalogue;
@@ -48,9 +46,15 @@ fn take_in<C: Crew>(book: &mut Book<C>, all: &mut Share<C>, share: Share<C>)
 }
 
 impl<C: Crew, R: Wait + Drop> Desk<C, R> {
-    // Returns what the desk keeps, if the shares count all events of the record after the first.
-    fn gathered(self, shares: Vec<Share<C>>) -> Result<Kept<C, R>, CloseRefused<C, R>>
-        ensures closed { IfOk result (λ kept. Closes self shares.items kept.events) }
+    /// Closes the desk and returns its catalogue. With all shares that `open` returned, it never
+    /// fails. The catalogue's record begins with the one that the desk was opened with and with
+    /// what each share saw, which includes all that passes told it (`Pass::tell`).
+    ///
+    /// # Errors
+    /// `CloseRefused` (62): the shares don't count all events of the record after the first. The
+    /// error has the desk, and the shares merged into one.
+    pub fn close(self, shares: Vec<Share<C>>) -> Result<Catalogue, CloseRefused<C, R>>
+        ensures closed { IfOk result (λ catalogue. Closes self shares.items catalogue) }
         ensures events { IfErr result (λ refused. refused.events ≢ events_of shares.items) }
         ensures joined { IfErr result (λ refused. CountTheSame shares.items refused.shares.items) }
         ensures desk { IfErr result (λ refused. refused.desk ≡ self) }
@@ -83,39 +87,6 @@ impl<C: Crew, R: Wait + Drop> Desk<C, R> {
                 events,
             });
         }
-        Ok(kept)
-    }
-
-    /// Closes the desk and returns its catalogue. With all shares that `open` returned, it never
-    /// fails. The catalogue's record begins with the one that the desk was opened with and with
-    /// what each share saw, which includes all that passes told it (`Pass::tell`).
-    ///
-    /// # Errors
-    /// `CloseRefused` (62): the shares don't count all events of the record after the first. The
-    /// error has the desk, and the shares merged into one.
-    pub fn close(self, shares: Vec<Share<C>>) -> Result<Catalogue, CloseRefused<C, R>>
-        ensures closed { IfOk result (λ catalogue. Closes self shares.items catalogue) }
-        ensures events { IfErr result (λ refused. refused.events ≢ events_of shares.items) }
-        ensures joined { IfErr result (λ refused. CountTheSame shares.items refused.shares.items) }
-        ensures desk { IfErr result (λ refused. refused.desk ≡ self) }
-        ensures whole { HasAll C.parts shares.items → IsOk result }
-    {
-        Ok(self.gathered(shares)?.end())
-    }
-
-    /// Closes the desk as `close` does, and returns a note of the catalogue's record with it. There
-    /// is none if the last publication runs out of memory.
-    pub fn close_with_note(
-        self,
-        shares: Vec<Share<C>>,
-    ) -> Result<(Catalogue, Option<Note<C>>), CloseRefused<C, R>>
-        ensures closed { IfOk result (λ closed. Closes self shares.items closed.0) }
-        ensures noted { IfOk result (λ closed. IfSome closed.1 (λ note. note ≡ closed.0)) }
-        ensures events { IfErr result (λ refused. refused.events ≢ events_of shares.items) }
-        ensures joined { IfErr result (λ refused. CountTheSame shares.items refused.shares.items) }
-        ensures desk { IfErr result (λ refused. refused.desk ≡ self) }
-        ensures whole { HasAll C.parts shares.items → IsOk result }
-    {
-        Ok(self.gathered(shares)?.end_with_note())
+        Ok(kept.end())
     }
 }

@@ -1,12 +1,13 @@
 //! `Kept`: what a desk keeps behind its lock. Its calls are the steps of a crawl.
 
-ghost use Rattle.std.specs.Prelude.{◌≡◌, ◌+◌, ◌<◌, ◌^◌, true, false, None, [], ◌∷◌, ◌++◌, length, IfOk, IfErr, IfSome, OnOk, OnErr};
+ghost use Rattle.std.specs.Prelude.{◌≡◌, ◌+◌, ◌<◌, ◌^◌, true, false, None, [], ◌∷◌, ◌++◌, length, IfOk, IfErr, OnOk, OnErr};
 ghost use mathlib.Core.List.{IsPrefix};
 ghost use Rattle.gopher_catalogue.specs.Legal.{IsLegal};
 ghost use Rattle.gopher_catalogue.specs.Step.{status_of};
 ghost use Rattle.gopher_catalogue.specs.Turn.{turn_data};
+ghost use Rattle.gopher_crew.specs.Crew.{Rises, RisesBy};
 ghost use Rattle.gopher_crew.specs.Desk.{events_of, CountTheSame, HasAll, HasAllSeen};
-ghost use Rattle.gopher_crew.specs.Kept.{IsNoted, RisesAt, rise_of, Claims, Finds, Fails, RefusesFind, RefusesFailure, LetsClaim, IsStatusOn, IsStatusAfter};
+ghost use Rattle.gopher_crew.specs.Kept.{IsNoted, IsCall, rise_of, Claims, Finds, Fails, RefusesFind, RefusesFailure, LetsClaim, IsStatusOf, IsStatusAfter};
 
 use crate::closing::join;
 use crate::crew::Crew;
@@ -89,17 +90,12 @@ impl<C: Crew, R: Wait + Drop> Kept<C, R> {
     /// `NoMemory` (90), only if a place waits. Only what the share saw changes then.
     #[tactic(auto, using(crate::proofs::Keeping::turn_keeps, crate::proofs::Keeping::turn_counts))]
     pub fn claim(&mut self, share: &mut Share<C>) -> Result<(Turn, Option<Note<C>>), NoMemory>
+        ensures call { IsCall self.old share.old self.new share.new }
         ensures turn { IfOk result (λ reply. Claims (turn_data reply.0) share.new self.old.events) }
         ensures note { IfOk result (λ reply. IsNoted reply.1 self.new) }
-        ensures share { IfOk result (λ reply. RisesAt (turn_data reply.0) share.old share.new) }
-        ensures parts { share.new.parts ≡ share.old.parts }
+        ensures share { RisesBy (λ it. rise_of (turn_data it.0)) result share.old share.new }
         ensures waits { OnErr result (LetsClaim share.new) }
-        ensures seen { share.new.seen ≡ self.new.events }
-        ensures begins { IsPrefix share.old.seen self.old.events }
         ensures err { OnErr result (self.new ≡ self.old) }
-        ensures share_err { OnErr result (share.new.events ≡ share.old.events) }
-        ensures grows { IsPrefix self.old.published self.new.published }
-        ensures legal { IsLegal self.new.events }
     {
         self.publication.show(share);
         let turn = self.catalogue.claim()?;
@@ -123,18 +119,13 @@ impl<C: Crew, R: Wait + Drop> Kept<C, R> {
         number: u32,
         page: Page,
     ) -> Result<(Added, Option<Note<C>>), FoundRefused>
+        ensures call { IsCall self.old share.old self.new share.new }
         ensures found { IfOk result (λ reply. Finds number page reply.0 share.new self.old.events) }
         ensures note { IfOk result (λ reply. IsNoted reply.1 self.new) }
-        ensures share { OnOk result (share.new.events ≡ share.old.events + 1) }
-        ensures parts { share.new.parts ≡ share.old.parts }
+        ensures share { RisesBy (λ _. 1) result share.old share.new }
         ensures refused { IfErr result (λ error. RefusesFind number page error.fault share.new) }
         ensures page_back { IfErr result (λ refused. refused.page ≡ page) }
-        ensures seen { share.new.seen ≡ self.new.events }
-        ensures begins { IsPrefix share.old.seen self.old.events }
         ensures err { OnErr result (self.new ≡ self.old) }
-        ensures share_err { OnErr result (share.new.events ≡ share.old.events) }
-        ensures grows { IsPrefix self.old.published self.new.published }
-        ensures legal { IsLegal self.new.events }
     {
         self.publication.show(share);
         let added = self.catalogue.found(number, page)?;
@@ -155,17 +146,12 @@ impl<C: Crew, R: Wait + Drop> Kept<C, R> {
         number: u32,
         why: Why,
     ) -> Result<Option<Note<C>>, FailRefused>
+        ensures call { IsCall self.old share.old self.new share.new }
         ensures failed { OnOk result (Fails number why share.new self.old.events) }
         ensures note { IfOk result (λ note. IsNoted note self.new) }
+        ensures share { RisesBy (λ _. 1) result share.old share.new }
         ensures refused { OnErr result (RefusesFailure number share.new) }
-        ensures seen { share.new.seen ≡ self.new.events }
-        ensures begins { IsPrefix share.old.seen self.old.events }
-        ensures share { OnOk result (share.new.events ≡ share.old.events + 1) }
-        ensures parts { share.new.parts ≡ share.old.parts }
         ensures err { OnErr result (self.new ≡ self.old) }
-        ensures share_err { OnErr result (share.new.events ≡ share.old.events) }
-        ensures grows { IsPrefix self.old.published self.new.published }
-        ensures legal { IsLegal self.new.events }
     {
         self.publication.show(share);
         self.catalogue.fail(number, why)?;
@@ -259,10 +245,8 @@ impl<C: Crew, R: Wait + Drop> Kept<C, R> {
     /// Returns the number of places in each state. The share then has seen the record.
     pub(crate) fn status_for(&mut self, share: &mut Share<C>) -> Status
         ensures same { self.new ≡ self.old }
-        ensures status { IsStatusOn share.new result }
-        ensures seen { IsPrefix share.old.seen share.new.seen }
-        ensures events { share.new.events ≡ share.old.events }
-        ensures parts { share.new.parts ≡ share.old.parts }
+        ensures status { IsStatusOf result share.new.seen }
+        ensures share { Rises 0 share.old share.new }
     {
         self.publication.show(share);
         self.status()
@@ -290,26 +274,5 @@ impl<C: Crew, R: Wait + Drop> Kept<C, R> {
             merging: _merging,
         } = self;
         catalogue
-    }
-
-    // Publishes all that isn't published yet. Returns a note exactly if the whole record is
-    // published then.
-    fn publish(&mut self) -> Option<Note<C>>
-        ensures events { self.new.events ≡ self.old.events }
-        ensures note { IsNoted result self.new }
-    {
-        self.publication.note(self.catalogue.index())
-    }
-
-    /// Returns the catalogue, with a note of its record. There is no note if publishing it runs out
-    /// of memory.
-    pub(crate) fn end_with_note(self) -> (Catalogue, Option<Note<C>>)
-        ensures record { result.0 ≡ self.events }
-        ensures noted { IfSome result.1 (λ note. note ≡ result.0) }
-        ensures legal { IsLegal self.events }
-    {
-        let mut kept = self;
-        let note = kept.publish();
-        (kept.end(), note)
     }
 }

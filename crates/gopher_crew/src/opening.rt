@@ -4,7 +4,7 @@ ghost use Rattle.std.specs.Prelude.{◌≡◌, ◌+◌, ◌<◌, ◌≤◌, ◌^
 ghost use Rattle.gopher_crew.specs.declared.fault.DeskFault.TheVariants.{BadCount};
 ghost use Rattle.gopher_catalogue.specs.Legal.{IsLegal};
 ghost use Rattle.gopher_catalogue.specs.Pages.{pages_found};
-ghost use Rattle.gopher_crew.specs.Desk.{has_seen, opening_shares, AllHaveSeen};
+ghost use Rattle.gopher_crew.specs.Desk.{has_seen, shares_at, AllHaveSeen};
 ghost use Rattle.gopher_crew.specs.Publication.{ShowsRecord};
 
 use crate::crew::Crew;
@@ -119,11 +119,11 @@ pub fn cut<C: Crew>(
 )
     requires history { prefix.now.history ≡ C.history }
     requires parts { whole.parts ≡ 16 }
-    requires events { whole.amount ≡ events }
+    requires events { (whole.amount ≡ events) × (length prefix.now.events ≡ events + 1) }
     requires counts { (1 ≤ shares) × (shares ≤ 16) }
     requires empty { list.old.items ≡ [] }
     requires room { shares ≤ vec_capacity list.old }
-    ensures { list.new.items ≡ opening_shares prefix.now.events events shares }
+    ensures { list.new.items ≡ shares_at prefix.now.events shares }
 {
     let mut whole = whole;
     let first = whole.split_off(PARTS + 1 - u64::from(shares), events);

@@ -7,7 +7,7 @@ ghost use Rattle.gopher_catalogue.specs.Legal.{IsLegal};
 ghost use Rattle.gopher_catalogue.specs.Pages.{pages_found};
 ghost use Rattle.gopher_index.specs.Begun.{begun_hits};
 ghost use Rattle.gopher_crew.specs.Desk.{has_seen};
-ghost use Rattle.gopher_crew.specs.Crew.{CountsEntry, hits_of};
+ghost use Rattle.gopher_crew.specs.Crew.{CountsEntry, Rises, hits_of};
 ghost use Rattle.gopher_crew.specs.Version.{IsSeenVersion};
 
 use crate::crew::Crew;
@@ -138,9 +138,7 @@ impl<C: Crew> Pass<C> {
     /// share, the record of its catalogue begins with it.
     pub fn tell(&self, share: &mut Share<C>)
         ensures told { IsPrefix self.now.told share.new.seen }
-        ensures seen { IsPrefix share.old.seen share.new.seen }
-        ensures events { share.new.events ≡ share.old.events }
-        ensures parts { share.new.parts ≡ share.old.parts }
+        ensures share { Rises 0 share.old share.new }
     {
         share.hear(&self.told);
     }

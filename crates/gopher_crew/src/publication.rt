@@ -4,6 +4,7 @@ ghost use Rattle.std.specs.Prelude.{◌≡◌, ◌≢◌, [], IsTrue, MatchBool}
 ghost use mathlib.Core.List.{IsPrefix};
 ghost use Rattle.gopher_catalogue.specs.Legal.{IsLegal};
 ghost use Rattle.gopher_catalogue.specs.Pages.{pages_found};
+ghost use Rattle.gopher_crew.specs.Crew.{Rises};
 ghost use Rattle.gopher_crew.specs.Kept.{IsNoted};
 ghost use Rattle.gopher_crew.specs.Publication.{PagesFollow, ShowsRecord, waiting_updates, NextFollows, WriterCatchesUp, WriterFollows};
 ghost use Rattle.gopher_crew.specs.Version.{version_data, IsVersion};
@@ -159,9 +160,7 @@ impl<C: Crew, R: Wait + Drop> Publication<C, R> {
     /// Shows the record that was entered to a share.
     pub fn show(&self, share: &mut Share<C>)
         ensures seen { share.new.seen ≡ self.now.events }
-        ensures begins { IsPrefix share.old.seen self.now.events }
-        ensures events { share.new.events ≡ share.old.events }
-        ensures parts { share.new.parts ≡ share.old.parts }
+        ensures share { Rises 0 share.old share.new }
     {
         share.see(&self.rt, &self.prefix);
     }
@@ -244,8 +243,7 @@ impl<C: Crew, R: Wait + Drop> Publication<C, R> {
         ensures note { IsNoted result self.new }
         ensures grows { IsPrefix self.old.published self.new.published }
         ensures seen { share.new.seen ≡ catalogue.now }
-        ensures events { share.new.events ≡ share.old.events }
-        ensures parts { share.new.parts ≡ share.old.parts }
+        ensures share { Rises 0 share.old share.new }
     {
         self.enter(catalogue);
         self.show(share);

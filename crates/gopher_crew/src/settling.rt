@@ -2,7 +2,7 @@
 
 ghost use Rattle.std.specs.Arc.{arc_value};
 ghost use Rattle.std.specs.Prelude.{◌≡◌, ◌≤◌, vec_len, IfOk, IfErr};
-ghost use Rattle.gopher_crew.specs.Work.{SettlesBytes, SettlesShared, SettlesWhy};
+ghost use Rattle.gopher_crew.specs.Work.{Settles, SettlesWhy};
 
 use gopher_catalogue::Why;
 use gopher_item::{NoMemory, Place, Scope};
@@ -27,7 +27,7 @@ pub fn settle(
     fetched: Result<Vec<u8>, Why>,
 ) -> Result<Page, Why>
     requires { IfOk fetched (λ bytes. vec_len bytes ≤ MAX_REPLY) }
-    ensures fetched { IfOk fetched (λ bytes. SettlesBytes scope.now place.now bytes.items result) }
+    ensures page { IfOk fetched (λ it. Settles scope.now place.now it.items result) }
     ensures unfetched { IfErr fetched (λ why. SettlesWhy why result) }
 {
     let bytes = fetched?;
@@ -45,7 +45,7 @@ pub(crate) fn settle_shared(
     fetched: Result<Vec<u8>, Why>,
 ) -> Result<Page, Why>
     requires { IfOk fetched (λ bytes. vec_len bytes ≤ MAX_REPLY) }
-    ensures fetched { IfOk fetched (λ bytes. SettlesShared scope.now place.now bytes.items result) }
+    ensures page { IfOk fetched (λ it. Settles scope.now (arc_value place.now) it.items result) }
     ensures unfetched { IfErr fetched (λ why. SettlesWhy why result) }
 {
     let bytes = fetched?;

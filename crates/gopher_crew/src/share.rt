@@ -2,6 +2,7 @@
 
 ghost use Rattle.std.specs.Prelude.{◌≡◌, ◌+◌, ◌<◌, ◌≤◌, ◌^◌, false, IsTrue};
 ghost use mathlib.Core.List.{IsPrefix};
+ghost use Rattle.gopher_crew.specs.Crew.{Rises};
 
 use crate::crew::Crew;
 use crate::record_prefix::RecordPrefix;
@@ -104,9 +105,7 @@ impl<C: Crew> Share<C> {
     pub(crate) fn hear(&mut self, prefix: &RecordPrefix)
         requires { prefix.now.history ≡ C.history }
         ensures heard { IsPrefix prefix.now.events self.new.seen }
-        ensures seen { IsPrefix self.old.seen self.new.seen }
-        ensures events { self.new.events ≡ self.old.events }
-        ensures parts { self.new.parts ≡ self.old.parts }
+        ensures share { Rises 0 self.old self.new }
     {
         self.seen = self.seen.longer(prefix);
     }
@@ -116,9 +115,7 @@ impl<C: Crew> Share<C> {
     pub(crate) fn see<R: Wait>(&mut self, rt: &R, prefix: &RecordPrefix)
         requires { prefix.now.history ≡ C.history }
         ensures seen { self.new.seen ≡ prefix.now.events }
-        ensures begins { IsPrefix self.old.seen prefix.now.events }
-        ensures events { self.new.events ≡ self.old.events }
-        ensures parts { self.new.parts ≡ self.old.parts }
+        ensures share { Rises 0 self.old self.new }
     {
         self.seen.until_begins(rt, prefix);
         self.seen = prefix.copy();

@@ -1,4 +1,4 @@
-use Rattle.std.proofs.Common.{List, arith, subst, sym}
+use Rattle.std.proofs.Common.{List, arith, subst, sym, ◌∙◌}
 use Rattle.std.proofs.lemmas.Grind.{common_steps}
 use mathlib.Core.List.{IsPrefix}
 use Rattle.gopher_catalogue.specs.declared.event.EventData.{EventData}
@@ -20,16 +20,15 @@ returns-clause-joined g c = record {
       let last : IsPrefix c.show.new.share.seen record_ =
       last_has_seen record_ c.join.new.shares.items c.show.new.share (subst (λ (shares : List ShareData). HasAllSeen record_ shares) c.push_reserved.ensures.items seen) in
       let begins : IsPrefix c.join.new.all.seen record_ =
-      prefix_trans c.join.new.all.seen c.self.inside.publication.events record_ c.show.ensures.begins
-      (subst (λ (events : List EventData). IsPrefix events record_) c.show.ensures.seen last) in
+      prefix_trans c.join.new.all.seen c.show.new.share.seen record_ c.show.ensures.share.seen last in
       subst (λ (shares : List ShareData). HasAllSeen record_ shares) (sym c.in-Some.ensures.items)
       (joined_have_seen record_ c.pop.new.self.items c.in-Some.all c.join.new.all c.join.ensures.joined begins);
 }
 
 pub returns-clause-seen : goal.returns-clause-seen
 returns-clause-seen g c =
-    let seen : HasAllSeen c.self.inside.publication.events c.args.shares.now.items =
-    subst (λ (shares : List ShareData). HasAllSeen c.self.inside.publication.events shares) (sym c.in-Some.ensures.items)
-    (joined_have_seen c.self.inside.publication.events c.pop.new.self.items c.in-Some.all c.join.new.all c.join.ensures.joined c.show.ensures.begins) in
+    let seen : HasAllSeen c.show.new.share.seen c.args.shares.now.items =
+    subst (λ (shares : List ShareData). HasAllSeen c.show.new.share.seen shares) (sym c.in-Some.ensures.items)
+    (joined_have_seen c.show.new.share.seen c.pop.new.self.items c.in-Some.all c.join.new.all c.join.ensures.joined c.show.ensures.share.seen) in
     subst (λ (kept : PublicationData). HasAllSeen kept.events c.args.shares.now.items) c.self.view_is
-    (subst (λ (events : List EventData). HasAllSeen events c.args.shares.now.items) c.self.invariant.entered seen)
+    (subst (λ (events : List EventData). HasAllSeen events c.args.shares.now.items) (c.show.ensures.seen ∙ c.self.invariant.entered) seen)
