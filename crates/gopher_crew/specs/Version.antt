@@ -38,15 +38,6 @@ Applies change old new result =
     (λ _. arc_value new ≡ pages_after change (arc_value old))
     (λ _. arc_value new ≡ arc_value old)
 
--- one more shared page is added at the end of the shared pages, if that succeeds; otherwise they
--- stay
-abbrev pub AddsPage : {T E Y Z : Type 0} → Arc PageData Y → Arc (List PageData) Z
-    → Arc (List PageData) Z → Result T E → Type 0
-AddsPage page old new result =
-    MatchResult result
-    (λ _. arc_value new ≡ arc_value old ++ arc_value page ∷ [])
-    (λ _. arc_value new ≡ arc_value old)
-
 -- the version after an update
 abbrev pub after_update : VersionData → Update → VersionData
 after_update version update = version_data (pages_after update.change version.pages) update.prefix

@@ -24,25 +24,8 @@ pub fn join<C: Crew>(book: &mut Book<C>, all: &mut Share<C>, shares: &mut Vec<Sh
 {
     all.audit(book);
     while let Some(share) = shares.pop() {
-        take_in(book, all, share);
+        all.merge(book, share);
     }
-}
-
-// Merges a share of this book into another.
-fn take_in<C: Crew>(book: &mut Book<C>, all: &mut Share<C>, share: Share<C>)
-    requires { book.old.total < 2 ^ 63 }
-    ensures total { book.new.total ≡ book.old.total }
-    ensures events { all.new.events ≡ all.old.events + share.events }
-    ensures parts { all.new.parts ≡ all.old.parts + share.parts }
-    ensures seen { IsPrefix all.old.seen all.new.seen }
-    ensures other { IsPrefix share.seen all.new.seen }
-    ensures whole { all.new.parts ≡ C.parts → all.new.events ≡ book.old.total }
-{
-    let mut share = share;
-    share.audit(book);
-    all.audit(book);
-    all.merge(share);
-    all.audit(book);
 }
 
 impl<C: Crew, R: Wait + Drop> Desk<C, R> {

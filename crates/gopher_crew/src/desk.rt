@@ -114,19 +114,6 @@ fn start<C: Crew, R: Wait + Drop>(
     }
 }
 
-// Claims the first waiting place, and lets go of the note.
-fn claim_at<C: Crew, R: Wait + Drop>(
-    kept: &mut Kept<C, R>,
-    share: &mut Share<C>,
-) -> Result<Turn, NoMemory>
-    ensures turn { IfOk result (λ it. Later share.old.seen (Claims (turn_data it) share.new)) }
-    ensures share { RisesBy (λ it. rise_of (turn_data it)) result share.old share.new }
-    ensures waits { OnErr result (LetsClaim share.new) }
-{
-    let (turn, _note) = kept.claim(share)?;
-    Ok(turn)
-}
-
 impl<C: Crew, R: Wait + Drop> Desk<C, R> {
     /// Opens a desk over a catalogue.
     ///
@@ -300,7 +287,7 @@ impl<C: Crew, R: Wait + Drop> Desk<C, R> {
     {
         for _round in rt.forever() {
             let mut kept = self.merge_due(rt, alloc);
-            let turn = claim_at(&mut *kept, share)?;
+            let (turn, _note) = kept.claim(share)?;
             match turn {
                 Turn::Take(claim) => return Ok(Turn::Take(claim)),
                 Turn::Idle => {

@@ -194,7 +194,7 @@ impl<C: Crew, R: Wait + Drop> Kept<C, R> {
         ensures grows { IsPrefix self.old.published self.new.published }
     {
         if self.merging.is_merged {
-            let was_published = self.publication.publish(self.catalogue.index(), true);
+            let was_published = self.publication.publish(&self.catalogue, true);
             self.merging.end_renewal(was_published);
         }
     }

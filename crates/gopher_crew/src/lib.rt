@@ -17,7 +17,7 @@
 //! The picture `docs/found.svg` shows it. A worker claims a place under the desk's lock. It fetches
 //! the place and makes its page while it holds no lock. Behind the lock again, `Kept` adds the
 //! event to the catalogue and counts it for the worker's share. The publication enters the event
-//! into the history, and compares the index with the published one to make an `Update`. Its writer
+//! into the history, and makes an `Update` of the events since the published record. Its writer
 //! (`left_right`) keeps two copies: readers use one while the writer changes the other, and each
 //! update is applied to both. An update changes no pages, adds one page, or replaces all pages by
 //! those of an index if segments were merged since.

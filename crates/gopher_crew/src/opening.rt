@@ -4,7 +4,7 @@ ghost use Rattle.std.specs.Prelude.{◌≡◌, ◌+◌, ◌<◌, ◌≤◌, ◌^
 ghost use Rattle.gopher_crew.specs.declared.fault.DeskFault.TheVariants.{BadCount};
 ghost use Rattle.gopher_catalogue.specs.Legal.{IsLegal};
 ghost use Rattle.gopher_catalogue.specs.Pages.{pages_found};
-ghost use Rattle.gopher_crew.specs.Desk.{has_seen, shares_at, AllHaveSeen};
+ghost use Rattle.gopher_crew.specs.Desk.{shares_at, AllHaveSeen};
 ghost use Rattle.gopher_crew.specs.Publication.{ShowsRecord};
 
 use crate::crew::Crew;
@@ -43,19 +43,6 @@ fn writer_of<C: Crew>(
     Ok(writer)
 }
 
-// Makes a pass that has seen the published record. Returns `None` if it can't enter the version.
-fn pass_of<C: Crew>(
-    alloc: Global,
-    writer: &VersionWriter<C>,
-    prefix: &RecordPrefix,
-) -> Option<Pass<C>>
-    requires { prefix.now.history ≡ C.history }
-    ensures { IfSome result (λ pass. pass ≡ has_seen prefix.now.events) }
-{
-    let reader = writer.factory().reader().ok()?;
-    Pass::open(alloc, reader, prefix)
-}
-
 // Makes `passes` passes that have seen the published record.
 fn passes_of<C: Crew>(
     alloc: Global,
@@ -69,7 +56,7 @@ fn passes_of<C: Crew>(
 {
     let mut list = Vec::new(alloc);
     for _index in 0..passes {
-        let Some(pass) = pass_of(alloc, writer, prefix) else {
+        let Some(pass) = Pass::open(alloc, writer, prefix) else {
             return Err(DeskFault::NoEntry);
         };
         let Ok(()) = list.push(pass) else {

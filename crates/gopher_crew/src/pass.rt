@@ -13,7 +13,7 @@ ghost use Rattle.gopher_crew.specs.Version.{IsSeenVersion};
 use crate::crew::Crew;
 use crate::fault::SearchFault;
 use crate::note::Note;
-use crate::publication::VersionReader;
+use crate::publication::{VersionReader, VersionWriter};
 use crate::record_prefix::RecordPrefix;
 use crate::share::Share;
 use crate::version::{Sees, Version};
@@ -83,12 +83,13 @@ impl<C: Crew> Pass<C> {
     /// version, or if another record is published.
     pub(crate) fn open(
         alloc: Global,
-        reader: VersionReader<C>,
+        writer: &VersionWriter<C>,
         published: &RecordPrefix,
     ) -> Option<Pass<C>>
         requires { published.now.history ≡ C.history }
         ensures { IfSome result (λ pass. pass ≡ has_seen published.now.events) }
     {
+        let reader = writer.factory().reader().ok()?;
         let (reader, version) = take_version(reader, ());
         let Ok(version) = version else {
             return None;

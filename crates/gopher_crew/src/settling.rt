@@ -5,18 +5,11 @@ ghost use Rattle.std.specs.Prelude.{◌≡◌, ◌≤◌, vec_len, IfOk, IfErr};
 ghost use Rattle.gopher_crew.specs.Work.{Settles, SettlesWhy};
 
 use gopher_catalogue::Why;
-use gopher_item::{NoMemory, Place, Scope};
+use gopher_item::{Place, Scope};
 use gopher_page::Page;
 use gopher_text::MAX_REPLY;
 use std::alloc::Global;
 use std::sync::Arc;
-
-// A copy of a place, to be shared.
-fn shared(alloc: Global, place: &Place) -> Result<Arc<Place>, NoMemory>
-    ensures { IfOk result (λ shared. arc_value shared ≡ place.now) }
-{
-    Ok(Arc::new(alloc, place.clone()?)?)
-}
 
 /// Makes the page of a fetched reply, which has at most 1,048,576 bytes (`MAX_REPLY`). If
 /// there is none, returns the reason of the fetch, or `NoMemory`.
@@ -31,10 +24,10 @@ pub fn settle(
     ensures unfetched { IfErr fetched (λ why. SettlesWhy why result) }
 {
     let bytes = fetched?;
-    let Ok(place) = shared(alloc, place) else {
+    let Ok(page) = Page::of(alloc, scope, place, &bytes) else {
         return Err(Why::NoMemory);
     };
-    settle_shared(alloc, scope, &place, Ok(bytes))
+    Ok(page)
 }
 
 /// Does what `settle` does. The page shares the place.

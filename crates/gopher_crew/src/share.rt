@@ -86,19 +86,25 @@ impl<C: Crew> Share<C> {
         self.count += 1;
     }
 
-    /// Adds the events and the parts of another share, and takes the longer record of what they
-    /// saw.
-    pub(crate) fn merge(&mut self, other: Share<C>)
-        requires { self.old.events + other.events < 2 ^ 64 }
+    /// Adds the events and the parts of another share of the book, and takes the longer record of
+    /// what they saw.
+    pub(crate) fn merge(&mut self, book: &mut Book<C>, other: Share<C>)
+        requires { book.old.total < 2 ^ 63 }
+        ensures total { book.new.total ≡ book.old.total }
         ensures events { self.new.events ≡ self.old.events + other.events }
         ensures parts { self.new.parts ≡ self.old.parts + other.parts }
         ensures seen { IsPrefix self.old.seen self.new.seen }
         ensures other { IsPrefix other.seen self.new.seen }
+        ensures whole { self.new.parts ≡ C.parts → self.new.events ≡ book.old.total }
     {
+        let mut other = other;
+        other.audit(book);
+        self.audit(book);
         let Share { count, part, seen } = other;
         self.part.merge(part);
         self.count += count;
         self.hear(&seen);
+        self.audit(book);
     }
 
     /// Takes a record of the same history, unless it saw more.

@@ -1,10 +1,14 @@
 //! `Update` and `Change`: what makes the next version of a published one.
 
-ghost use Rattle.std.specs.Prelude.{◌≡◌, IfOk};
-ghost use mathlib.Core.List.{IsPrefix};
-ghost use Rattle.gopher_crew.specs.Version.{pages_after, Applies, AddsPage};
+ghost use Rattle.std.specs.Arc.{arc_value};
+ghost use Rattle.gopher_index.specs.Index.{AppendsPage};
+ghost use Rattle.std.specs.Prelude.{◌≡◌, ◌++◌, IfOk, map};
+ghost use Rattle.gopher_catalogue.specs.EventOf.{event_data};
+ghost use Rattle.gopher_catalogue.specs.Pages.{pages_found};
+ghost use Rattle.gopher_crew.specs.Version.{pages_after, Applies};
 
 use crate::record_prefix::RecordPrefix;
+use gopher_catalogue::Event;
 use gopher_index::Index;
 use gopher_item::NoMemory;
 use gopher_page::Page;
@@ -36,7 +40,7 @@ pub struct Update {
 
 // Adds a page to an index. If a search shares the index, a copy with the page takes its place.
 fn add(alloc: Global, index: &mut Arc<Index>, page: Arc<Page>) -> Result<(), NoMemory>
-    ensures { AddsPage page index.old index.new result }
+    ensures { AppendsPage (arc_value page) (arc_value index.old) (arc_value index.new) result }
 {
     if index.len() >= MAX_PAGES {
         return Err(NoMemory);
@@ -51,23 +55,26 @@ fn add(alloc: Global, index: &mut Arc<Index>, page: Arc<Page>) -> Result<(), NoM
 }
 
 impl Change {
-    /// The change of an index's pages to those of another, which begin with them. If `renews`, it
-    /// replaces all of them, which may be in smaller segments.
-    pub fn between(
+    /// The change of an index's pages to those of another, which has the pages of these events too.
+    /// If `renews`, it replaces all of them, which may be in smaller segments.
+    pub fn since(
         alloc: Global,
         before: &Index,
+        events: &[Event],
         index: &Index,
         renews: bool,
     ) -> Result<Change, NoMemory>
-        requires { IsPrefix before.now index.now }
+        requires { index.now ≡ before.now ++ pages_found (map event_data events.now) }
         ensures { IfOk result (λ change. pages_after change before.now ≡ index.now) }
     {
         if !renews {
             if index.len() == before.len() {
                 return Ok(Change::Nothing);
             }
-            if let Some(page) = index.page_after(before) {
-                return Ok(Change::Page(page.clone()?));
+            if let [event] = events {
+                if let Event::Found(_, page) = event {
+                    return Ok(Change::Page(page.clone()?));
+                }
             }
         }
         Ok(Change::All(Arc::new(alloc, index.share(alloc)?)?))

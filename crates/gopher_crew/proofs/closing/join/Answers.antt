@@ -14,10 +14,10 @@ loop-share-preserved g c = record {
   parts = grind (arith, common_steps);
   seen = λ record_ begins seen.
       c.loop-share.invariant.seen record_
-      (prefix_trans c.loop-share.all.seen c.take_in.new.all.seen record_ c.take_in.ensures.seen begins)
+      (prefix_trans c.loop-share.all.seen c.merge.new.self.seen record_ c.merge.ensures.seen begins)
       (subst (λ (shares : List ShareData). HasAllSeen record_ shares) (sym c.in-Some.ensures.items)
       (All-push (λ (share : ShareData). IsPrefix share.seen record_) c.pop.new.self.items c.in-Some.share seen
-      (prefix_trans c.in-Some.share.seen c.take_in.new.all.seen record_ c.take_in.ensures.other begins)));
+      (prefix_trans c.in-Some.share.seen c.merge.new.self.seen record_ c.merge.ensures.other begins)));
   whole = search rules;
   room = search rules;
 }
