@@ -20,6 +20,11 @@ pub record PassData : Type 0 where
   pub told : List EventData
   pub failed_entries : ℕ
 
+-- the records that a pass has seen and was told only become longer
+pub record SeesOn (old new : PassData) : Type 0 where
+  pub seen : IsPrefix old.seen new.seen
+  pub told : IsPrefix old.told new.told
+
 -- the failed entries of a pass before and after a search: one more if it fails with 61
 abbrev pub CountsEntry : {T : Type 0} → ℕ → ℕ → Result T SearchFault → Type 0
 CountsEntry before after (Ok found) = after ≡ before

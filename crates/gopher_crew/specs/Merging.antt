@@ -1,6 +1,6 @@
 -- When workers may merge pages.
 use Rattle.std.specs.Prelude.{ℕ, Bool, true, false, nat_lt, not, if◌then◌else◌}
-use Rattle.gopher_crew.specs.declared.merging.Merging.{Merging}
+use Rattle.gopher_crew.specs.declared.working.merging.Merging.{Merging}
 
 -- whether no place waits and none is out, or a run was merged since that was so
 abbrev pub is_at_last : Merging → ℕ → ℕ → Bool

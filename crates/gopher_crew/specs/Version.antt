@@ -12,9 +12,9 @@ use Rattle.gopher_catalogue.specs.Legal.{IsLegal}
 use Rattle.gopher_catalogue.specs.Pages.{pages_found}
 use Rattle.gopher_page.specs.Page.{PageData}
 use Rattle.gopher_crew.specs.History.{RecordPrefixData}
-use Rattle.gopher_crew.specs.declared.update.Change.{Change}
-use Rattle.gopher_crew.specs.declared.update.Change.TheVariants.{Nothing, Page, All}
-use Rattle.gopher_crew.specs.declared.update.Update.{Update}
+use Rattle.gopher_crew.specs.declared.publication.update.Change.{Change}
+use Rattle.gopher_crew.specs.declared.publication.update.Change.TheVariants.{Nothing, Page, All}
+use Rattle.gopher_crew.specs.declared.publication.update.Update.{Update}
 
 -- pages, and a prefix of a history
 pub record VersionData : Type 0 where

@@ -9,18 +9,25 @@ ghost use Rattle.gopher_crew.specs.Desk.{are_counts, shares_at, AllHaveSeen, Com
 ghost use Rattle.gopher_crew.specs.Publication.{ShowsRecord};
 ghost use Rattle.gopher_crew.specs.Kept.{rise_of, Later, Claims, Finds, Fails, RefusesFind, RefusesFailure, LetsClaim, IsNotIdle, IsOpeningOf, IsStatusOf, IsStatusAfter};
 
-use crate::blank::Blank;
+pub mod blank;
+pub mod closing;
+pub mod kept;
+pub mod opening;
+pub mod refusals;
+pub mod share;
+
 use crate::crew::Crew;
+use crate::desk::blank::Blank;
+use crate::desk::kept::Kept;
+use crate::desk::opening::{cut, writer_with_passes};
+use crate::desk::refusals::DeskRefused;
+use crate::desk::share::Share;
 use crate::fault::DeskFault;
-use crate::kept::Kept;
-use crate::memory::PageMemory;
-use crate::note::Note;
-use crate::opening::{cut, writer_with_passes};
 use crate::pass::Pass;
+use crate::publication::note::Note;
+use crate::publication::record_prefix::RecordPrefix;
 use crate::publication::{Publication, VersionWriter};
-use crate::record_prefix::RecordPrefix;
-use crate::refusals::DeskRefused;
-use crate::share::Share;
+use crate::working::memory::PageMemory;
 use gopher_catalogue::{Added, Catalogue, FailRefused, FoundRefused, Opening, Status, Turn, Why};
 use gopher_item::NoMemory;
 use gopher_page::Page;

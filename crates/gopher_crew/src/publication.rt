@@ -8,14 +8,21 @@ ghost use Rattle.gopher_crew.specs.Kept.{IsNoted};
 ghost use Rattle.gopher_crew.specs.Publication.{PagesFollow, ShowsRecord, waiting_updates, NextFollows, WriterCatchesUp, WriterFollows};
 ghost use Rattle.gopher_crew.specs.Version.{version_data, IsVersion};
 
+pub mod entering;
+pub mod history;
+pub mod note;
+pub mod record_prefix;
+pub mod update;
+pub mod version;
+
 use crate::crew::Crew;
-use crate::entering::enter;
-use crate::history::Head;
-use crate::note::Note;
-use crate::record_prefix::RecordPrefix;
-use crate::share::Share;
-use crate::update::{Change, Update};
-use crate::version::{Sees, Shows, Version};
+use crate::desk::share::Share;
+use crate::publication::entering::enter;
+use crate::publication::history::Head;
+use crate::publication::note::Note;
+use crate::publication::record_prefix::RecordPrefix;
+use crate::publication::update::{Change, Update};
+use crate::publication::version::{Sees, Shows, Version};
 use core::mem::replace_with;
 use gopher_catalogue::{Catalogue, Event, EventData};
 use gopher_index::Index;

@@ -5,11 +5,18 @@ ghost use mathlib.Core.List.{IsPrefix};
 ghost use Rattle.gopher_crew.specs.Crew.{Rises};
 ghost use Rattle.gopher_crew.specs.Work.{one_more_call, found_rise, failed_rise, outcome_rise, IsPaid, IsStop, EndsClaim, WorksOnce, WorksOn, RisesByOutcomes};
 
+pub mod crawling;
+pub mod fetch;
+pub mod memory;
+pub mod merge_job;
+pub mod merging;
+pub mod settling;
+
 use crate::crew::Crew;
 use crate::desk::Desk;
-use crate::fetch::Fetch;
-use crate::settling::settle_shared;
-use crate::share::Share;
+use crate::desk::share::Share;
+use crate::working::fetch::Fetch;
+use crate::working::settling::settle_shared;
 use gopher_catalogue::{Claim, Turn, Why};
 use gopher_page::Page;
 use gopher_text::MAX_REPLY;

@@ -3,9 +3,8 @@
 ghost use Rattle.std.specs.Prelude.{◌≡◌};
 
 use gopher_catalogue::Why;
-use gopher_crew::{Calls, Fetch};
+use gopher_crew::{Calls, Fetch, fetch_over};
 use gopher_item::Place;
-use gopher_site::fetch_over;
 use gopher_text::Watched;
 use std::alloc::Global;
 use std::net::{Net, TcpListener, TcpStream};
