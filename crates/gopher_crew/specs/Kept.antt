@@ -74,10 +74,6 @@ abbrev pub IsNotIdle : TurnData → Type 0
 IsNotIdle Idle = ⊥
 IsNotIdle turn = Unit {0}
 
--- on the legal record that the share has seen, a claim returns this turn
-abbrev pub TurnsOn : TurnData → ShareData → Type 0
-TurnsOn turn share = (turn_of share.seen ≡ turn) × IsLegal share.seen
-
 -- on the legal record that the share has seen, a place waits
 abbrev pub LetsClaim : ShareData → Type 0
 LetsClaim share = IsTake (turn_of share.seen) × IsLegal share.seen

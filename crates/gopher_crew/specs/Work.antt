@@ -5,7 +5,8 @@ use mathlib.Core.List.{IsPrefix}
 use Rattle.gopher_item.specs.Place.{PlaceData}
 use Rattle.gopher_item.specs.Scope.{ScopeData}
 use Rattle.gopher_page.specs.Page.{PageData, page_of}
-use Rattle.gopher_catalogue.specs.Step.{Finished as FinishedTurn}
+use Rattle.gopher_catalogue.specs.Legal.{IsLegal}
+use Rattle.gopher_catalogue.specs.Step.{Finished as FinishedTurn, turn_of}
 use Rattle.gopher_catalogue.specs.declared.event.Why.{Why}
 use Rattle.gopher_catalogue.specs.declared.event.Why.TheVariants.{NoMemory}
 use Rattle.gopher_crew.specs.Crew.{ShareData}
@@ -14,7 +15,7 @@ use Rattle.gopher_crew.specs.declared.working.Outcome.TheVariants.{Found, Failed
 use Rattle.gopher_crew.specs.declared.working.Stop.{Stop}
 use Rattle.gopher_crew.specs.declared.working.Stop.TheVariants.{Finished, NoMemory as NoMemoryStop}
 use Rattle.gopher_crew.specs.declared.working.WorkEnd.{WorkEnd}
-use Rattle.gopher_crew.specs.Kept.{TurnsOn, RefusesFailure, LetsClaim}
+use Rattle.gopher_crew.specs.Kept.{RefusesFailure, LetsClaim}
 
 -- a fetcher's number of calls after one more
 abbrev pub one_more_call : ℕ → ℕ
@@ -51,7 +52,7 @@ IsPaid old new calls calls' =
 -- why a worker stopped: on the record that its share has seen, nothing waits and nothing is out, or
 -- a place waits, whose claim ran out of memory
 abbrev pub IsStop : Stop → ShareData → Type 0
-IsStop Finished share = TurnsOn FinishedTurn share
+IsStop Finished share = (turn_of share.seen ≡ FinishedTurn) × IsLegal share.seen
 IsStop NoMemoryStop share = LetsClaim share
 
 -- what a worker did in one round: it called its fetcher once and made at most two events, or it
@@ -102,8 +103,3 @@ HaveAsManyParts pairs ends =
 abbrev pub Settles : ScopeData → PlaceData → List ℕ → Result PageData Why → Type 0
 Settles scope place bytes (Ok page) = page ≡ page_of scope place bytes
 Settles scope place bytes (Err why) = why ≡ NoMemory
-
--- why nothing was fetched stays
-abbrev pub SettlesWhy : Why → Result PageData Why → Type 0
-SettlesWhy why (Ok page) = ⊥
-SettlesWhy why (Err reason) = reason ≡ why

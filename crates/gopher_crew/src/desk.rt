@@ -295,13 +295,10 @@ impl<C: Crew, R: Wait + Drop> Desk<C, R> {
         for _round in rt.forever() {
             let mut kept = self.merge_due(rt, alloc);
             let (turn, _note) = kept.claim(share)?;
-            match turn {
-                Turn::Take(claim) => return Ok(Turn::Take(claim)),
-                Turn::Idle => {
-                    let _kept = self.outcomes.wait(rt, kept);
-                }
-                Turn::Finished => return Ok(Turn::Finished),
-            }
+            let Turn::Idle = turn else {
+                return Ok(turn);
+            };
+            let _kept = self.outcomes.wait(rt, kept);
         }
         unreachable!()
     }

@@ -3,7 +3,7 @@
 ghost use Rattle.std.specs.Prelude.{◌≡◌, ◌<◌, IfOk, OnErr, length};
 ghost use Rattle.gopher_serve.specs.Answer.{answer_bytes};
 ghost use Rattle.gopher_crew.specs.Crew.{SeesOn};
-ghost use Rattle.gopher_crew.specs.Answer.{AnswersTerms, IsQueryFor, asked, no_catalogue_bytes, no_words_bytes};
+ghost use Rattle.gopher_crew.specs.Answer.{AnswersTerms, IsQueryFor, asked};
 
 use crate::crew::Crew;
 use crate::fault::SearchFault;
@@ -47,7 +47,7 @@ pub fn begin_search<'a, C: Crew>(
 {
     match query_of(alloc, search)? {
         Some(query) => look_up(alloc, home, pass, &query),
-        None => Ok(Answer::Made(no_words(alloc, home)?)),
+        None => Ok(Answer::Made(error_reply(alloc, b"No words", home)?)),
     }
 }
 
@@ -67,21 +67,9 @@ fn look_up<'a, C: Crew>(
     match pass.begin(query) {
         Ok(Begun::Found(hits)) => Ok(Answer::Made(hits_menu(alloc, &hits)?)),
         Ok(Begun::Searching(search)) => Ok(Answer::Searching(search)),
-        Err(SearchFault::NoEntry) => Ok(Answer::Made(no_catalogue(alloc, home)?)),
+        Err(SearchFault::NoEntry) => {
+            Ok(Answer::Made(error_reply(alloc, b"No catalogue", home)?))
+        }
         Err(SearchFault::NoMemory) => Err(NoMemory),
     }
-}
-
-// The reply to a search that names no word.
-fn no_words(alloc: Global, home: &Home) -> Result<Vec<u8>, NoMemory>
-    ensures { IfOk result (λ reply. reply.items ≡ no_words_bytes home.now) }
-{
-    error_reply(alloc, b"No words", home)
-}
-
-// The reply to a search while the published catalogue can't be entered.
-fn no_catalogue(alloc: Global, home: &Home) -> Result<Vec<u8>, NoMemory>
-    ensures { IfOk result (λ reply. reply.items ≡ no_catalogue_bytes home.now) }
-{
-    error_reply(alloc, b"No catalogue", home)
 }

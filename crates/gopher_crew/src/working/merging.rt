@@ -41,12 +41,13 @@ impl Merging {
         ensures retry { self.new.retry_at ≡ self.old.retry_at }
         ensures last { self.new.is_last_taken ≡ is_at_last self.old waiting out }
     {
-        if waiting == 0 {
-            if out > 0 || self.is_last_taken {
-                return false;
-            }
-            self.is_last_taken = true;
+        if waiting > 0 {
+            return self.retry_at <= found;
         }
+        if out > 0 || self.is_last_taken {
+            return false;
+        }
+        self.is_last_taken = true;
         self.retry_at <= found
     }
 

@@ -1,8 +1,8 @@
 //! `settle`: makes the page of a fetched reply.
 
 ghost use Rattle.std.specs.Arc.{arc_value};
-ghost use Rattle.std.specs.Prelude.{◌≡◌, ◌≤◌, vec_len, IfOk, IfErr};
-ghost use Rattle.gopher_crew.specs.Work.{Settles, SettlesWhy};
+ghost use Rattle.std.specs.Prelude.{◌≡◌, ◌≤◌, vec_len, Err, IfOk, IfErr};
+ghost use Rattle.gopher_crew.specs.Work.{Settles};
 
 use gopher_catalogue::Why;
 use gopher_item::{Place, Scope};
@@ -21,7 +21,7 @@ pub fn settle(
 ) -> Result<Page, Why>
     requires { IfOk fetched (λ bytes. vec_len bytes ≤ MAX_REPLY) }
     ensures page { IfOk fetched (λ it. Settles scope.now place.now it.items result) }
-    ensures unfetched { IfErr fetched (λ why. SettlesWhy why result) }
+    ensures unfetched { IfErr fetched (λ why. result ≡ Err why) }
 {
     let bytes = fetched?;
     let Ok(page) = Page::of(alloc, scope, place, &bytes) else {
@@ -39,7 +39,7 @@ pub(crate) fn settle_shared(
 ) -> Result<Page, Why>
     requires { IfOk fetched (λ bytes. vec_len bytes ≤ MAX_REPLY) }
     ensures page { IfOk fetched (λ it. Settles scope.now (arc_value place.now) it.items result) }
-    ensures unfetched { IfErr fetched (λ why. SettlesWhy why result) }
+    ensures unfetched { IfErr fetched (λ why. result ≡ Err why) }
 {
     let bytes = fetched?;
     let Ok(page) = Page::of_shared(alloc, scope, place, &bytes) else {
