@@ -1,5 +1,5 @@
 -- Any number of answers of a site.
-use Rattle.std.proofs.Common.{◌≡◌, ◌∙◌, refl, subst}
+use Rattle.std.proofs.Common.{subst}
 use mathlib.Core.List.{IsPrefix}
 use Rattle.gopher_crew.proofs.Prefixes.{prefix_self, prefix_trans}
 use Rattle.gopher_serve.specs.Leads.{Leads, stays, goes}

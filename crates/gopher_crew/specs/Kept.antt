@@ -1,5 +1,5 @@
 -- What the calls of a desk return, and of which records their notes are.
-use Rattle.std.specs.Prelude.{ℕ, ◌≡◌, ◌≢◌, ◌+◌, List, [], ◌∷◌, ◌++◌, Option, None, Some, true, false, slice_get}
+use Rattle.std.specs.Prelude.{ℕ, ◌≡◌, ◌≢◌, List, [], ◌∷◌, ◌++◌, Option, None, Some, true, false, slice_get}
 use mathlib.Core.List.{IsPrefix}
 use Rattle.gopher_page.specs.Page.{PageData}
 use Rattle.gopher_catalogue.specs.declared.event.EventData.{EventData}

@@ -21,7 +21,7 @@ returns-clause-joined g c = record {
       last_has_seen record_ c.join.new.shares.items c.show.new.share (subst (λ (shares : List ShareData). HasAllSeen record_ shares) c.push_reserved.ensures.items seen) in
       let begins : IsPrefix c.join.new.all.seen record_ =
       prefix_trans c.join.new.all.seen c.show.new.share.seen record_ c.show.ensures.share.seen last in
-      subst (λ (shares : List ShareData). HasAllSeen record_ shares) (sym c.in-Some.ensures.items)
+      subst (λ (shares : List ShareData). HasAllSeen record_ shares) (sym {A = List ShareData} c.in-Some.ensures.items)
       (joined_have_seen record_ c.pop.new.self.items c.in-Some.all c.join.new.all c.join.ensures.joined begins);
 }
 
