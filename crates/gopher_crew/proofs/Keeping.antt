@@ -1,12 +1,12 @@
 -- What the record of a desk keeps at each call.
-use Rattle.std.proofs.Common.{◌≡◌, ℕ, ◌+◌, ◌<◌, ◌^◌, List, [], ◌∷◌, length, sym, subst, arith, length-append}
+use Rattle.std.proofs.Common.{◌≡◌, ℕ, ◌+◌, ◌<◌, ◌^◌, List, [], ◌∷◌, length, arith, length-append}
 use mathlib.Core.List.{IsPrefix}
 use Rattle.gopher_catalogue.specs.declared.event.EventData.{EventData}
 use Rattle.gopher_catalogue.specs.declared.event.EventData.TheVariants.{Claimed}
 use Rattle.gopher_catalogue.specs.Step.{TurnData, Take, Idle, Finished, after_turn}
 use Rattle.gopher_catalogue.proofs.LegalSizes.{length-record_fits}
-use Rattle.gopher_crew.specs.Crew.{PublicationData, KeepsRecord, ShareData}
-use Rattle.gopher_crew.specs.Kept.{rise_of, Later, Claims}
+use Rattle.gopher_crew.specs.Crew.{PublicationData, KeepsRecord}
+use Rattle.gopher_crew.specs.Kept.{rise_of, Later}
 use Rattle.gopher_crew.proofs.Prefixes.{prefix_self, prefix_push, prefix_trans}
 
 -- a record begins with the record before a turn
@@ -29,13 +29,9 @@ pub turn_keeps : (prefix record_ : List EventData) (turn : TurnData) → IsPrefi
 turn_keeps prefix record_ turn begun = prefix_trans prefix record_ (after_turn record_ turn) begun (turn_grows record_ turn)
 
 -- what holds on a record after a later one
-pub later_holds : (HoldsOn : List EventData → Type 0) (old between : ShareData) → IsPrefix old.seen between.seen → Later between HoldsOn → Later old HoldsOn
+pub later_holds : (HoldsOn : List EventData → Type 0) (old between : List EventData) → IsPrefix old between → Later between HoldsOn → Later old HoldsOn
 later_holds HoldsOn old between seen later = record {
   before = later.before;
-  begins = prefix_trans old.seen between.seen later.before seen later.begins;
+  begins = prefix_trans old between later.before seen later.begins;
   holds = later.holds;
 }
-
--- what a share has seen after a claim begins with what the record before began with
-pub claims_grow : (turn : TurnData) (share : ShareData) (seen before : List EventData) → IsPrefix seen before → Claims turn share before → IsPrefix seen share.seen
-claims_grow turn share seen before begins claims = subst (λ (now : List EventData). IsPrefix seen now) (sym claims.is_after) (turn_keeps seen before turn begins)

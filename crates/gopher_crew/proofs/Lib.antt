@@ -4,7 +4,9 @@ pub mod Publishing
 pub mod Records
 pub mod Keeping
 pub mod Joining
-pub mod MergeJobs
 pub mod Versions
 pub mod Pairing
 pub mod PublicationLemmas
+mod Fetches
+mod Searches
+mod SiteLeads

@@ -2,7 +2,7 @@
 use Rattle.std.proofs.Common.{Bool, true, false, List, sym, subst, ◌∙◌}
 use mathlib.Core.List.{IsPrefix}
 use Rattle.logbook.specs.Pages.{Book}
-use Rattle.gopher_crew.specs.declared.update.Update.{Update}
+use Rattle.gopher_crew.specs.declared.publication.update.Update.{Update}
 use Rattle.gopher_crew.specs.Version.{VersionData, FollowsVersion, CatchesUp, Follows, last_of}
 use Rattle.gopher_crew.proofs.Prefixes.{prefix_trans}
 

@@ -1,5 +1,6 @@
 -- What contracts see of a desk, its passes and its shares.
 use Rattle.std.specs.Prelude.{ℕ, ◌≡◌, ◌+◌, List, length, Result, Ok, Err}
+use mathlib.Core.List.{IsPrefix}
 use Rattle.gopher_catalogue.specs.declared.event.EventData.{EventData}
 use Rattle.gopher_catalogue.specs.Legal.{IsLegal}
 use Rattle.gopher_catalogue.specs.Pages.{pages_found}
@@ -19,6 +20,11 @@ pub record PassData : Type 0 where
   pub told : List EventData
   pub failed_entries : ℕ
 
+-- the records that a pass has seen and was told only become longer
+pub record SeesOn (old new : PassData) : Type 0 where
+  pub seen : IsPrefix old.seen new.seen
+  pub told : IsPrefix old.told new.told
+
 -- the failed entries of a pass before and after a search: one more if it fails with 61
 abbrev pub CountsEntry : {T : Type 0} → ℕ → ℕ → Result T SearchFault → Type 0
 CountsEntry before after (Ok found) = after ≡ before
@@ -31,6 +37,17 @@ pub record ShareData : Type 0 where
   pub events : ℕ
   pub parts : ℕ
   pub seen : List EventData
+
+-- a share counts `count` events more, has as many parts, and has seen at least what it had seen
+pub record Rises (count : ℕ) (old new : ShareData) : Type 0 where
+  pub events : new.events ≡ old.events + count
+  pub parts : new.parts ≡ old.parts
+  pub seen : IsPrefix old.seen new.seen
+
+-- a share before and after a call: it rises by what the call returned, and by nothing at an error
+abbrev pub RisesBy : {T E : Type 0} → (T → ℕ) → Result T E → ShareData → ShareData → Type 0
+RisesBy rise (Ok it) old new = Rises (rise it) old new
+RisesBy rise (Err fault) old new = Rises 0 old new
 
 -- a record, and the prefix of it that is published
 pub record PublicationData : Type 0 where

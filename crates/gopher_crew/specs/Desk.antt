@@ -42,20 +42,16 @@ IsDeskFault passes shares fault =
 abbrev pub has_seen : List EventData → PassData
 has_seen record_ = record { seen = record_; told = record_; failed_entries = 0 }
 
--- the shares of a desk that opens over a record. All have seen it. The first counts its events so
--- far, the others none
-abbrev pub opening_shares : List EventData → ℕ → ℕ → List ShareData
-opening_shares record_ events shares =
-    record { events = events; parts = 17 - shares; seen = record_ }
-    ∷ replicate (shares - 1) (record { events = 0; parts = 1; seen = record_ })
-
 -- `count` passes that have seen the record
 abbrev pub AllHaveSeen : List EventData → ℕ → List PassData → Type 0
 AllHaveSeen record_ count passes = passes ≡ replicate count (has_seen record_)
 
--- the shares of a desk that opens over a record
+-- the shares of a desk that opens over a record. All have seen it. The first counts its events so
+-- far, the others none
 abbrev pub shares_at : List EventData → ℕ → List ShareData
-shares_at record_ shares = opening_shares record_ (length record_ - 1) shares
+shares_at record_ shares =
+    record { events = length record_ - 1; parts = 17 - shares; seen = record_ }
+    ∷ replicate (shares - 1) (record { events = 0; parts = 1; seen = record_ })
 
 -- the number of events that these shares count, and the number of their parts
 abbrev pub events_of : List ShareData → ℕ

@@ -1,5 +1,5 @@
 -- What the calls of a desk return, and of which records their notes are.
-use Rattle.std.specs.Prelude.{ℕ, ◌≡◌, ◌≢◌, ◌+◌, List, [], ◌∷◌, ◌++◌, Option, None, Some, true, false, slice_get}
+use Rattle.std.specs.Prelude.{ℕ, ◌≡◌, ◌≢◌, List, [], ◌∷◌, ◌++◌, Option, None, Some, true, false, slice_get}
 use mathlib.Core.List.{IsPrefix}
 use Rattle.gopher_page.specs.Page.{PageData}
 use Rattle.gopher_catalogue.specs.declared.event.EventData.{EventData}
@@ -26,18 +26,23 @@ abbrev pub rise_of : TurnData → ℕ
 rise_of (Take number place) = 1
 rise_of turn = 0
 
--- the share rises by the event that a turn adds
-abbrev pub RisesAt : TurnData → ShareData → ShareData → Type 0
-RisesAt turn old new = new.events ≡ old.events + rise_of turn
+-- what each call keeps: the record begins with what the share had seen, and the share then has seen
+-- the legal record after the call, of which no less is published
+pub record IsCall (old : PublicationData) (share : ShareData) (new : PublicationData)
+    (share' : ShareData) : Type 0 where
+  pub begins : IsPrefix share.seen old.events
+  pub seen : share'.seen ≡ new.events
+  pub grows : IsPrefix old.published new.published
+  pub legal : IsLegal new.events
 
 -- the record begins with this opening
 abbrev pub IsOpeningOf : List EventData → OpeningData → Type 0
 IsOpeningOf record_ opening = slice_get record_ 0 ≡ Some (Opened opening)
 
--- on some record that begins with what the share had seen
-pub record Later (share : ShareData) (HoldsOn : List EventData → Type 0) : Type 0 where
+-- on some record that begins with what was seen
+pub record Later (seen : List EventData) (HoldsOn : List EventData → Type 0) : Type 0 where
   pub before : List EventData
-  pub begins : IsPrefix share.seen before
+  pub begins : IsPrefix seen before
   pub holds : HoldsOn before
 
 -- on the record before, a claim returns this turn. The share then has seen the legal record after
@@ -69,10 +74,6 @@ abbrev pub IsNotIdle : TurnData → Type 0
 IsNotIdle Idle = ⊥
 IsNotIdle turn = Unit {0}
 
--- on the legal record that the share has seen, a claim returns this turn
-abbrev pub TurnsOn : TurnData → ShareData → Type 0
-TurnsOn turn share = (turn_of share.seen ≡ turn) × IsLegal share.seen
-
 -- on the legal record that the share has seen, a place waits
 abbrev pub LetsClaim : ShareData → Type 0
 LetsClaim share = IsTake (turn_of share.seen) × IsLegal share.seen
@@ -86,13 +87,10 @@ RefusesFind number page fault share =
 abbrev pub RefusesFailure : ℕ → ShareData → Type 0
 RefusesFailure number share = (is_out_in share.seen number ≡ false) × IsLegal share.seen
 
--- the status of a legal record that begins with the one that a desk was opened with
-pub record IsStatusAfter (opened : List EventData) (status : Status) : Type 0 where
-  pub record_ : List EventData
-  pub begins : IsPrefix opened record_
-  pub is_legal : IsLegal record_
-  pub is_status : status ≡ status_of record_
+-- this is the status of a legal record
+abbrev pub IsStatusOf : Status → List EventData → Type 0
+IsStatusOf status record_ = (status ≡ status_of record_) × IsLegal record_
 
--- this is the status of the legal record that the share has seen
-abbrev pub IsStatusOn : ShareData → Status → Type 0
-IsStatusOn share status = (status ≡ status_of share.seen) × IsLegal share.seen
+-- the status of a legal record that begins with the one that a desk was opened with
+abbrev pub IsStatusAfter : List EventData → Status → Type 0
+IsStatusAfter opened status = Later opened (IsStatusOf status)

@@ -8,3 +8,6 @@ pub mod Fault
 pub mod Kept
 pub mod Desk
 pub mod Work
+pub mod Answer
+pub mod Fetch
+pub mod Site

@@ -1,6 +1,6 @@
 -- When workers may merge pages.
-use Rattle.std.specs.Prelude.{ℕ, Bool, true, false, nat_lt, not, if◌then◌else◌}
-use Rattle.gopher_crew.specs.declared.merging.Merging.{Merging}
+use Rattle.std.specs.Prelude.{ℕ, Bool, true, false, nat_le, nat_lt, if◌then◌else◌}
+use Rattle.gopher_crew.specs.declared.working.merging.Merging.{Merging}
 
 -- whether no place waits and none is out, or a run was merged since that was so
 abbrev pub is_at_last : Merging → ℕ → ℕ → Bool
@@ -12,9 +12,9 @@ is_at_last merging waiting out =
 -- and without a place that waits only one is merged, once none is out
 abbrev pub may_merge : Merging → ℕ → ℕ → ℕ → Bool
 may_merge merging waiting out found =
-    if nat_lt 0 waiting then not (nat_lt found merging.retry_at)
+    if nat_lt 0 waiting then nat_le merging.retry_at found
     else (if nat_lt 0 out then false
-    else (if merging.is_last_taken then false else not (nat_lt found merging.retry_at)))
+    else (if merging.is_last_taken then false else nat_le merging.retry_at found))
 
 abbrev pub is_merged_after : Merging → Bool → Bool
 is_merged_after merging was_merged = if was_merged then true else merging.is_merged

@@ -5,7 +5,7 @@ use Rattle.left_right.specs.declared.writer.Writer.{Writer}
 use Rattle.logbook.specs.Pages.{Book}
 use Rattle.gopher_catalogue.specs.declared.event.EventData.{EventData}
 use Rattle.gopher_page.specs.Page.{PageData}
-use Rattle.gopher_crew.specs.declared.update.Update.{Update}
+use Rattle.gopher_crew.specs.declared.publication.update.Update.{Update}
 use Rattle.gopher_crew.specs.History.{RecordPrefixData}
 use Rattle.gopher_crew.specs.Version.{VersionData, IsSeenVersion, FollowsVersion, CatchesUp, Follows, version_data, last_of}
 

@@ -12,9 +12,9 @@ use Rattle.gopher_catalogue.specs.Legal.{IsLegal}
 use Rattle.gopher_catalogue.specs.Pages.{pages_found}
 use Rattle.gopher_page.specs.Page.{PageData}
 use Rattle.gopher_crew.specs.History.{RecordPrefixData}
-use Rattle.gopher_crew.specs.declared.update.Change.{Change}
-use Rattle.gopher_crew.specs.declared.update.Change.TheVariants.{Nothing, Page, All}
-use Rattle.gopher_crew.specs.declared.update.Update.{Update}
+use Rattle.gopher_crew.specs.declared.publication.update.Change.{Change}
+use Rattle.gopher_crew.specs.declared.publication.update.Change.TheVariants.{Nothing, Page, All}
+use Rattle.gopher_crew.specs.declared.publication.update.Update.{Update}
 
 -- pages, and a prefix of a history
 pub record VersionData : Type 0 where
@@ -36,15 +36,6 @@ abbrev pub Applies : {T E Z : Type 0} → Change → Arc (List PageData) Z → A
 Applies change old new result =
     MatchResult result
     (λ _. arc_value new ≡ pages_after change (arc_value old))
-    (λ _. arc_value new ≡ arc_value old)
-
--- one more shared page is added at the end of the shared pages, if that succeeds; otherwise they
--- stay
-abbrev pub AddsPage : {T E Y Z : Type 0} → Arc PageData Y → Arc (List PageData) Z
-    → Arc (List PageData) Z → Result T E → Type 0
-AddsPage page old new result =
-    MatchResult result
-    (λ _. arc_value new ≡ arc_value old ++ arc_value page ∷ [])
     (λ _. arc_value new ≡ arc_value old)
 
 -- the version after an update

@@ -1,13 +1,12 @@
 -- What a worker does.
 use Rattle.std.specs.Prelude.{ℕ, ◌≡◌, ◌+◌, ◌*◌, ◌≤◌, ◌⊎◌, min, List, Option, Some, None, Result, Ok, Err}
 use Rattle.std.specs.List.{sum_by}
-use Rattle.std.specs.Arc.{arc_value}
 use mathlib.Core.List.{IsPrefix}
-use Rattle.std.specs.declared.sync.Arc.{Arc}
 use Rattle.gopher_item.specs.Place.{PlaceData}
 use Rattle.gopher_item.specs.Scope.{ScopeData}
 use Rattle.gopher_page.specs.Page.{PageData, page_of}
-use Rattle.gopher_catalogue.specs.Step.{Finished as FinishedTurn}
+use Rattle.gopher_catalogue.specs.Legal.{IsLegal}
+use Rattle.gopher_catalogue.specs.Step.{Finished as FinishedTurn, turn_of}
 use Rattle.gopher_catalogue.specs.declared.event.Why.{Why}
 use Rattle.gopher_catalogue.specs.declared.event.Why.TheVariants.{NoMemory}
 use Rattle.gopher_crew.specs.Crew.{ShareData}
@@ -16,7 +15,7 @@ use Rattle.gopher_crew.specs.declared.working.Outcome.TheVariants.{Found, Failed
 use Rattle.gopher_crew.specs.declared.working.Stop.{Stop}
 use Rattle.gopher_crew.specs.declared.working.Stop.TheVariants.{Finished, NoMemory as NoMemoryStop}
 use Rattle.gopher_crew.specs.declared.working.WorkEnd.{WorkEnd}
-use Rattle.gopher_crew.specs.Kept.{TurnsOn, RefusesFailure, LetsClaim}
+use Rattle.gopher_crew.specs.Kept.{RefusesFailure, LetsClaim}
 
 -- a fetcher's number of calls after one more
 abbrev pub one_more_call : ℕ → ℕ
@@ -53,7 +52,7 @@ IsPaid old new calls calls' =
 -- why a worker stopped: on the record that its share has seen, nothing waits and nothing is out, or
 -- a place waits, whose claim ran out of memory
 abbrev pub IsStop : Stop → ShareData → Type 0
-IsStop Finished share = TurnsOn FinishedTurn share
+IsStop Finished share = (turn_of share.seen ≡ FinishedTurn) × IsLegal share.seen
 IsStop NoMemoryStop share = LetsClaim share
 
 -- what a worker did in one round: it called its fetcher once and made at most two events, or it
@@ -89,9 +88,7 @@ WorksFrom called pair end =
 
 -- what a worker did that began with the fetcher and the share of this one
 abbrev pub WorksOn : {F C : Type 0} → (F → ℕ) → WorkEnd F C → WorkEnd F C → Type 0
-WorksOn called old new =
-    Works old.share (called old.fetcher) new.share (called new.fetcher) (new.found + new.failed)
-    new.stop
+WorksOn called old new = WorksFrom called (old.fetcher, old.share) new
 
 -- the worker has the fetcher and the share of this pair
 abbrev pub HasPair : {F C : Type 0} → F × ShareData → WorkEnd F C → Type 0
@@ -103,16 +100,6 @@ HaveAsManyParts pairs ends =
     sum_by (λ end. end.share.parts) ends ≡ sum_by (λ pair. pair.1.parts) pairs
 
 -- the bytes that were fetched of a place become its page, unless memory runs out
-abbrev pub SettlesBytes : ScopeData → PlaceData → List ℕ → Result PageData Why → Type 0
-SettlesBytes scope place bytes (Ok page) = page ≡ page_of scope place bytes
-SettlesBytes scope place bytes (Err why) = why ≡ NoMemory
-
--- the same of a place that is shared
-abbrev pub SettlesShared : {Z : Type 0} → ScopeData → Arc PlaceData Z → List ℕ
-    → Result PageData Why → Type 0
-SettlesShared scope place bytes result = SettlesBytes scope (arc_value place) bytes result
-
--- why nothing was fetched stays
-abbrev pub SettlesWhy : Why → Result PageData Why → Type 0
-SettlesWhy why (Ok page) = ⊥
-SettlesWhy why (Err reason) = reason ≡ why
+abbrev pub Settles : ScopeData → PlaceData → List ℕ → Result PageData Why → Type 0
+Settles scope place bytes (Ok page) = page ≡ page_of scope place bytes
+Settles scope place bytes (Err why) = why ≡ NoMemory

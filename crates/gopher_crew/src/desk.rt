@@ -4,22 +4,30 @@ ghost use Rattle.std.specs.Arc.{arc_value};
 ghost use Rattle.std.specs.Prelude.{◌≡◌, ◌+◌, ◌≤◌, [], true, vec_capacity, IfOk, IfErr, IfSome, OnOk, OnErr};
 ghost use mathlib.Core.List.{IsPrefix};
 ghost use Rattle.gopher_catalogue.specs.Turn.{turn_data};
+ghost use Rattle.gopher_crew.specs.Crew.{Rises, RisesBy};
 ghost use Rattle.gopher_crew.specs.Desk.{are_counts, shares_at, AllHaveSeen, ComesBack, IsBlankOf, IsDeskFault, HasAll};
 ghost use Rattle.gopher_crew.specs.Publication.{ShowsRecord};
-ghost use Rattle.gopher_crew.specs.Kept.{RisesAt, Later, Claims, Finds, Fails, RefusesFind, RefusesFailure, LetsClaim, IsNotIdle, IsOpeningOf, IsStatusAfter, IsStatusOn};
+ghost use Rattle.gopher_crew.specs.Kept.{rise_of, Later, Claims, Finds, Fails, RefusesFind, RefusesFailure, LetsClaim, IsNotIdle, IsOpeningOf, IsStatusOf, IsStatusAfter};
 
-use crate::blank::Blank;
+pub mod blank;
+pub mod closing;
+pub mod kept;
+pub mod opening;
+pub mod refusals;
+pub mod share;
+
 use crate::crew::Crew;
+use crate::desk::blank::Blank;
+use crate::desk::kept::Kept;
+use crate::desk::opening::{cut, writer_with_passes};
+use crate::desk::refusals::DeskRefused;
+use crate::desk::share::Share;
 use crate::fault::DeskFault;
-use crate::kept::Kept;
-use crate::memory::PageMemory;
-use crate::note::Note;
-use crate::opening::{cut, writer_with_passes};
 use crate::pass::Pass;
+use crate::publication::note::Note;
+use crate::publication::record_prefix::RecordPrefix;
 use crate::publication::{Publication, VersionWriter};
-use crate::record_prefix::RecordPrefix;
-use crate::refusals::DeskRefused;
-use crate::share::Share;
+use crate::working::memory::PageMemory;
 use gopher_catalogue::{Added, Catalogue, FailRefused, FoundRefused, Opening, Status, Turn, Why};
 use gopher_item::NoMemory;
 use gopher_page::Page;
@@ -113,22 +121,6 @@ fn start<C: Crew, R: Wait + Drop>(
     }
 }
 
-// Claims the first waiting place, and lets go of the note.
-fn claim_at<C: Crew, R: Wait + Drop>(
-    kept: &mut Kept<C, R>,
-    share: &mut Share<C>,
-) -> Result<Turn, NoMemory>
-    ensures answered { IfOk result (λ it. Later share.old (Claims (turn_data it) share.new)) }
-    ensures share { IfOk result (λ turn. RisesAt (turn_data turn) share.old share.new) }
-    ensures parts { share.new.parts ≡ share.old.parts }
-    ensures waits { OnErr result (LetsClaim share.new) }
-    ensures seen { IsPrefix share.old.seen share.new.seen }
-    ensures err { OnErr result (share.new.events ≡ share.old.events) }
-{
-    let (turn, _note) = kept.claim(share)?;
-    Ok(turn)
-}
-
 impl<C: Crew, R: Wait + Drop> Desk<C, R> {
     /// Opens a desk over a catalogue.
     ///
@@ -200,13 +192,10 @@ impl<C: Crew, R: Wait + Drop> Desk<C, R> {
         rt: &W,
         share: &mut Share<C>,
     ) -> Result<(Turn, Option<Note<C>>), NoMemory>
-        ensures answered { IfOk result (λ it. Later share.old (Claims (turn_data it.0) share.new)) }
+        ensures turn { IfOk result (λ r. Later share.old.seen (Claims (turn_data r.0) share.new)) }
         ensures noted { IfOk result (λ reply. IfSome reply.1 (λ note. note ≡ share.new.seen)) }
-        ensures share { IfOk result (λ reply. RisesAt (turn_data reply.0) share.old share.new) }
-        ensures parts { share.new.parts ≡ share.old.parts }
+        ensures share { RisesBy (λ it. rise_of (turn_data it.0)) result share.old share.new }
         ensures waits { OnErr result (LetsClaim share.new) }
-        ensures seen { IsPrefix share.old.seen share.new.seen }
-        ensures err { OnErr result (share.new.events ≡ share.old.events) }
     {
         self.kept.lock(rt).claim(share)
     }
@@ -229,14 +218,11 @@ impl<C: Crew, R: Wait + Drop> Desk<C, R> {
         number: u32,
         page: Page,
     ) -> Result<(Added, Option<Note<C>>), FoundRefused>
-        ensures answered { IfOk result (λ it. Later share.old (Finds number page it.0 share.new)) }
+        ensures found { IfOk result (λ r. Later share.old.seen (Finds number page r.0 share.new)) }
         ensures noted { IfOk result (λ reply. IfSome reply.1 (λ note. note ≡ share.new.seen)) }
-        ensures share { OnOk result (share.new.events ≡ share.old.events + 1) }
-        ensures parts { share.new.parts ≡ share.old.parts }
+        ensures share { RisesBy (λ _. 1) result share.old share.new }
         ensures refused { IfErr result (λ error. RefusesFind number page error.fault share.new) }
         ensures page_back { IfErr result (λ refused. refused.page ≡ page) }
-        ensures seen { IsPrefix share.old.seen share.new.seen }
-        ensures err { OnErr result (share.new.events ≡ share.old.events) }
     {
         let reply = self.kept.lock(rt).found(share, number, page)?;
         self.outcomes.notify_all();
@@ -257,13 +243,10 @@ impl<C: Crew, R: Wait + Drop> Desk<C, R> {
         number: u32,
         why: Why,
     ) -> Result<Option<Note<C>>, FailRefused>
-        ensures answered { OnOk result (Later share.old (Fails number why share.new)) }
+        ensures failed { OnOk result (Later share.old.seen (Fails number why share.new)) }
         ensures refused { OnErr result (RefusesFailure number share.new) }
         ensures noted { IfOk result (λ note. IfSome note (λ noted. noted ≡ share.new.seen)) }
-        ensures share { OnOk result (share.new.events ≡ share.old.events + 1) }
-        ensures parts { share.new.parts ≡ share.old.parts }
-        ensures seen { IsPrefix share.old.seen share.new.seen }
-        ensures err { OnErr result (share.new.events ≡ share.old.events) }
+        ensures share { RisesBy (λ _. 1) result share.old share.new }
     {
         let note = self.kept.lock(rt).fail(share, number, why)?;
         self.outcomes.notify_all();
@@ -304,24 +287,18 @@ impl<C: Crew, R: Wait + Drop> Desk<C, R> {
         alloc: Global,
         share: &mut Share<C>,
     ) -> Result<Turn, NoMemory>
-        ensures answered { IfOk result (λ it. Later share.old (Claims (turn_data it) share.new)) }
+        ensures turn { IfOk result (λ it. Later share.old.seen (Claims (turn_data it) share.new)) }
         ensures not_idle { IfOk result (λ turn. IsNotIdle (turn_data turn)) }
-        ensures share { IfOk result (λ turn. RisesAt (turn_data turn) share.old share.new) }
-        ensures parts { share.new.parts ≡ share.old.parts }
+        ensures share { RisesBy (λ it. rise_of (turn_data it)) result share.old share.new }
         ensures waits { OnErr result (LetsClaim share.new) }
-        ensures seen { IsPrefix share.old.seen share.new.seen }
-        ensures err { OnErr result (share.new.events ≡ share.old.events) }
     {
         for _round in rt.forever() {
             let mut kept = self.merge_due(rt, alloc);
-            let turn = claim_at(&mut *kept, share)?;
-            match turn {
-                Turn::Take(claim) => return Ok(Turn::Take(claim)),
-                Turn::Idle => {
-                    let _kept = self.outcomes.wait(rt, kept);
-                }
-                Turn::Finished => return Ok(Turn::Finished),
-            }
+            let (turn, _note) = kept.claim(share)?;
+            let Turn::Idle = turn else {
+                return Ok(turn);
+            };
+            let _kept = self.outcomes.wait(rt, kept);
         }
         unreachable!()
     }
@@ -359,10 +336,8 @@ impl<C: Crew, R: Wait + Drop> Desk<C, R> {
     /// Returns the number of places in each state. They are those of the record that the share then
     /// has seen.
     pub fn status_for<W: Wait>(&self, rt: &W, share: &mut Share<C>) -> Status
-        ensures status { IsStatusOn share.new result }
-        ensures seen { IsPrefix share.old.seen share.new.seen }
-        ensures events { share.new.events ≡ share.old.events }
-        ensures parts { share.new.parts ≡ share.old.parts }
+        ensures status { IsStatusOf result share.new.seen }
+        ensures share { Rises 0 share.old share.new }
     {
         self.kept.lock(rt).status_for(share)
     }

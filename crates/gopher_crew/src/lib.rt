@@ -1,8 +1,10 @@
-//! A desk at which workers crawl one catalogue together, and passes that search its snapshots.
+//! A desk at which workers crawl one catalogue together, passes that search its snapshots, and the
+//! replies of a server to request lines, from a tree and a pass.
 //!
-//! The crates above rely on three contracts. Each call at a desk is a step of one sequential
+//! The crates above rely on four contracts. Each call at a desk is a step of one sequential
 //! catalogue. A search answers from one legal record that begins with everything the same pass saw
 //! before. The workers of a crawl keep the parts of their shares, so that the desk can be closed.
+//! `answer` and `answer_kept` return the reply that `specs/Answer.antt` defines (`site`).
 //!
 //! # Words
 //!
@@ -17,7 +19,7 @@
 //! The picture `docs/found.svg` shows it. A worker claims a place under the desk's lock. It fetches
 //! the place and makes its page while it holds no lock. Behind the lock again, `Kept` adds the
 //! event to the catalogue and counts it for the worker's share. The publication enters the event
-//! into the history, and compares the index with the published one to make an `Update`. Its writer
+//! into the history, and makes an `Update` of the events since the published record. Its writer
 //! (`left_right`) keeps two copies: readers use one while the writer changes the other, and each
 //! update is applied to both. An update changes no pages, adds one page, or replaces all pages by
 //! those of an index if segments were merged since.
@@ -55,14 +57,15 @@
 //!
 //! | subject | files |
 //! |---|---|
-//! | opening and closing a desk | `desk`, `blank`, `opening`, `closing` |
-//! | calls of a desk, behind its lock | `desk`, `kept`, `share`, `note` |
-//! | workers | `working`, `crawling`, `fetch`, `settling`, `memory` |
-//! | merging | `merge_job`, `Kept::merge_job` and `install`, `Desk::merge_due` |
-//! | the history and its tokens | `history`, `record_prefix`, `entering` |
-//! | publishing | `publication`, `update`, `version` |
+//! | opening and closing a desk | `desk`; in `desk/`: `blank`, `opening`, `closing`, `refusals` |
+//! | calls of a desk, behind its lock | `desk`; in `desk/`: `kept`, `share` |
+//! | workers | `working`; in `working/`: `crawling`, `fetch`, `settling`, `memory` |
+//! | merging | in `working/`: `merging`, `merge_job`; `Kept::merge_job`, `Desk::merge_due` |
+//! | publishing | `publication`; in `publication/`: `update`, `version` |
+//! | history and tokens | in `publication/`: `history`, `entering`, `record_prefix`, `note` |
 //! | searching | `pass` |
-//! | names and faults | `crew`, `fault`, `refusals` |
+//! | replies to request lines, and fetches | `site`; in `site/`: `answering`, `fetching` |
+//! | names and faults | `crew`, `fault` |
 //!
 //! # Opening a desk
 //!
@@ -79,40 +82,24 @@
 //! before.
 #![tactic(auto)]
 
-mod blank;
-mod closing;
-mod crawling;
 mod crew;
 mod desk;
-mod entering;
 mod fault;
-mod fetch;
-mod history;
-mod kept;
 pub mod laws;
-mod memory;
-mod merge_job;
-mod merging;
-mod note;
-mod opening;
 mod pass;
 mod publication;
-mod record_prefix;
-mod refusals;
-mod settling;
-mod share;
-mod update;
-mod version;
+mod site;
 mod working;
 
-pub use blank::Blank;
-pub use crawling::{CrawlRefused, crawl};
 pub use crew::Crew;
 pub use desk::Desk;
+pub use desk::blank::Blank;
+pub use desk::refusals::{CloseRefused, DeskRefused};
+pub use desk::share::Share;
 pub use fault::{DeskFault, SearchFault};
-pub use fetch::{Calls, Fetch};
-pub use note::Note;
 pub use pass::{Answer, Pass};
-pub use refusals::{CloseRefused, DeskRefused};
-pub use share::Share;
+pub use publication::note::Note;
+pub use site::{Site, answer, answer_kept, fetch_over, serve_one};
+pub use working::crawling::{CrawlRefused, crawl};
+pub use working::fetch::{Calls, Fetch};
 pub use working::{Stop, WorkEnd, work};

@@ -7,16 +7,16 @@ ghost use Rattle.gopher_catalogue.specs.Legal.{IsLegal};
 ghost use Rattle.gopher_catalogue.specs.Pages.{pages_found};
 ghost use Rattle.gopher_index.specs.Searching.{begun_hits};
 ghost use Rattle.gopher_crew.specs.Desk.{has_seen};
-ghost use Rattle.gopher_crew.specs.Crew.{CountsEntry, hits_of};
+ghost use Rattle.gopher_crew.specs.Crew.{CountsEntry, Rises, SeesOn, hits_of};
 ghost use Rattle.gopher_crew.specs.Version.{IsSeenVersion};
 
 use crate::crew::Crew;
+use crate::desk::share::Share;
 use crate::fault::SearchFault;
-use crate::note::Note;
-use crate::publication::VersionReader;
-use crate::record_prefix::RecordPrefix;
-use crate::share::Share;
-use crate::version::{Sees, Version};
+use crate::publication::note::Note;
+use crate::publication::record_prefix::RecordPrefix;
+use crate::publication::version::{Sees, Version};
+use crate::publication::{VersionReader, VersionWriter};
 use core::mem::replace_with;
 use gopher_index::{Begun, Hit};
 use gopher_page::Query;
@@ -83,12 +83,13 @@ impl<C: Crew> Pass<C> {
     /// version, or if another record is published.
     pub(crate) fn open(
         alloc: Global,
-        reader: VersionReader<C>,
+        writer: &VersionWriter<C>,
         published: &RecordPrefix,
     ) -> Option<Pass<C>>
         requires { published.now.history ≡ C.history }
         ensures { IfSome result (λ pass. pass ≡ has_seen published.now.events) }
     {
+        let reader = writer.factory().reader().ok()?;
         let (reader, version) = take_version(reader, ());
         let Ok(version) = version else {
             return None;
@@ -138,9 +139,7 @@ impl<C: Crew> Pass<C> {
     /// share, the record of its catalogue begins with it.
     pub fn tell(&self, share: &mut Share<C>)
         ensures told { IsPrefix self.now.told share.new.seen }
-        ensures seen { IsPrefix share.old.seen share.new.seen }
-        ensures events { share.new.events ≡ share.old.events }
-        ensures parts { share.new.parts ≡ share.old.parts }
+        ensures share { Rises 0 share.old share.new }
     {
         share.hear(&self.told);
     }
@@ -150,10 +149,8 @@ impl<C: Crew> Pass<C> {
         ensures legal { OnOk result (IsLegal self.new.seen) }
         ensures pages { IfOk result (λ version. version.pages ≡ pages_found self.new.seen) }
         ensures prefix { IfOk result (λ version. version.prefix.events ≡ self.new.seen) }
-        ensures after_told { OnOk result (IsPrefix self.old.told self.new.seen) }
         ensures none_told { OnOk result (self.new.told ≡ self.new.seen) }
-        ensures after_seen { IsPrefix self.old.seen self.new.seen }
-        ensures told { IsPrefix self.old.told self.new.told }
+        ensures sees_on { SeesOn self.old self.new }
         ensures entries { CountsEntry self.old.failed_entries self.new.failed_entries result }
     {
         match replace_with(&mut self.reader, (), take_version) {
@@ -184,10 +181,8 @@ impl<C: Crew> Pass<C> {
     pub fn begin(&mut self, query: &Query) -> Result<Begun, SearchFault>
         ensures legal { OnOk result (IsLegal self.new.seen) }
         ensures hits { IfOk result (λ begun. begun_hits begun ≡ hits_of self.new.seen query.now) }
-        ensures after_told { OnOk result (IsPrefix self.old.told self.new.seen) }
         ensures none_told { OnOk result (self.new.told ≡ self.new.seen) }
-        ensures after_seen { IsPrefix self.old.seen self.new.seen }
-        ensures told { IsPrefix self.old.told self.new.told }
+        ensures sees_on { SeesOn self.old self.new }
         ensures entries { CountsEntry self.old.failed_entries self.new.failed_entries result }
     {
         let version = self.take()?;
@@ -205,10 +200,8 @@ impl<C: Crew> Pass<C> {
         ensures legal { OnOk result (IsLegal self.new.seen) }
         ensures at { IfOk result (λ answer. answer.at ≡ length self.new.seen) }
         ensures hits { IfOk result (λ answer. answer.hits.items ≡ hits_of self.new.seen query.now) }
-        ensures after_told { OnOk result (IsPrefix self.old.told self.new.seen) }
         ensures none_told { OnOk result (self.new.told ≡ self.new.seen) }
-        ensures after_seen { IsPrefix self.old.seen self.new.seen }
-        ensures told { IsPrefix self.old.told self.new.told }
+        ensures sees_on { SeesOn self.old self.new }
         ensures entries { CountsEntry self.old.failed_entries self.new.failed_entries result }
     {
         let version = self.take()?;

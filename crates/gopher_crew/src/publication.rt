@@ -1,23 +1,30 @@
 //! `Publication`: enters a catalogue's record into the crew's history, and publishes it.
 
-ghost use Rattle.std.specs.Prelude.{◌≡◌, ◌≢◌, [], IsTrue, MatchBool};
+ghost use Rattle.std.specs.Prelude.{◌≡◌, ◌≢◌, [], IsTrue, MatchBool, map};
 ghost use mathlib.Core.List.{IsPrefix};
-ghost use Rattle.gopher_catalogue.specs.Legal.{IsLegal};
-ghost use Rattle.gopher_catalogue.specs.Pages.{pages_found};
+ghost use Rattle.gopher_catalogue.specs.EventOf.{event_data};
+ghost use Rattle.gopher_crew.specs.Crew.{Rises};
 ghost use Rattle.gopher_crew.specs.Kept.{IsNoted};
 ghost use Rattle.gopher_crew.specs.Publication.{PagesFollow, ShowsRecord, waiting_updates, NextFollows, WriterCatchesUp, WriterFollows};
 ghost use Rattle.gopher_crew.specs.Version.{version_data, IsVersion};
 
+pub mod entering;
+pub mod history;
+pub mod note;
+pub mod record_prefix;
+pub mod update;
+pub mod version;
+
 use crate::crew::Crew;
-use crate::entering::enter;
-use crate::history::Head;
-use crate::note::Note;
-use crate::record_prefix::RecordPrefix;
-use crate::share::Share;
-use crate::update::{Change, Update};
-use crate::version::{Sees, Shows, Version};
+use crate::desk::share::Share;
+use crate::publication::entering::enter;
+use crate::publication::history::Head;
+use crate::publication::note::Note;
+use crate::publication::record_prefix::RecordPrefix;
+use crate::publication::update::{Change, Update};
+use crate::publication::version::{Sees, Shows, Version};
 use core::mem::replace_with;
-use gopher_catalogue::{Catalogue, EventData};
+use gopher_catalogue::{Catalogue, Event, EventData};
 use gopher_index::Index;
 use left_right::reader::Reader;
 use left_right::writer::Writer;
@@ -100,17 +107,20 @@ fn publish_next<C: Crew, R: Wait>(
     writer: &mut VersionWriter<C>,
     rt: &R,
     alloc: Global,
+    events: &[Event],
     index: &Index,
     prefix: &RecordPrefix,
     renews: bool,
 ) -> bool
     requires none { waiting_updates writer.old ≡ [] }
     requires version { IsVersion C.history writer.old.desk.shown.value }
+    requires entered { map event_data events.now ≡ prefix.now.events }
     requires goes_on { PagesFollow C.history writer.old.desk.shown.value index.now prefix.now }
     ensures { WriterFollows result (version_data index.now prefix.now) writer.old writer.new }
 {
-    let shown = writer.published().index();
-    let Ok(change) = Change::between(alloc, shown, index, renews) else {
+    let shown = writer.published();
+    let new = &events[shown.prefix().len() as usize..];
+    let Ok(change) = Change::since(alloc, shown.index(), new, index, renews) else {
         return false;
     };
     let update = Update {
@@ -159,9 +169,7 @@ impl<C: Crew, R: Wait + Drop> Publication<C, R> {
     /// Shows the record that was entered to a share.
     pub fn show(&self, share: &mut Share<C>)
         ensures seen { share.new.seen ≡ self.now.events }
-        ensures begins { IsPrefix share.old.seen self.now.events }
-        ensures events { share.new.events ≡ share.old.events }
-        ensures parts { share.new.parts ≡ share.old.parts }
+        ensures share { Rises 0 share.old share.new }
     {
         share.see(&self.rt, &self.prefix);
     }
@@ -185,12 +193,11 @@ impl<C: Crew, R: Wait + Drop> Publication<C, R> {
         true
     }
 
-    /// Publishes the record that was entered, which has these pages. If an update waits, it is
-    /// published first. If `renews`, the index replaces the published one, whose pages may be in
+    /// Publishes the catalogue's record, which was entered. If an update waits, it is published
+    /// first. If `renews`, the catalogue's index replaces the published one, whose pages may be in
     /// smaller segments. Returns whether it published: it didn't if memory ran out.
-    pub fn publish(&mut self, index: &Index, renews: bool) -> bool
-        requires pages { index.now ≡ pages_found self.old.events }
-        requires legal { IsLegal self.old.events }
+    pub fn publish(&mut self, catalogue: &Catalogue, renews: bool) -> bool
+        requires { self.old.events ≡ catalogue.now }
         ensures events { self.new.events ≡ self.old.events }
         ensures published { IsTrue result → self.new.published ≡ self.old.events }
         ensures grows { IsPrefix self.old.published self.new.published }
@@ -202,17 +209,17 @@ impl<C: Crew, R: Wait + Drop> Publication<C, R> {
             &mut self.writer,
             &self.rt,
             self.alloc,
-            index,
+            catalogue.record(),
+            catalogue.index(),
             &self.prefix,
             renews,
         )
     }
 
-    /// Publishes the record that was entered, which has these pages, unless it is published.
-    /// Returns a note exactly if it is published then.
-    pub fn note(&mut self, index: &Index) -> Option<Note<C>>
-        requires pages { index.now ≡ pages_found self.old.events }
-        requires legal { IsLegal self.old.events }
+    // Publishes the catalogue's record, which was entered, unless it is published. Returns a note
+    // exactly if it is published then.
+    fn note(&mut self, catalogue: &Catalogue) -> Option<Note<C>>
+        requires { self.old.events ≡ catalogue.now }
         ensures events { self.new.events ≡ self.old.events }
         ensures note { IsNoted result self.new }
         ensures grows { IsPrefix self.old.published self.new.published }
@@ -220,20 +227,11 @@ impl<C: Crew, R: Wait + Drop> Publication<C, R> {
         if self.is_shown() {
             return Some(Note::of(&self.prefix));
         }
-        self.publish(index, false);
+        self.publish(catalogue, false);
         if !self.is_shown() {
             return None;
         }
         Some(Note::of(&self.prefix))
-    }
-
-    // Enters the new events of the catalogue.
-    fn enter(&mut self, catalogue: &Catalogue)
-        requires begun { IsPrefix self.old.events catalogue.now }
-        ensures events { self.new.events ≡ catalogue.now }
-        ensures published { self.new.published ≡ self.old.published }
-    {
-        enter(&self.rt, &mut self.prefix, &self.head, catalogue);
     }
 
     /// Enters the new events of the catalogue, shows its record to a share, and publishes it.
@@ -244,11 +242,10 @@ impl<C: Crew, R: Wait + Drop> Publication<C, R> {
         ensures note { IsNoted result self.new }
         ensures grows { IsPrefix self.old.published self.new.published }
         ensures seen { share.new.seen ≡ catalogue.now }
-        ensures events { share.new.events ≡ share.old.events }
-        ensures parts { share.new.parts ≡ share.old.parts }
+        ensures share { Rises 0 share.old share.new }
     {
-        self.enter(catalogue);
+        enter(&self.rt, &mut self.prefix, &self.head, catalogue);
         self.show(share);
-        self.note(catalogue.index())
+        self.note(catalogue)
     }
 }

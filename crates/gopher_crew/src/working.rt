@@ -1,14 +1,22 @@
 //! `work`: one worker, which claims places, fetches them and hands in their pages.
 
-ghost use Rattle.std.specs.Prelude.{◌≡◌, ◌+◌, ◌*◌, ◌≤◌, true, false};
+ghost use Rattle.std.specs.Prelude.{◌≡◌, ◌+◌, ◌*◌, ◌≤◌, if◌then◌else◌};
 ghost use mathlib.Core.List.{IsPrefix};
+ghost use Rattle.gopher_crew.specs.Crew.{Rises};
 ghost use Rattle.gopher_crew.specs.Work.{one_more_call, found_rise, failed_rise, outcome_rise, IsPaid, IsStop, EndsClaim, WorksOnce, WorksOn, RisesByOutcomes};
+
+pub mod crawling;
+pub mod fetch;
+pub mod memory;
+pub mod merge_job;
+pub mod merging;
+pub mod settling;
 
 use crate::crew::Crew;
 use crate::desk::Desk;
-use crate::fetch::Fetch;
-use crate::settling::settle_shared;
-use crate::share::Share;
+use crate::desk::share::Share;
+use crate::working::fetch::Fetch;
+use crate::working::settling::settle_shared;
 use gopher_catalogue::{Claim, Turn, Why};
 use gopher_page::Page;
 use gopher_text::MAX_REPLY;
@@ -55,10 +63,7 @@ fn hand_in_page<C: Crew, R: Wait + Drop, W: Wait>(
     number: u32,
     page: Page,
 ) -> bool
-    ensures found { result ≡ true → share.new.events ≡ share.old.events + 1 }
-    ensures refused { result ≡ false → share.new.events ≡ share.old.events }
-    ensures parts { share.new.parts ≡ share.old.parts }
-    ensures seen { IsPrefix share.old.seen share.new.seen }
+    ensures { Rises (if result then 1 else 0) share.old share.new }
 {
     let size = page.size() as u64;
     if !desk.memory().take(size) {
@@ -82,9 +87,7 @@ fn hand_in<C: Crew, R: Wait + Drop, W: Wait>(
     number: u32,
     settled: Result<Page, Why>,
 ) -> Outcome
-    ensures events { share.new.events ≡ share.old.events + outcome_rise result }
-    ensures parts { share.new.parts ≡ share.old.parts }
-    ensures seen { IsPrefix share.old.seen share.new.seen }
+    ensures share { Rises (outcome_rise result) share.old share.new }
     ensures out { EndsClaim result number share.new }
 {
     let why = match settled {
@@ -110,11 +113,9 @@ fn fetch_and_report<C: Crew, R: Wait + Drop, W: Wait, F: Fetch<W> + Drop>(
     claim: &Claim,
     worker: &mut WorkEnd<F, C>,
 ) -> Outcome
-    ensures rise { worker.new.share.events ≡ worker.old.share.events + outcome_rise result }
+    ensures share { Rises (outcome_rise result) worker.old.share worker.new.share }
     ensures at_most { worker.new.share.events ≤ worker.old.share.events + 1 }
     ensures called { F.called worker.new.fetcher ≡ one_more_call (F.called worker.old.fetcher) }
-    ensures parts { worker.new.share.parts ≡ worker.old.share.parts }
-    ensures seen { IsPrefix worker.old.share.seen worker.new.share.seen }
     ensures found { worker.new.found ≡ worker.old.found }
     ensures failed { worker.new.failed ≡ worker.old.failed }
     ensures out { EndsClaim result claim.now.number worker.new.share }

@@ -4,9 +4,8 @@ ghost use Rattle.std.specs.Prelude.{◌≡◌};
 
 use crate::failures::Failures;
 use gopher_catalogue::Why;
-use gopher_crew::{Calls, Fetch};
+use gopher_crew::{Calls, Fetch, fetch_over};
 use gopher_item::Place;
-use gopher_site::fetch_over;
 use gopher_text::Watched;
 use std::alloc::Global;
 use std::io::Eprint;

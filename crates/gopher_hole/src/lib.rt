@@ -6,8 +6,8 @@
 //! `TcpFetch` (fetching from other servers) and `replay` (replaying the script of a crawl). It
 //! hands on the types that these calls take and return, and those with which a pass is made.
 //!
-//! The contracts of this crate cover the program's status and what it writes. `gopher_site` says
-//! what a client receives, and `gopher_crew` what a crawl leaves.
+//! The contracts of this crate cover the program's status and what it writes. `gopher_crew` says
+//! what a client receives, and what a crawl leaves.
 //!
 //! Error 90 (`NoMemory`) means out of memory.
 #![tactic(auto)]
@@ -30,13 +30,15 @@ pub use crewing::System;
 pub use fault::{Detail, ProgramFault};
 pub use fetching::TcpFetch;
 pub use gopher_catalogue::{Catalogue, OpenFault, OpenRefused, Why};
-pub use gopher_crew::{Blank, Calls, Crew, Desk, DeskFault, DeskRefused, Fetch, Pass, Share};
+pub use gopher_crew::{
+    Blank, Calls, Crew, Desk, DeskFault, DeskRefused, Fetch, Pass, Share, answer, fetch_over,
+    serve_one,
+};
 pub use gopher_item::{Home, ItemFault, NoMemory, Place};
 pub use gopher_scope::{Key, Rule, Scope, SettingsFault};
 pub use gopher_script::{ReplayFault, replay};
 pub use gopher_serve::ServeFault;
 pub use gopher_server::OpenLog;
-pub use gopher_site::{answer, fetch_over, serve_one};
 pub use gopher_text::{MAX_REPLY, Watched};
 pub use gopher_tree::{Trail, Tree, TreeFault};
 pub use program::run;

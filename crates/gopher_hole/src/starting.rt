@@ -4,10 +4,9 @@ ghost use Rattle.std.specs.Prelude.{◌≡◌};
 ghost use Rattle.gopher_hole.specs.Ending.{EndAs, StartsAll, after_thread};
 
 use crate::crewing::System;
-use gopher_crew::{Crew, Pass};
+use gopher_crew::{Crew, Pass, Site};
 use gopher_serve::Replies;
 use gopher_server::{ThreadEnd, ThreadSetup, serve};
-use gopher_site::Site;
 use std::alloc::Global;
 use std::sync::Arc;
 use std::thread::{self, Promise, PromisedHandle, Threads};

@@ -55,9 +55,8 @@ fn crawl_root<C: Crew + Send + Sync, R: Threads + Wait + Abort + AllocGlobal + S
     let (desk, _passes, shares) = opened::<C, R>(rt, blank, 2);
     let ends = crawl(rt, rt.alloc(), &desk, pairs(rt, shares)).ok();
     let shares = shares_of(rt, ends.expect(rt, "no crawl"));
-    let closed = desk.close_with_note(shares).ok();
-    let (closed, note) = closed.expect(rt, "the desk isn't closed");
-    assert!(rt; closed.status().done == 1 && note.is_some());
+    let closed = desk.close(shares).ok().expect(rt, "the desk isn't closed");
+    assert!(rt; closed.status().done == 1);
 }
 
 #[test]

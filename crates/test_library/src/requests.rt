@@ -1,10 +1,9 @@
 //! Requests over streams, of which one growth may be refused.
 
 use crate::stream::Stream;
-use gopher_crew::{Crew, Pass};
+use gopher_crew::{Crew, Pass, serve_one};
 use gopher_item::{Home, NoMemory};
 use gopher_serve::{Replies, ServeFault};
-use gopher_site::serve_one;
 use gopher_text::Watched;
 use gopher_tree::Tree;
 use std::alloc::Global;

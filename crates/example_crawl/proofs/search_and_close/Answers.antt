@@ -17,7 +17,7 @@ returns-clause-first_begins g c =
     (subst (λ (shares : List ShareData). HasAllSeen record_ shares) c.push_reserved.ensures.items c.in-Ok-close.ensures.closed.seen) in
     subst (λ (told : List EventData). IsPrefix told record_) c.in-Ok.ensures.none_told
     (prefix_trans c.search.new.self.told c.tell.new.share.seen record_ c.tell.ensures.told
-    (prefix_trans c.tell.new.share.seen c.tell-2.new.share.seen record_ c.tell-2.ensures.seen shown))
+    (prefix_trans c.tell.new.share.seen c.tell-2.new.share.seen record_ c.tell-2.ensures.share.seen shown))
 
 pub returns-clause-second_begins : goal.returns-clause-second_begins
 returns-clause-second_begins g c =

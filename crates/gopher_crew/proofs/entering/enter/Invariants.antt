@@ -1,9 +1,0 @@
-use Rattle.std.proofs.Common.{◌≡◌}
-use mathlib.Core.List.{IsPrefix}
-use Rattle.gopher_crew.proofs.entering.enter.Given as goal
-
-abbrev pub invariant-loop-round : goal.invariant-loop-round
-invariant-loop-round g l = record {
-  history : l.prefix.history ≡ l.initial.prefix.history;
-  begun : IsPrefix l.prefix.events l.catalogue;
-}

@@ -1,5 +1,0 @@
-use Rattle.gopher_crew.proofs.Keeping.{few_events}
-use Rattle.gopher_crew.proofs.kept.Kept.claim.Goals as goal
-
-pub count-requires : goal.count-requires
-count-requires g c = few_events _ _ _ c.self.invariant

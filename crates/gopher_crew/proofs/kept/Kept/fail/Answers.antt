@@ -1,5 +1,0 @@
-use Rattle.gopher_crew.proofs.Keeping.{few_events}
-use Rattle.gopher_crew.proofs.kept.Kept.fail.Goals as goal
-
-pub add-requires : goal.add-requires
-add-requires g c = few_events _ _ _ c.self.invariant

@@ -1,8 +1,0 @@
-use Rattle.std.proofs.Common.{refl}
-use Rattle.gopher_crew.proofs.MergeJobs.{still_stands}
-use Rattle.gopher_crew.proofs.merge_job.MergeJob.due_in.Goals as goal
-
-pub returns : goal.returns
-returns g c =
-    still_stands c.self.inside.due c.self.inside.prefix.events c.args.prefix.now.events
-    (c.if-not-begins.ensures.begins refl) c.self.invariant.stands

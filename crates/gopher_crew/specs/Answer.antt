@@ -1,0 +1,89 @@
+-- The reply to a request line: a function of the tree's files, the server's address, the line, and
+-- the hits of its search.
+use Rattle.std.specs.Prelude.{◌≡◌, ℕ, ◌<◌, Bool, nat_eq, codes, List, [], ◌∷◌, length, Option, None, Some, MatchOption, if◌then◌else◌}
+use Rattle.std.specs.Option.{option_map_or}
+use Rattle.std.specs.Cmp.Lexicographic.{pointwise}
+use Rattle.gopher_item.specs.Place.{HomeData}
+use Rattle.gopher_item.specs.Request.{request_fault, request_of}
+use Rattle.gopher_text.specs.Watched.{HasFailed}
+use Rattle.gopher_page.specs.Query.{TermData, query_of}
+use Rattle.gopher_index.specs.declared.hit.Hit.{Hit}
+use Rattle.gopher_tree.specs.Files.{File}
+use Rattle.gopher_tree.specs.Reply.{error_bytes, tree_reply}
+use Rattle.gopher_serve.specs.Hits.{hits_bytes}
+use Rattle.gopher_catalogue.specs.Legal.{IsLegal}
+use Rattle.gopher_crew.specs.Crew.{PassData, SeesOn, hits_of}
+
+-- the selector is `/search`
+abbrev pub is_search : List ℕ → Bool
+is_search selector = pointwise nat_eq selector (codes "/search")
+
+-- the error replies `Bad request`, `No words` and `No catalogue`
+abbrev pub bad_request_bytes : HomeData → List ℕ
+bad_request_bytes home = error_bytes (codes "Bad request") home
+
+abbrev pub no_words_bytes : HomeData → List ℕ
+no_words_bytes home = error_bytes (codes "No words") home
+
+abbrev pub no_catalogue_bytes : HomeData → List ℕ
+no_catalogue_bytes home = error_bytes (codes "No catalogue") home
+
+-- the terms of a search string; none if there is no string
+abbrev pub asked : Option (List ℕ) → List TermData
+asked None = []
+asked (Some text) = query_of text
+
+-- a query that asks for these terms; there is none if there are no terms
+abbrev pub IsQueryFor : List TermData → Option (List TermData) → Type 0
+IsQueryFor terms query =
+    MatchOption query (terms ≡ []) (λ found. (found ≡ terms) × (0 < length found))
+
+-- the reply to a search for these terms; `None` if the published version couldn't be entered
+abbrev pub search_reply : HomeData → List TermData → Option (List Hit) → List ℕ
+search_reply home [] outcome = no_words_bytes home
+search_reply home (term ∷ terms) None = no_catalogue_bytes home
+search_reply home (term ∷ terms) (Some hits) = hits_bytes hits
+
+-- the reply to a line, given without its end
+abbrev pub reply_of : List File → HomeData → List ℕ → Option (List Hit) → List ℕ
+reply_of files home line outcome =
+    option_map_or (λ fault. bad_request_bytes home) (request_fault line)
+    (if is_search (request_of line).selector
+    then search_reply home (asked (request_of line).search) outcome
+    else tree_reply files home (request_of line).selector)
+
+-- the terms for which a line searches; none if it is invalid, is no search, or has no words
+abbrev pub terms_of_line : List ℕ → List TermData
+terms_of_line line =
+    option_map_or (λ fault. []) (request_fault line)
+    (if is_search (request_of line).selector then asked (request_of line).search else [])
+
+-- the hits are the answer over one legal record, which begins with the records that the pass had
+-- seen and was told
+pub record FindsHits (old new : PassData) (terms : List TermData) (hits : List Hit) : Type 0 where
+  pub legal : IsLegal new.seen
+  pub hits_are : hits ≡ hits_of new.seen terms
+  pub sees_on : SeesOn old new
+  pub none_told : new.told ≡ new.seen
+
+-- the pass before and after a search, by the outcome of the search; without terms there is none.
+-- `None` says that an entry to the published version failed meanwhile
+abbrev pub Searches : PassData → PassData → List TermData → Option (List Hit) → Type 0
+Searches old new [] outcome = new ≡ old
+Searches old new (term ∷ terms) None =
+    SeesOn old new × HasFailed old.failed_entries new.failed_entries
+Searches old new (term ∷ terms) (Some hits) = FindsHits old new (term ∷ terms) hits
+
+-- the reply to a search for these terms
+pub record AnswersTerms (home : HomeData) (old new : PassData) (terms : List TermData)
+    (reply : List ℕ) : Type 0 where
+  pub outcome : Option (List Hit)
+  pub searched : Searches old new terms outcome
+  pub reply_is : reply ≡ search_reply home terms outcome
+
+-- the reply to a line, and the pass before and after
+pub record AnswersLine (files : List File) (home : HomeData) (old new : PassData)
+    (line reply : List ℕ) : Type 0 where
+  pub outcome : Option (List Hit)
+  pub searched : Searches old new (terms_of_line line) outcome
+  pub reply_is : reply ≡ reply_of files home line outcome

@@ -1,0 +1,43 @@
+//! `DeskRefused` and `CloseRefused`: the errors of a desk that give back what a call was given.
+
+ghost use Rattle.std.specs.Prelude.{◌≡◌};
+
+use crate::crew::Crew;
+use crate::desk::Desk;
+use crate::desk::blank::Blank;
+use crate::desk::share::Share;
+use crate::fault::DeskFault;
+use gopher_catalogue::Catalogue;
+use std::sync::Wait;
+
+/// The error of `Desk::open`, with the arguments that it was given.
+#[derive(Drop)]
+pub struct DeskRefused {
+    /// Why the desk wasn't opened.
+    pub fault: DeskFault,
+    /// The catalogue.
+    pub catalogue: Catalogue,
+    /// The blank. Part of the catalogue's record may have been entered into its history.
+    pub blank: Blank,
+}
+
+/// The error of `Desk::close` (62): the shares don't count all events of the record after the
+/// first.
+#[derive(Drop)]
+pub struct CloseRefused<C: Crew, R: Wait + Drop> {
+    /// The desk, still open.
+    pub desk: Desk<C, R>,
+    /// The shares, merged into one.
+    pub shares: Vec<Share<C>>,
+    /// The number of events in the record after the first.
+    pub events: u64,
+}
+
+impl<C: Crew, R: Wait + Drop> CloseRefused<C, R> {
+    /// Returns the number of this fault, 62.
+    pub fn code(&self) -> u8
+        ensures { result ≡ 62 }
+    {
+        62
+    }
+}

@@ -1,0 +1,66 @@
+//! A tree's replies and a pass, which answer request lines (`Site`).
+//!
+//! `answer` and `answer_kept` return `reply_of` for the tree's files, the server's address, the
+//! line, and the hits of its search (`specs/Answer.antt`). `answer_kept` may return a search that
+//! goes on in steps; its bytes are decided when it begins. No socket appears here.
+
+ghost use Rattle.std.specs.Prelude.{◌≡◌};
+ghost use Rattle.gopher_crew.specs.Site.{site_with};
+
+mod answering;
+mod fetching;
+mod searching;
+mod serving;
+
+use crate::crew::Crew;
+use crate::pass::Pass;
+pub use answering::{answer, answer_kept};
+pub use fetching::fetch_over;
+use gopher_item::NoMemory;
+use gopher_serve::{Answer, Answers, Replies};
+pub use serving::serve_one;
+use std::alloc::Global;
+use std::marker::Model;
+
+/// A tree's replies and a pass. It answers as `answer_kept` does.
+#[derive(Drop)]
+pub struct Site<'a, C: Crew> {
+    replies: &'a Replies,
+    pass: Pass<C>,
+}
+
+impl<'a, C: Crew> Model for Site<'a, C> {
+    ghost use Rattle.gopher_crew.specs.Site.{SiteData, site_with};
+
+    ghost Value = { SiteData };
+
+    ghost view = { λ s. site_with s.replies.now.files s.replies.now.home s.pass };
+}
+
+impl<'a, C: Crew> Site<'a, C> {
+    /// Makes a site of replies, with the pass for its searches.
+    pub fn new(replies: &'a Replies, pass: Pass<C>) -> Site<'a, C>
+        ensures { result ≡ site_with replies.now.files replies.now.home pass }
+    {
+        Site { replies, pass }
+    }
+
+    /// Returns the pass, with what it has seen.
+    pub fn into_pass(self) -> Pass<C>
+        ensures { result ≡ self.entry.pass }
+    {
+        self.pass
+    }
+}
+
+impl<'a, C: Crew> Answers<'a> for Site<'a, C> {
+    ghost use Rattle.gopher_crew.specs.Site.{GivesReply, LeadsOn};
+
+    ghost gives = { GivesReply };
+
+    ghost leads_to = { LeadsOn };
+
+    fn answer(&mut self, alloc: Global, line: &[u8]) -> Result<Answer<'a>, NoMemory> {
+        answer_kept(alloc, self.replies, &mut self.pass, line)
+    }
+}

@@ -1,0 +1,91 @@
+//! The reply to a request line, made anew (`answer`) or from kept replies (`answer_kept`).
+
+ghost use Rattle.std.specs.Prelude.{◌≡◌, IfOk, OnErr};
+ghost use Rattle.gopher_serve.specs.Answer.{answer_bytes};
+ghost use Rattle.gopher_crew.specs.Crew.{SeesOn};
+ghost use Rattle.gopher_crew.specs.Answer.{AnswersLine, bad_request_bytes, is_search};
+
+use crate::crew::Crew;
+use crate::pass::Pass;
+use crate::site::searching::begin_search;
+use gopher_item::{Home, NoMemory, RequestFault, read_request};
+use gopher_serve::{Answer, Replies};
+use gopher_tree::{Tree, error_reply};
+use std::alloc::Global;
+
+/// Returns the reply of a server to a request line (RFC 1436, section 2). `line` is without its
+/// end.
+///
+/// - The line is over 1,024 bytes (`MAX_LINE`), or its selector is over 255 bytes or contains a CR,
+///   LF or NUL: the error reply `Bad request`.
+/// - The selector is `/search`: the hits as a menu. If the line has no search string, or one
+///   without words, the error reply `No words`. If the published catalogue can't be entered (61),
+///   and only then, the error reply `No catalogue`.
+/// - Any other selector: the reply of `Tree::reply`.
+///
+/// The pass searches only if there are words to search for. It answers from a record that begins
+/// with the records that it had seen and was told.
+///
+/// # Errors
+///
+/// Out of memory (90). The pass may have seen more.
+pub fn answer<C: Crew>(
+    alloc: Global,
+    tree: &Tree,
+    home: &Home,
+    pass: &mut Pass<C>,
+    line: &[u8],
+) -> Result<Vec<u8>, NoMemory>
+    ensures answered { IfOk result (λ reply. AnswersLine tree.now home.now pass.old pass.new
+        line.now reply.items) }
+    ensures refused { OnErr result (SeesOn pass.old pass.new) }
+{
+    match read_request(alloc, line) {
+        Ok(request) if is_search(request.selector.as_slice()) => {
+            begin_search(alloc, home, pass, &request.search)?.finish(alloc)
+        }
+        Ok(request) => tree.reply(alloc, request.selector.as_slice(), home),
+        Err(RequestFault::NoMemory) => Err(NoMemory),
+        Err(_bad) => bad_request(alloc, home),
+    }
+}
+
+/// Returns the reply that `answer` returns, from replies that are kept, or a search that makes it.
+/// The search answers from the record that was published when it began.
+///
+/// # Errors
+///
+/// Out of memory (90). The pass may have seen more.
+pub fn answer_kept<'a, C: Crew>(
+    alloc: Global,
+    replies: &'a Replies,
+    pass: &mut Pass<C>,
+    line: &[u8],
+) -> Result<Answer<'a>, NoMemory>
+    ensures answered { IfOk result (λ answer. AnswersLine replies.now.files replies.now.home
+        pass.old pass.new line.now (answer_bytes answer)) }
+    ensures refused { OnErr result (SeesOn pass.old pass.new) }
+{
+    match read_request(alloc, line) {
+        Ok(request) if is_search(request.selector.as_slice()) => {
+            begin_search(alloc, replies.home(), pass, &request.search)
+        }
+        Ok(request) => replies.reply(alloc, request.selector.as_slice()),
+        Err(RequestFault::NoMemory) => Err(NoMemory),
+        Err(_bad) => Ok(Answer::Made(bad_request(alloc, replies.home())?)),
+    }
+}
+
+// Whether the selector is that of the search line.
+fn is_search(selector: &[u8]) -> bool
+    ensures { result ≡ is_search selector.now }
+{
+    selector == b"/search".as_slice()
+}
+
+// The reply to an invalid line.
+fn bad_request(alloc: Global, home: &Home) -> Result<Vec<u8>, NoMemory>
+    ensures { IfOk result (λ reply. reply.items ≡ bad_request_bytes home.now) }
+{
+    error_reply(alloc, b"Bad request", home)
+}

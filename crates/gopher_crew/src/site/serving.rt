@@ -1,0 +1,43 @@
+//! One whole conversation of a tree, over streams that block (`serve_one`).
+
+ghost use Rattle.std.specs.Prelude.{◌≡◌, IfErr};
+ghost use Rattle.gopher_serve.specs.Serve.{IsUnheard, Serves, stream_of};
+ghost use Rattle.gopher_crew.specs.Answer.{AnswersLine};
+
+use crate::crew::Crew;
+use crate::pass::Pass;
+use crate::site::answering::answer;
+use gopher_item::Home;
+use gopher_serve::ServeFault;
+use gopher_text::{Watched, read_line_from, send};
+use gopher_tree::Tree;
+use std::alloc::Global;
+use std::io::{Read, Write};
+
+/// Reads a request line from `reader`, not a byte after its end, and sends the reply of `answer` to
+/// `writer`.
+///
+/// # Errors
+///
+/// - `LineTooLong` (7), `ReadFailed` (10), `TooManyTurns` (11): those of
+///   `gopher_text::read_line_from`. Nothing was asked, and nothing written.
+/// - `WriteFailed` (13): that of `gopher_text::send`. A prefix of the reply was written.
+/// - `NoMemory` (90): out of memory. Nothing was written.
+pub fn serve_one<C: Crew, R: Read, W: Write>(
+    alloc: Global,
+    tree: &Tree,
+    home: &Home,
+    pass: &mut Pass<C>,
+    reader: &mut Watched<R>,
+    writer: &mut Watched<W>,
+) -> Result<(), ServeFault>
+    ensures served { Serves (AnswersLine tree.now home.now pass.old pass.new)
+        (stream_of R.remaining reader.old) (stream_of R.remaining reader.new)
+        (stream_of W.contents writer.old) (stream_of W.contents writer.new) result }
+    ensures unheard { IfErr result (λ fault. IsUnheard fault → pass.new ≡ pass.old) }
+{
+    let line = read_line_from(alloc, reader)?;
+    let reply = answer(alloc, tree, home, pass, &line)?;
+    send(writer, &reply)?;
+    Ok(())
+}

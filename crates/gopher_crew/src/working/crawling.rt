@@ -1,0 +1,96 @@
+//! `crawl`: several workers, each in a thread.
+
+ghost use Rattle.std.specs.Prelude.{◌≡◌, ◌≤◌, [], length, vec_len, vec_capacity, IfOk, IfErr};
+ghost use Rattle.std.specs.List.{AllZip};
+ghost use Rattle.gopher_crew.specs.Work.{HasPair, WorksFrom, WorksOn, HaveAsManyParts};
+
+use crate::crew::Crew;
+use crate::desk::Desk;
+use crate::desk::share::Share;
+use crate::working::fetch::Fetch;
+use crate::working::{WorkEnd, run};
+use std::alloc::Global;
+use std::sync::Wait;
+use std::thread::{Threads, for_each_mut};
+
+/// A crawl that wasn't started because memory ran out (90), with the arguments it was given.
+#[derive(Drop)]
+pub struct CrawlRefused<F: Drop, C: Crew> {
+    /// The fetchers and shares.
+    pub pairs: Vec<(F, Share<C>)>,
+}
+
+impl<F: Drop, C: Crew> CrawlRefused<F, C> {
+    /// Returns the number of this fault, 90.
+    pub fn code(&self) -> u8
+        ensures { result ≡ 90 }
+    {
+        90
+    }
+}
+
+// Appends a worker for each pair, in their order. Each did nothing yet.
+fn workers_of<F: Drop, C: Crew>(pairs: Vec<(F, Share<C>)>, workers: &mut Vec<WorkEnd<F, C>>)
+    requires empty { workers.old.items ≡ [] }
+    requires none { vec_len workers.old ≡ 0 }
+    requires room { vec_len pairs ≤ vec_capacity workers.old }
+    ensures len { vec_len workers.new ≡ vec_len pairs }
+    ensures idle { AllZip HasPair pairs.items workers.new.items }
+{
+    let mut pairs = pairs;
+    pairs.reverse();
+    while let Some((fetcher, share)) = pairs.pop() {
+        workers.push_reserved(WorkEnd::idle(fetcher, share));
+    }
+}
+
+// Runs each worker, in a thread of its own if that can be started.
+fn run_all<
+    C: Crew + Send + Sync,
+    R: Wait + Drop + Send,
+    W: Threads + Wait + Sync,
+    F: Fetch<W> + Drop + Send,
+>(rt: &W, alloc: Global, desk: &Desk<C, R>, workers: &mut [WorkEnd<F, C>])
+    ensures len { length workers.new ≡ length workers.old }
+    ensures each { AllZip (WorksOn F.called) workers.old workers.new }
+{
+    let threads = workers.len().max(1);
+    for_each_mut(
+        rt,
+        workers,
+        threads,
+        &|_index: usize, worker: &mut WorkEnd<F, C>|
+            ensures { WorksOn F.called worker.old worker.new }
+        { run(rt, alloc, desk, worker) },
+    );
+}
+
+/// Works at a desk with one thread for each pair of a fetcher and a share, until each worker has
+/// stopped. Returns how the workers ended, in the order of the pairs. If a thread can't be started,
+/// the caller's thread works for its pair.
+///
+/// # Errors
+/// `CrawlRefused` (90): out of memory, before any thread starts. It has the pairs.
+pub fn crawl<
+    C: Crew + Send + Sync,
+    R: Wait + Drop + Send,
+    W: Threads + Wait + Sync,
+    F: Fetch<W> + Drop + Send,
+>(
+    rt: &W,
+    alloc: Global,
+    desk: &Desk<C, R>,
+    pairs: Vec<(F, Share<C>)>,
+) -> Result<Vec<WorkEnd<F, C>>, CrawlRefused<F, C>>
+    ensures ends { IfOk result (λ ends. vec_len ends ≡ vec_len pairs) }
+    ensures each { IfOk result (λ ends. AllZip (WorksFrom F.called) pairs.items ends.items) }
+    ensures parts { IfOk result (λ ends. HaveAsManyParts pairs.items ends.items) }
+    ensures back { IfErr result (λ refused. refused.pairs ≡ pairs) }
+{
+    let Ok(mut workers) = Vec::with_capacity(alloc, pairs.len()) else {
+        return Err(CrawlRefused { pairs });
+    };
+    workers_of(pairs, &mut workers);
+    run_all(rt, alloc, desk, workers.as_mut_slice());
+    Ok(workers)
+}

@@ -1,3 +1,0 @@
-mod Fetches
-mod Searches
-mod SiteLeads

@@ -1,3 +1,0 @@
-pub mod Answer
-pub mod Fetch
-pub mod Site
