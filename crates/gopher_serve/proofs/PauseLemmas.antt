@@ -93,16 +93,16 @@ pauses gives (Gathers bytes) next a b had left before after (inr (inr (still, ho
   fails (turns (Gathers bytes) had before) (turns next left after) had.failures left.failures (position (Gathers bytes) + before.failures) still.count
       (omega arith) (omega (arith, ap position still.talk, ap (λ (s : StreamData). s.failures) writer)),
 )
-pauses gives (Asks line) next a b had left before after (inl (is, how), reader, writer) =
-    (λ responds. absurd cc, inl (omega (arith, ap (λ (s : StreamData). s.failures) reader, ap (λ (s : StreamData). s.failures) writer, ap position is.is)))
+pauses gives (Asks line) next a b had left before after (inl (reply, steps, gave, is, how), reader, writer) =
+    (λ responds. absurd cc, inl (omega (arith, ap (λ (s : StreamData). s.failures) reader, ap (λ (s : StreamData). s.failures) writer, ap position is)))
 pauses gives (Asks line) next a b had left before after (inr (same, how), reader, writer) = absurd cc
 pauses gives IsTooLong next a b had left before after (fails, same, answers, reader, writer) = absurd cc
 pauses gives LacksMemory next a b had left before after (fails, same, answers, reader, writer) = absurd cc
-pauses gives (Responds line reply steps sent) next a b had left before after (inl (all, how), answers, reader) = absurd cc
+pauses gives (Responds line reply steps sent) next a b had left before after (inl (talk', ready, none, same, how), answers, reader) = absurd cc
 pauses gives (Responds line reply steps sent) next a b had left before after (inr (inl (some, how)), answers, reader) =
     (λ responds. (ap stage_of some.is, ap steps_of some.is), inl (omega (arith, ap (λ (s : StreamData). s.failures) reader, some.counted, some.some, ap position some.is)))
-pauses gives (Responds line reply steps sent) next a b had left before after (inr (inr (inl (silent, inl (how, fewer)))), answers, reader) = absurd cc
-pauses gives (Responds line reply steps sent) next a b had left before after (inr (inr (inl (silent, inr (how, kept)))), answers, reader) = absurd cc
+pauses gives (Responds line reply steps sent) next a b had left before after (inr (inr (inl (searches, talk', same, inl (how, fewer)))), answers, reader) = absurd cc
+pauses gives (Responds line reply steps sent) next a b had left before after (inr (inr (inl (searches, talk', same, inr (how, kept)))), answers, reader) = absurd cc
 pauses gives (Responds line reply steps sent) next a b had left before after (inr (inr (inr (still, how))), answers, reader) = (
   λ responds. (ap stage_of still.talk, ap steps_of still.talk),
   fails (turns (Responds line reply steps sent) had before) (turns next left after) before.failures after.failures (1028 + sent + had.failures) still.count
@@ -123,11 +123,11 @@ works_near gives (Gathers bytes) next a b had left before after step responds = 
 works_near gives (Asks line) next a b had left before after step responds = absurd cc
 works_near gives IsTooLong next a b had left before after step responds = absurd cc
 works_near gives LacksMemory next a b had left before after step responds = absurd cc
-works_near gives (Responds line reply steps sent) next a b had left before after (inl (all, how), answers, reader) responds = absurd cc
+works_near gives (Responds line reply steps sent) next a b had left before after (inl (talk', ready, none, same, how), answers, reader) responds = absurd cc
 works_near gives (Responds line reply steps sent) next a b had left before after (inr (inl (some, inl how)), answers, reader) responds = absurd cc
 works_near gives (Responds line reply steps sent) next a b had left before after (inr (inl (some, inr (how, none))), answers, reader) responds = absurd cc
-works_near gives (Responds line reply steps sent) next a b had left before after (inr (inr (inl (silent, inl (how, fewer)))), answers, reader) responds = fewer
-works_near gives (Responds line reply steps sent) next a b had left before after (inr (inr (inl (silent, inr (how, kept)))), answers, reader) responds = absurd cc
+works_near gives (Responds line reply steps sent) next a b had left before after (inr (inr (inl (searches, talk', same, inl (how, fewer)))), answers, reader) responds = fewer
+works_near gives (Responds line reply steps sent) next a b had left before after (inr (inr (inl (searches, talk', same, inr (how, kept)))), answers, reader) responds = absurd cc
 works_near gives (Responds line reply steps sent) next a b had left before after (inr (inr (inr (still, never))), answers, reader) responds = absurd never
 
 pub keeps_joins : (talk next last : Talk) → KeepsSteps talk next → KeepsSteps next last → KeepsSteps talk last

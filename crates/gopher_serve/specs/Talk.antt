@@ -44,11 +44,6 @@ Hears old piece new =
     (new ≡ heard false old piece)
     ⊎ (((bytes : List ℕ) × (old ≡ Gathers bytes)) × (new ≡ LacksMemory))
 
--- the bytes are the line that is asked, if there is one
-abbrev pub IsAskedLine : Talk → List ℕ → Type 0
-IsAskedLine (Asks line) bytes = bytes ≡ line
-IsAskedLine talk bytes = Unit {0}
-
 -- the line whose reply is asked for or sent, if there is one
 abbrev pub asked_of : Talk → Option (List ℕ)
 asked_of (Asks line) = Some line
@@ -90,14 +85,9 @@ with_steps talk left = talk
 abbrev pub OnlySearches : Talk → Talk → Type 0
 OnlySearches old new = new ≡ with_steps old (steps_of new)
 
--- the reply is there, or fewer steps of the search for it are left
-abbrev pub NearsReply : Talk → Talk → Type 0
-NearsReply old new = (steps_of new ≡ 0) ⊎ (steps_of new < steps_of old)
-
 -- the same state without the search that makes the reply, if nothing of the reply was sent: the
 -- line is asked again
 abbrev pub put_back : Talk → Talk
-put_back (Responds line reply zero sent) = Responds line reply zero sent
 put_back (Responds line reply (suc steps) sent) =
     if sent == 0 then Asks line else Responds line reply (suc steps) sent
 put_back talk = talk
@@ -129,8 +119,3 @@ IsAnswered old new answer =
 abbrev pub reply_in : Phase → List ℕ
 reply_in (phase.Answering answer) = answer_bytes answer
 reply_in phase = []
-
--- the phase of a conversation whose first line is known
-abbrev pub IsPhaseAt : List ℕ → Phase → Type 0
-IsPhaseAt gathered phase =
-    (sent : ℕ) → talk_in gathered phase sent ≡ known_line (first_line gathered)

@@ -77,7 +77,7 @@ impl<'a> Answer<'a> {
     /// Out of memory (90). As many steps are left as before.
     pub fn step(&mut self, alloc: Global) -> Result<(), NoMemory>
         ensures same { answer_bytes self.new ≡ answer_bytes self.old }
-        ensures nears { OnOk result (ComesNearer self.old self.new) }
+        ensures nears { OnOk result (ComesNearer (steps_to_reply self.old) (steps_to_reply self.new)) }
         ensures refused { OnErr result (steps_to_reply self.new ≡ steps_to_reply self.old) }
     {
         let Answer::Searching(search) = self else {

@@ -1,10 +1,11 @@
 //! A conversation with one client, as a value without streams (`Conversation`).
 
-ghost use Rattle.std.specs.Prelude.{◌≡◌, ◌<◌, ◌≤◌, ◌+◌, ◌^◌, ◌⊎◌, [], length, false, true, IfSome};
+ghost use Rattle.std.specs.Prelude.{◌≡◌, ◌<◌, ◌≤◌, ◌+◌, ◌^◌, ◌⊎◌, ℕ, [], length, false, true, IfSome};
 ghost use Rattle.std.specs.Option.{option_map};
 ghost use Rattle.std.specs.Io.BufRead.{first_line, strip_last};
 ghost use Rattle.gopher_text.specs.Line.{has_feed};
-ghost use Rattle.gopher_serve.specs.Talk.{Gathers, Hears, IsAnswered, IsAskedLine, IsPhaseAt, NearsReply, OnlySearches, asked_of, heard, is_known, put_back, reply_in, said, sendable_of, sent_of, stage_of, steps_of, unsent_of};
+ghost use Rattle.gopher_serve.specs.Answer.{ComesNearer};
+ghost use Rattle.gopher_serve.specs.Talk.{Gathers, Hears, IsAnswered, OnlySearches, asked_of, heard, is_known, known_line, put_back, reply_in, said, sendable_of, sent_of, stage_of, steps_of, talk_in, unsent_of};
 ghost use Rattle.gopher_serve.specs.Advance.{Upholds};
 ghost use Rattle.gopher_serve.specs.declared.advancing.Progress.TheVariants.{Failed, Works};
 ghost use Rattle.gopher_serve.specs.declared.fault.ServeFault.TheVariants.{NoMemory};
@@ -103,7 +104,7 @@ fn without_return(bytes: &[u8]) -> &[u8]
 
 // The state of a conversation whose line is at its end, or too long.
 fn phase_of<'a>(gathered: &[u8]) -> Phase<'a>
-    ensures talk { IsPhaseAt gathered.now result }
+    ensures talk { (n : ℕ) → talk_in gathered.now result n ≡ known_line (first_line gathered.now) }
     ensures silent { reply_in result ≡ [] }
 {
     if first_line(gathered).len() > MAX_LINE {
@@ -189,7 +190,7 @@ impl<'a> Conversation<'a> {
 
     // The line that is asked, without its end.
     pub(crate) fn line(&self) -> &[u8]
-        ensures { IsAskedLine self.now result.now }
+        ensures { IfSome (asked_of self.now) (λ line. result.now ≡ line) }
     {
         first_line(&self.gathered)
     }
@@ -206,7 +207,7 @@ impl<'a> Conversation<'a> {
     // there, or fewer steps are left. If it fails, as many are left as before.
     pub(crate) fn search(&mut self, alloc: Global) -> Progress
         ensures same { OnlySearches self.old self.new }
-        ensures nears { result ≡ Works → NearsReply self.old self.new }
+        ensures nears { result ≡ Works → ComesNearer (steps_of self.old) (steps_of self.new) }
         ensures refused { result ≡ Failed NoMemory → steps_of self.new ≡ steps_of self.old }
         ensures ends { (result ≡ Works) ⊎ (result ≡ Failed NoMemory) }
     {

@@ -7,18 +7,19 @@ ghost use Rattle.gopher_serve.specs.Leads.{Leads};
 use crate::advancing::{Progress, advance};
 use crate::answer::Answers;
 use crate::conversation::Conversation;
+use crate::fault::ServeFault;
 use gopher_text::Watched;
 use std::alloc::Global;
 use std::io::{Read, Write};
 
 /// Advances a conversation until its progress isn't `Paused`. `buffer` isn't empty.
 ///
-/// It returns `Progress::Paused` only after 2^64 - 1 steps. If it returns `Progress::Works` and the
-/// search had begun before, then fewer steps of the search are left.
+/// If it returns `Progress::Works` and the search had begun before, then fewer steps of the search
+/// are left.
 ///
 /// # Errors
 ///
-/// Those of `advance`.
+/// Those of `advance`, and `TooManyTurns` (11): it still isn't done after 2^64 - 1 steps.
 pub fn converse<'a, A: Answers<'a>, R: Read, W: Write>(
     alloc: Global,
     conversation: &mut Conversation<'a>,
@@ -42,5 +43,5 @@ pub fn converse<'a, A: Answers<'a>, R: Read, W: Write>(
             return progress;
         }
     }
-    Progress::Paused
+    Progress::Failed(ServeFault::TooManyTurns)
 }
