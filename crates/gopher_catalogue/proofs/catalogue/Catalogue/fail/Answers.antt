@@ -1,6 +1,6 @@
 use Rattle.std.proofs.Common.{arith, ap, sym, ◌∙◌}
 use Rattle.gopher_catalogue.specs.Step.{is_out_in}
-use Rattle.gopher_catalogue.specs.Tables.{after_failure}
+use Rattle.gopher_catalogue.specs.FrontierTables.{after_failure}
 use Rattle.gopher_catalogue.proofs.IndexedCalls.{done_fits, out_shown, out_tested, some_out, after_failed}
 use Rattle.gopher_catalogue.proofs.catalogue.Catalogue.fail.Goals as goal
 

@@ -1,11 +1,9 @@
-use Rattle.std.proofs.Common.{false, slice_get, filter, length, arith, refl, ap, sym, subst, ◌∙◌}
-use Rattle.std.specs.Option.{option_map_or}
-use Rattle.gopher_item.specs.Place.{same_place}
+use Rattle.std.proofs.Common.{filter, length, arith, refl, ap, sym, subst, ◌∙◌}
 use Rattle.gopher_item.specs.Scope.{allows}
 use Rattle.gopher_catalogue.specs.Fault.{IsFoundFault}
 use Rattle.gopher_catalogue.specs.declared.fault.FoundFault.TheVariants.{NotOut, WrongPlace, NoMemory}
-use Rattle.gopher_catalogue.specs.Step.{found_fault, added_by}
-use Rattle.gopher_catalogue.specs.Tables.{Learned}
+use Rattle.gopher_catalogue.specs.Step.{is_place_at, found_fault, added_by}
+use Rattle.gopher_catalogue.specs.FrontierTables.{Learned}
 use Rattle.gopher_catalogue.specs.History.{opening_in}
 use Rattle.gopher_catalogue.specs.Indexed.{IsIndexed}
 use Rattle.gopher_catalogue.proofs.KnownLemmas.{length-after_mentions}
@@ -21,7 +19,7 @@ returns-in_default-clause-fault c =
 
 pub returns-then-not-has_place-clause-fault : goal.returns-then-not-has_place-clause-fault
 returns-then-not-has_place-clause-fault c =
-    let wrong = ap (λ place. option_map_or (λ other. same_place other place) (slice_get c.self.inside.frontier.places c.args.number) false) (sym c.place.ensures) ∙ sym c.if-not-has_place.ensures in
+    let wrong = ap (λ place. is_place_at c.self.inside.frontier.known.places c.args.number place) (sym c.place.ensures) ∙ sym c.if-not-has_place.ensures in
     let fault =
     ap (λ events. found_fault events c.args.number c.args.page.place) (sym c.self.view_is)
     ∙ fault_wrong c.self.inside.archive c.self.inside.frontier c.self.invariant c.args.number c.in-Some.standing c.in-Some.ensures.0 c.in-Some.ensures.1 c.args.page.place wrong in
@@ -29,7 +27,7 @@ returns-then-not-has_place-clause-fault c =
 
 pub returns-in_default-learn-clause-fault : goal.returns-in_default-learn-clause-fault
 returns-in_default-learn-clause-fault c =
-    let right = ap (λ place. option_map_or (λ other. same_place other place) (slice_get c.self.inside.frontier.places c.args.number) false) (sym c.place.ensures) ∙ sym c.if-not-has_place.ensures in
+    let right = ap (λ place. is_place_at c.self.inside.frontier.known.places c.args.number place) (sym c.place.ensures) ∙ sym c.if-not-has_place.ensures in
     let fault =
     ap (λ events. found_fault events c.args.number c.args.page.place) (sym c.self.view_is)
     ∙ fault_none c.self.inside.archive c.self.inside.frontier c.self.invariant c.args.number c.in-Some.standing c.in-Some.ensures.0 c.in-Some.ensures.1 c.args.page.place right in
@@ -37,7 +35,7 @@ returns-in_default-learn-clause-fault c =
 
 pub returns-in-Err-clause-fault : goal.returns-in-Err-clause-fault
 returns-in-Err-clause-fault c =
-    let right = ap (λ place. option_map_or (λ other. same_place other place) (slice_get c.self.inside.frontier.places c.args.number) false) (sym c.place.ensures) ∙ sym c.if-not-has_place.ensures in
+    let right = ap (λ place. is_place_at c.self.inside.frontier.known.places c.args.number place) (sym c.place.ensures) ∙ sym c.if-not-has_place.ensures in
     let fault =
     ap (λ events. found_fault events c.args.number c.args.page.place) (sym c.self.view_is)
     ∙ fault_none c.self.inside.archive c.self.inside.frontier c.self.invariant c.args.number c.in-Some.standing c.in-Some.ensures.0 c.in-Some.ensures.1 c.args.page.place right in
@@ -67,8 +65,8 @@ found-requires-clause-standing c =
 
 pub found-requires-clause-few_places : goal.found-requires-clause-few_places
 found-requires-clause-few_places c =
-    let few = length-after_mentions (opening_in c.self.inside.archive.events).limit c.self.inside.frontier.places (filter (allows (opening_in c.self.inside.archive.events).scope) c.args.page.links) (places_within c.self.inside.archive c.self.inside.frontier c.self.invariant) in
-    omega (arith, few, ap length (learned c).places, limit_fits c.self.inside.archive c.self.inside.frontier c.self.invariant)
+    let few = length-after_mentions (opening_in c.self.inside.archive.events).limit c.self.inside.frontier.known.places (filter (allows (opening_in c.self.inside.archive.events).scope) c.args.page.links) (places_within c.self.inside.archive c.self.inside.frontier c.self.invariant) in
+    omega (arith, few, ap length (learned c).mentions_are.places, limit_fits c.self.inside.archive c.self.inside.frontier c.self.invariant)
 
 pub found-requires-clause-some_out : goal.found-requires-clause-some_out
 found-requires-clause-some_out c =
@@ -88,7 +86,7 @@ add_found-requires c = omega (arith, some_out c.self.inside.archive c.self.insid
 found : (c : goal.After-found) → IsIndexed c.add_found.new.self c.found.new.self
 found c =
     let learned : Learned (opening_in c.self.inside.archive.events).limit (filter (allows (opening_in c.self.inside.archive.events).scope) c.args.page.links) c.self.inside.frontier c.learn.new.frontier c.in-Ok.added.dropped = learned_of _ _ _ _ _ _ _ _ _ (ap (λ o. o.limit) c.opening-opening.ensures) (ap (λ o. o.scope) c.opening-opening.ensures) refl c.in-Ok.ensures.ok.learned in
-    let right = ap (λ place. option_map_or (λ other. same_place other place) (slice_get c.self.inside.frontier.places c.args.number) false) (sym c.place.ensures) ∙ sym c.if-not-has_place.ensures in
+    let right = ap (λ place. is_place_at c.self.inside.frontier.known.places c.args.number place) (sym c.place.ensures) ∙ sym c.if-not-has_place.ensures in
     after_found c.self.inside.archive c.self.inside.frontier c.self.invariant c.learn.new.frontier c.args.number c.in-Some.standing c.args.page c.in-Ok.added learned c.add_found.new.self c.found.new.self c.len-before.result c.in-Some.ensures.0 c.in-Some.ensures.1 right c.len-before.ensures.places
     c.in-Ok.ensures.ok.few c.in-Ok.ensures.ok.fresh c.in-Ok.ensures.ok.room c.found.ensures c.in-Ok-add_found.ensures.ok.events c.in-Ok-add_found.ensures.ok.room
 
@@ -97,7 +95,7 @@ invariant_of-self-in-Ok-add_found c = found c
 
 pub returns-in-Ok-add_found-clause-ok : goal.returns-in-Ok-add_found-clause-ok
 returns-in-Ok-add_found-clause-ok c =
-    let right = ap (λ place. option_map_or (λ other. same_place other place) (slice_get c.self.inside.frontier.places c.args.number) false) (sym c.place.ensures) ∙ sym c.if-not-has_place.ensures in
+    let right = ap (λ place. is_place_at c.self.inside.frontier.known.places c.args.number place) (sym c.place.ensures) ∙ sym c.if-not-has_place.ensures in
     ap (λ events. found_fault events c.args.number c.args.page.place) (sym c.self.view_is)
     ∙ fault_none c.self.inside.archive c.self.inside.frontier c.self.invariant c.args.number c.in-Some.standing c.in-Some.ensures.0 c.in-Some.ensures.1 c.args.page.place right
 
