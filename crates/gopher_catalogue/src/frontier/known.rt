@@ -104,8 +104,8 @@ impl KnownPlaces {
     /// Appends a place that was never claimed.
     pub fn add(&mut self, place: &Arc<Place>) -> Result<(), NoMemory>
         requires { is_among self.old.places (arc_value place.now) ≡ false }
-        ensures places { OnOk result (self.new.places ≡ self.old.places ++ arc_value place.now ∷ []) }
-        ensures standings { OnOk result (self.new.standings ≡ self.old.standings ++ unclaimed ∷ []) }
+        ensures keys { OnOk result (self.new.places ≡ self.old.places ++ arc_value place.now ∷ []) }
+        ensures states { OnOk result (self.new.standings ≡ self.old.standings ++ unclaimed ∷ []) }
         ensures err { OnErr result (self.new ≡ self.old) }
     {
         self.places.reserve(1)?;
