@@ -3,7 +3,7 @@ use Rattle.std.proofs.Common.{◌≡◌, ℕ, ◌<◌, ◌≤◌, inl, inr, Bool
 use Rattle.std.proofs.lemmas.Bool.Decides.{nat_tests}
 use Rattle.gopher_text.specs.Watched.{CountsFailure, HasFailed}
 use Rattle.gopher_serve.specs.Serve.{StreamData}
-use Rattle.gopher_serve.specs.Talk.{Talk, Gathers, Asks, IsTooLong, LacksMemory, Responds, stage_of, unsent_of}
+use Rattle.gopher_serve.specs.Talk.{Talk, Gathers, Asks, IsTooLong, LacksMemory, Responds, IsAnswering, unsent_of}
 use Rattle.gopher_serve.specs.Advance.{IsProgressAfter, Steps, Stops}
 use Rattle.gopher_serve.specs.declared.advancing.Progress.{Progress}
 use Rattle.gopher_serve.specs.declared.advancing.Progress.TheVariants.{Done, Paused, Works, Waits, Failed}
@@ -55,14 +55,14 @@ steps_stop gives (Gathers bytes) next a b had left before after turn (inr (inr (
     let failed = has_failed _ _ still.count in
     still_stop ReadFailed next had.failures left.failures before.failures after.failures turn how (inl failed) failed ends
 steps_stop gives (Asks line) next a b had left before after turn (inl (reply, steps, gave, is, inl (how, ready)), reader, writer) ends = absurd (ends how)
-steps_stop gives (Asks line) next a b had left before after turn (inl (reply, steps, gave, is, inr (how, searches)), reader, writer) ends = subst (Stops next had.failures left.failures before.failures after.failures) (sym how) (ap stage_of is)
+steps_stop gives (Asks line) next a b had left before after turn (inl (reply, steps, gave, is, inr (how, searches)), reader, writer) ends = subst (Stops next had.failures left.failures before.failures after.failures) (sym how) (subst IsAnswering (sym is) tt)
 steps_stop gives (Asks line) next a b had left before after turn (inr (same, how), reader, writer) ends = subst (Stops next had.failures left.failures before.failures after.failures) (sym how) tt
 steps_stop gives IsTooLong next a b had left before after turn (fails, same, answers, reader, writer) ends = subst (Stops next had.failures left.failures before.failures after.failures) (sym fails) same
 steps_stop gives LacksMemory next a b had left before after turn (fails, same, answers, reader, writer) ends = subst (Stops next had.failures left.failures before.failures after.failures) (sym fails) tt
-steps_stop gives (Responds line reply steps count) next a b had left before after turn (inl (talk, ready, none, same, how), answers, reader) ends = subst (Stops next had.failures left.failures before.failures after.failures) (sym how) (ap stage_of talk, ap unsent_of talk ∙ none)
+steps_stop gives (Responds line reply steps count) next a b had left before after turn (inl (talk, ready, none, same, how), answers, reader) ends = subst (Stops next had.failures left.failures before.failures after.failures) (sym how) (subst IsAnswering (sym talk) tt, ap unsent_of talk ∙ none)
 steps_stop gives (Responds line reply steps count) next a b had left before after turn (inr (inl (some, inl how)), answers, reader) ends = absurd (ends how)
-steps_stop gives (Responds line reply steps count) next a b had left before after turn (inr (inl (some, inr (how, none))), answers, reader) ends = subst (Stops next had.failures left.failures before.failures after.failures) (sym how) (ap stage_of some.is, none)
-steps_stop gives (Responds line reply steps count) next a b had left before after turn (inr (inr (inl (searches, talk, same, inl (how, fewer)))), answers, reader) ends = subst (Stops next had.failures left.failures before.failures after.failures) (sym how) (ap stage_of talk)
+steps_stop gives (Responds line reply steps count) next a b had left before after turn (inr (inl (some, inr (how, none))), answers, reader) ends = subst (Stops next had.failures left.failures before.failures after.failures) (sym how) (subst IsAnswering (sym some.is) tt, none)
+steps_stop gives (Responds line reply steps count) next a b had left before after turn (inr (inr (inl (searches, talk, same, inl (how, fewer)))), answers, reader) ends = subst (Stops next had.failures left.failures before.failures after.failures) (sym how) (subst IsAnswering (sym talk) tt)
 steps_stop gives (Responds line reply steps count) next a b had left before after turn (inr (inr (inl (searches, talk, same, inr (how, kept)))), answers, reader) ends = subst (Stops next had.failures left.failures before.failures after.failures) (sym how) tt
 steps_stop gives (Responds line reply steps count) next a b had left before after turn (inr (inr (inr (still, how))), answers, reader) ends =
     let failed = has_failed _ _ still.count in

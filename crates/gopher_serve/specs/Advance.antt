@@ -8,8 +8,7 @@ use Rattle.std.specs.Io.KnownBytes.{Appends, Consumes, IsAtEnd, Keeps}
 use Rattle.gopher_bytes.specs.declared.line.TheConstants.{MAX_LINE}
 use Rattle.gopher_text.specs.Watched.{CountsFailure, HasFailed}
 use Rattle.gopher_serve.specs.Serve.{StreamData}
-use Rattle.gopher_serve.specs.Talk.{Talk, Gathers, Asks, IsTooLong, LacksMemory, Responds, Hears, OnlySearches, heard, said, sendable_of, sent_of, stage_of, steps_of, talk_of, unsent_of}
-use Rattle.gopher_serve.specs.declared.conversation.Stage.TheVariants as stage
+use Rattle.gopher_serve.specs.Talk.{Talk, Gathers, Asks, IsTooLong, LacksMemory, Responds, Hears, IsAnswering, OnlySearches, heard, said, sendable_of, sent_of, steps_of, talk_of, unsent_of}
 use Rattle.gopher_serve.specs.declared.fault.ServeFault.{ServeFault}
 use Rattle.gopher_serve.specs.declared.fault.ServeFault.TheVariants.{LineTooLong, ReadFailed, TooManyTurns, WriteFailed, NoMemory}
 use Rattle.gopher_serve.specs.declared.advancing.Progress.{Progress}
@@ -64,9 +63,9 @@ RepliesToLine gives before after line new progress =
 
 -- the effect of asking for the reply, by its progress, if a line is asked: the conversation before
 -- and after, and the answers before and after
-abbrev pub Replies : {A : Type 0} → (A → A → List ℕ → List ℕ → Type 0) → Talk → Talk
+abbrev pub AsksReply : {A : Type 0} → (A → A → List ℕ → List ℕ → Type 0) → Talk → Talk
     → A → A → Progress → Type 0
-Replies gives old new before after progress =
+AsksReply gives old new before after progress =
     (line : List ℕ) → old ≡ Asks line → RepliesToLine gives before after line new progress
 
 -- the next `count` bytes of the reply were written, and nothing else
@@ -143,9 +142,9 @@ Records old new (Err error) progress =
 -- sent, and MAX_LINE + 4 steps before the reply make at least 2^64 - 1
 abbrev pub Stops : Talk → ℕ → ℕ → ℕ → ℕ → Progress → Type 0
 Stops talk had left before after Done =
-    (stage_of talk ≡ stage.Responds) × (unsent_of talk ≡ [])
+    IsAnswering talk × (unsent_of talk ≡ [])
 Stops talk had left before after Paused = ⊥
-Stops talk had left before after Works = stage_of talk ≡ stage.Responds
+Stops talk had left before after Works = IsAnswering talk
 Stops talk had left before after Waits = HasFailed had left ⊎ HasFailed before after
 Stops talk had left before after (Failed LineTooLong) = talk ≡ IsTooLong
 Stops talk had left before after (Failed ReadFailed) = HasFailed had left
@@ -158,7 +157,7 @@ Stops talk had left before after (Failed NoMemory) = Unit {0}
 -- its steps are left
 abbrev pub NearsAtWorks : Talk → Talk → Progress → Type 0
 NearsAtWorks old new progress =
-    progress ≡ Works → stage_of old ≡ stage.Responds → steps_of new < steps_of old
+    progress ≡ Works → IsAnswering old → steps_of new < steps_of old
 
 -- ---- any number of steps
 

@@ -8,8 +8,6 @@ use Rattle.gopher_serve.specs.Answer.{answer_bytes, steps_to_reply}
 use Rattle.gopher_serve.specs.declared.answer.Answer.{Answer}
 use Rattle.gopher_serve.specs.declared.conversation.Phase.{Phase}
 use Rattle.gopher_serve.specs.declared.conversation.Phase.TheVariants as phase
-use Rattle.gopher_serve.specs.declared.conversation.Stage.{Stage}
-use Rattle.gopher_serve.specs.declared.conversation.Stage.TheVariants as stage
 
 -- the state of a conversation: it has gathered these bytes; it asks for the reply to this line; the
 -- line is too long; it is out of memory for the line; or it answers this line with this reply. The
@@ -92,12 +90,10 @@ put_back (Responds line reply (suc steps) sent) =
     if sent == 0 then Asks line else Responds line reply (suc steps) sent
 put_back talk = talk
 
-abbrev pub stage_of : Talk → Stage
-stage_of (Gathers bytes) = stage.Listens
-stage_of (Asks line) = stage.Asks
-stage_of IsTooLong = stage.IsTooLong
-stage_of LacksMemory = stage.LacksMemory
-stage_of (Responds line reply steps sent) = stage.Responds
+-- the line is answered
+abbrev pub IsAnswering : Talk → Type 0
+IsAnswering (Responds line reply steps sent) = Unit {0}
+IsAnswering talk = ⊥
 
 -- ---- from the fields that a conversation keeps
 

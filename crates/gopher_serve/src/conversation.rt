@@ -5,7 +5,7 @@ ghost use Rattle.std.specs.Option.{option_map};
 ghost use Rattle.std.specs.Io.BufRead.{first_line, strip_last};
 ghost use Rattle.gopher_text.specs.Line.{has_feed};
 ghost use Rattle.gopher_serve.specs.Answer.{ComesNearer};
-ghost use Rattle.gopher_serve.specs.Talk.{Gathers, Hears, IsAnswered, OnlySearches, asked_of, heard, is_known, known_line, put_back, reply_in, said, sendable_of, sent_of, stage_of, steps_of, talk_in, unsent_of};
+ghost use Rattle.gopher_serve.specs.Talk.{Gathers, Hears, IsAnswered, OnlySearches, asked_of, heard, is_known, known_line, put_back, reply_in, said, sendable_of, sent_of, steps_of, talk_in, unsent_of};
 ghost use Rattle.gopher_serve.specs.Advance.{Upholds};
 ghost use Rattle.gopher_serve.specs.declared.advancing.Progress.TheVariants.{Failed, Works};
 ghost use Rattle.gopher_serve.specs.declared.fault.ServeFault.TheVariants.{NoMemory};
@@ -21,29 +21,19 @@ use std::marker::Model;
 // The most bytes of a line with its end, CR LF.
 const MAX_WITH_END: usize = MAX_LINE + 2;
 
-// The state of a conversation.
+/// The state of a conversation.
 #[derive(Drop)]
-enum Phase<'a> {
+pub(crate) enum Phase<'a> {
+    /// The line isn't at its end: more is read.
     Gathering,
+    /// The reply to its line isn't asked for yet.
     Asked,
+    /// The line is too long.
     TooLong,
+    /// Out of memory for the line.
     LacksMemory,
+    /// The rest of the reply is sent, or the search that makes it takes a step.
     Answering(Answer<'a>),
-}
-
-/// The next task of a conversation.
-#[derive(Clone, Copy)]
-pub(crate) enum Stage {
-    /// Read more, because the line isn't at its end.
-    Listens,
-    /// Ask for the reply to its line.
-    Asks,
-    /// Nothing: the line is too long.
-    IsTooLong,
-    /// Nothing: out of memory for the line.
-    LacksMemory,
-    /// Send the rest of its reply, or take a step of the search that makes it.
-    Responds,
 }
 
 /// A conversation with one client. It takes bytes in pieces of any size, finds the end of the line,
@@ -53,7 +43,7 @@ pub(crate) enum Stage {
 #[derive(Drop)]
 pub struct Conversation<'a> {
     gathered: Vec<u8>,
-    phase: Phase<'a>,
+    pub(crate) phase: Phase<'a>,
     sent: usize,
 }
 
@@ -144,19 +134,6 @@ impl<'a> Conversation<'a> {
         match &self.phase {
             Phase::Answering(_) => self.sent,
             _ => 0,
-        }
-    }
-
-    // Its next task.
-    pub(crate) fn stage(&self) -> Stage
-        ensures { result ≡ stage_of self.now }
-    {
-        match &self.phase {
-            Phase::Gathering => Stage::Listens,
-            Phase::Asked => Stage::Asks,
-            Phase::TooLong => Stage::IsTooLong,
-            Phase::LacksMemory => Stage::LacksMemory,
-            Phase::Answering(_) => Stage::Responds,
         }
     }
 
