@@ -153,12 +153,6 @@ Stops talk had left before after (Failed TooManyTurns) =
 Stops talk had left before after (Failed WriteFailed) = HasFailed before after
 Stops talk had left before after (Failed NoMemory) = Unit {0}
 
--- a conversation that stops at a step of its search: the search had not begun before, or fewer of
--- its steps are left
-abbrev pub NearsAtWorks : Talk → Talk → Progress → Type 0
-NearsAtWorks old new progress =
-    progress ≡ Works → IsAnswering old → steps_of new < steps_of old
-
 -- ---- any number of steps
 
 -- the line was answered with this reply between two states of the answers

@@ -67,8 +67,6 @@ Serves gives had left old new (Err NoMemory) = IsMute had left old new
 
 -- the faults before the reply was asked for
 abbrev pub IsUnheard : ServeFault → Type 0
-IsUnheard LineTooLong = Unit {0}
-IsUnheard ReadFailed = Unit {0}
-IsUnheard TooManyTurns = Unit {0}
 IsUnheard WriteFailed = ⊥
 IsUnheard NoMemory = ⊥
+IsUnheard fault = Unit {0}

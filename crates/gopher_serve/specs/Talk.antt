@@ -1,6 +1,6 @@
 -- A conversation with one client, over all bytes that came in: one line, and its reply (RFC 1436,
 -- section 2).
-use Rattle.std.specs.Prelude.{◌≡◌, ℕ, zero, suc, ◌+◌, ◌==◌, Bool, false, ◌||◌, ◌⊎◌, List, [], ◌++◌, length, drop, nat_le, Option, None, Some, if◌then◌else◌}
+use Rattle.std.specs.Prelude.{◌≡◌, ℕ, suc, ◌+◌, ◌==◌, Bool, false, ◌||◌, ◌⊎◌, List, [], ◌++◌, length, drop, nat_le, Option, None, Some, if◌then◌else◌}
 use Rattle.std.specs.Io.BufRead.{first_line}
 use Rattle.gopher_bytes.specs.declared.line.TheConstants.{MAX_LINE}
 use Rattle.gopher_text.specs.Line.{has_feed}
@@ -58,21 +58,19 @@ abbrev pub unsent_of : Talk → List ℕ
 unsent_of (Responds line reply steps sent) = drop sent reply
 unsent_of talk = []
 
+-- a bound of the steps of the search that are left until the reply is there; 0 once it is there
+abbrev pub steps_of : Talk → ℕ
+steps_of (Responds line reply steps sent) = steps
+steps_of talk = 0
+
 -- the rest of the reply; `None` while a search makes it
 abbrev pub sendable_of : Talk → Option (List ℕ)
-sendable_of (Responds line reply zero sent) = Some (drop sent reply)
-sendable_of (Responds line reply (suc steps) sent) = None
-sendable_of talk = Some []
+sendable_of talk = if steps_of talk == 0 then Some (unsent_of talk) else None
 
 -- the state after `count` more bytes of the reply were sent
 abbrev pub said : Talk → ℕ → Talk
 said (Responds line reply steps sent) count = Responds line reply steps (sent + count)
 said talk count = talk
-
--- a bound of the steps of the search that are left until the reply is there; 0 once it is there
-abbrev pub steps_of : Talk → ℕ
-steps_of (Responds line reply steps sent) = steps
-steps_of talk = 0
 
 -- the same state, with this bound of the steps that are left
 abbrev pub with_steps : Talk → ℕ → Talk
