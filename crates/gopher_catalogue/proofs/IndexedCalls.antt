@@ -14,7 +14,9 @@ use Rattle.gopher_catalogue.specs.declared.event.Why.{Why}
 use Rattle.gopher_catalogue.specs.declared.event.Why.TheVariants.{Read}
 use Rattle.gopher_catalogue.specs.declared.fault.OpenFault.{OpenFault}
 use Rattle.gopher_catalogue.specs.declared.fault.OpenFault.TheVariants.{SeedOutOfScope, BadPlaces, BadTries}
+use Rattle.gopher_catalogue.specs.declared.fault.FoundFault.{FoundFault}
 use Rattle.gopher_catalogue.specs.declared.fault.FoundFault.TheVariants.{NotOut, WrongPlace}
+use Rattle.gopher_catalogue.specs.Fault.{IsFoundFault}
 use Rattle.gopher_catalogue.specs.declared.frontier.sizes.Added.{Added}
 use Rattle.gopher_catalogue.specs.declared.frontier.sizes.Status.{Status}
 use Rattle.gopher_catalogue.specs.Event.{OpeningData, EventData, Opened, Claimed, Found, Failed}
@@ -197,6 +199,9 @@ module _ (record_ : RecordData) (frontier : Frontier) (is : IsIndexed record_ fr
   place_shown n place = ap (λ places. is_place_at places n place) places_shown
 
   -- ---- the fault of a page
+
+  pub is_refused : (n : ℕ) (place : PlaceData) (events : List EventData) → record_.events ≡ events → (due : Option FoundFault) (fault : FoundFault) → found_fault record_.events n place ≡ due → IsFoundFault due fault → IsFoundFault (found_fault events n place) fault
+  is_refused n place events view due fault e is = subst (λ d. IsFoundFault d fault) (sym e ∙ ap (λ es. found_fault es n place) view) is
 
   pub fault_not_out : (n : ℕ) (place : PlaceData) → is_out_at frontier.known.standings n ≡ false → found_fault record_.events n place ≡ Some NotOut
   fault_not_out n place gone = rw (sym (out_shown n) ∙ gone) refl

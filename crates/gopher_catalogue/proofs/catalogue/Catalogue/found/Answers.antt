@@ -1,45 +1,37 @@
-use Rattle.std.proofs.Common.{filter, length, arith, refl, ap, sym, subst, ◌∙◌}
+use Rattle.std.proofs.Common.{filter, length, arith, refl, ap, sym, ◌∙◌}
 use Rattle.gopher_item.specs.Scope.{allows}
-use Rattle.gopher_catalogue.specs.Fault.{IsFoundFault}
 use Rattle.gopher_catalogue.specs.declared.fault.FoundFault.TheVariants.{NotOut, WrongPlace, NoMemory}
 use Rattle.gopher_catalogue.specs.Step.{is_place_at, found_fault, added_by}
 use Rattle.gopher_catalogue.specs.FrontierTables.{Learned}
 use Rattle.gopher_catalogue.specs.History.{opening_in}
 use Rattle.gopher_catalogue.specs.Indexed.{IsIndexed}
 use Rattle.gopher_catalogue.proofs.KnownLemmas.{length-after_mentions}
-use Rattle.gopher_catalogue.proofs.IndexedCalls.{learned_of, limit_fits, places_fit, places_within, out_fits, done_fits, dropped_fits, some_out, fault_not_out, fault_wrong, fault_none, still_stands, added_shown, after_found}
+use Rattle.gopher_catalogue.proofs.IndexedCalls.{learned_of, limit_fits, places_fit, places_within, out_fits, done_fits, dropped_fits, some_out, is_refused, fault_not_out, fault_wrong, fault_none, still_stands, added_shown, after_found}
 use Rattle.gopher_catalogue.proofs.catalogue.Catalogue.found.Goals as goal
 
 -- ---- failing
 
 pub returns-in_default-clause-fault : goal.returns-in_default-clause-fault
 returns-in_default-clause-fault c =
-    let fault = ap (λ events. found_fault events c.args.number c.args.page.place) (sym c.self.view_is) ∙ fault_not_out c.self.inside.archive c.self.inside.frontier c.self.invariant c.args.number c.args.page.place c.in_default.ensures in
-    subst (λ fault. IsFoundFault fault NotOut) (sym fault) refl
+    is_refused c.self.inside.archive c.self.inside.frontier c.self.invariant c.args.number c.args.page.place _ c.self.view_is _ NotOut (fault_not_out c.self.inside.archive c.self.inside.frontier c.self.invariant c.args.number c.args.page.place c.in_default.ensures) refl
 
 pub returns-then-not-has_place-clause-fault : goal.returns-then-not-has_place-clause-fault
 returns-then-not-has_place-clause-fault c =
     let wrong = ap (λ place. is_place_at c.self.inside.frontier.known.places c.args.number place) (sym c.place.ensures) ∙ sym c.if-not-has_place.ensures in
-    let fault =
-    ap (λ events. found_fault events c.args.number c.args.page.place) (sym c.self.view_is)
-    ∙ fault_wrong c.self.inside.archive c.self.inside.frontier c.self.invariant c.args.number c.in-Some.standing c.in-Some.ensures.0 c.in-Some.ensures.1 c.args.page.place wrong in
-    subst (λ fault. IsFoundFault fault WrongPlace) (sym fault) refl
+    is_refused c.self.inside.archive c.self.inside.frontier c.self.invariant c.args.number c.args.page.place _ c.self.view_is _ WrongPlace
+    (fault_wrong c.self.inside.archive c.self.inside.frontier c.self.invariant c.args.number c.in-Some.standing c.in-Some.ensures.0 c.in-Some.ensures.1 c.args.page.place wrong) refl
 
 pub returns-in_default-learn-clause-fault : goal.returns-in_default-learn-clause-fault
 returns-in_default-learn-clause-fault c =
     let right = ap (λ place. is_place_at c.self.inside.frontier.known.places c.args.number place) (sym c.place.ensures) ∙ sym c.if-not-has_place.ensures in
-    let fault =
-    ap (λ events. found_fault events c.args.number c.args.page.place) (sym c.self.view_is)
-    ∙ fault_none c.self.inside.archive c.self.inside.frontier c.self.invariant c.args.number c.in-Some.standing c.in-Some.ensures.0 c.in-Some.ensures.1 c.args.page.place right in
-    subst (λ fault. IsFoundFault fault NoMemory) (sym fault) refl
+    is_refused c.self.inside.archive c.self.inside.frontier c.self.invariant c.args.number c.args.page.place _ c.self.view_is _ NoMemory
+    (fault_none c.self.inside.archive c.self.inside.frontier c.self.invariant c.args.number c.in-Some.standing c.in-Some.ensures.0 c.in-Some.ensures.1 c.args.page.place right) refl
 
 pub returns-in-Err-clause-fault : goal.returns-in-Err-clause-fault
 returns-in-Err-clause-fault c =
     let right = ap (λ place. is_place_at c.self.inside.frontier.known.places c.args.number place) (sym c.place.ensures) ∙ sym c.if-not-has_place.ensures in
-    let fault =
-    ap (λ events. found_fault events c.args.number c.args.page.place) (sym c.self.view_is)
-    ∙ fault_none c.self.inside.archive c.self.inside.frontier c.self.invariant c.args.number c.in-Some.standing c.in-Some.ensures.0 c.in-Some.ensures.1 c.args.page.place right in
-    subst (λ fault. IsFoundFault fault NoMemory) (sym fault) refl
+    is_refused c.self.inside.archive c.self.inside.frontier c.self.invariant c.args.number c.args.page.place _ c.self.view_is _ NoMemory
+    (fault_none c.self.inside.archive c.self.inside.frontier c.self.invariant c.args.number c.in-Some.standing c.in-Some.ensures.0 c.in-Some.ensures.1 c.args.page.place right) refl
 
 -- ---- the calls
 
