@@ -1,7 +1,6 @@
 -- The calls of the sequential catalogue on a legal record: their results, and that the record after
 -- each is legal.
-use Rattle.std.proofs.Common.{◌≡◌, ◌≢◌, ℕ, true, ◌&&◌, List, ◌∷◌, length, Option, Some, None, refl, ◌∙◌, ap, ltb}
-use Rattle.std.specs.List.{slice_get}
+use Rattle.std.proofs.Common.{◌≡◌, ◌≢◌, ℕ, true, ◌&&◌, List, ◌∷◌, length, Option, Some, None, refl, ◌∙◌, ap, ltb, slice_get}
 use Rattle.std.proofs.lemmas.Bool.{eq-eqb, ne_eqb}
 use Rattle.gopher_item.proofs.PlaceLemmas.{same_place-true}
 use Rattle.gopher_item.specs.Place.{PlaceData, same_place}

@@ -1,6 +1,5 @@
 -- The known places are allowed and distinct.
-use Rattle.std.proofs.Common.{◌≡◌, ℕ, suc, zero, ◌<◌, Bool, true, false, not, List, [], ◌∷◌, take, filter, inl, inr, Some, refl, sym, ◌∙◌, ap, arith}
-use Rattle.std.specs.List.{slice_get, flat_map, All, AllPairs}
+use Rattle.std.proofs.Common.{◌≡◌, ℕ, suc, zero, ◌<◌, Bool, true, false, not, List, [], ◌∷◌, take, filter, inl, inr, Some, refl, sym, ◌∙◌, ap, arith, slice_get, flat_map, All, AllPairs}
 use Rattle.std.proofs.lemmas.Bool.{false≢true, not-true, or_left, or_right, cases_eq, cases_lt}
 use Rattle.std.proofs.lemmas.List.Elements.{All-nil, All-cons, All-head, All-tail, All-append, All-filter, All-take, All-weaker, filter_passes}
 use Rattle.std.proofs.lemmas.List.Kept.{AllPairs-cons, AllPairs-filter}

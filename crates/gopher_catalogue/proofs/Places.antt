@@ -1,6 +1,5 @@
 -- Lists of places: membership, duplicates, and the first distinct places up to a limit.
-use Rattle.std.proofs.Common.{◌≡◌, ℕ, suc, zero, ◌+◌, ◌-◌, ◌≤◌, ◌<◌, Bool, true, false, ◌&&◌, ◌||◌, not, cond, List, [], ◌∷◌, ◌++◌, length, take, filter, min, inl, inr, refl, sym, ◌∙◌, ap, arith}
-use Rattle.std.specs.List.{count_by}
+use Rattle.std.proofs.Common.{◌≡◌, ℕ, suc, zero, ◌+◌, ◌-◌, ◌≤◌, ◌<◌, Bool, true, false, ◌&&◌, ◌||◌, not, cond, List, [], ◌∷◌, ◌++◌, length, take, filter, min, inl, inr, refl, sym, ◌∙◌, ap, arith, count_by}
 use Rattle.std.proofs.lemmas.Bool.{cases_lt, or_right}
 use Rattle.std.proofs.lemmas.List.{length-take, take_all, append-nil}
 use Rattle.std.proofs.lemmas.List.Elements.{filter-append, filter_agree}

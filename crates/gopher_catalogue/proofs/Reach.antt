@@ -1,6 +1,5 @@
 -- A finished crawl knows exactly what can be reached.
-use Rattle.std.proofs.Common.{◌≡◌, ℕ, suc, zero, ◌+◌, ◌≤◌, ◌<◌, Bool, true, false, not, cond, List, [], ◌∷◌, ◌++◌, length, take, drop, filter, get_or, inl, inr, Option, Some, None, refl, sym, ◌∙◌, ap, subst, arith, eqb, ltb, leb}
-use Rattle.std.specs.List.{slice_get, flat_map, All, Contains}
+use Rattle.std.proofs.Common.{◌≡◌, ℕ, suc, zero, ◌+◌, ◌≤◌, ◌<◌, Bool, true, false, not, cond, List, [], ◌∷◌, ◌++◌, length, take, drop, filter, get_or, inl, inr, Option, Some, None, refl, sym, ◌∙◌, ap, subst, arith, eqb, ltb, leb, slice_get, flat_map, All, Contains}
 use Rattle.std.proofs.lemmas.Bool.{false≢true, or_left, or_right, or_cases, ltb-true, leb-true, not_from_false, true_from_ne_false}
 use Rattle.std.proofs.lemmas.List.{take_all, take-append-drop}
 use Rattle.std.proofs.lemmas.List.Elements.{All-nil, All-append, All-filter, All-take, filter_passes}

@@ -1,8 +1,7 @@
 -- The replies of a tree, most of which are kept.
-use Rattle.std.specs.Prelude.{◌≡◌, ℕ, List, Option, IfSome}
+use Rattle.std.specs.Prelude.{◌≡◌, ℕ, List, Option, IfSome, All}
 use Rattle.std.specs.Borrow.{Bor}
 use Rattle.std.specs.Global.{Vec}
-use Rattle.std.specs.List.{All}
 use Rattle.gopher_item.specs.Place.{HomeData}
 use Rattle.gopher_tree.specs.Files.{File}
 use Rattle.gopher_tree.specs.Reply.{tree_reply, not_found_bytes}
