@@ -119,11 +119,10 @@ impl Frontier {
         requires few_out { self.old.out ≤ MAX_PLACES }
         ensures { self.new ≡ after_claim self.old number standing }
     {
-        let claims = standing.claims + 1;
         self.known.set_standing(
             number as usize,
             Standing {
-                claims,
+                claims: standing.claims + 1,
                 is_out: true,
             },
         );
@@ -138,11 +137,10 @@ impl Frontier {
         requires some_out { 0 < self.old.out }
         ensures { self.new ≡ after_outcome self.old number standing }
     {
-        let claims = standing.claims;
         self.known.set_standing(
             number as usize,
             Standing {
-                claims,
+                claims: standing.claims,
                 is_out: false,
             },
         );

@@ -123,9 +123,7 @@ impl KnownPlaces {
         self.standings.truncate(len);
         self.places.truncate(len);
     }
-}
 
-impl KnownPlaces {
     /// Makes a place known unless it is known already, or `limit` places are. Returns 1 if the
     /// mention was dropped, else 0.
     pub fn mention(&mut self, limit: usize, place: &Arc<Place>) -> Result<u32, NoMemory>
