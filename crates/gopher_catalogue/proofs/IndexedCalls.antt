@@ -247,7 +247,7 @@ module _ (record_ : RecordData) (frontier : Frontier) (is : IsIndexed record_ fr
 
     added_is : added_by (Opened opening ∷ later) n page
         ≡ record { fresh = length (known opening (later ++ Found n page ∷ [])) - length (known opening later); dropped = dropped opening (later ++ Found n page ∷ []) - dropped opening later }
-    unfolding added_by
+    unfolding added_by status_of
     added_is = refl
 
     pub added_shown : added.fresh + length frontier.known.places ≡ length f1.known.places → added ≡ added_by record_.events n page

@@ -74,16 +74,6 @@ found_fault events number place =
     if not (is_out_in events number) then Some NotOut
     else (if not (is_place_at (places_of events) number place) then Some WrongPlace else None)
 
--- how many places a page adds to the known ones, and how many of its mentions are dropped
-unfoldable pub added_by : List EventData → ℕ → PageData → Added
-added_by (Opened opening ∷ events) number page =
-    let after = events ++ Found number page ∷ [] in
-    record {
-      fresh = length (known opening after) - length (known opening events);
-      dropped = dropped opening after - dropped opening events;
-    }
-added_by events number page = record { fresh = 0; dropped = 0 }
-
 -- ---- status
 
 unfoldable pub status_of : List EventData → Status
@@ -96,6 +86,15 @@ status_of (Opened opening ∷ events) =
       dropped = dropped opening events;
     }
 status_of events = record { known = 0; waiting = 0; out = 0; done = 0; dropped = 0 }
+
+-- how many places a page adds to the known ones, and how many of its mentions are dropped
+unfoldable pub added_by : List EventData → ℕ → PageData → Added
+added_by events number page =
+    let after = status_of (events ++ Found number page ∷ []) in
+    record {
+      fresh = after.known - (status_of events).known;
+      dropped = after.dropped - (status_of events).dropped;
+    }
 
 -- nothing waits and nothing is out
 abbrev pub is_finished : List EventData → Bool
