@@ -4,8 +4,6 @@ ghost use Rattle.std.specs.Prelude.{◌≡◌, ◌≤◌, ℕ, true, false, None
 ghost use Rattle.std.specs.Arc.{arc_value};
 ghost use Rattle.gopher_item.specs.Scope.{first_outside};
 ghost use Rattle.gopher_index.specs.Index.{IsSliceOf};
-ghost use Rattle.gopher_catalogue.specs.Tables.{allowed};
-ghost use Rattle.gopher_catalogue.specs.FrontierTables.{KeepsFrontier, Learns};
 ghost use Rattle.gopher_catalogue.specs.Event.{EventData, Opened, Claimed, Found, Failed};
 ghost use Rattle.gopher_catalogue.specs.EventOf.{event_data};
 ghost use Rattle.gopher_catalogue.specs.Fault.{HasOpenFault, HasFoundFault};
@@ -22,7 +20,7 @@ use crate::fault::{FailRefused, FoundFault, FoundRefused, OpenFault, OpenRefused
 use crate::frontier::{Added, Frontier, Status};
 use crate::opening::Opening;
 use gopher_index::{Due, Hit, Index};
-use gopher_item::{MAX_PLACES, MAX_TRIES, NoMemory, Place, Places, Scope};
+use gopher_item::{MAX_PLACES, MAX_TRIES, NoMemory, Place, Scope};
 use gopher_page::{Page, Query};
 use std::alloc::Global;
 use std::marker::Model;
@@ -82,25 +80,6 @@ fn refused(fault: OpenFault, scope: Scope, seeds: Vec<Place>) -> OpenRefused
         scope,
         seeds,
     }
-}
-
-// Makes the links of a page known, as `Frontier::learn` does.
-fn learn(
-    alloc: Global,
-    frontier: &mut Frontier,
-    opening: &Arc<Opening>,
-    page: &Page,
-) -> Result<Added, NoMemory>
-    requires limit { (arc_value opening.now).limit ≤ MAX_PLACES }
-    requires places { length frontier.old.known.places ≤ (arc_value opening.now).limit }
-    requires out { frontier.old.out ≤ MAX_PLACES }
-    ensures ok { IfOk result (Learns (arc_value opening.now).limit
-        (allowed (arc_value opening.now).scope page.now.links) frontier.old frontier.new) }
-    ensures err { OnErr result (KeepsFrontier frontier.old frontier.new) }
-{
-    let none = Places::new(alloc);
-    let links = page.packed_links().unwrap_or(&none);
-    frontier.learn(alloc, opening.scope(), opening.places(), links)
 }
 
 impl Catalogue {
@@ -207,7 +186,7 @@ impl Catalogue {
         let fault = FoundFault::NoMemory;
         let before = self.frontier.known.len() as u32;
         let opening = self.archive.opening();
-        let Ok(added) = learn(self.alloc, &mut self.frontier, opening, &page) else {
+        let Ok(added) = self.frontier.learn(self.alloc, opening, &page) else {
             return Err(FoundRefused { fault, page });
         };
         match self.archive.add_found(self.alloc, number, page) {

@@ -1,15 +1,16 @@
 //! `Frontier`: the known places of a crawl, the queue of waiting ones, and their numbers.
 
 ghost use Rattle.std.specs.Prelude.{◌≡◌, ◌+◌, ◌-◌, ◌^◌, ◌<◌, ◌≤◌, length, slice_get, MatchOption, Some, IfOk, OnErr};
-ghost use Rattle.gopher_catalogue.specs.Tables.{allowed};
 ghost use Rattle.gopher_catalogue.specs.Step.{is_place_at};
-ghost use Rattle.gopher_catalogue.specs.FrontierTables.{Begins, KeepsFrontier, MayLearn, Learns, IsNotOut, IsOutAs, after_claim, after_outcome, after_find, after_failure};
+ghost use Rattle.gopher_catalogue.specs.FrontierTables.{Begins, KeepsFrontier, MayLearn, LearnsLinks, IsNotOut, IsOutAs, after_claim, after_outcome, after_find, after_failure};
 
 mod known;
 mod queue;
 mod sizes;
 
-use gopher_item::{MAX_PLACES, MAX_TRIES, NoMemory, Place, Places, Scope};
+use crate::opening::Opening;
+use gopher_item::{MAX_PLACES, MAX_TRIES, NoMemory, Place, Places};
+use gopher_page::Page;
 use known::{KnownPlaces, Standing};
 use queue::Queue;
 pub use sizes::{Added, Status};
@@ -75,26 +76,28 @@ impl Frontier {
         }
     }
 
-    /// Makes the links of a page known that `scope` allows, while there are fewer than `limit`
-    /// places, and returns how many became known and how many mentions were dropped.
+    /// Makes the links of a page known that the crawl's scope allows, up to its limit of places, and
+    /// returns how many became known and how many mentions were dropped.
     ///
     /// It also reserves room in the queue for the new places and for the outcome of each place that
     /// is out. The new places don't wait before `found`.
     pub fn learn(
         &mut self,
         alloc: Global,
-        scope: &Scope,
-        limit: u32,
-        links: &Places,
+        opening: &Opening,
+        page: &Page,
     ) -> Result<Added, NoMemory>
-        requires { MayLearn limit (length links.now) self.old }
-        ensures ok { IfOk result (Learns limit (allowed scope.now links.now) self.old self.new) }
+        requires { MayLearn opening.now.limit self.old }
+        ensures ok { IfOk result (LearnsLinks opening.now page.now.links self.old self.new) }
         ensures err { OnErr result (KeepsFrontier self.old self.new) }
     {
+        let none = Places::new(alloc);
+        let links = page.packed_links().unwrap_or(&none);
+        let limit = opening.places() as usize;
         let before = self.known.len();
         let Ok(dropped) = self
             .known
-            .mention_links(alloc, scope, limit as usize, links)
+            .mention_links(alloc, opening.scope(), limit, links)
         else {
             self.known.truncate(before);
             return Err(NoMemory);

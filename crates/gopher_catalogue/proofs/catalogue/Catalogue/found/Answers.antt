@@ -38,22 +38,22 @@ returns-in-Err-clause-fault c =
 pub overflow_cast-before : goal.overflow_cast-before
 overflow_cast-before c = omega (arith, places_fit c.self.inside.archive c.self.inside.frontier c.self.invariant, c.len-before.ensures.places)
 
-pub learn-requires-clause-limit : goal.learn-requires-clause-limit
-learn-requires-clause-limit c = omega (arith, ap (λ o. o.limit) c.opening-opening.ensures, limit_fits c.self.inside.archive c.self.inside.frontier c.self.invariant)
-
-pub learn-requires-clause-places : goal.learn-requires-clause-places
-learn-requires-clause-places c = omega (arith, ap (λ o. o.limit) c.opening-opening.ensures, places_within c.self.inside.archive c.self.inside.frontier c.self.invariant)
-
-pub learn-requires-clause-out : goal.learn-requires-clause-out
-learn-requires-clause-out c = out_fits c.self.inside.archive c.self.inside.frontier c.self.invariant
+pub learn-requires : goal.learn-requires
+learn-requires c =
+    let limit = ap (λ o. o.limit) (c.deref.ensures ∙ c.opening-opening.ensures) in
+    record {
+      limit_fits = omega (arith, limit, limit_fits c.self.inside.archive c.self.inside.frontier c.self.invariant);
+      few_places = omega (arith, limit, places_within c.self.inside.archive c.self.inside.frontier c.self.invariant);
+      few_out = out_fits c.self.inside.archive c.self.inside.frontier c.self.invariant;
+    }
 
 -- the effect of the page's links on the frontier
-learned : (c : goal.After-found-arg-1) → Learned (opening_in c.self.inside.archive.events).limit (filter (allows (opening_in c.self.inside.archive.events).scope) c.args.page.links) c.self.inside.frontier c.learn.new.frontier c.in-Ok.added.dropped
-learned c = learned_of _ _ _ _ _ _ _ _ _ (ap (λ o. o.limit) c.opening-opening.ensures) (ap (λ o. o.scope) c.opening-opening.ensures) refl c.in-Ok.ensures.ok.learned
+learned : (c : goal.After-found-arg-1) → Learned (opening_in c.self.inside.archive.events).limit (filter (allows (opening_in c.self.inside.archive.events).scope) c.args.page.links) c.self.inside.frontier c.learn.new.self c.in-Ok.added.dropped
+learned c = learned_of _ _ _ _ _ _ _ _ _ (ap (λ o. o.limit) (c.deref.ensures ∙ c.opening-opening.ensures)) (ap (λ o. o.scope) (c.deref.ensures ∙ c.opening-opening.ensures)) refl c.in-Ok.ensures.ok.learned
 
 pub found-requires-clause-standing : goal.found-requires-clause-standing
 found-requires-clause-standing c =
-    still_stands c.self.inside.archive c.self.inside.frontier c.self.invariant c.learn.new.frontier c.args.number c.in-Some.standing c.args.page c.in-Ok.added (learned c) c.in-Some.ensures.0
+    still_stands c.self.inside.archive c.self.inside.frontier c.self.invariant c.learn.new.self c.args.number c.in-Some.standing c.args.page c.in-Ok.added (learned c) c.in-Some.ensures.0
 
 pub found-requires-clause-few_places : goal.found-requires-clause-few_places
 found-requires-clause-few_places c =
@@ -77,9 +77,9 @@ add_found-requires c = omega (arith, some_out c.self.inside.archive c.self.insid
 
 found : (c : goal.After-found) → IsIndexed c.add_found.new.self c.found.new.self
 found c =
-    let learned : Learned (opening_in c.self.inside.archive.events).limit (filter (allows (opening_in c.self.inside.archive.events).scope) c.args.page.links) c.self.inside.frontier c.learn.new.frontier c.in-Ok.added.dropped = learned_of _ _ _ _ _ _ _ _ _ (ap (λ o. o.limit) c.opening-opening.ensures) (ap (λ o. o.scope) c.opening-opening.ensures) refl c.in-Ok.ensures.ok.learned in
+    let learned : Learned (opening_in c.self.inside.archive.events).limit (filter (allows (opening_in c.self.inside.archive.events).scope) c.args.page.links) c.self.inside.frontier c.learn.new.self c.in-Ok.added.dropped = learned_of _ _ _ _ _ _ _ _ _ (ap (λ o. o.limit) (c.deref.ensures ∙ c.opening-opening.ensures)) (ap (λ o. o.scope) (c.deref.ensures ∙ c.opening-opening.ensures)) refl c.in-Ok.ensures.ok.learned in
     let right = ap (λ place. is_place_at c.self.inside.frontier.known.places c.args.number place) (sym c.place.ensures) ∙ sym c.if-not-has_place.ensures in
-    after_found c.self.inside.archive c.self.inside.frontier c.self.invariant c.learn.new.frontier c.args.number c.in-Some.standing c.args.page c.in-Ok.added learned c.add_found.new.self c.found.new.self c.len-before.result c.in-Some.ensures.0 c.in-Some.ensures.1 right c.len-before.ensures.places
+    after_found c.self.inside.archive c.self.inside.frontier c.self.invariant c.learn.new.self c.args.number c.in-Some.standing c.args.page c.in-Ok.added learned c.add_found.new.self c.found.new.self c.len-before.result c.in-Some.ensures.0 c.in-Some.ensures.1 right c.len-before.ensures.places
     c.in-Ok.ensures.ok.few c.in-Ok.ensures.ok.fresh c.in-Ok.ensures.ok.room c.found.ensures c.in-Ok-add_found.ensures.ok.events c.in-Ok-add_found.ensures.ok.room
 
 pub invariant_of-self-in-Ok-add_found : goal.invariant_of-self-in-Ok-add_found
@@ -93,8 +93,8 @@ returns-in-Ok-add_found-clause-ok c =
 
 pub returns-in-Ok-add_found-clause-added : goal.returns-in-Ok-add_found-clause-added
 returns-in-Ok-add_found-clause-added c =
-    let learned : Learned (opening_in c.self.inside.archive.events).limit (filter (allows (opening_in c.self.inside.archive.events).scope) c.args.page.links) c.self.inside.frontier c.learn.new.frontier c.in-Ok.added.dropped = learned_of _ _ _ _ _ _ _ _ _ (ap (λ o. o.limit) c.opening-opening.ensures) (ap (λ o. o.scope) c.opening-opening.ensures) refl c.in-Ok.ensures.ok.learned in
-    added_shown c.self.inside.archive c.self.inside.frontier c.self.invariant c.learn.new.frontier c.args.number c.in-Some.standing c.args.page c.in-Ok.added learned c.in-Ok.ensures.ok.fresh ∙ ap (λ events. added_by events c.args.number c.args.page) c.self.view_is
+    let learned : Learned (opening_in c.self.inside.archive.events).limit (filter (allows (opening_in c.self.inside.archive.events).scope) c.args.page.links) c.self.inside.frontier c.learn.new.self c.in-Ok.added.dropped = learned_of _ _ _ _ _ _ _ _ _ (ap (λ o. o.limit) (c.deref.ensures ∙ c.opening-opening.ensures)) (ap (λ o. o.scope) (c.deref.ensures ∙ c.opening-opening.ensures)) refl c.in-Ok.ensures.ok.learned in
+    added_shown c.self.inside.archive c.self.inside.frontier c.self.invariant c.learn.new.self c.args.number c.in-Some.standing c.args.page c.in-Ok.added learned c.in-Ok.ensures.ok.fresh ∙ ap (λ events. added_by events c.args.number c.args.page) c.self.view_is
 
 pub returns-in-Ok-add_found-clause-legal : goal.returns-in-Ok-add_found-clause-legal
 returns-in-Ok-add_found-clause-legal c = (found c).legal
