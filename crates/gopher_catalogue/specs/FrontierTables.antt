@@ -1,16 +1,15 @@
 -- The frontier of a crawl after each call.
-use Rattle.std.specs.Prelude.{◌≡◌, ℕ, ◌+◌, ◌-◌, ◌≤◌, Bool, true, false, List, [], ◌∷◌, ◌++◌, Some, length, filter, replicate, drop, slice_get, nat_lt, if◌then◌else◌}
+use Rattle.std.specs.Prelude.{◌≡◌, ℕ, ◌+◌, ◌-◌, ◌≤◌, Bool, true, false, List, [], ◌∷◌, ◌++◌, Some, length, replicate, drop, slice_get, nat_lt, if◌then◌else◌}
 use Rattle.std.specs.List.{range_with_len}
 use Rattle.std.specs.Option.{option_map_or}
 use Rattle.gopher_item.specs.Place.{PlaceData}
-use Rattle.gopher_item.specs.Scope.{allows}
 use Rattle.gopher_item.specs.declared.limits.TheConstants.{MAX_PLACES}
 use Rattle.gopher_text.specs.declared.reply_reader.TheConstants.{MAX_REPLY}
 use Rattle.gopher_catalogue.specs.declared.frontier.Frontier.{Frontier}
 use Rattle.gopher_catalogue.specs.declared.frontier.known.Standing.{Standing}
 use Rattle.gopher_catalogue.specs.declared.frontier.sizes.Added.{Added}
 use Rattle.gopher_catalogue.specs.Opening.{OpeningData}
-use Rattle.gopher_catalogue.specs.Tables.{Extends, Mentions, after_mentions, drops, unclaimed, with_standing}
+use Rattle.gopher_catalogue.specs.Tables.{Extends, Mentions, after_mentions, allowed, drops, unclaimed, with_standing}
 
 -- everything stays except the known places and the room
 pub record KeepsCounts (old new : Frontier) : Type 0 where
@@ -39,18 +38,15 @@ pub record MayLearn (limit : ℕ) (frontier : Frontier) : Type 0 where
   pub few_places : length frontier.known.places ≤ limit
   pub few_out : frontier.out ≤ MAX_PLACES
 
--- the frontier learned these mentions and returned `added`; the queue has room for the fresh places
--- and for the outcome of each place that is out
-pub record Learns (limit : ℕ) (mentions : List PlaceData) (before after : Frontier)
+-- the frontier learned the links that the scope of a crawl allows, up to its limit of places, and
+-- returned `added`; the queue has room for the fresh places and for the outcome of each place that
+-- is out
+pub record Learns (opening : OpeningData) (links : List PlaceData) (before after : Frontier)
     (added : Added) : Type 0 where
-  pub learned : Learned limit mentions before after added.dropped
+  pub learned : Learned opening.limit (allowed opening.scope links) before after added.dropped
   pub fresh : added.fresh + length before.known.places ≡ length after.known.places
   pub few : added.dropped ≤ MAX_REPLY
   pub room : added.fresh + before.out ≤ after.queue.room
-
--- the frontier learned the links that the scope of a crawl allows, up to its limit of places
-abbrev pub LearnsLinks : OpeningData → List PlaceData → Frontier → Frontier → Added → Type 0
-LearnsLinks opening links = Learns opening.limit (filter (allows opening.scope) links)
 
 -- the number is out
 abbrev pub is_out_at : List Standing → ℕ → Bool

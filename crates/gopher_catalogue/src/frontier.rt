@@ -2,7 +2,7 @@
 
 ghost use Rattle.std.specs.Prelude.{◌≡◌, ◌+◌, ◌-◌, ◌^◌, ◌<◌, ◌≤◌, length, slice_get, MatchOption, Some, IfOk, OnErr};
 ghost use Rattle.gopher_catalogue.specs.Step.{is_place_at};
-ghost use Rattle.gopher_catalogue.specs.FrontierTables.{Begins, KeepsFrontier, MayLearn, LearnsLinks, IsNotOut, IsOutAs, after_claim, after_outcome, after_find, after_failure};
+ghost use Rattle.gopher_catalogue.specs.FrontierTables.{Begins, KeepsFrontier, MayLearn, Learns, IsNotOut, IsOutAs, after_claim, after_outcome, after_find, after_failure};
 
 mod known;
 mod queue;
@@ -88,7 +88,7 @@ impl Frontier {
         page: &Page,
     ) -> Result<Added, NoMemory>
         requires { MayLearn opening.now.limit self.old }
-        ensures ok { IfOk result (LearnsLinks opening.now page.now.links self.old self.new) }
+        ensures ok { IfOk result (Learns opening.now page.now.links self.old self.new) }
         ensures err { OnErr result (KeepsFrontier self.old self.new) }
     {
         let none = Places::new(alloc);
