@@ -76,8 +76,8 @@ impl Frontier {
         }
     }
 
-    /// Makes the links of a page known that the crawl's scope allows, up to its limit of places, and
-    /// returns how many became known and how many mentions were dropped.
+    /// Makes the links of a page known that the scope of the crawl allows, up to its limit of
+    /// places, and returns how many became known and how many mentions were dropped.
     ///
     /// It also reserves room in the queue for the new places and for the outcome of each place that
     /// is out. The new places don't wait before `found`.

@@ -84,7 +84,7 @@ impl Queue {
     pub fn push_range(&mut self, first: u32, end: u32)
         requires order { first ≤ end }
         requires room { end - first ≤ self.old.room }
-        ensures waiting { self.new.waiting ≡ self.old.waiting ++ range_with_len first (end - first) }
+        ensures range { self.new.waiting ≡ self.old.waiting ++ range_with_len first (end - first) }
         ensures room { self.new.room + (end - first) ≡ self.old.room }
     {
         for number in first..end {
