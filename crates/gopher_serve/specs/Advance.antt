@@ -63,9 +63,9 @@ RepliesToLine gives before after line new progress =
 
 -- the effect of asking for the reply, by its progress, if a line is asked: the conversation before
 -- and after, and the answers before and after
-abbrev pub AsksReply : {A : Type 0} → (A → A → List ℕ → List ℕ → Type 0) → Talk → Talk
+abbrev pub IsAsked : {A : Type 0} → (A → A → List ℕ → List ℕ → Type 0) → Talk → Talk
     → A → A → Progress → Type 0
-AsksReply gives old new before after progress =
+IsAsked gives old new before after progress =
     (line : List ℕ) → old ≡ Asks line → RepliesToLine gives before after line new progress
 
 -- the next `count` bytes of the reply were written, and nothing else

@@ -21,5 +21,5 @@ steps_to_reply (answer.Searching search) = suc search.left
 steps_to_reply reply = 0
 
 -- the reply is there, or fewer steps are left until it is there: the steps before and after
-abbrev pub ComesNearer : ℕ → ℕ → Type 0
-ComesNearer old new = (new ≡ 0) ⊎ (new < old)
+abbrev pub Nears : ℕ → ℕ → Type 0
+Nears old new = (new ≡ 0) ⊎ (new < old)

@@ -1,7 +1,7 @@
 //! One step of a conversation (`advance`), with at most one call of a stream.
 
 ghost use Rattle.std.specs.Prelude.{◌≡◌, ◌<◌, ◌≤◌, ◌+◌, ◌^◌, length, IfOk, OnErr};
-ghost use Rattle.gopher_serve.specs.Advance.{HearsOutcome, IsProgressAfter, Listens, Records, AsksReply, Says, Steps, progress_after};
+ghost use Rattle.gopher_serve.specs.Advance.{HearsOutcome, IsProgressAfter, Listens, Records, IsAsked, Says, Steps, progress_after};
 ghost use Rattle.gopher_serve.specs.Leads.{Leads};
 ghost use Rattle.gopher_serve.specs.Serve.{stream_of};
 ghost use Rattle.gopher_serve.specs.Talk.{sent_of, unsent_of};
@@ -114,7 +114,7 @@ fn ask<'a, A: Answers<'a>>(
     conversation: &mut Conversation<'a>,
     answers: &mut A,
 ) -> Progress
-    ensures ask { AsksReply A.gives conversation.old conversation.new answers.old answers.new result }
+    ensures ask { IsAsked A.gives conversation.old conversation.new answers.old answers.new result }
     ensures leads { A.leads_to answers.old answers.new }
 {
     match answers.answer(alloc, conversation.line()) {

@@ -4,7 +4,7 @@ ghost use Rattle.std.specs.Prelude.{◌≡◌, ◌<◌, ◌≤◌, ◌+◌, ◌^
 ghost use Rattle.std.specs.Option.{option_map};
 ghost use Rattle.std.specs.Io.BufRead.{first_line, strip_last};
 ghost use Rattle.gopher_text.specs.Line.{has_feed};
-ghost use Rattle.gopher_serve.specs.Answer.{ComesNearer};
+ghost use Rattle.gopher_serve.specs.Answer.{Nears};
 ghost use Rattle.gopher_serve.specs.Talk.{Gathers, Hears, IsAnswered, OnlySearches, asked_of, heard, is_known, known_line, put_back, reply_in, said, sendable_of, sent_of, steps_of, talk_in, unsent_of};
 ghost use Rattle.gopher_serve.specs.Advance.{Upholds};
 ghost use Rattle.gopher_serve.specs.declared.advancing.Progress.TheVariants.{Failed, Works};
@@ -184,7 +184,7 @@ impl<'a> Conversation<'a> {
     // there, or fewer steps are left. If it fails, as many are left as before.
     pub(crate) fn search(&mut self, alloc: Global) -> Progress
         ensures same { OnlySearches self.old self.new }
-        ensures nears { result ≡ Works → ComesNearer (steps_of self.old) (steps_of self.new) }
+        ensures nears { result ≡ Works → Nears (steps_of self.old) (steps_of self.new) }
         ensures refused { result ≡ Failed NoMemory → steps_of self.new ≡ steps_of self.old }
         ensures ends { (result ≡ Works) ⊎ (result ≡ Failed NoMemory) }
     {
