@@ -1,13 +1,12 @@
 -- The calls of the sequential catalogue on a legal record: their results, and that the record after
 -- each is legal.
-use Rattle.std.proofs.Common.{◌≡◌, ◌≢◌, ℕ, true, ◌&&◌, List, ◌∷◌, length, Option, Some, None, refl, ◌∙◌, ap, ltb}
-use Rattle.std.specs.List.{slice_get}
+use Rattle.std.proofs.Common.{◌≡◌, ◌≢◌, ℕ, true, ◌&&◌, List, ◌∷◌, length, Option, Some, None, refl, ◌∙◌, ap, ltb, slice_get}
 use Rattle.std.proofs.lemmas.Bool.{eq-eqb, ne_eqb}
 use Rattle.gopher_item.proofs.PlaceLemmas.{same_place-true}
 use Rattle.gopher_item.specs.Place.{PlaceData, same_place}
 use Rattle.gopher_catalogue.specs.Event.{OpeningData, EventData, Opened}
 use Rattle.gopher_catalogue.specs.Frontier.{known, waiting, out, is_out}
-use Rattle.gopher_catalogue.specs.Step.{Take, Idle, Finished, turn_of, is_out_in, is_place_in}
+use Rattle.gopher_catalogue.specs.Step.{Take, Idle, Finished, turn_of, is_out_in, is_place_at}
 
 -- ---- claim
 
@@ -29,10 +28,9 @@ pub is_out_in_is : (opening : OpeningData) (events : List EventData) (n : ℕ) �
 unfolding is_out_in
 is_out_in_is opening events n = refl
 
-pub place_from_test : (opening : OpeningData) (events : List EventData) (n : ℕ) (place : PlaceData) → is_place_in (Opened opening ∷ events) n place ≡ true → slice_get (known opening events) n ≡ Some place
-unfolding is_place_in
-place_from_test opening events n place h = cases (slice_get (known opening events) n) refl where
-  cases : (at' : Option PlaceData) → slice_get (known opening events) n ≡ at' → slice_get (known opening events) n ≡ Some place
+pub place_from_test : (places : List PlaceData) (n : ℕ) (place : PlaceData) → is_place_at places n place ≡ true → slice_get places n ≡ Some place
+place_from_test places n place h = cases (slice_get places n) refl where
+  cases : (at' : Option PlaceData) → slice_get places n ≡ at' → slice_get places n ≡ Some place
   cases None e = let wrong = rw e at h in absurd (cc)
   cases (Some other) e =
       let right : same_place other place ≡ true = rw e at h in

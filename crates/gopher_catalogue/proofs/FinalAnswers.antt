@@ -1,6 +1,5 @@
 -- A finished crawl gives the final answers.
-use Rattle.std.proofs.Common.{◌≡◌, ℕ, List, ◌∷◌, get_or, Some, ◌↔◌, refl, sym, ◌∙◌, ap, subst, arith}
-use Rattle.std.specs.Prelude.{Result, Ok, Err, IfOk}
+use Rattle.std.proofs.Common.{◌≡◌, ℕ, List, ◌∷◌, get_or, Some, ◌↔◌, refl, sym, ◌∙◌, ap, subst, arith, Result, Ok, Err, IfOk}
 use Rattle.gopher_item.specs.Scope.{ScopeData}
 use Rattle.std.specs.List.{slice_get, Contains, IsDistinct}
 use Rattle.std.proofs.lemmas.Bool.{false_from_ne_true}
@@ -98,13 +97,11 @@ pub record_reach : (record_ : List EventData) → OnceComplete record_ HoldsReac
 record_reach record_ opening events table is complete = holds_reach opening events table complete
 
 -- occurrences in place order are those of the record
-sorted_occurrences : (word : List ℕ) (list : List (PlaceData × ℕ)) (opening : OpeningData) (events : List EventData) → IsLegal (Opened opening ∷ events) → AreOccurrences (pages_found events) word list → list ≡ occurrences_of (pages_found events) word
-sorted_occurrences word list opening events legal = occurrences_are (pages_found events) word list (one_per_place opening events legal) (pages_distinct opening events legal)
-
 record_occurrences : (record_ : List EventData) (word : List ℕ) (list : List (PlaceData × ℕ)) → IsLegal record_ → AreOccurrences (pages_found record_) word list → list ≡ occurrences_of (pages_found record_) word
 unfolding pages_found
 record_occurrences record_ word list legal =
-    legal_record (λ r. AreOccurrences (pages_found r) word list → list ≡ occurrences_of (pages_found r) word) (sorted_occurrences word list) record_ legal
+    legal_record (λ r. AreOccurrences (pages_found r) word list → list ≡ occurrences_of (pages_found r) word)
+    (λ opening events legal. occurrences_are (pages_found events) word list (one_per_place opening events legal) (pages_distinct opening events legal)) record_ legal
 
 pub occurrences_sorted : {V E : Type 0} (items : V → List (PlaceData × ℕ)) (record_ : List EventData) (word : List ℕ) (r : Result V E) → IsLegal record_ → IfOk r (λ v. AreOccurrences (pages_found record_) word (items v)) → IfOk r (λ v. items v ≡ occurrences_of (pages_found record_) word)
 occurrences_sorted items record_ word (Ok v) legal are = record_occurrences record_ word (items v) legal are

@@ -13,7 +13,9 @@ use Rattle.gopher_catalogue.specs.declared.event.Why.{Why}
 use Rattle.gopher_catalogue.specs.Event.{OpeningData, EventData, Opened, Claimed, Found, Failed}
 use Rattle.gopher_catalogue.specs.Frontier.{mentions, known, dropped, waiting, claims, finds, failures, is_out, done}
 use Rattle.gopher_catalogue.specs.Legal.{IsOut, IsLegal}
-use Rattle.gopher_catalogue.specs.Tables.{FrontierData, Learned, Begins, unclaimed, after_mention, after_mentions, drops, is_dropped, after_claim, after_find, after_failure}
+use Rattle.gopher_catalogue.specs.declared.frontier.Frontier.{Frontier}
+use Rattle.gopher_catalogue.specs.Tables.{unclaimed, after_mention, after_mentions, drops, is_dropped}
+use Rattle.gopher_catalogue.specs.FrontierTables.{Learned, Begins, after_claim, after_find, after_failure}
 use Rattle.gopher_catalogue.specs.Indexed.{standing_of, Tells}
 use Rattle.gopher_catalogue.proofs.Places.{known_of, dropped_of, known_of_old, known_of_new, known_of_full, dropped_of_old, dropped_of_new, dropped_of_full}
 use Rattle.gopher_catalogue.proofs.Legal.{IsLegal-push}
@@ -61,11 +63,11 @@ standing-nil : (k : ℕ) → standing_of [] k ≡ unclaimed
 unfolding claims finds failures is_out
 standing-nil k = refl
 
-pub Tells-begin : (opening : OpeningData) (frontier : FrontierData) → IsLegal (Opened opening ∷ []) → Begins opening.limit opening.seeds frontier → Tells opening [] frontier
+pub Tells-begin : (opening : OpeningData) (frontier : Frontier) → IsLegal (Opened opening ∷ []) → Begins opening.limit opening.seeds frontier → Tells opening [] frontier
 Tells-begin opening frontier legal begins =
     let seeds = sym (mentions-nil opening) in
     let count : ℕ = length (known opening []) in
-    let places : frontier.places ≡ known opening [] =
+    let places : frontier.known.places ≡ known opening [] =
     begins.places ∙ ap (λ ps. after_mentions opening.limit ps opening.seeds) (sym (nothing_known opening.limit)) ∙ known_of-mentions opening.limit [] opening.seeds ∙ ap (known_of opening.limit) seeds ∙ sym (known_is opening []) in
     let dropped_now : frontier.dropped ≡ dropped opening [] =
     begins.dropped ∙ ap (λ ps. drops opening.limit ps opening.seeds) (sym (nothing_known opening.limit)) ∙ sym (dropped_of-mentions opening.limit [] opening.seeds ∙ omega arith) ∙ ap (dropped_of opening.limit) seeds ∙ sym (dropped_is opening []) in
@@ -84,7 +86,7 @@ Tells-begin opening frontier legal begins =
 some_same : {X : Type 0} (o : Option X) (x y : X) → o ≡ Some x → o ≡ Some y → x ≡ y
 some_same o x y e f = cc
 
-pub standing_at : (opening : OpeningData) (events : List EventData) (frontier : FrontierData) → Tells opening events frontier → (n : ℕ) → n < length (known opening events) → slice_get frontier.standings n ≡ Some (standing_of events n)
+pub standing_at : (opening : OpeningData) (events : List EventData) (frontier : Frontier) → Tells opening events frontier → (n : ℕ) → n < length (known opening events) → slice_get frontier.known.standings n ≡ Some (standing_of events n)
 standing_at opening events frontier tells n h = ap (λ l. slice_get l n) tells.standings_is ∙ slice_get-map_range (standing_of events) (length (known opening events)) n h
 
 standing_in : (events : List EventData) (size : ℕ) (standings : List Standing) (n : ℕ) (standing : Standing) → standings ≡ map (standing_of events) (range_with_len 0 size) → slice_get standings n ≡ Some standing → (n < size) × (standing ≡ standing_of events n)
@@ -94,12 +96,12 @@ standing_in events size standings n standing e h =
     let below : n < size = omega arith in
     (below, some_same (slice_get standings n) standing (standing_of events n) h (ap (λ l. slice_get l n) e ∙ slice_get-map_range (standing_of events) size n below))
 
-pub standing_known : (opening : OpeningData) (events : List EventData) (frontier : FrontierData) → Tells opening events frontier → (n : ℕ) (standing : Standing) → slice_get frontier.standings n ≡ Some standing → (n < length (known opening events)) × (standing ≡ standing_of events n)
-standing_known opening events frontier tells n standing h = standing_in events (length (known opening events)) frontier.standings n standing tells.standings_is h
+pub standing_known : (opening : OpeningData) (events : List EventData) (frontier : Frontier) → Tells opening events frontier → (n : ℕ) (standing : Standing) → slice_get frontier.known.standings n ≡ Some standing → (n < length (known opening events)) × (standing ≡ standing_of events n)
+standing_known opening events frontier tells n standing h = standing_in events (length (known opening events)) frontier.known.standings n standing tells.standings_is h
 
 -- ---- a claim
 
-pub Tells-claim : (opening : OpeningData) (events : List EventData) (frontier : FrontierData) (n : ℕ) (standing : Standing) → IsLegal (Opened opening ∷ events) → Tells opening events frontier → slice_get frontier.waiting 0 ≡ Some n → slice_get frontier.standings n ≡ Some standing
+pub Tells-claim : (opening : OpeningData) (events : List EventData) (frontier : Frontier) (n : ℕ) (standing : Standing) → IsLegal (Opened opening ∷ events) → Tells opening events frontier → slice_get frontier.queue.waiting 0 ≡ Some n → slice_get frontier.known.standings n ≡ Some standing
     → Tells opening (events ++ Claimed n ∷ []) (after_claim frontier n standing)
 Tells-claim opening events frontier n standing legal tells first at' =
     let e : EventData = Claimed n in
@@ -131,8 +133,8 @@ Tells-claim opening events frontier n standing legal tells first at' =
 
 -- ---- a failure
 
-module _ (opening : OpeningData) (events : List EventData) (frontier : FrontierData) (n : ℕ) (standing : Standing) (why : Why) where
-  pub Tells-failure : IsLegal (Opened opening ∷ events) → Tells opening events frontier → IsOut opening events n → slice_get frontier.standings n ≡ Some standing → Tells opening (events ++ Failed n why ∷ []) (after_failure frontier n standing opening.tries)
+module _ (opening : OpeningData) (events : List EventData) (frontier : Frontier) (n : ℕ) (standing : Standing) (why : Why) where
+  pub Tells-failure : IsLegal (Opened opening ∷ events) → Tells opening events frontier → IsOut opening events n → slice_get frontier.known.standings n ≡ Some standing → Tells opening (events ++ Failed n why ∷ []) (after_failure frontier n standing opening.tries)
   Tells-failure legal tells is at' =
       let e : EventData = Failed n why in
       let after : List EventData = events ++ e ∷ [] in
@@ -155,7 +157,7 @@ module _ (opening : OpeningData) (events : List EventData) (frontier : FrontierD
             ∙ set_map_range (standing_of events) (standing_of after) (length (known opening events)) n next stands (λ k ne. sym (standing_other events e k refl refl (ne_eqb k n ne)))
             ∙ ap (λ ps. map (standing_of after) (range_with_len 0 (length ps))) (sym same);
         waiting_is =
-            ap (λ c. cond (ltb c opening.tries) (frontier.waiting ++ n ∷ []) frontier.waiting) claimed
+            ap (λ c. cond (ltb c opening.tries) (frontier.queue.waiting ++ n ∷ []) frontier.queue.waiting) claimed
             ∙ ap (λ l. cond (ltb (claims events n) opening.tries) (l ++ n ∷ []) l) tells.waiting_is ∙ sym waiting_now;
         out_is = omega (arith, tells.out_is);
         done_is =
@@ -173,24 +175,24 @@ module _ (opening : OpeningData) (events : List EventData) (frontier : FrontierD
 
 -- ---- a find
 
-module _ (opening : OpeningData) (events : List EventData) (before after : FrontierData) (n : ℕ) (standing : Standing) (page : PageData) (drops_now : ℕ) (learned : Learned opening.limit (filter (allows opening.scope) page.links) before after drops_now) where
-  pub places-found : Tells opening events before → after.places ≡ known opening (events ++ Found n page ∷ [])
+module _ (opening : OpeningData) (events : List EventData) (before after : Frontier) (n : ℕ) (standing : Standing) (page : PageData) (drops_now : ℕ) (learned : Learned opening.limit (filter (allows opening.scope) page.links) before after drops_now) where
+  pub places-found : Tells opening events before → after.known.places ≡ known opening (events ++ Found n page ∷ [])
   places-found tells =
-      learned.places ∙ ap (λ ps. after_mentions opening.limit ps (filter (allows opening.scope) page.links)) (tells.places_is ∙ known_is opening events) ∙ known_of-mentions opening.limit (mentions opening events) (filter (allows opening.scope) page.links)
+      learned.mentions_are.places ∙ ap (λ ps. after_mentions opening.limit ps (filter (allows opening.scope) page.links)) (tells.places_is ∙ known_is opening events) ∙ known_of-mentions opening.limit (mentions opening events) (filter (allows opening.scope) page.links)
       ∙ sym (known-mentions opening events (Found n page))
 
   pub dropped-found : Tells opening events before → dropped opening (events ++ Found n page ∷ []) ≡ dropped opening events + drops_now
   dropped-found tells =
       let here : drops_now ≡ drops opening.limit (known_of opening.limit (mentions opening events)) (filter (allows opening.scope) page.links) =
-      learned.drops_are ∙ ap (λ ps. drops opening.limit ps (filter (allows opening.scope) page.links)) (tells.places_is ∙ known_is opening events) in
+      learned.mentions_are.dropped_is ∙ ap (λ ps. drops opening.limit ps (filter (allows opening.scope) page.links)) (tells.places_is ∙ known_is opening events) in
       let old = dropped_is opening events in
       let new = dropped-mentions opening events (Found n page) ∙ dropped_of-mentions opening.limit (mentions opening events) (filter (allows opening.scope) page.links) in
       omega (arith, here, old, new)
 
-  standings-learned : IsLegal (Opened opening ∷ events) → Tells opening events before → after.standings ≡ map (standing_of events) (range_with_len 0 (length after.places))
+  standings-learned : IsLegal (Opened opening ∷ events) → Tells opening events before → after.known.standings ≡ map (standing_of events) (range_with_len 0 (length after.known.places))
   standings-learned legal tells =
-      let size : length (known opening events) + length learned.grows.more ≡ length after.places =
-      sym (ap length learned.grows.places ∙ length-append before.places learned.grows.more ∙ ap (λ ps. length ps + length learned.grows.more) tells.places_is) in
+      let size : length (known opening events) + length learned.grows.more ≡ length after.known.places =
+      sym (ap length learned.grows.places ∙ length-append before.known.places learned.grows.more ∙ ap (λ ps. length ps + length learned.grows.more) tells.places_is) in
       let never : (k : ℕ) → length (known opening events) ≤ k → standing_of events k ≡ unclaimed =
       λ k beyond.
       let unknown = unknown_at opening events legal k beyond in
@@ -200,8 +202,8 @@ module _ (opening : OpeningData) (events : List EventData) (before after : Front
       ∙ extend_map_range (standing_of events) unclaimed (length (known opening events)) (length learned.grows.more) never
       ∙ ap (λ size. map (standing_of events) (range_with_len 0 size)) size
 
-  pub Tells-find : IsLegal (Opened opening ∷ events) → Tells opening events before → IsOut opening events n → slice_get (known opening events) n ≡ Some page.place → slice_get after.standings n ≡ Some standing → drops_now ≤ 1048576
-      → Tells opening (events ++ Found n page ∷ []) (after_find after n standing (length before.places) drops_now)
+  pub Tells-find : IsLegal (Opened opening ∷ events) → Tells opening events before → IsOut opening events n → slice_get (known opening events) n ≡ Some page.place → slice_get after.known.standings n ≡ Some standing → drops_now ≤ 1048576
+      → Tells opening (events ++ Found n page ∷ []) (after_find after n standing (length before.known.places) drops_now)
   Tells-find legal tells is right at' few =
       let e : EventData = Found n page in
       let later : List EventData = events ++ e ∷ [] in
@@ -209,7 +211,7 @@ module _ (opening : OpeningData) (events : List EventData) (before after : Front
       let old = out_at opening events legal n is.is_out in
       let places = places-found tells in
       let count : ℕ = length (known opening events) in
-      let stood = (standing_in events (length after.places) after.standings n standing (standings-learned legal tells) at').1 in
+      let stood = (standing_in events (length after.known.places) after.known.standings n standing (standings-learned legal tells) at').1 in
       let as_often : claims later n ≡ claims events n = claims_push events e n ∙ omega arith in
       let now_in : is_out later n ≡ false = not_out_from_claims later n (λ is. omega (arith, finds_push events e n, failures_push events e n, one-same n n refl)) in
       let next : Standing = record { claims = standing.claims; is_out = false } in
@@ -221,11 +223,11 @@ module _ (opening : OpeningData) (events : List EventData) (before after : Front
         places_is = places;
         standings_is =
             ap (λ l. set l n next) (standings-learned legal tells)
-            ∙ set_map_range (standing_of events) (standing_of later) (length after.places) n next stands (λ k ne. sym (standing_other events e k refl (ne_eqb k n ne) refl))
+            ∙ set_map_range (standing_of events) (standing_of later) (length after.known.places) n next stands (λ k ne. sym (standing_other events e k refl (ne_eqb k n ne) refl))
             ∙ ap (λ ps. map (standing_of later) (range_with_len 0 (length ps))) places;
         waiting_is =
-            ap (λ l. l ++ range_with_len (length before.places) (length after.places - length before.places)) (learned.keeps.waiting ∙ tells.waiting_is)
-            ∙ ap (λ ps. waiting opening events ++ range_with_len (length ps) (length after.places - length ps)) tells.places_is
+            ap (λ l. l ++ range_with_len (length before.known.places) (length after.known.places - length before.known.places)) (learned.keeps.waiting ∙ tells.waiting_is)
+            ∙ ap (λ ps. waiting opening events ++ range_with_len (length ps) (length after.known.places - length ps)) tells.places_is
             ∙ ap (λ ps. waiting opening events ++ range_with_len count (length ps - count)) places ∙ sym waiting_now;
         out_is = omega (arith, learned.keeps.out, tells.out_is);
         done_is =

@@ -2,7 +2,6 @@
 use Rattle.std.proofs.Common.{◌≡◌, ℕ, suc, zero, Bool, true, false, ◌||◌, List, [], ◌∷◌, ◌++◌, map, take, length, replicate, arith, inl, inr, ◌+◌, ◌-◌, ◌<◌, ◌≤◌, cond, drop, filter, get_or, add-one, Option, None, Some, is_some, set, refl, ap, sym, ◌∙◌, true≢false}
 use Rattle.std.specs.List.{list_any, range_with_len}
 use Rattle.gopher_catalogue.proofs.Ranges.{range-append}
-use Rattle.std.specs.Int.{from_bool}
 use Rattle.std.specs.Map.{keys_of, values_of, lookup}
 use Rattle.std.proofs.lemmas.List.{map-append, take-map, append_assoc, length-append, replicate-append-replicate}
 use Rattle.std.proofs.lemmas.Map.Made.{is_some-lookup}
@@ -81,13 +80,9 @@ length-after_mentions limit places (mention ∷ mentions) h = length-after_menti
 
 -- ---- mention by mention
 
-from_bool_is : (b : Bool) → from_bool b ≡ cond b 1 0
-from_bool_is true = refl
-from_bool_is false = refl
-
-pub from_bool-le : (b : Bool) (n : ℕ) → n ≡ from_bool b → n ≤ 1
-from_bool-le true n e = omega (arith, e)
-from_bool-le false n e = omega (arith, e)
+pub few-dropped : (dropped : Bool) (n : ℕ) → n ≡ cond dropped 1 0 + 0 → n ≤ 1
+few-dropped true n e = omega (arith, e)
+few-dropped false n e = omega (arith, e)
 
 pub drop-next : (places : List PlaceData) (i : ℕ) (place : PlaceData) → i < length places → place ≡ get_or places i place → drop i places ≡ place ∷ drop (i + 1) places
 drop-next places i place within is = rw (add-one, drop-cons places i place within, ← is) refl
@@ -103,12 +98,11 @@ module _ (limit : ℕ) (rest later : List PlaceData) (place : PlaceData) (is : r
   pub after_mentions-next : (all : List PlaceData) → after_mentions limit places rest ≡ all → after_mentions limit next later ≡ all
   after_mentions-next all h = ap (λ p. after_mentions limit p later) e ∙ ap (after_mentions limit places) (sym is) ∙ h
 
-  pub drops-next : (before taken all : ℕ) (dropped : Bool) → taken ≡ from_bool dropped → dropped ≡ is_dropped limit places place → before + drops limit places rest ≡ all → before + taken + drops limit next later ≡ all
-  drops-next before taken all dropped t d h =
+  pub drops-next : (before taken all : ℕ) → taken ≡ cond (is_dropped limit places place) 1 0 + 0 → before + drops limit places rest ≡ all → before + taken + drops limit next later ≡ all
+  drops-next before taken all t h =
       let here = ap (λ p. drops limit p later) e in
       let one = ap (drops limit places) is in
-      let counted : taken ≡ cond (is_dropped limit places place) 1 0 = t ∙ from_bool_is dropped ∙ ap (λ b. cond b 1 0) d in
-      omega (arith, here, one, counted)
+      omega (arith, here, one, t)
 
 -- ---- ranges
 

@@ -1,11 +1,14 @@
 -- The known places are allowed and distinct.
-use Rattle.std.proofs.Common.{◌≡◌, ℕ, suc, zero, ◌<◌, Bool, true, false, not, List, [], ◌∷◌, take, filter, inl, inr, Some, refl, sym, ◌∙◌, ap, arith}
-use Rattle.std.specs.List.{slice_get, flat_map, All}
-use Rattle.std.proofs.lemmas.Bool.{false≢true, or_parts, or_from, or_left, or_right, cases_Bool}
-use Rattle.std.proofs.lemmas.List.Elements.{All-nil, All-cons, All-head, All-tail, All-append, All-filter, All-take, filter_passes}
+use Rattle.std.proofs.Common.{◌≡◌, ℕ, suc, zero, ◌<◌, Bool, true, false, not, List, [], ◌∷◌, take, filter, inl, inr, Some, refl, sym, ◌∙◌, ap, arith, slice_get, flat_map, All, AllPairs}
+use Rattle.std.proofs.lemmas.Bool.{false≢true, not-true, or_left, or_right, cases_eq, cases_lt}
+use Rattle.std.proofs.lemmas.List.Elements.{All-nil, All-cons, All-head, All-tail, All-append, All-filter, All-take, All-weaker, filter_passes}
+use Rattle.std.proofs.lemmas.List.Kept.{AllPairs-cons, AllPairs-filter}
 use Rattle.std.proofs.lemmas.List.Sums.{AllPass-from_list_all}
-use Rattle.std.proofs.lemmas.Option.{slice_get_within}
+use Rattle.std.proofs.lemmas.Option.{slice_get_within, slice_get-get_or, get_or_from_slice_get}
 use Rattle.std.proofs.lemmas.List.{length-take}
+use Rattle.std.proofs.lemmas.Map.Views.{list_any-from_Contains}
+use Rattle.indexmap.proofs.CallerLemmas.{Contains-list_any}
+use Rattle.gopher_item.specs.Laws.{same_place_equiv}
 use Rattle.gopher_item.proofs.PlaceLemmas.{same_place-refl, same_place-true}
 use Rattle.gopher_item.specs.Place.{PlaceData, same_place, is_among, distinct}
 use Rattle.gopher_item.specs.Scope.{allows, IsAllowed}
@@ -43,65 +46,24 @@ known-allowed opening events legal =
 -- ---- each once
 
 pub among_at : (xs : List PlaceData) (k : ℕ) (p : PlaceData) → slice_get xs k ≡ Some p → is_among xs p ≡ true
-among_at [] k p h = cc
-among_at (x ∷ xs) zero p h = let e : x ≡ p = cc in rw e (or_left (same_place p p) (is_among xs p) (same_place-refl p))
-among_at (x ∷ xs) (suc k) p h = or_right (same_place p x) (is_among xs p) (among_at xs k p h)
+among_at xs k p h = list_any-from_Contains same_place_equiv p xs (k, slice_get_within xs k p h, get_or_from_slice_get xs k p p h)
 
 pub at_from_among : (xs : List PlaceData) (p : PlaceData) → is_among xs p ≡ true → (k : ℕ) × (slice_get xs k ≡ Some p)
-at_from_among [] p h = absurd (false≢true h)
-at_from_among (x ∷ xs) p h = step (at_from_among xs p) (same_place p x) refl where
-  step : (is_among xs p ≡ true → (k : ℕ) × (slice_get xs k ≡ Some p)) → (b : Bool) → same_place p x ≡ b → (k : ℕ) × (slice_get (x ∷ xs) k ≡ Some p)
-  step ih true e = let same = same_place-true p x e in (0, ap Some (sym same))
-  step ih false e = let rest : is_among xs p ≡ true = rw e at h in let found = ih rest in (suc found.0, found.1)
+at_from_among xs p among = let has = Contains-list_any same_place same_place-true xs p among in (has.0, slice_get-get_or xs has.0 p has.1 ∙ ap Some has.2)
 
 -- no place of the list occurs again after itself
-data IsUnique : List PlaceData → Type 0 where
-  none : IsUnique []
-  more : {x : PlaceData} {xs : List PlaceData} → is_among xs x ≡ false → IsUnique xs → IsUnique (x ∷ xs)
+distinct_apart : (xs : List PlaceData) → AllPairs (λ x y. same_place x y ≡ false) (distinct xs)
+distinct_apart [] = λ i j d below within. absurd (omega arith)
+distinct_apart (x ∷ xs) =
+    let others : PlaceData → Bool = λ other. not (same_place x other) in
+    AllPairs-cons (λ x y. same_place x y ≡ false) x (filter others (distinct xs))
+    (All-weaker (λ y. others y ≡ true) (λ y. same_place x y ≡ false) (λ y passes. not-true (same_place x y) passes) (filter others (distinct xs)) (filter_passes others (distinct xs)))
+    (AllPairs-filter (λ x y. same_place x y ≡ false) others (distinct xs) (distinct_apart xs))
 
-among_filter : (f : PlaceData → Bool) (xs : List PlaceData) (p : PlaceData) → is_among xs p ≡ false → is_among (filter f xs) p ≡ false
-among_filter f [] p h = refl
-among_filter f (x ∷ xs) p h =
-    let parts = or_parts (same_place p x) (is_among xs p) h in
-    let rest : is_among (filter f xs) p ≡ false = among_filter f xs p parts.1 in
-    elim (cases_Bool (f x)) as (λ q. is_among (filter f (x ∷ xs)) p ≡ false) [
-      | inl keeps ↦ rw keeps (or_from (same_place p x) (is_among (filter f xs) p) parts.0 rest)
-      | inr drops ↦ rw drops rest
-    ]
-
-IsUnique-filter : (f : PlaceData → Bool) (xs : List PlaceData) → IsUnique xs → IsUnique (filter f xs)
-IsUnique-filter f [] u = none
-IsUnique-filter f (x ∷ xs) (more apart u) =
-    let rest = IsUnique-filter f xs u in
-    elim (cases_Bool (f x)) as (λ q. IsUnique (filter f (x ∷ xs))) [
-      | inl keeps ↦ rw keeps (more (among_filter f xs x apart) rest)
-      | inr drops ↦ rw drops rest
-    ]
-
-not_among_others : (xs : List PlaceData) (x : PlaceData) → is_among (filter (λ other. not (same_place x other)) xs) x ≡ false
-not_among_others [] x = refl
-not_among_others (y ∷ xs) x =
-    elim (cases_Bool (same_place x y)) as (λ q. is_among (filter (λ other. not (same_place x other)) (y ∷ xs)) x ≡ false) [
-      | inl same ↦ rw same (not_among_others xs x)
-      | inr apart ↦ rw (apart, apart) (not_among_others xs x)
-    ]
-
-IsUnique-distinct : (xs : List PlaceData) → IsUnique (distinct xs)
-IsUnique-distinct [] = none
-IsUnique-distinct (x ∷ xs) = more (not_among_others (distinct xs) x) (IsUnique-filter (λ other. not (same_place x other)) (distinct xs) (IsUnique-distinct xs))
-
-unique_places : (xs : List PlaceData) → IsUnique xs → (i j : ℕ) (p : PlaceData) → slice_get xs i ≡ Some p → slice_get xs j ≡ Some p → i ≡ j
-unique_places [] u i j p h k = cc
-unique_places (x ∷ xs) u zero zero p h k = refl
-unique_places (x ∷ xs) (more apart u) zero (suc j) p h k =
-    let e : x ≡ p = cc in
-    let there : is_among xs x ≡ true = rw e (among_at xs j p k) in
-    absurd (false≢true (sym apart ∙ there))
-unique_places (x ∷ xs) (more apart u) (suc i) zero p h k =
-    let e : x ≡ p = cc in
-    let there : is_among xs x ≡ true = rw e (among_at xs i p h) in
-    absurd (false≢true (sym apart ∙ there))
-unique_places (x ∷ xs) (more apart u) (suc i) (suc j) p h k = ap suc (unique_places xs u i j p h k)
+occurs_once : (xs : List PlaceData) → AllPairs (λ x y. same_place x y ≡ false) xs → (i j : ℕ) (p : PlaceData) → slice_get xs i ≡ Some p → slice_get xs j ≡ Some p → i < j → ⊥
+occurs_once xs apart i j p h k below =
+    let differs = apart i j p below (slice_get_within xs j p k) in
+    false≢true (sym (rw (get_or_from_slice_get xs i p p h, get_or_from_slice_get xs j p p k) at differs) ∙ same_place-refl p)
 
 pub known-distinct : (opening : OpeningData) (events : List EventData) (i j : ℕ) (p : PlaceData) → slice_get (known opening events) i ≡ Some p → slice_get (known opening events) j ≡ Some p → i ≡ j
 unfolding known
@@ -109,4 +71,12 @@ known-distinct opening events i j p h k =
     let all : List PlaceData = distinct (mentions opening events) in
     let within_i : i < opening.limit = omega (arith, slice_get_within (take opening.limit all) i p h, length-take opening.limit all) in
     let within_j : j < opening.limit = omega (arith, slice_get_within (take opening.limit all) j p k, length-take opening.limit all) in
-    unique_places all (IsUnique-distinct (mentions opening events)) i j p (sym (slice_get-take opening.limit all i within_i) ∙ h) (sym (slice_get-take opening.limit all j within_j) ∙ k)
+    let first = sym (slice_get-take opening.limit all i within_i) ∙ h in
+    let second = sym (slice_get-take opening.limit all j within_j) ∙ k in
+    elim (cases_eq i j) as (λ c. i ≡ j) [
+      | inl same ↦ same
+      | inr ne ↦ elim (cases_lt i j) as (λ c. i ≡ j) [
+        | inl below ↦ absurd (occurs_once all (distinct_apart (mentions opening events)) i j p first second below)
+        | inr above ↦ absurd (occurs_once all (distinct_apart (mentions opening events)) j i p second first (omega (arith, ne)))
+      ]
+    ]

@@ -1,10 +1,9 @@
 -- The last outcome of a number: which event it is, and when no later one can follow.
-use Rattle.std.proofs.Common.{◌≡◌, ℕ, suc, zero, ◌≤◌, ◌<◌, Bool, true, false, cond, List, [], ◌∷◌, ◌++◌, length, take, inl, inr, Some, None, refl, sym, ◌∙◌, ap, subst, arith, eqb}
-use Rattle.std.specs.List.{slice_get, count_by}
+use Rattle.std.proofs.Common.{◌≡◌, ℕ, suc, zero, ◌≤◌, ◌<◌, Bool, true, false, cond, List, [], ◌∷◌, ◌++◌, length, take, get_or, inl, inr, Some, None, refl, sym, ◌∙◌, ap, subst, arith, eqb, slice_get, count_by}
 use Rattle.std.proofs.lemmas.Bool.{cases_Bool, false≢true, or_parts, or_cases, or_left, eq-eqb, eqb-true, false_from_ne_true}
-use Rattle.std.proofs.lemmas.Option.{slice_get_within}
+use Rattle.std.proofs.lemmas.Option.{slice_get_within, get_or_from_slice_get}
 use Rattle.std.proofs.lemmas.List.{take_all}
-use Rattle.std.proofs.lemmas.List.Sums.{fold_push, sum_by-cons}
+use Rattle.std.proofs.lemmas.List.Sums.{fold_push, get_or-le-sum_by}
 use Rattle.gopher_page.specs.Page.{PageData}
 use Rattle.gopher_catalogue.specs.Event.{OpeningData, EventData, Opened, Claimed, Found, Failed}
 use Rattle.gopher_catalogue.specs.Frontier.{finds, failures, is_out, is_find_of, is_failure_of}
@@ -26,11 +25,9 @@ push_ind {X = X} P base step xs = subst P (take_all (length xs) xs (omega arith)
       rw next.2 (step (take n xs) next.0 before)
 
 pub count_at : {X : Type 0} (p : X → Bool) (xs : List X) (k : ℕ) (x : X) → slice_get xs k ≡ Some x → p x ≡ true → 1 ≤ count_by p xs
-count_at p [] k x h t = cc
-count_at p (y ∷ xs) zero x h t =
-    let e : p y ≡ true = ap p (cc) ∙ t in
-    omega (arith, sum_by-cons (λ z. cond (p z) 1 0) y xs, ap {B = ℕ} (λ b. cond b 1 0) e)
-count_at p (y ∷ xs) (suc k) x h t = omega (arith, sum_by-cons (λ z. cond (p z) 1 0) y xs, count_at p xs k x h t)
+count_at p xs k x h t =
+    let is : p (get_or xs k x) ≡ true = ap p (get_or_from_slice_get xs k x x h) ∙ t in
+    omega (arith, get_or-le-sum_by (λ z. cond (p z) 1 0) xs k x (slice_get_within xs k x h), ap {B = ℕ} (λ b. cond b 1 0) is)
 
 pub finds_at : (events : List EventData) (k n : ℕ) (e : EventData) → slice_get events k ≡ Some e → is_find_of n e ≡ true → 1 ≤ finds events n
 unfolding finds

@@ -1,9 +1,8 @@
 -- Elements by index in a list that grows at its end.
-use Rattle.std.proofs.Common.{◌≡◌, ℕ, suc, zero, ◌+◌, ◌<◌, List, [], ◌∷◌, ◌++◌, length, take, ◌⊎◌, inl, inr, Some, refl, sym, ◌∙◌, ap, arith}
-use Rattle.std.specs.List.{slice_get}
+use Rattle.std.proofs.Common.{◌≡◌, ℕ, suc, zero, ◌+◌, ◌<◌, List, [], ◌∷◌, ◌++◌, length, map, take, get_or, ◌⊎◌, inl, inr, Some, refl, sym, ◌∙◌, ap, arith, slice_get, option_map}
 use Rattle.std.proofs.lemmas.Bool.{cases_lt}
-use Rattle.std.proofs.lemmas.Option.{slice_get_within}
-use Rattle.std.proofs.lemmas.List.{length_push}
+use Rattle.std.proofs.lemmas.Option.{slice_get_within, slice_get-map, slice_get_read}
+use Rattle.std.proofs.lemmas.List.{length-map, length_push}
 
 pub slice_get-append_left : {X : Type 0} (xs ys : List X) (k : ℕ) → k < length xs → slice_get (xs ++ ys) k ≡ slice_get xs k
 slice_get-append_left [] ys k h = absurd (omega arith)
@@ -40,3 +39,8 @@ take_next (x ∷ xs) (suc n) h = let next = take_next xs n (omega arith) in (nex
 
 pub slice_get_at : {X : Type 0} (xs : List X) (k : ℕ) → k < length xs → (x : X) × (slice_get xs k ≡ Some x)
 slice_get_at xs k h = let next = take_next xs k h in (next.0, next.1)
+
+-- the element at an index of a list of images
+pub slice_get_shown : {X Y : Type 0} (f : X → Y) (xs : List X) (ys : List Y) (k : ℕ) (x : X) → map f xs ≡ ys → k < length ys → x ≡ get_or xs k x → slice_get ys k ≡ Some (f x)
+slice_get_shown f xs ys k x same within is =
+    ap (λ l. slice_get l k) (sym same) ∙ slice_get-map f xs k ∙ ap (option_map f) (slice_get_read xs (length xs) k x refl (omega (arith, ap length same, length-map xs f)) is)

@@ -8,7 +8,7 @@ use Rattle.std.proofs.lemmas.List.FromFn.{length-range_with_len}
 use Rattle.gopher_catalogue.specs.Event.{OpeningData, EventData, Opened, Claimed, Found, Failed}
 use Rattle.gopher_catalogue.specs.Frontier.{known, claims, finds, failures, outcomes, numbers, waiting, is_out, is_done}
 use Rattle.gopher_catalogue.specs.Legal.{MayFollow, FollowEachOther, IsLegal, HasSimpleStates}
-use Rattle.gopher_catalogue.proofs.Places.{bools_agree}
+use Rattle.gopher_catalogue.proofs.Places.{bools_agree, filter_every}
 use Rattle.gopher_catalogue.proofs.Ranges.{range-append, filter_range_none, filter_range_agree}
 use Rattle.gopher_catalogue.proofs.Legal.{legal_ind}
 use Rattle.gopher_catalogue.proofs.Steps.{is_out-claims, is_out_from_claims, is_done_is, known_same, length-known_push}
@@ -18,10 +18,7 @@ use Rattle.gopher_catalogue.proofs.States.{State, Waiting, Outside, WasFound, Gi
 use Rattle.gopher_catalogue.proofs.LegalSizes.{claimed_by, length_by_push, claimed_most, out_is, done_is}
 
 pub filter_range_every : (p : ℕ → Bool) (a n : ℕ) → ((m : ℕ) → a ≤ m → m < a + n → p m ≡ true) → filter p (range_with_len a n) ≡ range_with_len a n
-filter_range_every p a zero h = refl
-filter_range_every p a (suc n) h =
-    let here : p a ≡ true = h a (omega arith) (omega arith) in
-    rw here (ap (λ ns. a ∷ ns) (filter_range_every p (a + 1) n (λ m l u. h m (omega arith) (omega arith))))
+filter_range_every p a n h = filter_range_agree p (λ m. true) a n h ∙ filter_every (range_with_len a n)
 
 -- each known number enters the queue once, in order, and each claim takes the next
 one_try-waiting : (opening : OpeningData) (events : List EventData) → IsLegal (Opened opening ∷ events) → opening.tries ≡ 1 → waiting opening events ≡ drop (length (flat_map claimed_by events)) (numbers opening events)

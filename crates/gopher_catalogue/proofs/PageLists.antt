@@ -1,12 +1,10 @@
 -- Lists of pages that pass a test, in strict order: the hits of a query, and the occurrences of a
 -- word.
-use Rattle.std.proofs.Common.{◌≡◌, ◌⊎◌, ℕ, ◌+◌, suc, Bool, true, false, cond, List, [], ◌∷◌, ◌++◌, take, get_or, ◌↔◌, inl, inr, refl, sym, ◌∙◌, ap, subst, arith, ltb}
+use Rattle.std.proofs.Common.{◌≡◌, ◌⊎◌, ℕ, ◌+◌, suc, Bool, true, false, cond, List, [], ◌∷◌, ◌++◌, take, get_or, ◌↔◌, inl, inr, refl, sym, ◌∙◌, ap, subst, arith, ltb, Ordering, Less, Equal, Greater}
 use Rattle.std.specs.List.{flat_map, fold, All, AllByRecursion, Contains, IsDistinct}
 use Rattle.std.specs.List.Sorted.{IsStrictlySortedBy, IsSorted}
 use Rattle.std.specs.Ordering.{nat_cmp, on, ordering_then, ordering_reverse, is_eq, is_lt}
 use Rattle.std.specs.BTreeSet.{insert_key}
-use Rattle.std.specs.declared.cmp.Ordering.{Ordering}
-use Rattle.std.specs.declared.cmp.Ordering.TheVariants.{Less, Equal, Greater}
 use Rattle.std.specs.Cmp.{IsTotalOrder}
 use Rattle.std.proofs.lemmas.Bool.{both_ways, false≢true}
 use Rattle.std.proofs.lemmas.Cmp.{nat_cmp_total, back_total, on_total, then_total}

@@ -1,7 +1,6 @@
 -- Lists of places: membership, duplicates, and the first distinct places up to a limit.
-use Rattle.std.proofs.Common.{◌≡◌, ℕ, suc, zero, ◌+◌, ◌-◌, ◌≤◌, ◌<◌, Bool, true, false, ◌&&◌, ◌||◌, not, cond, List, [], ◌∷◌, ◌++◌, length, take, filter, min, inl, inr, refl, sym, ◌∙◌, ap, arith}
-use Rattle.std.specs.List.{count_by}
-use Rattle.std.proofs.lemmas.Bool.{cases_lt}
+use Rattle.std.proofs.Common.{◌≡◌, ℕ, suc, zero, ◌+◌, ◌-◌, ◌≤◌, ◌<◌, Bool, true, false, ◌&&◌, ◌||◌, not, cond, List, [], ◌∷◌, ◌++◌, length, take, filter, min, inl, inr, refl, sym, ◌∙◌, ap, arith, count_by}
+use Rattle.std.proofs.lemmas.Bool.{cases_lt, or_right}
 use Rattle.std.proofs.lemmas.List.{length-take, take_all, append-nil}
 use Rattle.std.proofs.lemmas.List.Elements.{filter-append, filter_agree}
 use Rattle.std.proofs.lemmas.List.Folds.{list_any-append}
@@ -134,12 +133,8 @@ count_none : (test : PlaceData → Bool) (xs : List PlaceData) → ((p : PlaceDa
 count_none test [] h = refl
 count_none test (x ∷ xs) h =
     let here : test x ≡ false = h x (rw (same_place-refl x) refl) in
-    let rest : count_by test xs ≡ 0 = count_none test xs (λ p m. h p (rw m (or_true (same_place p x)))) in
+    let rest : count_by test xs ≡ 0 = count_none test xs (λ p m. h p (or_right (same_place p x) (is_among xs p) m)) in
     sum_by-cons (λ p. cond (test p) 1 0) x xs ∙ rw (here, rest) refl
-  where
-    or_true : (b : Bool) → (b || true) ≡ true
-    or_true true = refl
-    or_true false = refl
 
 pub dropped_of_room : (limit : ℕ) (xs : List PlaceData) → length (known_of limit xs) < limit → dropped_of limit xs ≡ 0
 dropped_of_room limit xs room = count_none (λ p. not (is_among (known_of limit xs) p)) xs (λ p m. rw (known_of_room limit xs room, distinct-among xs p, m) refl)

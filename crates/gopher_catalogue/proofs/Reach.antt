@@ -1,10 +1,10 @@
 -- A finished crawl knows exactly what can be reached.
-use Rattle.std.proofs.Common.{◌≡◌, ℕ, suc, zero, ◌+◌, ◌≤◌, ◌<◌, Bool, true, false, not, cond, List, [], ◌∷◌, ◌++◌, length, take, drop, filter, get_or, inl, inr, Option, Some, None, refl, sym, ◌∙◌, ap, subst, arith, eqb, ltb, leb}
-use Rattle.std.specs.List.{slice_get, flat_map, All, Contains}
+use Rattle.std.proofs.Common.{◌≡◌, ℕ, suc, zero, ◌+◌, ◌≤◌, ◌<◌, Bool, true, false, not, cond, List, [], ◌∷◌, ◌++◌, length, take, drop, filter, get_or, inl, inr, Option, Some, None, refl, sym, ◌∙◌, ap, subst, arith, eqb, ltb, leb, slice_get, flat_map, All, Contains}
 use Rattle.std.proofs.lemmas.Bool.{false≢true, or_left, or_right, or_cases, ltb-true, leb-true, not_from_false, true_from_ne_false}
 use Rattle.std.proofs.lemmas.List.{take_all, take-append-drop}
 use Rattle.std.proofs.lemmas.List.Elements.{All-nil, All-append, All-filter, All-take, filter_passes}
 use Rattle.std.proofs.lemmas.List.Folds.{list_any-append}
+use Rattle.std.proofs.lemmas.Map.Views.{any-filter_same}
 use Rattle.std.proofs.lemmas.Option.{slice_get_within, slice_get-get_or, get_or_from_slice_get}
 use Rattle.gopher_item.proofs.PlaceLemmas.{same_place-true}
 use Rattle.gopher_item.specs.Place.{PlaceData, same_place, is_among, distinct}
@@ -40,13 +40,7 @@ at_from_contains xs x c = (c.0, slice_get-get_or xs c.0 x c.1 ∙ ap Some c.2)
 
 -- an element that passes a test is among those that pass
 among_filter_from : (f : PlaceData → Bool) (xs : List PlaceData) (p : PlaceData) → is_among xs p ≡ true → f p ≡ true → is_among (filter f xs) p ≡ true
-among_filter_from f [] p h t = absurd (false≢true h)
-among_filter_from f (x ∷ xs) p h t = step (among_filter_from f xs p) (same_place p x) refl (f x) refl where
-  step : (is_among xs p ≡ true → f p ≡ true → is_among (filter f xs) p ≡ true) → (b : Bool) → same_place p x ≡ b → (c : Bool) → f x ≡ c → is_among (cond (f x) (x ∷ filter f xs) (filter f xs)) p ≡ true
-  step ih true e true keeps = rw keeps (or_left (same_place p x) (is_among (filter f xs) p) e)
-  step ih true e false drops = let same = same_place-true p x e in absurd (false≢true (sym drops ∙ ap f (sym same) ∙ t))
-  step ih false e true keeps = let rest : is_among xs p ≡ true = rw e at h in rw keeps (or_right (same_place p x) (is_among (filter f xs) p) (ih rest t))
-  step ih false e false drops = let rest : is_among xs p ≡ true = rw e at h in rw drops (ih rest t)
+among_filter_from f xs p h t = any-filter_same (same_place p) f true (λ k same. ap f (sym (same_place-true p k same)) ∙ t) xs ∙ h
 
 -- ---- pages
 

@@ -1,30 +1,22 @@
 -- Lists of a function's values for each number, as the states of the known places are.
-use Rattle.std.proofs.Common.{◌≡◌, ◌≢◌, ℕ, suc, zero, ◌+◌, ◌≤◌, ◌<◌, ◌∷◌, ◌++◌, map, replicate, set, Some, slice_get, refl, sym, ◌∙◌, ap, arith}
+use Rattle.std.proofs.Common.{◌≡◌, ◌≢◌, ℕ, suc, zero, ◌+◌, ◌≤◌, ◌<◌, ◌∷◌, ◌++◌, map, replicate, get_or, set, inl, inr, Some, slice_get, refl, sym, ◌∙◌, ap, arith}
 use Rattle.std.specs.List.{range_with_len}
-use Rattle.std.proofs.lemmas.List.{map-append}
-use Rattle.std.proofs.lemmas.List.FromFn.{length-map-range_with_len, get_or-map-range_with_len}
+use Rattle.std.proofs.lemmas.List.{map-append, length-set, get_or-set_same, get_or-set_other}
+use Rattle.std.proofs.lemmas.List.FromFn.{fill_by_all, length-map-range_with_len, get_or-map-range_with_len}
+use Rattle.std.proofs.lemmas.Bool.{cases_eq}
 use Rattle.std.proofs.lemmas.Option.{slice_get-get_or}
 use Rattle.gopher_catalogue.proofs.Ranges.{range-append}
 
-module _ {X : Type 0} (f g : ℕ → X) where
-  pub map_range_agree : (a n : ℕ) → ((k : ℕ) → a ≤ k → k < a + n → f k ≡ g k) → map f (range_with_len a n) ≡ map g (range_with_len a n)
-  map_range_agree a zero h = refl
-  map_range_agree a (suc n) h = (λ i. h a (omega arith) (omega arith) i ∷ map_range_agree (a + 1) n (λ k l u. h k (omega arith) (omega arith)) i)
-
-  set_map_range_from : (a n i : ℕ) (v : X) → v ≡ g (a + i) → ((k : ℕ) → k ≢ a + i → f k ≡ g k) → set (map f (range_with_len a n)) i v ≡ map g (range_with_len a n)
-  set_map_range_from a zero i v e h = refl
-  set_map_range_from a (suc n) zero v e h =
-      let here : v ≡ g a = e ∙ ap g (omega arith) in
-      let rest = map_range_agree (a + 1) n (λ k l u. h k (λ same. omega arith)) in
-      λ i. here i ∷ rest i
-  set_map_range_from a (suc n) (suc i) v e h =
-      let here : f a ≡ g a = h a (λ same. omega arith) in
-      let rest = set_map_range_from (a + 1) n i v (e ∙ ap g (omega arith)) (λ k ne. h k (λ same. ne (omega arith))) in
-      λ j. here j ∷ rest j
-
-  -- a function that differs at one number
-  pub set_map_range : (n i : ℕ) (v : X) → v ≡ g i → ((k : ℕ) → k ≢ i → f k ≡ g k) → set (map f (range_with_len 0 n)) i v ≡ map g (range_with_len 0 n)
-  set_map_range n i v e h = set_map_range_from 0 n i v (e ∙ ap g (omega arith)) (λ k ne. h k (λ same. ne (omega arith)))
+-- a function that differs at one number
+pub set_map_range : {X : Type 0} (f g : ℕ → X) (n i : ℕ) (v : X) → v ≡ g i → ((k : ℕ) → k ≢ i → f k ≡ g k) → set (map f (range_with_len 0 n)) i v ≡ map g (range_with_len 0 n)
+set_map_range f g n i v e h =
+    let xs = map f (range_with_len 0 n) in
+    let long = length-map-range_with_len f 0 n in
+    fill_by_all g (set xs i v) n v (length-set xs i v ∙ long)
+    (λ k within. elim (cases_eq k i) as (λ c. get_or (set xs i v) k v ≡ g k) [
+      | inl same ↦ rw same (get_or-set_same xs i v v (omega (arith, same, long)) ∙ e)
+      | inr ne ↦ get_or-set_other xs i k v v ne ∙ get_or-map-range_with_len f 0 n k k v within (omega arith) ∙ h k ne
+    ])
 
 -- the value at the number k
 pub slice_get-map_range : {X : Type 0} (f : ℕ → X) (n k : ℕ) → k < n → slice_get (map f (range_with_len 0 n)) k ≡ Some (f k)

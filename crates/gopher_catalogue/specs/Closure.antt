@@ -1,8 +1,7 @@
 -- What a finished crawl contains if its record agrees with a table of outcomes: exactly the places
 -- that can be reached from the seeds, and their pages. The final results of searches are defined by
 -- the table alone: without a record, a number of a place, or a state.
-use Rattle.std.specs.Prelude.{◌≡◌, ℕ, Bool, ◌||◌, ◌↔◌, List, [], ◌∷◌, Option, None, Some, slice_get, take, IsTrue, if◌then◌else◌}
-use Rattle.std.specs.List.{fold, Contains}
+use Rattle.std.specs.Prelude.{◌≡◌, ℕ, Bool, ◌||◌, ◌↔◌, List, [], ◌∷◌, Option, None, Some, slice_get, take, IsTrue, if◌then◌else◌, fold, Contains}
 use Rattle.std.specs.List.Sorted.{IsStrictlySortedBy}
 use Rattle.std.specs.Ordering.{on}
 use Rattle.std.specs.declared.cmp.Ordering.{Ordering}

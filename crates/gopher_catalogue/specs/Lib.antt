@@ -3,6 +3,7 @@ pub mod Event
 pub mod EventOf
 pub mod Fault
 pub mod Tables
+pub mod FrontierTables
 pub mod Frontier
 pub mod Legal
 pub mod Step

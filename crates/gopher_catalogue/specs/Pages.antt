@@ -1,6 +1,5 @@
 -- The pages that a record found.
-use Rattle.std.specs.Prelude.{◌≡◌, ℕ, List, [], ◌∷◌, ◌++◌, take, Option, IfSome}
-use Rattle.std.specs.List.{flat_map}
+use Rattle.std.specs.Prelude.{◌≡◌, ℕ, List, [], ◌∷◌, ◌++◌, take, Option, IfSome, flat_map}
 use Rattle.std.specs.Global.{Vec}
 use Rattle.gopher_item.specs.Place.{PlaceData}
 use Rattle.gopher_item.specs.declared.limits.TheConstants.{MAX_PLACES}

@@ -1,7 +1,7 @@
 -- The sequential catalogue: the result of each call on a record, and the record after it, if memory
 -- suffices.
-use Rattle.std.specs.Prelude.{◌≡◌, ℕ, ◌-◌, Bool, false, ◌&&◌, not, List, [], ◌∷◌, ◌++◌, length, Option, None, Some, slice_get, ◌==◌, nat_lt, nat_le, if◌then◌else◌}
-use Rattle.std.specs.Option.{option_map, option_and_then, option_map_or}
+use Rattle.std.specs.Prelude.{ℕ, ◌-◌, Bool, false, ◌&&◌, not, List, [], ◌∷◌, ◌++◌, length, Option, None, Some, slice_get, ◌==◌, nat_lt, nat_le, if◌then◌else◌}
+use Rattle.std.specs.Option.{option_map_or}
 use Rattle.gopher_item.specs.Place.{PlaceData, same_place}
 use Rattle.gopher_item.specs.Scope.{ScopeData, first_outside}
 use Rattle.gopher_item.specs.declared.limits.TheConstants.{MAX_PLACES, MAX_TRIES}
@@ -11,7 +11,7 @@ use Rattle.gopher_catalogue.specs.declared.fault.OpenFault.TheVariants.{SeedOutO
 use Rattle.gopher_catalogue.specs.declared.fault.FoundFault.{FoundFault}
 use Rattle.gopher_catalogue.specs.declared.fault.FoundFault.TheVariants.{NotOut, WrongPlace}
 use Rattle.gopher_catalogue.specs.Opening.{opening_of}
-use Rattle.gopher_catalogue.specs.Event.{OpeningData, EventData, Opened, Claimed, Found}
+use Rattle.gopher_catalogue.specs.Event.{EventData, Opened, Claimed, Found}
 use Rattle.gopher_catalogue.specs.Frontier.{known, dropped, waiting, out, done, is_out}
 pub use Rattle.gopher_catalogue.specs.declared.frontier.sizes.Added.{Added}
 pub use Rattle.gopher_catalogue.specs.declared.frontier.sizes.Status.{Status}
@@ -30,9 +30,6 @@ open_fault scope seeds limit tries =
 abbrev pub opened_record : ScopeData → List PlaceData → ℕ → ℕ → List EventData
 opened_record scope seeds limit tries = Opened (opening_of scope seeds limit tries) ∷ []
 
-abbrev pub IsOpenedRecord : ScopeData → List PlaceData → ℕ → ℕ → List EventData → Type 0
-IsOpenedRecord scope seeds limit tries events = events ≡ opened_record scope seeds limit tries
-
 -- ---- claim
 
 -- the result of a claim, as data
@@ -41,16 +38,12 @@ pub data TurnData : Type 0 where
   Idle : TurnData
   Finished : TurnData
 
--- the first waiting number, and its place
-abbrev pub next_claim : OpeningData → List EventData → Option (ℕ × PlaceData)
-next_claim opening events =
-    option_and_then
-    (λ number. option_map (λ place. (number, place)) (slice_get (known opening events) number))
-    (slice_get (waiting opening events) 0)
-
+-- takes the first waiting number, whose place is known
 unfoldable pub turn_of : List EventData → TurnData
 turn_of (Opened opening ∷ events) =
-    option_map_or (λ claim. Take claim.0 claim.1) (next_claim opening events)
+    option_map_or
+    (λ number. option_map_or (Take number) (slice_get (known opening events) number) Idle)
+    (slice_get (waiting opening events) 0)
     (if length (out opening events) == 0 then Finished else Idle)
 turn_of events = Finished
 
@@ -66,26 +59,20 @@ is_out_in (Opened opening ∷ events) number =
     nat_lt number (length (known opening events)) && is_out events number
 is_out_in events number = false
 
--- the place is that of the number
-unfoldable pub is_place_in : List EventData → ℕ → PlaceData → Bool
-is_place_in (Opened opening ∷ events) number place =
-    option_map_or (λ other. same_place other place) (slice_get (known opening events) number) false
-is_place_in events number place = false
+-- the known places, each at its number
+unfoldable pub places_of : List EventData → List PlaceData
+places_of (Opened opening ∷ events) = known opening events
+places_of events = []
+
+-- the place of the number is this one
+abbrev pub is_place_at : List PlaceData → ℕ → PlaceData → Bool
+is_place_at places number place =
+    option_map_or (λ other. same_place other place) (slice_get places number) false
 
 abbrev pub found_fault : List EventData → ℕ → PlaceData → Option FoundFault
 found_fault events number place =
     if not (is_out_in events number) then Some NotOut
-    else (if not (is_place_in events number place) then Some WrongPlace else None)
-
--- how many places a page adds to the known ones, and how many of its mentions are dropped
-unfoldable pub added_by : List EventData → ℕ → PageData → Added
-added_by (Opened opening ∷ events) number page =
-    let after = events ++ Found number page ∷ [] in
-    record {
-      fresh = length (known opening after) - length (known opening events);
-      dropped = dropped opening after - dropped opening events;
-    }
-added_by events number page = record { fresh = 0; dropped = 0 }
+    else (if not (is_place_at (places_of events) number place) then Some WrongPlace else None)
 
 -- ---- status
 
@@ -100,11 +87,15 @@ status_of (Opened opening ∷ events) =
     }
 status_of events = record { known = 0; waiting = 0; out = 0; done = 0; dropped = 0 }
 
+-- how many places a page adds to the known ones, and how many of its mentions are dropped
+unfoldable pub added_by : List EventData → ℕ → PageData → Added
+added_by events number page =
+    let after = status_of (events ++ Found number page ∷ []) in
+    record {
+      fresh = after.known - (status_of events).known;
+      dropped = after.dropped - (status_of events).dropped;
+    }
+
 -- nothing waits and nothing is out
 abbrev pub is_finished : List EventData → Bool
 is_finished events = ((status_of events).waiting == 0) && ((status_of events).out == 0)
-
--- the known places, each at its number
-unfoldable pub places_of : List EventData → List PlaceData
-places_of (Opened opening ∷ events) = known opening events
-places_of events = []

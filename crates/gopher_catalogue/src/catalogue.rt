@@ -4,12 +4,11 @@ ghost use Rattle.std.specs.Prelude.{◌≡◌, ◌≤◌, ℕ, true, false, None
 ghost use Rattle.std.specs.Arc.{arc_value};
 ghost use Rattle.gopher_item.specs.Scope.{first_outside};
 ghost use Rattle.gopher_index.specs.Index.{IsSliceOf};
-ghost use Rattle.gopher_catalogue.specs.Tables.{KeepsFrontier, LearnsLinks};
 ghost use Rattle.gopher_catalogue.specs.Event.{EventData, Opened, Claimed, Found, Failed};
 ghost use Rattle.gopher_catalogue.specs.EventOf.{event_data};
 ghost use Rattle.gopher_catalogue.specs.Fault.{HasOpenFault, HasFoundFault};
 ghost use Rattle.gopher_catalogue.specs.Legal.{IsLegal};
-ghost use Rattle.gopher_catalogue.specs.Step.{open_fault, IsOpenedRecord, turn_of, after_turn, is_out_in, found_fault, added_by, status_of, is_finished, places_of};
+ghost use Rattle.gopher_catalogue.specs.Step.{open_fault, opened_record, turn_of, after_turn, is_out_in, found_fault, added_by, status_of, is_finished, places_of};
 ghost use Rattle.gopher_catalogue.specs.Closure.{AreFinalOnceComplete, HoldsReach, IsFinalOnceComplete, OnceComplete};
 ghost use Rattle.gopher_catalogue.specs.Pages.{pages_found, IsDueAmong, AreHitsIn, AreOccurrencesIn};
 ghost use Rattle.gopher_catalogue.specs.Turn.{turn_data, IsTake};
@@ -21,7 +20,7 @@ use crate::fault::{FailRefused, FoundFault, FoundRefused, OpenFault, OpenRefused
 use crate::frontier::{Added, Frontier, Status};
 use crate::opening::Opening;
 use gopher_index::{Due, Hit, Index};
-use gopher_item::{MAX_PLACES, MAX_TRIES, NoMemory, Place, Places, Scope};
+use gopher_item::{MAX_PLACES, MAX_TRIES, NoMemory, Place, Scope};
 use gopher_page::{Page, Query};
 use std::alloc::Global;
 use std::marker::Model;
@@ -83,24 +82,6 @@ fn refused(fault: OpenFault, scope: Scope, seeds: Vec<Place>) -> OpenRefused
     }
 }
 
-// Makes the links of a page known, as `Frontier::learn` does.
-fn learn(
-    alloc: Global,
-    frontier: &mut Frontier,
-    opening: &Arc<Opening>,
-    page: &Page,
-) -> Result<Added, NoMemory>
-    requires limit { (arc_value opening.now).limit ≤ MAX_PLACES }
-    requires places { length frontier.old.places ≤ (arc_value opening.now).limit }
-    requires out { frontier.old.out ≤ MAX_PLACES }
-    ensures ok { IfOk result (LearnsLinks opening.now page.now.links frontier.old frontier.new) }
-    ensures err { OnErr result (KeepsFrontier frontier.old frontier.new) }
-{
-    let none = Places::new(alloc);
-    let links = page.packed_links().unwrap_or(&none);
-    frontier.learn(alloc, opening.scope(), opening.places(), links)
-}
-
 impl Catalogue {
     /// Opens the catalogue of a new crawl.
     ///
@@ -122,7 +103,7 @@ impl Catalogue {
         tries: u32,
     ) -> Result<Catalogue, OpenRefused>
         ensures ok { OnOk result (open_fault scope seeds.items places tries ≡ None) }
-        ensures opened { IfOk result (IsOpenedRecord scope seeds.items places tries) }
+        ensures opened { IfOk result (λ c. c ≡ opened_record scope seeds.items places tries) }
         ensures legal { IfOk result (λ catalogue. IsLegal catalogue) }
         ensures fault { IfErr result (HasOpenFault (open_fault scope seeds.items places tries)) }
         ensures scope_back { IfErr result (λ refused. refused.scope ≡ scope) }
@@ -158,17 +139,17 @@ impl Catalogue {
         ensures err { OnErr result (self.new ≡ self.old) }
         ensures legal { IsLegal self.new }
     {
-        let out = self.frontier.out();
-        let Some(number) = self.frontier.first() else {
+        let out = self.frontier.out;
+        let Some(number) = self.frontier.queue.first() else {
             if out == 0 {
                 return Ok(Turn::Finished);
             }
             return Ok(Turn::Idle);
         };
-        let standing = self.frontier.standing(number).unwrap();
-        let place = self.frontier.place(number).clone()?;
+        let standing = self.frontier.known.standing(number as usize).unwrap();
+        let place = self.frontier.known.as_slice()[number as usize].clone()?;
         self.archive.reserve(out as usize + 2)?;
-        self.frontier.reserve(out as usize + 1)?;
+        self.frontier.queue.reserve(out as usize + 1)?;
         self.frontier.claim(number, standing);
         self.archive.push(Event::Claimed(number));
         Ok(Turn::Take(Claim { number, place }))
@@ -203,9 +184,9 @@ impl Catalogue {
             return Err(FoundRefused { fault, page });
         }
         let fault = FoundFault::NoMemory;
-        let before = self.frontier.len() as u32;
+        let before = self.frontier.known.len() as u32;
         let opening = self.archive.opening();
-        let Ok(added) = learn(self.alloc, &mut self.frontier, opening, &page) else {
+        let Ok(added) = self.frontier.learn(self.alloc, opening, &page) else {
             return Err(FoundRefused { fault, page });
         };
         match self.archive.add_found(self.alloc, number, page) {
@@ -214,7 +195,7 @@ impl Catalogue {
                 Ok(added)
             }
             Err(page) => {
-                self.frontier.forget(before as usize);
+                self.frontier.known.truncate(before as usize);
                 Err(FoundRefused { fault, page })
             }
         }
@@ -279,7 +260,14 @@ impl Catalogue {
         ensures status { result ≡ status_of self.now }
         ensures legal { IsLegal self.now }
     {
-        self.frontier.status()
+        let frontier = &self.frontier;
+        Status {
+            known: frontier.known.len() as u32,
+            waiting: frontier.queue.len() as u32,
+            out: frontier.out,
+            done: frontier.done,
+            dropped: frontier.dropped,
+        }
     }
 
     /// Returns whether the crawl is finished: no place waits and none is out.
@@ -312,7 +300,7 @@ impl Catalogue {
         ensures reach { OnceComplete self.now HoldsReach }
         ensures legal { IsLegal self.now }
     {
-        self.frontier.places()
+        self.frontier.known.as_slice()
     }
 
     /// Returns the opening of the crawl, which the first event contains.

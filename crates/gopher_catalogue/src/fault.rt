@@ -39,8 +39,7 @@ impl OpenFault {
 }
 
 /// The error of `Catalogue::open`, with the arguments that it took.
-#[derive(Debug, Drop, Error)]
-#[error("{fault}")]
+#[derive(Drop)]
 pub struct OpenRefused {
     /// Why the call failed.
     pub fault: OpenFault,
@@ -78,8 +77,7 @@ impl FoundFault {
 }
 
 /// The error of `Catalogue::found`, with the page that it took.
-#[derive(Debug, Drop, Error)]
-#[error("{fault}")]
+#[derive(Drop)]
 pub struct FoundRefused {
     /// Why the call failed.
     pub fault: FoundFault,

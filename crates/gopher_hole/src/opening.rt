@@ -1,7 +1,7 @@
 //! Opening a server: its settings, its folder and its desk.
 
 ghost use Rattle.std.specs.Prelude.{◌≡◌, [], IfOk};
-ghost use Rattle.gopher_catalogue.specs.Step.{IsOpenedRecord};
+ghost use Rattle.gopher_catalogue.specs.Step.{opened_record};
 ghost use Rattle.gopher_crew.specs.Desk.{IsBlankOf, AllHaveSeen, shares_at};
 ghost use Rattle.gopher_hole.specs.Ending.{AreSettings, opening_record};
 
@@ -98,7 +98,7 @@ fn open_catalogue(
     places: u32,
     tries: u32,
 ) -> Result<Catalogue, ProgramFault>
-    ensures { IfOk result (IsOpenedRecord scope seeds.items places tries) }
+    ensures { IfOk result (λ c. c ≡ opened_record scope seeds.items places tries) }
 {
     match Catalogue::open(alloc, scope, seeds, places, tries) {
         Ok(catalogue) => Ok(catalogue),

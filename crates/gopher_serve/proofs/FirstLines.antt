@@ -1,14 +1,13 @@
 -- The first line of bytes, where it is at its end and where it isn't.
-use Rattle.std.proofs.Common.{◌≡◌, ℕ, zero, suc, ◌+◌, ◌-◌, ◌<◌, ◌≤◌, Bool, true, false, ◌||◌, eqb, List, [], ◌∷◌, ◌++◌, length, get_or, take, drop, nat_le, nat_lt, refl, sym, ap, ◌∙◌, subst, arith, append-nil, append_assoc, length-append, take-append-drop}
-use Rattle.std.specs.Prelude.{◌==◌, if◌then◌else◌}
+use Rattle.std.proofs.Common.{◌≡◌, ℕ, zero, suc, ◌+◌, ◌-◌, ◌<◌, ◌≤◌, ◌⊎◌, inl, inr, Bool, true, false, ◌||◌, eqb, List, [], ◌∷◌, ◌++◌, length, get_or, take, drop, nat_le, nat_lt, refl, sym, ap, ◌∙◌, subst, arith, append-nil, append_assoc, length-append, take-append-drop, length-take, Some, ◌==◌, if◌then◌else◌}
 use Rattle.std.specs.Io.BufRead.{take_through, ends_with_byte, strip_last, first_line}
 use Rattle.std.proofs.Math.Seq.{get_or-append_seam}
 use Rattle.std.proofs.lemmas.List.{take_at}
 use Rattle.std.proofs.lemmas.List.Folds.{list_any-append}
-use Rattle.std.proofs.lemmas.Bool.{or_parts}
+use Rattle.std.proofs.lemmas.Bool.{or_left, or_parts, or_right}
 use Rattle.std.proofs.lemmas.Bool.Decides.{nat_tests}
 use Rattle.gopher_text.specs.Line.{has_feed, without_end}
-use Rattle.gopher_text.proofs.LineLemmas.{length-without_end, unfed_end}
+use Rattle.gopher_text.proofs.LineLemmas.{long_line_begun, unfed_end}
 use Rattle.gopher_serve.specs.Talk.{Gathers, IsTooLong, is_known, known_line, talk_of}
 
 -- what there is before the first LF
@@ -82,51 +81,43 @@ known_long : (line : List ℕ) → 1024 < length line → known_line line ≡ Is
 known_long line long = let no = le_false (length line) 1024 long in rw no refl
 
 long_unfed : (bytes rest : List ℕ) → has_feed bytes ≡ false → 1026 ≤ length bytes → 1024 < length (first_line (bytes ++ rest))
-long_unfed bytes [] unfed long =
-    let same : first_line (bytes ++ []) ≡ bytes = ap first_line (append-nil bytes) ∙ first_line-unfed bytes unfed in
-    omega (arith, ap length same)
-long_unfed bytes (byte ∷ rest) unfed long = by (has_feed (byte ∷ rest)) refl
-  where
-    by : (fed : Bool) → has_feed (byte ∷ rest) ≡ fed → 1024 < length (first_line (bytes ++ (byte ∷ rest)))
-    by fed e =
-        let through = take_through_unfed bytes (byte ∷ rest) unfed in
-        let some : 0 < length (take_through 10 (byte ∷ rest)) = by_byte (byte == 10) in
-        omega (arith, ap length through, length-append bytes (take_through 10 (byte ∷ rest)), length-without_end (take_through 10 (bytes ++ (byte ∷ rest))))
-      where
-        by_byte : (test : Bool) → 0 < length (if test then byte ∷ [] else byte ∷ take_through 10 rest)
-        by_byte true = omega arith
-        by_byte false = omega arith
+long_unfed bytes rest unfed long =
+    let front : List ℕ = take 1026 bytes in
+    let later : List ℕ = drop 1026 bytes in
+    let split : bytes ++ rest ≡ front ++ (later ++ rest) = ap (λ l. l ++ rest) (sym (take-append-drop 1026 bytes)) ∙ append_assoc front later rest in
+    let parts = or_parts (has_feed front) (has_feed later) (sym (list_any-append (λ byte. byte == 10) front later) ∙ ap has_feed (take-append-drop 1026 bytes) ∙ unfed) in
+    (long_line_begun (Some (bytes ++ rest)) (Some (later ++ rest)) front split parts.0 (omega (arith, length-take 1026 bytes))).0
 
 -- ---- what follows once a line is known changes nothing
 
-pub known_once : (bytes rest : List ℕ) → is_known false bytes ≡ true → known_line (first_line (bytes ++ rest)) ≡ known_line (first_line bytes)
-known_once bytes rest known = by (has_feed bytes) refl
+known_cases : (bytes : List ℕ) → is_known false bytes ≡ true → (has_feed bytes ≡ true) ⊎ ((has_feed bytes ≡ false) × (1026 ≤ length bytes))
+known_cases bytes known = by (has_feed bytes) refl
   where
-    by : (fed : Bool) → has_feed bytes ≡ fed → known_line (first_line (bytes ++ rest)) ≡ known_line (first_line bytes)
-    by true e = ap known_line (first_line-known bytes rest e)
+    by : (fed : Bool) → has_feed bytes ≡ fed → (has_feed bytes ≡ true) ⊎ ((has_feed bytes ≡ false) × (1026 ≤ length bytes))
+    by true e = inl e
     by false e =
         let long : nat_le 1026 (length bytes) ≡ true = sym (ap (λ t. t || nat_le 1026 (length bytes)) e) ∙ known in
-        let many : 1026 ≤ length bytes = grind (arith, nat_tests) in
-        known_long _ (long_unfed bytes rest e many)
-        ∙ sym (known_long _ (subst (λ l. 1024 < length (first_line l)) (append-nil bytes) (long_unfed bytes [] e many)))
+        inr (e, grind (arith, nat_tests))
+
+pub known_once : (bytes rest : List ℕ) → is_known false bytes ≡ true → known_line (first_line (bytes ++ rest)) ≡ known_line (first_line bytes)
+known_once bytes rest known = by (known_cases bytes known)
+  where
+    by : (has_feed bytes ≡ true) ⊎ ((has_feed bytes ≡ false) × (1026 ≤ length bytes)) → known_line (first_line (bytes ++ rest)) ≡ known_line (first_line bytes)
+    by (inl fed) = ap known_line (first_line-known bytes rest fed)
+    by (inr (unfed, many)) =
+        known_long _ (long_unfed bytes rest unfed many)
+        ∙ sym (known_long _ (subst (λ l. 1024 < length (first_line l)) (append-nil bytes) (long_unfed bytes [] unfed many)))
 
 is_known_more : (bytes rest : List ℕ) → is_known false bytes ≡ true → is_known false (bytes ++ rest) ≡ true
-is_known_more bytes rest known = by (has_feed bytes) refl
+is_known_more bytes rest known = by (known_cases bytes known)
   where
-    by : (fed : Bool) → has_feed bytes ≡ fed → is_known false (bytes ++ rest) ≡ true
-    by true e =
-        let more : has_feed (bytes ++ rest) ≡ true = list_any-append (λ byte. byte == 10) bytes rest ∙ ap (λ t. t || has_feed rest) e in
-        rw more refl
-    by false e =
-        let long : nat_le 1026 (length bytes) ≡ true = sym (ap (λ t. t || nat_le 1026 (length bytes)) e) ∙ known in
-        let many : 1026 ≤ length bytes = grind (arith, nat_tests) in
+    by : (has_feed bytes ≡ true) ⊎ ((has_feed bytes ≡ false) × (1026 ≤ length bytes)) → is_known false (bytes ++ rest) ≡ true
+    by (inl fed) =
+        let more : has_feed (bytes ++ rest) ≡ true = list_any-append (λ byte. byte == 10) bytes rest ∙ ap (λ t. t || has_feed rest) fed in
+        or_left (has_feed (bytes ++ rest)) (nat_le 1026 (length (bytes ++ rest))) more
+    by (inr (unfed, many)) =
         let longer : 1026 ≤ length (bytes ++ rest) = omega (arith, length-append bytes rest) in
-        let test : nat_le 1026 (length (bytes ++ rest)) ≡ true = grind (arith, nat_tests) in
-        rw test (or_true (has_feed (bytes ++ rest)))
-      where
-        or_true : (t : Bool) → (t || true) ≡ true
-        or_true true = refl
-        or_true false = refl
+        or_right (has_feed (bytes ++ rest)) (nat_le 1026 (length (bytes ++ rest))) (grind (arith, nat_tests))
 
 -- a piece of which so many bytes are gathered, since the line is known then
 pub heard_known : (bytes piece : List ℕ) (count : ℕ) → is_known false (bytes ++ take count piece) ≡ true

@@ -1,5 +1,5 @@
 -- A conversation that can go on at once comes farther, or a call failed. A search comes nearer its end.
-use Rattle.std.proofs.Common.{◌≡◌, ℕ, ◌+◌, ◌-◌, ◌^◌, ◌<◌, ◌≤◌, ◌⊎◌, inl, inr, min, Bool, true, false, ◌||◌, List, [], ◌++◌, length, length-append, nat_le, refl, sym, ap, ◌∙◌, arith}
+use Rattle.std.proofs.Common.{◌≡◌, ℕ, ◌+◌, ◌-◌, ◌^◌, ◌<◌, ◌≤◌, ◌⊎◌, inl, inr, min, Bool, true, false, ◌||◌, List, [], ◌++◌, length, length-append, nat_le, refl, sym, ap, ◌∙◌, subst, arith}
 use Rattle.std.proofs.Math.Nat.{min-le_left, min-le_right, min-eq_left}
 use Rattle.std.proofs.lemmas.Bool.Decides.{nat_tests}
 use Rattle.std.specs.Io.BufRead.{first_line}
@@ -7,8 +7,7 @@ use Rattle.gopher_text.specs.Line.{has_feed}
 use Rattle.gopher_text.specs.Watched.{CountsFailure}
 use Rattle.gopher_serve.specs.Serve.{StreamData}
 use Rattle.gopher_serve.specs.Advance.{Steps}
-use Rattle.gopher_serve.specs.Talk.{Talk, Gathers, Asks, IsTooLong, LacksMemory, Responds, is_known, known_line, stage_of, steps_of, talk_of}
-use Rattle.gopher_serve.specs.declared.conversation.Stage.TheVariants as stage
+use Rattle.gopher_serve.specs.Talk.{Talk, Gathers, Asks, IsTooLong, LacksMemory, Responds, is_known, known_line, IsAnswering, steps_of, talk_of}
 use Rattle.gopher_serve.specs.declared.advancing.Progress.TheVariants.{Paused, Works}
 
 -- ---- pauses
@@ -73,38 +72,38 @@ fails old new a b rest counts was is = by (count_up a b counts)
 
 -- the steps of its search that are left stay the same
 abbrev pub KeepsSteps : Talk → Talk → Type 0
-KeepsSteps old new = stage_of old ≡ stage.Responds → (stage_of new ≡ stage.Responds) × (steps_of new ≡ steps_of old)
+KeepsSteps old new = IsAnswering old → IsAnswering new × (steps_of new ≡ steps_of old)
 
 -- each step after which it can go on at once counts, and is no step of a search
 pub pauses : {A : Type 0} (gives : A → A → List ℕ → List ℕ → Type 0) (talk next : Talk) (a b : A) (had left before after : StreamData)
     → Steps gives talk next a b had left before after Paused
     → KeepsSteps talk next × ((turns talk had before < turns next left after) ⊎ (2 ^ 64 - 1 ≤ turns next left after))
 pauses gives (Gathers bytes) next a b had left before after (inl (piece, how), answers, writer) =
-    (λ responds. absurd cc, inl (omega (arith, piece.count, ap (λ (s : StreamData). s.failures) writer, by piece.hears)))
+    (λ responds. absurd responds, inl (omega (arith, piece.count, ap (λ (s : StreamData). s.failures) writer, by piece.hears)))
   where
     by : (next ≡ talk_of false (bytes ++ piece.piece)) ⊎ (((held : List ℕ) × (Gathers bytes ≡ Gathers held)) × (next ≡ LacksMemory)) → min (length bytes) 1026 < position next
     by (inl is) = let at = farther false bytes piece.piece (inr piece.some) in omega (arith, at, ap position is)
     by (inr (held, lacks)) = let few = min-le_right (length bytes) 1026 in omega (arith, few, ap position lacks)
 pauses gives (Gathers bytes) next a b had left before after (inr (inl (end, how)), answers, writer) =
     let at = farther true bytes [] (inl refl) in
-    (λ responds. absurd cc, inl (omega (arith, end.count, ap (λ (s : StreamData). s.failures) writer, at, ap position end.hears)))
+    (λ responds. absurd responds, inl (omega (arith, end.count, ap (λ (s : StreamData). s.failures) writer, at, ap position end.hears)))
 pauses gives (Gathers bytes) next a b had left before after (inr (inr (still, how)), answers, writer) = (
-  λ responds. absurd cc,
+  λ responds. absurd responds,
   fails (turns (Gathers bytes) had before) (turns next left after) had.failures left.failures (position (Gathers bytes) + before.failures) still.count
       (omega arith) (omega (arith, ap position still.talk, ap (λ (s : StreamData). s.failures) writer)),
 )
-pauses gives (Asks line) next a b had left before after (inl (is, how), reader, writer) =
-    (λ responds. absurd cc, inl (omega (arith, ap (λ (s : StreamData). s.failures) reader, ap (λ (s : StreamData). s.failures) writer, ap position is.is)))
+pauses gives (Asks line) next a b had left before after (inl (reply, steps, gave, is, how), reader, writer) =
+    (λ responds. absurd responds, inl (omega (arith, ap (λ (s : StreamData). s.failures) reader, ap (λ (s : StreamData). s.failures) writer, ap position is)))
 pauses gives (Asks line) next a b had left before after (inr (same, how), reader, writer) = absurd cc
 pauses gives IsTooLong next a b had left before after (fails, same, answers, reader, writer) = absurd cc
 pauses gives LacksMemory next a b had left before after (fails, same, answers, reader, writer) = absurd cc
-pauses gives (Responds line reply steps sent) next a b had left before after (inl (all, how), answers, reader) = absurd cc
+pauses gives (Responds line reply steps sent) next a b had left before after (inl (talk', ready, none, same, how), answers, reader) = absurd cc
 pauses gives (Responds line reply steps sent) next a b had left before after (inr (inl (some, how)), answers, reader) =
-    (λ responds. (ap stage_of some.is, ap steps_of some.is), inl (omega (arith, ap (λ (s : StreamData). s.failures) reader, some.counted, some.some, ap position some.is)))
-pauses gives (Responds line reply steps sent) next a b had left before after (inr (inr (inl (silent, inl (how, fewer)))), answers, reader) = absurd cc
-pauses gives (Responds line reply steps sent) next a b had left before after (inr (inr (inl (silent, inr (how, kept)))), answers, reader) = absurd cc
+    (λ responds. (subst IsAnswering (sym some.is) tt, ap steps_of some.is), inl (omega (arith, ap (λ (s : StreamData). s.failures) reader, some.counted, some.some, ap position some.is)))
+pauses gives (Responds line reply steps sent) next a b had left before after (inr (inr (inl (searches, talk', same, inl (how, fewer)))), answers, reader) = absurd cc
+pauses gives (Responds line reply steps sent) next a b had left before after (inr (inr (inl (searches, talk', same, inr (how, kept)))), answers, reader) = absurd cc
 pauses gives (Responds line reply steps sent) next a b had left before after (inr (inr (inr (still, how))), answers, reader) = (
-  λ responds. (ap stage_of still.talk, ap steps_of still.talk),
+  λ responds. (subst IsAnswering (sym still.talk) tt, ap steps_of still.talk),
   fails (turns (Responds line reply steps sent) had before) (turns next left after) before.failures after.failures (1028 + sent + had.failures) still.count
       (omega arith) (omega (arith, ap position still.talk, ap (λ (s : StreamData). s.failures) reader)),
 )
@@ -118,16 +117,16 @@ counts_on step was is few so_far (inr most) = omega (arith, few, most)
 
 -- a search that goes on has fewer steps left
 pub works_near : {A : Type 0} (gives : A → A → List ℕ → List ℕ → Type 0) (talk next : Talk) (a b : A) (had left before after : StreamData)
-    → Steps gives talk next a b had left before after Works → stage_of talk ≡ stage.Responds → steps_of next < steps_of talk
-works_near gives (Gathers bytes) next a b had left before after step responds = absurd cc
-works_near gives (Asks line) next a b had left before after step responds = absurd cc
-works_near gives IsTooLong next a b had left before after step responds = absurd cc
-works_near gives LacksMemory next a b had left before after step responds = absurd cc
-works_near gives (Responds line reply steps sent) next a b had left before after (inl (all, how), answers, reader) responds = absurd cc
+    → Steps gives talk next a b had left before after Works → IsAnswering talk → steps_of next < steps_of talk
+works_near gives (Gathers bytes) next a b had left before after step responds = absurd responds
+works_near gives (Asks line) next a b had left before after step responds = absurd responds
+works_near gives IsTooLong next a b had left before after step responds = absurd responds
+works_near gives LacksMemory next a b had left before after step responds = absurd responds
+works_near gives (Responds line reply steps sent) next a b had left before after (inl (talk', ready, none, same, how), answers, reader) responds = absurd cc
 works_near gives (Responds line reply steps sent) next a b had left before after (inr (inl (some, inl how)), answers, reader) responds = absurd cc
 works_near gives (Responds line reply steps sent) next a b had left before after (inr (inl (some, inr (how, none))), answers, reader) responds = absurd cc
-works_near gives (Responds line reply steps sent) next a b had left before after (inr (inr (inl (silent, inl (how, fewer)))), answers, reader) responds = fewer
-works_near gives (Responds line reply steps sent) next a b had left before after (inr (inr (inl (silent, inr (how, kept)))), answers, reader) responds = absurd cc
+works_near gives (Responds line reply steps sent) next a b had left before after (inr (inr (inl (searches, talk', same, inl (how, fewer)))), answers, reader) responds = fewer
+works_near gives (Responds line reply steps sent) next a b had left before after (inr (inr (inl (searches, talk', same, inr (how, kept)))), answers, reader) responds = absurd cc
 works_near gives (Responds line reply steps sent) next a b had left before after (inr (inr (inr (still, never))), answers, reader) responds = absurd never
 
 pub keeps_joins : (talk next last : Talk) → KeepsSteps talk next → KeepsSteps next last → KeepsSteps talk last
@@ -137,7 +136,7 @@ keeps_joins talk next last first second responds =
     (more.0, more.1 ∙ one.1)
 
 -- a search that went on after pauses has fewer steps left than before them
-pub works_since : (talk next last : Talk) → KeepsSteps talk next → (stage_of next ≡ stage.Responds → steps_of last < steps_of next) → stage_of talk ≡ stage.Responds → steps_of last < steps_of talk
+pub works_since : (talk next last : Talk) → KeepsSteps talk next → (IsAnswering next → steps_of last < steps_of next) → IsAnswering talk → steps_of last < steps_of talk
 works_since talk next last keeps nears responds =
     let kept = keeps responds in
     omega (arith, kept.1, nears kept.0)

@@ -5,25 +5,37 @@ use Rattle.std.specs.Io.KnownBytes.{Appends, Consumes, IsAtEnd}
 use Rattle.std.proofs.KnownBytes.{Appends-trans, Appends-kept, Consumes-trans, Consumes-kept}
 use Rattle.std.proofs.Math.Seq.{take-add}
 use Rattle.gopher_serve.specs.Serve.{StreamData}
-use Rattle.gopher_serve.specs.Talk.{Talk, Gathers, Asks, IsTooLong, LacksMemory, Responds, is_known, talk_of, steps_of}
-use Rattle.gopher_serve.specs.Advance.{IsStill, HearsPiece, HearsEnd, IsReplied, SaysSome, IsSilent, Steps, IsGiven, StandsAnswered, Stands, Talks, Advances}
+use Rattle.gopher_serve.specs.Talk.{Talk, Gathers, Asks, IsTooLong, LacksMemory, Responds, OnlySearches, is_known, talk_of, steps_of}
+use Rattle.gopher_serve.specs.Advance.{IsStill, HearsPiece, HearsEnd, SaysSome, Steps, IsGiven, Stands, Talks, Advances}
 use Rattle.gopher_serve.specs.declared.advancing.Progress.{Progress}
 
 -- ---- what came in decides how it stands, before anything goes out
 
-pub stands_at : (given : List ℕ → List ℕ → Type 0) (ended : Bool) (taken : List ℕ) → Stands given ended taken [] (talk_of ended taken)
-stands_at given ended taken = by (is_known ended taken) refl (nat_le (length (first_line taken)) 1024) refl
+talk_cases : (ended : Bool) (taken : List ℕ) → (talk_of ended taken ≡ Gathers taken) ⊎ ((talk_of ended taken ≡ Asks (first_line taken)) ⊎ (talk_of ended taken ≡ IsTooLong))
+talk_cases ended taken = by (is_known ended taken) refl (nat_le (length (first_line taken)) 1024) refl
   where
-    by : (known : Bool) → is_known ended taken ≡ known → (short : Bool) → nat_le (length (first_line taken)) 1024 ≡ short → Stands given ended taken [] (talk_of ended taken)
-    by false e short s =
-        let is : talk_of ended taken ≡ Gathers taken = rw e refl in
-        subst (Stands given ended taken []) (sym is) (is, refl, refl)
-    by true e true s =
-        let is : talk_of ended taken ≡ Asks (first_line taken) = rw (e, s) refl in
-        subst (Stands given ended taken []) (sym is) (is, refl, refl)
-    by true e false s =
-        let is : talk_of ended taken ≡ IsTooLong = rw (e, s) refl in
-        subst (Stands given ended taken []) (sym is) (is, refl)
+    by : (known : Bool) → is_known ended taken ≡ known → (short : Bool) → nat_le (length (first_line taken)) 1024 ≡ short
+        → (talk_of ended taken ≡ Gathers taken) ⊎ ((talk_of ended taken ≡ Asks (first_line taken)) ⊎ (talk_of ended taken ≡ IsTooLong))
+    by false e short s = inl (rw e refl)
+    by true e true s = inr (inl (rw (e, s) refl))
+    by true e false s = inr (inr (rw (e, s) refl))
+
+stands_at : (given : List ℕ → List ℕ → Type 0) (ended : Bool) (taken : List ℕ) (talk : Talk) → talk ≡ talk_of ended taken → Stands given ended taken [] talk
+stands_at given ended taken talk is = by (talk_cases ended taken)
+  where
+    by : (talk_of ended taken ≡ Gathers taken) ⊎ ((talk_of ended taken ≡ Asks (first_line taken)) ⊎ (talk_of ended taken ≡ IsTooLong)) → Stands given ended taken [] talk
+    by (inl all) = rw (is ∙ all) (all, refl)
+    by (inr (inl asks)) = rw (is ∙ asks) (asks, refl)
+    by (inr (inr long)) = rw (is ∙ long) (long, refl)
+
+-- what it gathered is all that came in
+all_gathered : (ended : Bool) (taken bytes : List ℕ) → talk_of ended taken ≡ Gathers bytes → taken ≡ bytes
+all_gathered ended taken bytes is = by (talk_cases ended taken)
+  where
+    by : (talk_of ended taken ≡ Gathers taken) ⊎ ((talk_of ended taken ≡ Asks (first_line taken)) ⊎ (talk_of ended taken ≡ IsTooLong)) → taken ≡ bytes
+    by (inl all) = cc
+    by (inr (inl asks)) = absurd cc
+    by (inr (inr long)) = absurd cc
 
 -- what was read up to the end is all that there was
 all_consumed : (a b : Option (List ℕ)) (bytes : List ℕ) → Consumes a b bytes → IsAtEnd b → IfSome a (λ all. all ≡ bytes)
@@ -54,13 +66,10 @@ heard_still : (given : List ℕ → List ℕ → Type 0) (first w0 w1 : Option (
 heard_still given first w0 w1 talk next had left still so_far =
     stands_else given given first had.bytes left.bytes w0 w1 w1 talk next so_far (Consumes-kept _ _ _ _ so_far.consumed still.bytes) so_far.appended (rw still.talk so_far.stands)
 
--- what stands gathered is all that came in
-heard_on : (given : List ℕ → List ℕ → Type 0) (ended : Bool) (taken sent bytes piece : List ℕ) (talk : Talk)
-    → talk ≡ talk_of ended (bytes ++ piece) → taken ≡ bytes → sent ≡ [] → Stands given ended (taken ++ piece) sent talk
-heard_on given ended taken sent bytes piece talk is same none =
-    subst (λ (l : List ℕ). Stands given ended (l ++ piece) sent talk) (sym same)
-    (subst (λ (l : List ℕ). Stands given ended (bytes ++ piece) l talk) (sym none)
-    (subst (Stands given ended (bytes ++ piece) []) (sym is) (stands_at given ended (bytes ++ piece))))
+heard_on : (given : List ℕ → List ℕ → Type 0) (ended before : Bool) (taken sent bytes piece : List ℕ) (talk : Talk)
+    → talk ≡ talk_of ended (bytes ++ piece) → talk_of before taken ≡ Gathers bytes → sent ≡ [] → Stands given ended (taken ++ piece) sent talk
+heard_on given ended before taken sent bytes piece talk is gathers none =
+    rw (all_gathered before taken bytes gathers, none) (stands_at given ended (bytes ++ piece) talk is)
 
 heard_piece : (given : List ℕ → List ℕ → Type 0) (first w0 w1 : Option (List ℕ)) (bytes : List ℕ) (next : Talk) (had left : StreamData)
     → HearsPiece (Gathers bytes) next had left → Talks given first had.bytes w0 w1 (Gathers bytes) → Talks given first left.bytes w0 w1 next
@@ -76,8 +85,8 @@ heard_piece given first w0 w1 bytes next had left heard so_far = record {
   where
     by : (next ≡ talk_of false (bytes ++ heard.piece)) ⊎ (((held : List ℕ) × (Gathers bytes ≡ Gathers held)) × (next ≡ LacksMemory))
         → Stands given false (so_far.taken ++ heard.piece) so_far.sent next
-    by (inl is) = heard_on given false so_far.taken so_far.sent bytes heard.piece next is so_far.stands.1 so_far.stands.2
-    by (inr (held, lacks)) = subst (Stands given false (so_far.taken ++ heard.piece) so_far.sent) (sym lacks) so_far.stands.2
+    by (inl is) = heard_on given false so_far.ended so_far.taken so_far.sent bytes heard.piece next is so_far.stands.0 so_far.stands.1
+    by (inr (held, lacks)) = rw lacks so_far.stands.1
 
 heard_end : (given : List ℕ → List ℕ → Type 0) (first w0 w1 : Option (List ℕ)) (bytes : List ℕ) (next : Talk) (had left : StreamData)
     → HearsEnd (Gathers bytes) next had left → Talks given first had.bytes w0 w1 (Gathers bytes) → Talks given first left.bytes w0 w1 next
@@ -88,7 +97,7 @@ heard_end given first w0 w1 bytes next had left heard so_far = record {
   consumed = read;
   appended = so_far.appended;
   all_taken = λ e. all_consumed _ _ _ read heard.ended;
-  stands = heard_on given true so_far.taken so_far.sent bytes [] next heard.hears so_far.stands.1 so_far.stands.2;
+  stands = heard_on given true so_far.ended so_far.taken so_far.sent bytes [] next heard.hears so_far.stands.0 so_far.stands.1;
 }
   where
     read : Consumes first left.bytes (so_far.taken ++ [])
@@ -110,22 +119,14 @@ said_some given first left w0 line reply steps count next before after said so_f
   consumed = so_far.consumed;
   appended = Appends-trans _ _ _ _ _ so_far.appended said.written;
   all_taken = so_far.all_taken;
-  stands = subst (Stands given so_far.ended so_far.taken (so_far.sent ++ take said.count (drop count reply))) (sym said.is) more;
+  stands = rw said.is (so_far.stands.0, so_far.stands.1, ap (λ l. l ++ take said.count (drop count reply)) so_far.stands.2 ∙ sym (take-add count said.count reply));
 }
-  where
-    more : StandsAnswered given so_far.ended so_far.taken (so_far.sent ++ take said.count (drop count reply)) line reply (count + said.count)
-    more = record {
-      asked_is = so_far.stands.asked_is;
-      line_is = so_far.stands.line_is;
-      given_is = so_far.stands.given_is;
-      sent_is = ap (λ l. l ++ take said.count (drop count reply)) so_far.stands.sent_is ∙ sym (take-add count said.count reply);
-    }
 
 said_none : (given : List ℕ → List ℕ → Type 0) (first left w0 : Option (List ℕ)) (line reply : List ℕ) (steps count : ℕ) (next : Talk) (before after : StreamData)
-    → IsSilent (Responds line reply steps count) next before after → Talks given first left w0 before.bytes (Responds line reply steps count) → Talks given first left w0 after.bytes next
-said_none given first left w0 line reply steps count next before after silent so_far =
-    subst (λ (t : Talk). Talks given first left w0 after.bytes t) (sym silent.talk)
-    (rw silent.same (stands_else given given first left left w0 before.bytes before.bytes (Responds line reply steps count) (Responds line reply (steps_of next) count) so_far so_far.consumed so_far.appended so_far.stands))
+    → OnlySearches (Responds line reply steps count) next → after ≡ before → Talks given first left w0 before.bytes (Responds line reply steps count) → Talks given first left w0 after.bytes next
+said_none given first left w0 line reply steps count next before after searches same so_far =
+    subst (λ (t : Talk). Talks given first left w0 after.bytes t) (sym searches)
+    (rw same (stands_else given given first left left w0 before.bytes before.bytes (Responds line reply steps count) (Responds line reply (steps_of next) count) so_far so_far.consumed so_far.appended so_far.stands))
 
 -- ---- answers
 
@@ -135,8 +136,7 @@ later given more ended taken sent (Gathers bytes) wider stands = stands
 later given more ended taken sent (Asks line) wider stands = stands
 later given more ended taken sent IsTooLong wider stands = stands
 later given more ended taken sent LacksMemory wider stands = stands
-later given more ended taken sent (Responds line reply steps count) wider stands =
-    record { asked_is = stands.asked_is; line_is = stands.line_is; given_is = wider _ _ stands.given_is; sent_is = stands.sent_is }
+later given more ended taken sent (Responds line reply steps count) wider stands = (stands.0, wider _ _ stands.1, stands.2)
 
 -- what was given stays given
 pub talks_later : (given more : List ℕ → List ℕ → Type 0) (first left w0 w1 : Option (List ℕ)) (talk : Talk) → ((line reply : List ℕ) → given line reply → more line reply)
@@ -149,19 +149,12 @@ given_later leads_to gives start seen now line reply joins leads given =
     record { before = given.before; after = given.after; begins = given.begins; given = given.given; ends = joins _ _ _ given.ends leads }
 
 -- a reply was given to the line
-replied : {A : Type 0} (leads_to : A → A → Type 0) (gives : A → A → List ℕ → List ℕ → Type 0) (start a b : A) (first left w0 w1 : Option (List ℕ)) (line : List ℕ) (next : Talk)
-    → leads_to start a → leads_to b b → IsReplied gives a b line next → Talks (IsGiven leads_to gives start a) first left w0 w1 (Asks line)
+replied : {A : Type 0} (leads_to : A → A → Type 0) (gives : A → A → List ℕ → List ℕ → Type 0) (start a b : A) (first left w0 w1 : Option (List ℕ)) (line reply : List ℕ) (steps : ℕ) (next : Talk)
+    → leads_to start a → leads_to b b → gives a b line reply → next ≡ Responds line reply steps 0 → Talks (IsGiven leads_to gives start a) first left w0 w1 (Asks line)
     → Talks (IsGiven leads_to gives start b) first left w0 w1 next
-replied leads_to gives start a b first left w0 w1 line next leads stays is so_far =
-    stands_else (IsGiven leads_to gives start a) (IsGiven leads_to gives start b) first left left w0 w1 w1 (Asks line) next so_far so_far.consumed so_far.appended (rw is.is answered)
-  where
-    answered : StandsAnswered (IsGiven leads_to gives start b) so_far.ended so_far.taken so_far.sent line is.reply 0
-    answered = record {
-      asked_is = so_far.stands.1;
-      line_is = so_far.stands.0 ∙ ap Asks so_far.stands.1;
-      given_is = subst (λ (l : List ℕ). IsGiven leads_to gives start b l is.reply) so_far.stands.1 (record { before = a; after = b; begins = leads; given = is.given; ends = stays });
-      sent_is = so_far.stands.2;
-    }
+replied leads_to gives start a b first left w0 w1 line reply steps next leads stays gave is so_far =
+    stands_else (IsGiven leads_to gives start a) (IsGiven leads_to gives start b) first left left w0 w1 w1 (Asks line) next so_far so_far.consumed so_far.appended
+    (rw is (so_far.stands.0, record { before = a; after = b; begins = leads; given = gave; ends = stays }, so_far.stands.1))
 
 -- ---- one step
 
@@ -182,17 +175,17 @@ steps_on {A = A} leads_to gives talk next a b had left before after turn stays j
         rw (answers, writer) (heard_end (IsGiven leads_to gives start a) first w0 before.bytes bytes next had left end so_far)
     by (Gathers bytes) (inr (inr (still, how)), answers, writer) start first w0 leads so_far =
         rw (answers, writer) (heard_still (IsGiven leads_to gives start a) first w0 before.bytes (Gathers bytes) next had left still so_far)
-    by (Asks line) (inl (is, how), reader, writer) start first w0 leads so_far =
-        rw (reader, writer) (replied leads_to gives start a b first had.bytes w0 before.bytes line next leads (stays b) is so_far)
+    by (Asks line) (inl (reply, steps, gave, is, how), reader, writer) start first w0 leads so_far =
+        rw (reader, writer) (replied leads_to gives start a b first had.bytes w0 before.bytes line reply steps next leads (stays b) gave is so_far)
     by (Asks line) (inr (same, how), reader, writer) start first w0 leads so_far =
         rw (same, reader, writer) (stands_else (IsGiven leads_to gives start a) (IsGiven leads_to gives start b) first had.bytes had.bytes w0 before.bytes before.bytes (Asks line) (Asks line) so_far so_far.consumed so_far.appended so_far.stands)
     by IsTooLong (fails, same, answers, reader, writer) start first w0 leads so_far = rw (same, answers, reader, writer) so_far
     by LacksMemory (fails, same, answers, reader, writer) start first w0 leads so_far = rw (same, answers, reader, writer) so_far
-    by (Responds line reply steps count) (inl (all, how), answers, reader) start first w0 leads so_far = rw (answers, reader, all.talk, all.same) so_far
+    by (Responds line reply steps count) (inl (talk, ready, none, same, how), answers, reader) start first w0 leads so_far = rw (answers, reader, talk, same) so_far
     by (Responds line reply steps count) (inr (inl (some, how)), answers, reader) start first w0 leads so_far =
         rw (answers, reader) (said_some (IsGiven leads_to gives start a) first had.bytes w0 line reply steps count next before after some so_far)
-    by (Responds line reply steps count) (inr (inr (inl (silent, how))), answers, reader) start first w0 leads so_far =
-        rw (answers, reader) (said_none (IsGiven leads_to gives start a) first had.bytes w0 line reply steps count next before after silent so_far)
+    by (Responds line reply steps count) (inr (inr (inl (some, searches, same, how))), answers, reader) start first w0 leads so_far =
+        rw (answers, reader) (said_none (IsGiven leads_to gives start a) first had.bytes w0 line reply steps count next before after searches same so_far)
     by (Responds line reply steps count) (inr (inr (inr (still, how))), answers, reader) start first w0 leads so_far =
         rw (answers, reader) (said_still (IsGiven leads_to gives start a) first had.bytes w0 (Responds line reply steps count) next before after still so_far)
 

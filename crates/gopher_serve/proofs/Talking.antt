@@ -1,7 +1,7 @@
 -- A conversation as it hears and says more.
 use Rattle.std.proofs.Common.{◌≡◌, ℕ, ◌+◌, true, false, List, ◌++◌, take, refl, sym, ap, ◌∙◌, subst}
 use Rattle.std.specs.Io.BufRead.{first_line}
-use Rattle.gopher_serve.specs.Talk.{Talk, Gathers, Asks, LacksMemory, heard, is_known, known_line, said, talk_in}
+use Rattle.gopher_serve.specs.Talk.{Talk, Gathers, Asks, heard, is_known, known_line, said, talk_in}
 use Rattle.gopher_serve.specs.declared.conversation.Phase.{Phase}
 use Rattle.gopher_serve.specs.declared.conversation.Phase.TheVariants as phase
 use Rattle.gopher_serve.proofs.FirstLines.{heard_known}

@@ -2,15 +2,13 @@
 use Rattle.std.specs.Prelude.{◌≡◌, ℕ, ◌+◌, ◌-◌, ◌^◌, ◌<◌, ◌≤◌, ◌⊎◌, Bool, true, List, [], length, take, Option, Some, Result, Ok, Err, IfSome}
 use Rattle.std.specs.IoError.{error_kind}
 use Rattle.std.specs.declared.io.Error.{Error}
-use Rattle.std.specs.Io.BufRead.{first_line}
 use Rattle.std.specs.declared.io.ErrorKind.{ErrorKind}
 use Rattle.std.specs.declared.io.ErrorKind.TheVariants as kind
 use Rattle.std.specs.Io.KnownBytes.{Appends, Consumes, IsAtEnd, Keeps}
 use Rattle.gopher_bytes.specs.declared.line.TheConstants.{MAX_LINE}
 use Rattle.gopher_text.specs.Watched.{CountsFailure, HasFailed}
 use Rattle.gopher_serve.specs.Serve.{StreamData}
-use Rattle.gopher_serve.specs.Talk.{Talk, Gathers, Asks, IsTooLong, LacksMemory, Responds, Hears, OnlySearches, heard, said, sendable_of, sent_of, stage_of, steps_of, talk_of, unsent_of}
-use Rattle.gopher_serve.specs.declared.conversation.Stage.TheVariants as stage
+use Rattle.gopher_serve.specs.Talk.{Talk, Gathers, Asks, IsTooLong, LacksMemory, Responds, Hears, IsAnswering, OnlySearches, heard, said, sendable_of, sent_of, steps_of, talk_of, unsent_of}
 use Rattle.gopher_serve.specs.declared.fault.ServeFault.{ServeFault}
 use Rattle.gopher_serve.specs.declared.fault.ServeFault.TheVariants.{LineTooLong, ReadFailed, TooManyTurns, WriteFailed, NoMemory}
 use Rattle.gopher_serve.specs.declared.advancing.Progress.{Progress}
@@ -53,28 +51,21 @@ Listens old new had left progress =
     ⊎ ((HearsEnd old new had left × (progress ≡ Paused))
     ⊎ (IsStill old new had left × IsProgressAfter ReadFailed progress))
 
--- the line was answered with a reply, of which nothing is sent yet
-pub record IsReplied {A : Type 0} (gives : A → A → List ℕ → List ℕ → Type 0) (before after : A)
-    (line : List ℕ) (new : Talk) : Type 0 where
-  pub reply : List ℕ
-  pub steps : ℕ
-  pub given : gives before after line reply
-  pub is : new ≡ Responds line reply steps 0
-
 -- the effect of asking for the reply to this line, and the progress after it, which says whether
--- the reply is there
+-- the reply is there. Nothing of it is sent yet
 abbrev pub RepliesToLine : {A : Type 0} → (A → A → List ℕ → List ℕ → Type 0) → A → A → List ℕ
     → Talk → Progress → Type 0
 RepliesToLine gives before after line new progress =
-    (IsReplied gives before after line new
-    × (((progress ≡ Paused) × (steps_of new ≡ 0)) ⊎ ((progress ≡ Works) × (0 < steps_of new))))
+    ((reply : List ℕ) × (steps : ℕ) × gives before after line reply
+    × (new ≡ Responds line reply steps 0)
+    × (((progress ≡ Paused) × (steps ≡ 0)) ⊎ ((progress ≡ Works) × (0 < steps))))
     ⊎ ((new ≡ Asks line) × (progress ≡ Failed NoMemory))
 
 -- the effect of asking for the reply, by its progress, if a line is asked: the conversation before
 -- and after, and the answers before and after
-abbrev pub Replies : {A : Type 0} → (A → A → List ℕ → List ℕ → Type 0) → Talk → Talk
+abbrev pub IsAsked : {A : Type 0} → (A → A → List ℕ → List ℕ → Type 0) → Talk → Talk
     → A → A → Progress → Type 0
-Replies gives old new before after progress =
+IsAsked gives old new before after progress =
     (line : List ℕ) → old ≡ Asks line → RepliesToLine gives before after line new progress
 
 -- the next `count` bytes of the reply were written, and nothing else
@@ -87,27 +78,15 @@ pub record SaysSome (old new : Talk) (before after : StreamData) : Type 0 where
   pub is : new ≡ said old count
   pub counted : after.failures ≡ before.failures
 
--- the whole reply was already written
-pub record IsSaid (old new : Talk) (before after : StreamData) : Type 0 where
-  pub talk : new ≡ old
-  pub ready : steps_of old ≡ 0
-  pub none : unsent_of old ≡ []
-  pub same : after ≡ before
-
--- a step of the search for the reply, if it succeeded or not: nothing was written
-pub record IsSilent (old new : Talk) (before after : StreamData) : Type 0 where
-  pub searches : 0 < steps_of old
-  pub talk : OnlySearches old new
-  pub same : after ≡ before
-
--- the effect of one write, or of one step of the search for the reply, and the progress after it. A
--- step leaves fewer steps, or as many if it ran out of memory
+-- the effect of one write, or of one step of the search for the reply, and the progress after it:
+-- the whole reply was already written; some of it was written; a step, which writes nothing, left
+-- fewer steps, or as many if it ran out of memory; or the write failed
 abbrev pub Says : Talk → Talk → StreamData → StreamData → Progress → Type 0
 Says old new before after progress =
-    (IsSaid old new before after × (progress ≡ Done))
+    ((new ≡ old) × (steps_of old ≡ 0) × (unsent_of old ≡ []) × (after ≡ before) × (progress ≡ Done))
     ⊎ ((SaysSome old new before after
     × ((progress ≡ Paused) ⊎ ((progress ≡ Done) × (unsent_of new ≡ []))))
-    ⊎ ((IsSilent old new before after
+    ⊎ (((0 < steps_of old) × OnlySearches old new × (after ≡ before)
     × (((progress ≡ Works) × (steps_of new < steps_of old))
     ⊎ ((progress ≡ Failed NoMemory) × (steps_of new ≡ steps_of old))))
     ⊎ (IsStill old new before after × IsProgressAfter WriteFailed progress)))
@@ -158,27 +137,21 @@ Records old new (Err error) progress =
     (new ≡ old) × (progress ≡ progress_after (error_kind error) WriteFailed)
 
 -- the state of a conversation when it stops, by its progress: the conversation, the number of
--- failed calls of the reader before and after, and that of the writer before and after. It stops
--- at a pause only if the failed calls of both, the bytes that were sent, and MAX_LINE + 4 steps
--- before the reply make at least 2^64 - 1
+-- failed calls of the reader before and after, and that of the writer before and after. It never
+-- stops at a pause. It takes too many turns only if the failed calls of both, the bytes that were
+-- sent, and MAX_LINE + 4 steps before the reply make at least 2^64 - 1
 abbrev pub Stops : Talk → ℕ → ℕ → ℕ → ℕ → Progress → Type 0
 Stops talk had left before after Done =
-    (stage_of talk ≡ stage.Responds) × (unsent_of talk ≡ [])
-Stops talk had left before after Paused =
-    2 ^ 64 - 1 ≤ left + after + sent_of talk + (MAX_LINE + 4)
-Stops talk had left before after Works = stage_of talk ≡ stage.Responds
+    IsAnswering talk × (unsent_of talk ≡ [])
+Stops talk had left before after Paused = ⊥
+Stops talk had left before after Works = IsAnswering talk
 Stops talk had left before after Waits = HasFailed had left ⊎ HasFailed before after
 Stops talk had left before after (Failed LineTooLong) = talk ≡ IsTooLong
 Stops talk had left before after (Failed ReadFailed) = HasFailed had left
-Stops talk had left before after (Failed TooManyTurns) = ⊥
+Stops talk had left before after (Failed TooManyTurns) =
+    2 ^ 64 - 1 ≤ left + after + sent_of talk + (MAX_LINE + 4)
 Stops talk had left before after (Failed WriteFailed) = HasFailed before after
 Stops talk had left before after (Failed NoMemory) = Unit {0}
-
--- a conversation that stops at a step of its search: the search had not begun before, or fewer of
--- its steps are left
-abbrev pub NearsAtWorks : Talk → Talk → Progress → Type 0
-NearsAtWorks old new progress =
-    progress ≡ Works → stage_of old ≡ stage.Responds → steps_of new < steps_of old
 
 -- ---- any number of steps
 
@@ -191,26 +164,13 @@ pub record IsGiven {A : Type 0} (leads_to : A → A → Type 0)
   pub given : gives before after line reply
   pub ends : leads_to after now
 
--- the first line of the bytes that came in was answered with this reply, and its first `count`
--- bytes were sent
-pub record StandsAnswered (given : List ℕ → List ℕ → Type 0) (ended : Bool)
-    (taken sent line reply : List ℕ) (count : ℕ) : Type 0 where
-  pub asked_is : line ≡ first_line taken
-  pub line_is : talk_of ended taken ≡ Asks (first_line taken)
-  pub given_is : given (first_line taken) reply
-  pub sent_is : sent ≡ take count reply
-
 -- the state of a conversation agrees with all bytes that came in and all bytes that were sent: they
--- are a prefix of the reply to the first line
+-- are a prefix of the reply to the line that these bytes ask
 abbrev pub Stands : (List ℕ → List ℕ → Type 0) → Bool → List ℕ → List ℕ → Talk → Type 0
-Stands given ended taken sent (Gathers bytes) =
-    (talk_of ended taken ≡ Gathers bytes) × (taken ≡ bytes) × (sent ≡ [])
-Stands given ended taken sent (Asks line) =
-    (talk_of ended taken ≡ Asks line) × (line ≡ first_line taken) × (sent ≡ [])
-Stands given ended taken sent IsTooLong = (talk_of ended taken ≡ IsTooLong) × (sent ≡ [])
 Stands given ended taken sent LacksMemory = sent ≡ []
 Stands given ended taken sent (Responds line reply steps count) =
-    StandsAnswered given ended taken sent line reply count
+    (talk_of ended taken ≡ Asks line) × given line reply × (sent ≡ take count reply)
+Stands given ended taken sent talk = (talk_of ended taken ≡ talk) × (sent ≡ [])
 
 -- the state of a conversation agrees with the bytes that the reader had at first and has left, and
 -- with the bytes that the writer had at first and has now
@@ -226,9 +186,9 @@ pub record Talks (given : List ℕ → List ℕ → Type 0) (had left old new : 
 
 -- a change of the conversation alone keeps this agreement, whichever replies answer a line
 pub record Upholds (old new : Talk) : Type 0 where
-  pub goes : (answers : List ℕ → List ℕ → Bool) (had left before after : Option (List ℕ))
-      → Talks (λ line reply. answers line reply ≡ true) had left before after old
-      → Talks (λ line reply. answers line reply ≡ true) had left before after new
+  pub goes : (answers : List ℕ → List ℕ → Bool) (ended : Bool) (taken sent : List ℕ)
+      → Stands (λ line reply. answers line reply ≡ true) ended taken sent old
+      → Stands (λ line reply. answers line reply ≡ true) ended taken sent new
 
 -- some steps keep this agreement, however the conversation reached its state and whatever others
 -- were answered since: the conversation, the answers, the reader and the writer, before and after

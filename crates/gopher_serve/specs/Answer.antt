@@ -20,6 +20,6 @@ abbrev pub steps_to_reply : Answer → ℕ
 steps_to_reply (answer.Searching search) = suc search.left
 steps_to_reply reply = 0
 
--- the reply is there, or fewer steps are left until it is there
-abbrev pub ComesNearer : Answer → Answer → Type 0
-ComesNearer old new = (steps_to_reply new ≡ 0) ⊎ (steps_to_reply new < steps_to_reply old)
+-- the reply is there, or fewer steps are left until it is there: the steps before and after
+abbrev pub Nears : ℕ → ℕ → Type 0
+Nears old new = (new ≡ 0) ⊎ (new < old)

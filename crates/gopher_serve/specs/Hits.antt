@@ -1,6 +1,5 @@
 -- The menu of hits, as a search server sends it (RFC 1436, section 3.7).
-use Rattle.std.specs.Prelude.{ℕ, List, codes, ◌++◌}
-use Rattle.std.specs.List.{flat_map}
+use Rattle.std.specs.Prelude.{ℕ, List, codes, ◌++◌, flat_map}
 use Rattle.gopher_item.specs.MenuLine.{MenuLineData, menu_line_bytes}
 use Rattle.gopher_index.specs.declared.hit.Hit.{Hit}
 

@@ -1,8 +1,7 @@
 -- The replies of a tree, most of which are kept.
-use Rattle.std.specs.Prelude.{◌≡◌, ℕ, List, [], ◌∷◌, ◌++◌, Option, IfSome}
+use Rattle.std.specs.Prelude.{◌≡◌, ℕ, List, Option, IfSome, All}
 use Rattle.std.specs.Borrow.{Bor}
 use Rattle.std.specs.Global.{Vec}
-use Rattle.std.specs.List.{All}
 use Rattle.gopher_item.specs.Place.{HomeData}
 use Rattle.gopher_tree.specs.Files.{File}
 use Rattle.gopher_tree.specs.Reply.{tree_reply, not_found_bytes}
@@ -14,11 +13,6 @@ use Rattle.gopher_serve.specs.declared.replies.RepliesRefused.{RepliesRefused}
 -- the bytes are the reply to the selector
 abbrev pub IsReply : List File → HomeData → KeptReply → Type 0
 IsReply files home kept = kept.bytes ≡ tree_reply files home kept.selector
-
--- the reply with this selector and these bytes was appended
-abbrev pub AddsReply : Vec ℕ → Vec ℕ → Vec KeptReply → Vec KeptReply → Type 0
-AddsReply selector bytes old new =
-    new.items ≡ old.items ++ record { selector = selector.items; bytes = bytes.items } ∷ []
 
 -- if these are kept replies of a tree, then the bytes found are the reply to the selector
 abbrev pub FindsReply : List KeptReply → List ℕ → Option (Bor (List ℕ)) → Type 0

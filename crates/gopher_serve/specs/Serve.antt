@@ -18,32 +18,13 @@ pub record StreamData : Type 0 where
 abbrev pub stream_of : {D : Type 0} → (D → Option (List ℕ)) → WatchedData D → StreamData
 stream_of known stream = record { bytes = known stream.device; failures = stream.failures }
 
--- the reply answers the first line that the reader had left
-pub record RepliesTo (gives : List ℕ → List ℕ → Type 0) (had : Option (List ℕ))
-    (line reply : List ℕ) : Type 0 where
-  pub line_is : IfSome had (λ bytes. line ≡ first_line bytes)
+-- the first line was read, and no byte after it; of its reply these bytes were written
+pub record IsServed (gives : List ℕ → List ℕ → Type 0) (had left old new : StreamData)
+    (line reply written : List ℕ) : Type 0 where
+  pub line_is : IfSome had.bytes (λ bytes. line ≡ first_line bytes)
   pub given : gives line reply
-
--- the whole reply was written, and no byte after the line was read
-pub record ServesAll (gives : List ℕ → List ℕ → Type 0) (had left old new : StreamData)
-    : Type 0 where
-  pub line : List ℕ
-  pub reply : List ℕ
-  pub is_reply : RepliesTo gives had.bytes line reply
   pub rest : DropsThrough had.bytes left.bytes 10
-  pub written : Appends old.bytes new.bytes reply
-
--- a prefix of the reply was written, and then a write failed
-pub record ServesPart (gives : List ℕ → List ℕ → Type 0) (had left old new : StreamData)
-    : Type 0 where
-  pub line : List ℕ
-  pub reply : List ℕ
-  pub sent : ℕ
-  pub is_reply : RepliesTo gives had.bytes line reply
-  pub rest : DropsThrough had.bytes left.bytes 10
-  pub part : sent < length reply
-  pub written : Appends old.bytes new.bytes (take sent reply)
-  pub failed : HasFailed old.failures new.failures
+  pub appended : Appends old.bytes new.bytes written
 
 -- reading the line failed, and nothing was written
 pub record IsDeaf (had left old new : StreamData) (fault : line.LineFault) : Type 0 where
@@ -55,20 +36,23 @@ pub record IsMute (had left old new : StreamData) : Type 0 where
   pub rest : DropsThrough had.bytes left.bytes 10
   pub untouched : new ≡ old
 
--- a conversation by how it ended: the reader before and after, and the writer before and after
+-- a conversation by how it ended: the reader before and after, and the writer before and after. If
+-- a write failed, a prefix of the reply was written
 abbrev pub Serves : {T : Type 0} → (List ℕ → List ℕ → Type 0) → StreamData → StreamData → StreamData
     → StreamData → Result T ServeFault → Type 0
-Serves gives had left old new (Ok end) = ServesAll gives had left old new
+Serves gives had left old new (Ok end) =
+    (line : List ℕ) × (reply : List ℕ) × IsServed gives had left old new line reply reply
 Serves gives had left old new (Err LineTooLong) = IsDeaf had left old new line_fault.LineTooLong
 Serves gives had left old new (Err ReadFailed) = IsDeaf had left old new line_fault.ReadFailed
 Serves gives had left old new (Err TooManyTurns) = IsDeaf had left old new line_fault.TooManyTurns
-Serves gives had left old new (Err WriteFailed) = ServesPart gives had left old new
+Serves gives had left old new (Err WriteFailed) =
+    (line : List ℕ) × (reply : List ℕ) × (sent : ℕ)
+    × IsServed gives had left old new line reply (take sent reply)
+    × (sent < length reply) × HasFailed old.failures new.failures
 Serves gives had left old new (Err NoMemory) = IsMute had left old new
 
 -- the faults before the reply was asked for
 abbrev pub IsUnheard : ServeFault → Type 0
-IsUnheard LineTooLong = Unit {0}
-IsUnheard ReadFailed = Unit {0}
-IsUnheard TooManyTurns = Unit {0}
 IsUnheard WriteFailed = ⊥
 IsUnheard NoMemory = ⊥
+IsUnheard fault = Unit {0}

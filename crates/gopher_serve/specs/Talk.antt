@@ -1,6 +1,6 @@
 -- A conversation with one client, over all bytes that came in: one line, and its reply (RFC 1436,
 -- section 2).
-use Rattle.std.specs.Prelude.{◌≡◌, ℕ, zero, suc, ◌+◌, ◌<◌, ◌==◌, Bool, false, ◌||◌, ◌⊎◌, List, [], ◌++◌, length, drop, nat_le, Option, None, Some, if◌then◌else◌}
+use Rattle.std.specs.Prelude.{◌≡◌, ℕ, suc, ◌+◌, ◌==◌, Bool, false, ◌||◌, ◌⊎◌, List, [], ◌++◌, length, drop, nat_le, Option, None, Some, if◌then◌else◌}
 use Rattle.std.specs.Io.BufRead.{first_line}
 use Rattle.gopher_bytes.specs.declared.line.TheConstants.{MAX_LINE}
 use Rattle.gopher_text.specs.Line.{has_feed}
@@ -8,8 +8,6 @@ use Rattle.gopher_serve.specs.Answer.{answer_bytes, steps_to_reply}
 use Rattle.gopher_serve.specs.declared.answer.Answer.{Answer}
 use Rattle.gopher_serve.specs.declared.conversation.Phase.{Phase}
 use Rattle.gopher_serve.specs.declared.conversation.Phase.TheVariants as phase
-use Rattle.gopher_serve.specs.declared.conversation.Stage.{Stage}
-use Rattle.gopher_serve.specs.declared.conversation.Stage.TheVariants as stage
 
 -- the state of a conversation: it has gathered these bytes; it asks for the reply to this line; the
 -- line is too long; it is out of memory for the line; or it answers this line with this reply. The
@@ -44,11 +42,6 @@ Hears old piece new =
     (new ≡ heard false old piece)
     ⊎ (((bytes : List ℕ) × (old ≡ Gathers bytes)) × (new ≡ LacksMemory))
 
--- the bytes are the line that is asked, if there is one
-abbrev pub IsAskedLine : Talk → List ℕ → Type 0
-IsAskedLine (Asks line) bytes = bytes ≡ line
-IsAskedLine talk bytes = Unit {0}
-
 -- the line whose reply is asked for or sent, if there is one
 abbrev pub asked_of : Talk → Option (List ℕ)
 asked_of (Asks line) = Some line
@@ -65,21 +58,19 @@ abbrev pub unsent_of : Talk → List ℕ
 unsent_of (Responds line reply steps sent) = drop sent reply
 unsent_of talk = []
 
+-- a bound of the steps of the search that are left until the reply is there; 0 once it is there
+abbrev pub steps_of : Talk → ℕ
+steps_of (Responds line reply steps sent) = steps
+steps_of talk = 0
+
 -- the rest of the reply; `None` while a search makes it
 abbrev pub sendable_of : Talk → Option (List ℕ)
-sendable_of (Responds line reply zero sent) = Some (drop sent reply)
-sendable_of (Responds line reply (suc steps) sent) = None
-sendable_of talk = Some []
+sendable_of talk = if steps_of talk == 0 then Some (unsent_of talk) else None
 
 -- the state after `count` more bytes of the reply were sent
 abbrev pub said : Talk → ℕ → Talk
 said (Responds line reply steps sent) count = Responds line reply steps (sent + count)
 said talk count = talk
-
--- a bound of the steps of the search that are left until the reply is there; 0 once it is there
-abbrev pub steps_of : Talk → ℕ
-steps_of (Responds line reply steps sent) = steps
-steps_of talk = 0
 
 -- the same state, with this bound of the steps that are left
 abbrev pub with_steps : Talk → ℕ → Talk
@@ -90,24 +81,17 @@ with_steps talk left = talk
 abbrev pub OnlySearches : Talk → Talk → Type 0
 OnlySearches old new = new ≡ with_steps old (steps_of new)
 
--- the reply is there, or fewer steps of the search for it are left
-abbrev pub NearsReply : Talk → Talk → Type 0
-NearsReply old new = (steps_of new ≡ 0) ⊎ (steps_of new < steps_of old)
-
 -- the same state without the search that makes the reply, if nothing of the reply was sent: the
 -- line is asked again
 abbrev pub put_back : Talk → Talk
-put_back (Responds line reply zero sent) = Responds line reply zero sent
 put_back (Responds line reply (suc steps) sent) =
     if sent == 0 then Asks line else Responds line reply (suc steps) sent
 put_back talk = talk
 
-abbrev pub stage_of : Talk → Stage
-stage_of (Gathers bytes) = stage.Listens
-stage_of (Asks line) = stage.Asks
-stage_of IsTooLong = stage.IsTooLong
-stage_of LacksMemory = stage.LacksMemory
-stage_of (Responds line reply steps sent) = stage.Responds
+-- the line is answered
+abbrev pub IsAnswering : Talk → Type 0
+IsAnswering (Responds line reply steps sent) = Unit {0}
+IsAnswering talk = ⊥
 
 -- ---- from the fields that a conversation keeps
 
@@ -129,8 +113,3 @@ IsAnswered old new answer =
 abbrev pub reply_in : Phase → List ℕ
 reply_in (phase.Answering answer) = answer_bytes answer
 reply_in phase = []
-
--- the phase of a conversation whose first line is known
-abbrev pub IsPhaseAt : List ℕ → Phase → Type 0
-IsPhaseAt gathered phase =
-    (sent : ℕ) → talk_in gathered phase sent ≡ known_line (first_line gathered)

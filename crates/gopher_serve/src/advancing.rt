@@ -1,14 +1,14 @@
 //! One step of a conversation (`advance`), with at most one call of a stream.
 
 ghost use Rattle.std.specs.Prelude.{◌≡◌, ◌<◌, ◌≤◌, ◌+◌, ◌^◌, length, IfOk, OnErr};
-ghost use Rattle.gopher_serve.specs.Advance.{HearsOutcome, IsProgressAfter, Listens, Records, Replies, Says, Steps, progress_after};
+ghost use Rattle.gopher_serve.specs.Advance.{HearsOutcome, IsProgressAfter, Listens, Records, IsAsked, Says, Steps, progress_after};
 ghost use Rattle.gopher_serve.specs.Leads.{Leads};
 ghost use Rattle.gopher_serve.specs.Serve.{stream_of};
 ghost use Rattle.gopher_serve.specs.Talk.{sent_of, unsent_of};
 ghost use Rattle.gopher_serve.specs.declared.fault.ServeFault.TheVariants.{ReadFailed, WriteFailed};
 
 use crate::answer::Answers;
-use crate::conversation::{Conversation, Stage};
+use crate::conversation::{Conversation, Phase};
 use crate::fault::ServeFault;
 use gopher_text::Watched;
 use std::alloc::Global;
@@ -62,12 +62,12 @@ pub fn advance<'a, A: Answers<'a>, R: Read, W: Write>(
         (stream_of W.contents writer.old) (stream_of W.contents writer.new) result }
     ensures leads { Leads A.leads_to answers.old answers.new }
 {
-    match talk.stage() {
-        Stage::Listens => listen(talk, reader, buffer),
-        Stage::Asks => ask(alloc, talk, answers),
-        Stage::IsTooLong => Progress::Failed(ServeFault::LineTooLong),
-        Stage::LacksMemory => Progress::Failed(ServeFault::NoMemory),
-        Stage::Responds => say(alloc, talk, writer),
+    match &talk.phase {
+        Phase::Gathering => listen(talk, reader, buffer),
+        Phase::Asked => ask(alloc, talk, answers),
+        Phase::TooLong => Progress::Failed(ServeFault::LineTooLong),
+        Phase::LacksMemory => Progress::Failed(ServeFault::NoMemory),
+        Phase::Answering(_) => say(alloc, talk, writer),
     }
 }
 
@@ -114,7 +114,7 @@ fn ask<'a, A: Answers<'a>>(
     conversation: &mut Conversation<'a>,
     answers: &mut A,
 ) -> Progress
-    ensures ask { Replies A.gives conversation.old conversation.new answers.old answers.new result }
+    ensures ask { IsAsked A.gives conversation.old conversation.new answers.old answers.new result }
     ensures leads { A.leads_to answers.old answers.new }
 {
     match answers.answer(alloc, conversation.line()) {

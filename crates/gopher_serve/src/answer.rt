@@ -2,7 +2,7 @@
 
 ghost use Rattle.std.specs.Prelude.{◌≡◌, IfOk, OnErr, OnOk};
 ghost use Rattle.std.specs.Option.{option_map};
-ghost use Rattle.gopher_serve.specs.Answer.{ComesNearer, answer_bytes, ready_bytes, steps_to_reply};
+ghost use Rattle.gopher_serve.specs.Answer.{Nears, answer_bytes, ready_bytes, steps_to_reply};
 ghost use Rattle.gopher_serve.specs.Hits.{hits_bytes};
 
 use crate::hits::hits_menu;
@@ -77,7 +77,7 @@ impl<'a> Answer<'a> {
     /// Out of memory (90). As many steps are left as before.
     pub fn step(&mut self, alloc: Global) -> Result<(), NoMemory>
         ensures same { answer_bytes self.new ≡ answer_bytes self.old }
-        ensures nears { OnOk result (ComesNearer self.old self.new) }
+        ensures nears { OnOk result (Nears (steps_to_reply self.old) (steps_to_reply self.new)) }
         ensures refused { OnErr result (steps_to_reply self.new ≡ steps_to_reply self.old) }
     {
         let Answer::Searching(search) = self else {

@@ -1,10 +1,11 @@
 //! A conversation with one client, as a value without streams (`Conversation`).
 
-ghost use Rattle.std.specs.Prelude.{◌≡◌, ◌<◌, ◌≤◌, ◌+◌, ◌^◌, ◌⊎◌, [], length, false, true, IfSome};
+ghost use Rattle.std.specs.Prelude.{◌≡◌, ◌<◌, ◌≤◌, ◌+◌, ◌^◌, ◌⊎◌, ℕ, [], length, false, true, IfSome};
 ghost use Rattle.std.specs.Option.{option_map};
 ghost use Rattle.std.specs.Io.BufRead.{first_line, strip_last};
 ghost use Rattle.gopher_text.specs.Line.{has_feed};
-ghost use Rattle.gopher_serve.specs.Talk.{Gathers, Hears, IsAnswered, IsAskedLine, IsPhaseAt, NearsReply, OnlySearches, asked_of, heard, is_known, put_back, reply_in, said, sendable_of, sent_of, stage_of, steps_of, unsent_of};
+ghost use Rattle.gopher_serve.specs.Answer.{Nears};
+ghost use Rattle.gopher_serve.specs.Talk.{Gathers, Hears, IsAnswered, OnlySearches, asked_of, heard, is_known, known_line, put_back, reply_in, said, sendable_of, sent_of, steps_of, talk_in, unsent_of};
 ghost use Rattle.gopher_serve.specs.Advance.{Upholds};
 ghost use Rattle.gopher_serve.specs.declared.advancing.Progress.TheVariants.{Failed, Works};
 ghost use Rattle.gopher_serve.specs.declared.fault.ServeFault.TheVariants.{NoMemory};
@@ -20,29 +21,19 @@ use std::marker::Model;
 // The most bytes of a line with its end, CR LF.
 const MAX_WITH_END: usize = MAX_LINE + 2;
 
-// The state of a conversation.
+/// The state of a conversation.
 #[derive(Drop)]
-enum Phase<'a> {
+pub(crate) enum Phase<'a> {
+    /// The line isn't at its end: more is read.
     Gathering,
+    /// The reply to its line isn't asked for yet.
     Asked,
+    /// The line is too long.
     TooLong,
+    /// Out of memory for the line.
     LacksMemory,
+    /// The rest of the reply is sent, or the search that makes it takes a step.
     Answering(Answer<'a>),
-}
-
-/// The next task of a conversation.
-#[derive(Clone, Copy)]
-pub(crate) enum Stage {
-    /// Read more, because the line isn't at its end.
-    Listens,
-    /// Ask for the reply to its line.
-    Asks,
-    /// Nothing: the line is too long.
-    IsTooLong,
-    /// Nothing: out of memory for the line.
-    LacksMemory,
-    /// Send the rest of its reply, or take a step of the search that makes it.
-    Responds,
 }
 
 /// A conversation with one client. It takes bytes in pieces of any size, finds the end of the line,
@@ -52,7 +43,7 @@ pub(crate) enum Stage {
 #[derive(Drop)]
 pub struct Conversation<'a> {
     gathered: Vec<u8>,
-    phase: Phase<'a>,
+    pub(crate) phase: Phase<'a>,
     sent: usize,
 }
 
@@ -103,7 +94,7 @@ fn without_return(bytes: &[u8]) -> &[u8]
 
 // The state of a conversation whose line is at its end, or too long.
 fn phase_of<'a>(gathered: &[u8]) -> Phase<'a>
-    ensures talk { IsPhaseAt gathered.now result }
+    ensures talk { (n : ℕ) → talk_in gathered.now result n ≡ known_line (first_line gathered.now) }
     ensures silent { reply_in result ≡ [] }
 {
     if first_line(gathered).len() > MAX_LINE {
@@ -146,19 +137,6 @@ impl<'a> Conversation<'a> {
         }
     }
 
-    // Its next task.
-    pub(crate) fn stage(&self) -> Stage
-        ensures { result ≡ stage_of self.now }
-    {
-        match &self.phase {
-            Phase::Gathering => Stage::Listens,
-            Phase::Asked => Stage::Asks,
-            Phase::TooLong => Stage::IsTooLong,
-            Phase::LacksMemory => Stage::LacksMemory,
-            Phase::Answering(_) => Stage::Responds,
-        }
-    }
-
     // Adds a piece, if the line isn't at its end yet.
     pub(crate) fn hear(&mut self, piece: &[u8])
         ensures { Hears self.old piece.now self.new }
@@ -189,7 +167,7 @@ impl<'a> Conversation<'a> {
 
     // The line that is asked, without its end.
     pub(crate) fn line(&self) -> &[u8]
-        ensures { IsAskedLine self.now result.now }
+        ensures { IfSome (asked_of self.now) (λ line. result.now ≡ line) }
     {
         first_line(&self.gathered)
     }
@@ -206,7 +184,7 @@ impl<'a> Conversation<'a> {
     // there, or fewer steps are left. If it fails, as many are left as before.
     pub(crate) fn search(&mut self, alloc: Global) -> Progress
         ensures same { OnlySearches self.old self.new }
-        ensures nears { result ≡ Works → NearsReply self.old self.new }
+        ensures nears { result ≡ Works → Nears (steps_of self.old) (steps_of self.new) }
         ensures refused { result ≡ Failed NoMemory → steps_of self.new ≡ steps_of self.old }
         ensures ends { (result ≡ Works) ⊎ (result ≡ Failed NoMemory) }
     {

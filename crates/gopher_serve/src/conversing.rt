@@ -1,27 +1,30 @@
 //! The steps of a conversation while its streams are ready (`converse`).
 
-ghost use Rattle.std.specs.Prelude.{◌<◌, length};
-ghost use Rattle.gopher_serve.specs.Advance.{Advances, NearsAtWorks, Stops};
+ghost use Rattle.std.specs.Prelude.{◌≡◌, ◌<◌, length};
+ghost use Rattle.gopher_serve.specs.Advance.{Advances, Stops};
 ghost use Rattle.gopher_serve.specs.Leads.{Leads};
+ghost use Rattle.gopher_serve.specs.Talk.{IsAnswering, steps_of};
+ghost use Rattle.gopher_serve.specs.declared.advancing.Progress.TheVariants.{Works};
 
 use crate::advancing::{Progress, advance};
 use crate::answer::Answers;
 use crate::conversation::Conversation;
+use crate::fault::ServeFault;
 use gopher_text::Watched;
 use std::alloc::Global;
 use std::io::{Read, Write};
 
 /// Advances a conversation until its progress isn't `Paused`. `buffer` isn't empty.
 ///
-/// It returns `Progress::Paused` only after 2^64 - 1 steps. If it returns `Progress::Works` and the
-/// search had begun before, then fewer steps of the search are left.
+/// If it returns `Progress::Works` and the search had begun before, then fewer steps of the search
+/// are left.
 ///
 /// # Errors
 ///
-/// Those of `advance`.
+/// Those of `advance`, and `TooManyTurns` (11): it still isn't done after 2^64 - 1 steps.
 pub fn converse<'a, A: Answers<'a>, R: Read, W: Write>(
     alloc: Global,
-    conversation: &mut Conversation<'a>,
+    talk: &mut Conversation<'a>,
     answers: &mut A,
     reader: &mut Watched<R>,
     writer: &mut Watched<W>,
@@ -29,18 +32,18 @@ pub fn converse<'a, A: Answers<'a>, R: Read, W: Write>(
 ) -> Progress
     requires { 0 < length buffer.old }
     ensures leads { Leads A.leads_to answers.old answers.new }
-    ensures goes_on { Advances (Leads A.leads_to) A.gives conversation.old conversation.new
-        answers.old answers.new (R.remaining reader.old.device) (R.remaining reader.new.device)
+    ensures goes_on { Advances (Leads A.leads_to) A.gives talk.old talk.new answers.old answers.new
+        (R.remaining reader.old.device) (R.remaining reader.new.device)
         (W.contents writer.old.device) (W.contents writer.new.device) }
-    ensures nears { NearsAtWorks conversation.old conversation.new result }
-    ensures stops { Stops conversation.new reader.old.failures reader.new.failures
-        writer.old.failures writer.new.failures result }
+    ensures nears { result ≡ Works → IsAnswering talk.old → steps_of talk.new < steps_of talk.old }
+    ensures stops { Stops talk.new reader.old.failures reader.new.failures writer.old.failures
+        writer.new.failures result }
 {
     for _step in 0..u64::MAX {
-        let progress = advance(alloc, conversation, answers, reader, writer, buffer);
+        let progress = advance(alloc, talk, answers, reader, writer, buffer);
         if progress != Progress::Paused {
             return progress;
         }
     }
-    Progress::Paused
+    Progress::Failed(ServeFault::TooManyTurns)
 }

@@ -2,7 +2,7 @@
 
 ghost use Rattle.std.specs.Prelude.{◌≡◌, IfOk, OnOk};
 ghost use Rattle.std.specs.List.{All};
-ghost use Rattle.gopher_serve.specs.Kept.{AddsReply, FindsReply, IsReply};
+ghost use Rattle.gopher_serve.specs.Kept.{FindsReply, IsReply};
 
 use gopher_item::{ByteString, Home, NoMemory};
 use gopher_tree::{Node, Tree};
@@ -41,25 +41,12 @@ fn keep(
     requires { All (IsReply tree.now home.now) kept.old.items }
     ensures { OnOk result (All (IsReply tree.now home.now) kept.new.items) }
 {
-    let selector = selector_of(alloc, path)?;
+    let mut selector = Vec::from_slice(alloc, b"/")?;
+    selector.extend_from_slice(path)?;
     let Some(Node::File(b'0', _) | Node::Folder) = tree.find(&selector) else {
         return Ok(());
     };
-    let bytes = tree.reply(alloc, &selector, home)?;
-    push_reply(selector, bytes, kept)?;
-    Ok(())
-}
-
-fn selector_of(alloc: Global, path: &[u8]) -> Result<Vec<u8>, NoMemory> {
-    let mut selector = Vec::from_slice(alloc, b"/")?;
-    selector.extend_from_slice(path)?;
-    Ok(selector)
-}
-
-fn push_reply(selector: Vec<u8>, bytes: Vec<u8>, kept: &mut Vec<KeptReply>) -> Result<(), NoMemory>
-    ensures { OnOk result (AddsReply selector bytes kept.old kept.new) }
-{
-    let mut bytes = bytes;
+    let mut bytes = tree.reply(alloc, &selector, home)?;
     bytes.shrink_to_fit();
     kept.push(KeptReply {
         selector: ByteString::from(selector),

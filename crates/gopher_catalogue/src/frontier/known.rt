@@ -1,10 +1,10 @@
 //! `KnownPlaces`, `Standing`: the known places of a crawl, the state of each, and mentions of
 //! places.
 
-ghost use Rattle.std.specs.Prelude.{◌≡◌, ◌<◌, [], ◌≤◌, false, length, map, take, slice_get, slice_set, IfOk, OnOk, OnErr};
+ghost use Rattle.std.specs.Prelude.{◌≡◌, ◌<◌, [], ◌∷◌, ◌++◌, ◌≤◌, false, length, map, take, slice_get, IfOk, OnOk, OnErr};
 ghost use Rattle.std.specs.Arc.{arc_value};
 ghost use Rattle.gopher_item.specs.Place.{is_among};
-ghost use Rattle.gopher_catalogue.specs.Tables.{KnownData, Extends, IsWithPlace, IsWithUnclaimed, Mentions, IsDropped, LinksAll, MentionsAll, AreDropped, allowed};
+ghost use Rattle.gopher_catalogue.specs.Tables.{Extends, Mentions, allowed, unclaimed, with_standing};
 
 use gopher_item::{NoMemory, Place, Places, Scope};
 use gopher_text::MAX_REPLY;
@@ -96,8 +96,7 @@ impl KnownPlaces {
     /// Replaces the state of the place with this number.
     pub fn set_standing(&mut self, number: usize, standing: Standing)
         requires { number < length self.old.standings }
-        ensures places { self.new.places ≡ self.old.places }
-        ensures standings { self.new.standings ≡ slice_set self.old.standings number standing }
+        ensures { self.new ≡ with_standing self.old number standing }
     {
         self.standings[number] = standing;
     }
@@ -105,8 +104,8 @@ impl KnownPlaces {
     /// Appends a place that was never claimed.
     pub fn add(&mut self, place: &Arc<Place>) -> Result<(), NoMemory>
         requires { is_among self.old.places (arc_value place.now) ≡ false }
-        ensures places { OnOk result (IsWithPlace self.old self.new (arc_value place.now)) }
-        ensures standings { OnOk result (IsWithUnclaimed self.old self.new) }
+        ensures keys { OnOk result (self.new.places ≡ self.old.places ++ arc_value place.now ∷ []) }
+        ensures states { OnOk result (self.new.standings ≡ self.old.standings ++ unclaimed ∷ []) }
         ensures err { OnErr result (self.new ≡ self.old) }
     {
         self.places.reserve(1)?;
@@ -124,25 +123,22 @@ impl KnownPlaces {
         self.standings.truncate(len);
         self.places.truncate(len);
     }
-}
 
-impl KnownPlaces {
-    /// Makes a place known unless it is known already, or `limit` places are. Returns whether the
-    /// mention was dropped.
-    pub fn mention(&mut self, limit: usize, place: &Arc<Place>) -> Result<bool, NoMemory>
-        ensures places { OnOk result (Mentions limit self.old self.new (arc_value place.now)) }
-        ensures dropped { IfOk result (IsDropped limit self.old (arc_value place.now)) }
+    /// Makes a place known unless it is known already, or `limit` places are. Returns 1 if the
+    /// mention was dropped, else 0.
+    pub fn mention(&mut self, limit: usize, place: &Arc<Place>) -> Result<u32, NoMemory>
+        ensures ok { IfOk result (Mentions limit (arc_value place.now ∷ []) self.old self.new) }
         ensures grows { OnOk result (Extends self.old self.new) }
         ensures err { OnErr result (self.new ≡ self.old) }
     {
         if self.contains(place) {
-            return Ok(false);
+            return Ok(0);
         }
         if self.len() >= limit {
-            return Ok(true);
+            return Ok(1);
         }
         self.add(place)?;
-        Ok(false)
+        Ok(0)
     }
 
     /// Mentions the links that the scope allows. Returns the number of dropped mentions. When out
@@ -155,8 +151,7 @@ impl KnownPlaces {
         links: &Places,
     ) -> Result<u32, NoMemory>
         requires { length links.now ≤ MAX_REPLY }
-        ensures places { OnOk result (LinksAll scope.now limit self.old self.new links.now) }
-        ensures dropped { IfOk result (AreDropped limit self.old (allowed scope.now links.now)) }
+        ensures ok { IfOk result (Mentions limit (allowed scope.now links.now) self.old self.new) }
         ensures few { IfOk result (λ dropped. dropped ≤ length links.now) }
         ensures grows { Extends self.old self.new }
     {
@@ -165,7 +160,7 @@ impl KnownPlaces {
             let link = links.get(index).to_place(alloc)?;
             if scope.allows(&link) {
                 let link = Arc::new(alloc, link)?;
-                dropped += u32::from(self.mention(limit, &link)?);
+                dropped += self.mention(limit, &link)?;
             }
         }
         Ok(dropped)
@@ -179,8 +174,7 @@ impl KnownPlaces {
         limit: usize,
         seeds: &[Place],
     ) -> Result<u64, NoMemory>
-        ensures places { OnOk result (MentionsAll limit self.old self.new seeds.now) }
-        ensures dropped { IfOk result (AreDropped limit self.old seeds.now) }
+        ensures ok { IfOk result (Mentions limit seeds.now self.old self.new) }
         ensures few { IfOk result (λ dropped. dropped ≤ length seeds.now) }
         ensures grows { Extends self.old self.new }
     {

@@ -1,7 +1,7 @@
 //! `Queue`: the numbers of the places that wait, in order.
 
 ghost use Rattle.std.specs.Prelude.{◌≡◌, ◌+◌, ◌-◌, ◌^◌, ◌<◌, ◌≤◌, [], ◌∷◌, ◌++◌, length, drop, slice_get, OnOk};
-ghost use Rattle.gopher_catalogue.specs.Tables.{QueueData, with_range};
+ghost use Rattle.std.specs.List.{range_with_len};
 
 use gopher_item::NoMemory;
 use std::alloc::Global;
@@ -84,7 +84,7 @@ impl Queue {
     pub fn push_range(&mut self, first: u32, end: u32)
         requires order { first ≤ end }
         requires room { end - first ≤ self.old.room }
-        ensures waiting { self.new.waiting ≡ with_range self.old.waiting first end }
+        ensures range { self.new.waiting ≡ self.old.waiting ++ range_with_len first (end - first) }
         ensures room { self.new.room + (end - first) ≡ self.old.room }
     {
         for number in first..end {

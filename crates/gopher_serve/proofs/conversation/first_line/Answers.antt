@@ -1,6 +1,4 @@
-use Rattle.std.proofs.Common.{◌≤◌, length, take, sym, ◌∙◌, ap, arith}
-use Rattle.std.specs.Prelude.{◌==◌}
-use Rattle.std.specs.Io.BufRead.{strip_last}
+use Rattle.std.proofs.Common.{take, sym, ◌∙◌, arith, ◌==◌}
 use Rattle.gopher_bytes.proofs.Splits.{list_any_before, list_any_nowhere}
 use Rattle.gopher_serve.proofs.FirstLines.{take_through_at_first, first_line-fed, first_line-unfed}
 use Rattle.gopher_serve.proofs.conversation.first_line.Goals as goal

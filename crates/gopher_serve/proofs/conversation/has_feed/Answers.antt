@@ -1,6 +1,5 @@
-use Rattle.std.specs.Prelude.{◌==◌}
 use Rattle.gopher_bytes.proofs.Splits.{list_any_found}
-use Rattle.std.proofs.Common.{sym, ◌∙◌}
+use Rattle.std.proofs.Common.{sym, ◌∙◌, ◌==◌}
 use Rattle.gopher_serve.proofs.conversation.has_feed.Goals as goal
 
 pub returns : goal.returns

@@ -12,7 +12,7 @@ pub loop-step-init : goal.loop-step-init
 loop-step-init g c =
     let leads_to = g.A.Answers.leads_to in (
       leads_stays leads_to c.args.answers.now,
-      advances_stays (Leads leads_to) g.A.Answers.gives (leads_stays leads_to) (leads_joins leads_to) c.args.conversation.now c.args.answers.now _ _,
+      advances_stays (Leads leads_to) g.A.Answers.gives (leads_stays leads_to) (leads_joins leads_to) c.args.talk.now c.args.answers.now _ _,
       omega arith,
       omega arith,
       λ responds. (responds, refl),
@@ -47,7 +47,7 @@ loop-step-preserved g c =
 pub returns-then-ne-clause-nears : goal.returns-then-ne-clause-nears
 returns-then-ne-clause-nears g c = λ works.
     let step = c.advance-progress.ensures.step in
-    works_since c.args.conversation.now c.loop-step.conversation c.advance-progress.new.talk c.loop-step.invariant.4
+    works_since c.args.talk.now c.loop-step.talk c.advance-progress.new.talk c.loop-step.invariant.4
     (works_near g.A.Answers.gives _ _ _ _ _ _ _ _ (subst (Steps g.A.Answers.gives _ _ _ _ _ _ _ _) works step))
 
 pub returns-then-ne-clause-stops : goal.returns-then-ne-clause-stops

@@ -1,5 +1,4 @@
-use Rattle.std.proofs.Common.{◌≡◌, take}
-use Rattle.std.specs.List.{flat_map}
+use Rattle.std.proofs.Common.{◌≡◌, take, flat_map}
 use Rattle.gopher_item.specs.MenuLine.{menu_line_bytes}
 use Rattle.gopher_serve.specs.Hits.{hit_line}
 use Rattle.gopher_serve.proofs.hits.hits_menu.Given as goal

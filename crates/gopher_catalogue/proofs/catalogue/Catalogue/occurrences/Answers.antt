@@ -1,5 +1,4 @@
-use Rattle.std.proofs.Common.{subst}
-use Rattle.std.specs.Prelude.{IfOk}
+use Rattle.std.proofs.Common.{subst, IfOk}
 use Rattle.gopher_index.specs.Answer.{AreOccurrences, occurrences_of}
 use Rattle.gopher_catalogue.proofs.FinalAnswers.{final_returned, occurrences_sorted}
 use Rattle.gopher_catalogue.proofs.catalogue.Catalogue.occurrences.Goals as goal

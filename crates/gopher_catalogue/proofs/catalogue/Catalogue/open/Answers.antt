@@ -1,7 +1,7 @@
 use Rattle.std.proofs.Common.{◌≡◌, ◌<◌, ◌^◌, [], ◌∷◌, length, None, arith, ap, sym, subst, ◌∙◌}
 use Rattle.gopher_catalogue.specs.Event.{OpeningData, Opened}
 use Rattle.gopher_catalogue.specs.Step.{open_fault}
-use Rattle.gopher_catalogue.specs.Tables.{Begins}
+use Rattle.gopher_catalogue.specs.FrontierTables.{Begins}
 use Rattle.gopher_catalogue.specs.Indexed.{IsIndexed}
 use Rattle.gopher_catalogue.proofs.IndexedCalls.{legal_opening, begun}
 use Rattle.gopher_catalogue.proofs.catalogue.Catalogue.open.Goals as goal

@@ -1,5 +1,4 @@
-use Rattle.std.proofs.Common.{◌≡◌, subst}
-use Rattle.std.specs.Prelude.{IfOk}
+use Rattle.std.proofs.Common.{◌≡◌, subst, IfOk}
 use Rattle.gopher_index.specs.Answer.{answer_of}
 use Rattle.gopher_catalogue.proofs.FinalAnswers.{final_returned}
 use Rattle.gopher_catalogue.proofs.catalogue.Catalogue.search.Goals as goal

@@ -6,4 +6,4 @@ pub overflow_cast-len : goal.overflow_cast-len
 overflow_cast-len c =
     let none : length c.new-known.result.places ≤ c.args.limit = omega (arith, ap length c.new-known.ensures.places) in
     let few = length-after_mentions c.args.limit c.new-known.result.places c.args.seeds.now none in
-    omega (arith, few, ap length c.in_ok-dropped.ensures.places, c.len-2.ensures.places)
+    omega (arith, few, ap length c.in_ok-dropped.ensures.ok.places, c.len-2.ensures.places)

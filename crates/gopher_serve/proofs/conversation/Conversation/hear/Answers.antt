@@ -1,7 +1,7 @@
-use Rattle.std.proofs.Common.{◌≡◌, ℕ, ◌++◌, true, false, take, subst, inl, sym, ◌∙◌, ap, arith}
+use Rattle.std.proofs.Common.{◌≡◌, ℕ, ◌++◌, true, false, take, subst, inl, sym, arith}
 use Rattle.std.specs.Io.BufRead.{first_line}
 use Rattle.std.proofs.lemmas.Grind.{common_steps}
-use Rattle.gopher_serve.specs.Talk.{Talk, is_known, known_line, talk_in}
+use Rattle.gopher_serve.specs.Talk.{is_known, known_line, talk_in}
 use Rattle.gopher_serve.proofs.Talking.{heard_is}
 use Rattle.gopher_serve.proofs.conversation.Conversation.hear.Goals.{in-Answering+in-Made-2, in-Answering+in-Kept-2, in-Answering+in-Searching-2, in-Gathering-2}
 use Rattle.gopher_serve.proofs.conversation.Conversation.hear.Goals as goal
