@@ -5,7 +5,7 @@ use Rattle.gopher_text.specs.Watched.{HasFailed}
 use Rattle.gopher_page.specs.Query.{TermData}
 use Rattle.gopher_index.specs.declared.hit.Hit.{Hit}
 use Rattle.gopher_crew.specs.Crew.{PassData, SeesOn}
-use Rattle.gopher_serve.specs.Hits.{hits_bytes}
+use Rattle.gopher_serve.specs.Answer.{hits_bytes}
 use Rattle.gopher_crew.specs.Answer.{AnswersTerms, FindsHits, no_catalogue_bytes}
 
 -- a search that ended

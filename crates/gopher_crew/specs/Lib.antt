@@ -10,4 +10,3 @@ pub mod Desk
 pub mod Work
 pub mod Answer
 pub mod Fetch
-pub mod Site

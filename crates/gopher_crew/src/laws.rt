@@ -1,7 +1,7 @@
 //! A law of the searches of a site. The function does nothing: its contract is the law. For tests
 //! and wrong bodies also `Kept` and `settle`, which no other crate uses.
 
-ghost use Rattle.gopher_crew.specs.Site.{SearchesTakeNothingBack};
+ghost use Rattle.gopher_crew.specs.Answer.{SearchesTakeNothingBack};
 
 pub use crate::desk::kept::Kept;
 pub use crate::working::settling::settle;

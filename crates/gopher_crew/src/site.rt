@@ -5,7 +5,7 @@
 //! goes on in steps; its bytes are decided when it begins. No socket appears here.
 
 ghost use Rattle.std.specs.Prelude.{◌≡◌};
-ghost use Rattle.gopher_crew.specs.Site.{site_with};
+ghost use Rattle.gopher_crew.specs.Answer.{site_with};
 
 mod answering;
 mod fetching;
@@ -30,7 +30,7 @@ pub struct Site<'a, C: Crew> {
 }
 
 impl<'a, C: Crew> Model for Site<'a, C> {
-    ghost use Rattle.gopher_crew.specs.Site.{SiteData, site_with};
+    ghost use Rattle.gopher_crew.specs.Answer.{SiteData, site_with};
 
     ghost Value = { SiteData };
 
@@ -54,7 +54,7 @@ impl<'a, C: Crew> Site<'a, C> {
 }
 
 impl<'a, C: Crew> Answers<'a> for Site<'a, C> {
-    ghost use Rattle.gopher_crew.specs.Site.{GivesReply, LeadsOn};
+    ghost use Rattle.gopher_crew.specs.Answer.{GivesReply, LeadsOn};
 
     ghost gives = { GivesReply };
 

@@ -1,20 +1,22 @@
 -- The numbers of the program's faults, and the line that the program writes for each.
-use Rattle.std.specs.Prelude.{ℕ, List, [], ◌++◌, codes}
+use Rattle.std.specs.Prelude.{ℕ, List, [], ◌++◌, codes, ◌+◌, Bool, nat_le}
 use Rattle.std.specs.Fmt.{decimal}
 use Rattle.gopher_scope.specs.Rows.{key_name}
 use Rattle.gopher_scope.specs.Fault.{site_fault_code}
-use Rattle.gopher_scope.specs.declared.fault.SettingsFault.TheVariants as settings_fault
-use Rattle.gopher_scope.specs.declared.fault.SiteFault.TheVariants as site
 use Rattle.gopher_tree.specs.declared.fault.TreeFault.{TreeFault}
-use Rattle.gopher_tree.specs.declared.fault.TreeFault.TheVariants as tree_fault
 use Rattle.gopher_catalogue.specs.Fault.{open_fault_code}
-use Rattle.gopher_catalogue.specs.declared.fault.OpenFault.TheVariants as open_fault
 use Rattle.gopher_crew.specs.Fault.{desk_fault_code}
 use Rattle.gopher_script.specs.Fault.{replay_fault_code}
-use Rattle.gopher_script.specs.declared.fault.ReplayFault.TheVariants as replay_fault
 use Rattle.gopher_hole.specs.declared.fault.ProgramFault.{ProgramFault}
-use Rattle.gopher_hole.specs.declared.fault.ProgramFault.TheVariants as fault
 use Rattle.gopher_hole.specs.declared.fault.Detail.{Detail}
+use Rattle.gopher_catalogue.specs.declared.event.Why.{Why}
+use Rattle.gopher_catalogue.specs.declared.event.Why.TheVariants.{Connect, Read, Write, TooLong, NoMemory}
+use Rattle.gopher_scope.specs.declared.fault.SettingsFault.TheVariants as settings_fault
+use Rattle.gopher_scope.specs.declared.fault.SiteFault.TheVariants as site
+use Rattle.gopher_tree.specs.declared.fault.TreeFault.TheVariants as tree_fault
+use Rattle.gopher_catalogue.specs.declared.fault.OpenFault.TheVariants as open_fault
+use Rattle.gopher_script.specs.declared.fault.ReplayFault.TheVariants as replay_fault
+use Rattle.gopher_hole.specs.declared.fault.ProgramFault.TheVariants as fault
 use Rattle.gopher_hole.specs.declared.fault.Detail.TheVariants as detail
 
 abbrev pub program_fault_code : ProgramFault → ℕ
@@ -67,3 +69,15 @@ line_bytes code first second =
 -- the line of a fault
 abbrev pub fault_line : ProgramFault → List ℕ
 fault_line why = line_bytes (program_fault_code why) (details_of why).0 (details_of why).1
+
+-- a place that failed so often before isn't tried again, if it is tried so often
+abbrev pub is_last_try : ℕ → ℕ → Bool
+is_last_try failed tries = nat_le tries (failed + 1)
+
+-- the name of a reason
+abbrev pub reason_name : Why → List ℕ
+reason_name Connect = codes "connect"
+reason_name Read = codes "read"
+reason_name Write = codes "write"
+reason_name TooLong = codes "too long"
+reason_name NoMemory = codes "memory"

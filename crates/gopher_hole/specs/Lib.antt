@@ -1,5 +1,4 @@
 pub mod Ending
-pub mod Failing
 pub mod Fault
 pub mod Program
 pub mod Sending

@@ -1,7 +1,7 @@
 //! The places that a crawl fails to fetch, printed as they fail.
 
 ghost use Rattle.std.specs.Prelude.{◌≡◌};
-ghost use Rattle.gopher_hole.specs.Failing.{is_last_try, reason_name};
+ghost use Rattle.gopher_hole.specs.Fault.{is_last_try, reason_name};
 
 use gopher_catalogue::Why;
 use gopher_item::Place;

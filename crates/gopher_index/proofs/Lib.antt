@@ -7,7 +7,6 @@ pub mod Zipping
 pub mod Taking
 pub mod TieLemmas
 pub mod LeastLemmas
-pub mod Ends
 pub mod Found
 pub mod Segments
 pub mod Blocks

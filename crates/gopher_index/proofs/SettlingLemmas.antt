@@ -7,8 +7,7 @@ use Rattle.gopher_page.specs.Page.{PageData}
 use Rattle.gopher_segment.specs.Segment.{SegmentData, pages_of}
 use Rattle.gopher_segment.specs.SegmentRows.{AreConsecutive}
 use Rattle.gopher_index.specs.Index.{IsBorder, IsIndex, IsIndexRun, run_data, IsSliceOf}
-use Rattle.gopher_index.proofs.Ends.{pages_end}
-use Rattle.gopher_index.proofs.Segments.{pages_of-append}
+use Rattle.gopher_index.proofs.Segments.{pages_end, pages_of-append}
 
 pub consecutive_append : (first : ℕ) (a b : List SegmentData) → AreConsecutive first a → AreConsecutive (first + length (pages_of a)) b → AreConsecutive first (a ++ b)
 consecutive_append first [] b front back =

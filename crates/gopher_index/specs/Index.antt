@@ -35,11 +35,6 @@ pub record IsSliceOf (run : SegmentData) (pages : List PageData) : Type 0 where
   pub at : pages ≡ before ++ (run.pages ++ after)
   pub number : length before ≡ run.first
 
--- this page is the last
-pub record EndsWith (pages : List PageData) (page : PageData) : Type 0 where
-  pub before : List PageData
-  pub at : pages ≡ before ++ page ∷ []
-
 -- the parts before this index have `pages` pages
 abbrev pub IsBorder : List SegmentData → ℕ → ℕ → Type 0
 IsBorder parts pages at = (at ≤ length parts) × (length (pages_of (take at parts)) ≡ pages)

@@ -1,10 +1,10 @@
 //! The pages that a crawl found, in parts: segments, and single pages after and between them.
 
-ghost use Rattle.std.specs.Prelude.{◌≡◌, ◌+◌, ◌<◌, ◌≤◌, [], length, IfOk, IfSome, OnSome};
+ghost use Rattle.std.specs.Prelude.{◌≡◌, ◌+◌, ◌<◌, ◌≤◌, [], length, IfOk, IfSome};
 ghost use Rattle.std.specs.Arc.{arc_value};
 ghost use Rattle.gopher_index.specs.Answer.{answer_of, AreOccurrences};
 ghost use Rattle.gopher_index.specs.Searching.{begun_hits};
-ghost use Rattle.gopher_index.specs.Index.{EndsWith, IsSliceOf, AppendsPage};
+ghost use Rattle.gopher_index.specs.Index.{IsSliceOf, AppendsPage};
 
 use crate::due::Due;
 use crate::hit::Hit;
@@ -205,21 +205,6 @@ impl Index {
             taken: Vec::new(alloc),
             words: self.words,
         })
-    }
-
-    /// Returns the new page, if exactly one was added and nothing was merged meanwhile: it compares
-    /// the numbers of parts and pages with those of `before`.
-    pub fn page_after(&self, before: &Index) -> Option<&Arc<Page>>
-        ensures last { IfSome result (λ page. EndsWith self.now (arc_value page.now)) }
-        ensures one_more { OnSome result (length self.now ≡ length before.now + 1) }
-    {
-        if self.count != before.count + 1 || self.parts.len() != before.parts.len() + 1 {
-            return None;
-        }
-        let Some(part) = self.parts.last() else {
-            return None;
-        };
-        part.pages().last()
     }
 
     /// Begins a search. Returns the hits if the search is short, and otherwise a `Search` that

@@ -1,8 +1,24 @@
 -- What a line is answered with, by its bytes and the steps that are left until they are there.
-use Rattle.std.specs.Prelude.{◌≡◌, ℕ, suc, ◌<◌, ◌⊎◌, List, Option, None, Some}
-use Rattle.gopher_serve.specs.Hits.{hits_bytes}
+use Rattle.std.specs.Prelude.{◌≡◌, ℕ, suc, ◌<◌, ◌⊎◌, List, Option, None, Some, codes, ◌++◌, flat_map}
 use Rattle.gopher_serve.specs.declared.answer.Answer.{Answer}
+use Rattle.gopher_item.specs.MenuLine.{MenuLineData, menu_line_bytes}
+use Rattle.gopher_index.specs.declared.hit.Hit.{Hit}
 use Rattle.gopher_serve.specs.declared.answer.Answer.TheVariants as answer
+
+-- a hit as a line of a menu: the type, title, selector, host and port of the page that was found
+abbrev pub hit_line : Hit → MenuLineData
+hit_line hit =
+    record {
+      kind = hit.place.kind;
+      display = hit.title;
+      selector = hit.place.selector;
+      host = hit.place.host;
+      port = hit.place.port;
+    }
+
+-- the line of each hit, and the last line
+abbrev pub hits_bytes : List Hit → List ℕ
+hits_bytes hits = flat_map (λ hit. menu_line_bytes (hit_line hit)) hits ++ codes ".\r\n"
 
 -- the bytes of an answer, also if its search isn't at its end
 abbrev pub answer_bytes : Answer → List ℕ

@@ -1,4 +1,3 @@
-pub mod Hits
 pub mod Answer
 pub mod Kept
 pub mod Fault

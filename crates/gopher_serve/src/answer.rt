@@ -2,8 +2,7 @@
 
 ghost use Rattle.std.specs.Prelude.{◌≡◌, IfOk, OnErr, OnOk};
 ghost use Rattle.std.specs.Option.{option_map};
-ghost use Rattle.gopher_serve.specs.Answer.{Nears, answer_bytes, ready_bytes, steps_to_reply};
-ghost use Rattle.gopher_serve.specs.Hits.{hits_bytes};
+ghost use Rattle.gopher_serve.specs.Answer.{Nears, answer_bytes, ready_bytes, steps_to_reply, hits_bytes};
 
 use crate::hits::hits_menu;
 use gopher_index::Search;

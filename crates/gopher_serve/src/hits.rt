@@ -2,7 +2,7 @@
 
 ghost use Rattle.std.specs.Prelude.{◌≡◌, ◌++◌, IfOk, OnOk};
 ghost use Rattle.gopher_item.specs.MenuLine.{menu_line_bytes};
-ghost use Rattle.gopher_serve.specs.Hits.{hit_line, hits_bytes};
+ghost use Rattle.gopher_serve.specs.Answer.{hit_line, hits_bytes};
 
 use gopher_index::Hit;
 use gopher_item::{NoMemory, push_last_line, push_menu_line};

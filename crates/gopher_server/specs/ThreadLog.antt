@@ -43,15 +43,11 @@ poll_timeout batch = if is_empty batch then None else Some 250
 abbrev pub IsHandedOn : BatchData → BatchData → Type 0
 IsHandedOn before after = (after ≡ no_lines) ⊎ (after ≡ before)
 
--- the line of a request, from this address, with this line asked and this many bytes sent, was
--- added to a batch or to the next one
-abbrev pub AddsRequest : IpAddr → List ℕ → ℕ → BatchData → BatchData → Type 0
-AddsRequest peer asked sent before after =
-    (request : RequestData) × (request.peer ≡ ip_text peer) × (request.asked ≡ asked)
-    × (request.sent ≡ sent)
-    × ((between : BatchData) × IsHandedOn before between × AddsRequestTo request between after)
-
--- a request was added, unless nothing happened
+-- nothing happened, or the line of a request, from this address, with this line asked and this many
+-- bytes sent, was added to a batch or to the next one
 abbrev pub AddsLine : IpAddr → List ℕ → ℕ → BatchData → BatchData → Type 0
 AddsLine peer asked sent before after =
-    (after ≡ before) ⊎ AddsRequest peer asked sent before after
+    (after ≡ before)
+    ⊎ ((request : RequestData) × (request.peer ≡ ip_text peer) × (request.asked ≡ asked)
+    × (request.sent ≡ sent)
+    × ((between : BatchData) × IsHandedOn before between × AddsRequestTo request between after))

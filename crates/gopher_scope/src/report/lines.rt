@@ -1,7 +1,7 @@
 //! Appending one line to a report: texts in their shown form, numbers, addresses.
 
 ghost use Rattle.std.specs.Prelude.{◌≡◌, ◌++◌, OnOk};
-ghost use Rattle.gopher_scope.specs.Lines.{shown_byte, shown, words_line, count_words, number_line, server_words, place_rest};
+ghost use Rattle.gopher_scope.specs.Report.{shown_byte, shown, words_line, count_words, number_line, server_words, place_rest};
 
 use crate::fault::Pushed;
 use gopher_item::is_control;

@@ -4,7 +4,7 @@ ghost use Rattle.std.specs.Prelude.{◌≡◌, ◌++◌, map, IfOk, OnOk};
 ghost use Rattle.gopher_tree.specs.Files.{menu_files};
 ghost use Rattle.gopher_tree.specs.Found.{lent_file};
 ghost use Rattle.gopher_tree.specs.MenuFile.{written_line, line_data, server_data};
-ghost use Rattle.gopher_scope.specs.Lines.{is_asked, is_own, is_dead, place_words, dead_line, offers, menu_offers, offers_search, line_warning, menu_warnings, dead_lines};
+ghost use Rattle.gopher_scope.specs.Report.{is_asked, is_own, is_dead, place_words, dead_line, offers, menu_offers, offers_search, line_warning, menu_warnings, dead_lines};
 
 use super::lines::{push_count, push_shown, push_words};
 use crate::fault::Pushed;
