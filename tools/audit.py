@@ -47,12 +47,12 @@ class Item:
 
 
 def uses(text):
-    """What the imports of a file say of each word. A variant stands for its type."""
+    """What the imports of a file say of each word. A variant stands for its type, and so does the record of a type's fields."""
     own = [(path.split("::")[0], names) for path, names in RUST_USE.findall(text) if path.split("::")[0] in {"crate", *CRATES}]
     found = {word: (crate, word) for crate, names in own for word in re.findall(r"\w+", names)}
     for top, path, names, alias in USE.findall(text):
         crate, *_, last = path.split(".")
-        owner = path.split(".")[-2] if last == "TheVariants" else None
+        owner = path.split(".")[-2] if last in ("TheVariants", "TheInside") else None
         if alias:
             found[alias] = (crate, owner or last) if crate in CRATES else f"{path}.{alias}"
         for name in filter(None, (part.strip() for part in names.split(","))):
